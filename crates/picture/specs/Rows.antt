@@ -1,0 +1,43 @@
+-- A grid of numbers as a list of rows. Pictures are grids of colours.
+use Rattle.std.specs.Prelude.{◌≡◌, ℕ, zero, suc, ◌<◌, ◌≤◌, List, [], ◌∷◌, length, take, drop, map, slice_index, slice_index_or, slice_set}
+use Rattle.picture.specs.declared.line_id.Axis.{Axis}
+use Rattle.picture.specs.declared.line_id.Axis.TheVariants.{Across, Down}
+use Rattle.picture.specs.declared.line_id.LineId.{LineId}
+
+-- a flat list cut into `height` rows of `width` cells
+abbrev pub rows_of : ℕ → ℕ → List ℕ → List (List ℕ)
+rows_of zero width cells = []
+rows_of (suc height) width cells = take width cells ∷ rows_of height width (drop width cells)
+
+-- how many cells the rows have, which is what the first one has
+abbrev pub width_of : List (List ℕ) → ℕ
+width_of rows = length (slice_index_or rows 0 [])
+
+-- the row at a place
+abbrev pub row_at : List (List ℕ) → ℕ → List ℕ
+row_at rows i = slice_index_or rows i []
+
+-- the cell at a row and a column
+abbrev pub cell_at : List (List ℕ) → ℕ → ℕ → ℕ
+cell_at rows i j = slice_index (row_at rows i) j
+
+-- the grid with one cell changed
+abbrev pub with_cell : List (List ℕ) → ℕ → ℕ → ℕ → List (List ℕ)
+with_cell rows i j x = slice_set rows i (slice_set (row_at rows i) j x)
+
+-- a row from the left, or a column from the top
+abbrev pub line_along : Axis → ℕ → List (List ℕ) → List ℕ
+line_along Across i rows = row_at rows i
+line_along Down j rows = map (λ row. slice_index row j) rows
+
+abbrev pub line_of : List (List ℕ) → LineId → List ℕ
+line_of rows line = line_along line.axis line.at rows
+
+-- how many lines there are along an axis
+abbrev pub lines_along : Axis → List (List ℕ) → ℕ
+lines_along Across rows = length rows
+lines_along Down rows = width_of rows
+
+-- the line is one of the grid's
+abbrev pub HasLine : List (List ℕ) → LineId → Type 0
+HasLine rows line = line.at < lines_along line.axis rows

@@ -1,0 +1,37 @@
+ghost use Rattle.std.specs.Prelude.{◌<◌, ◌≤◌, length, take, IfOk, OnOk, OnErr};
+ghost use Rattle.std.specs.Io.KnownBytes.{Appends, Keeps};
+ghost use Rattle.picture.specs.Writing.{AppendsFront};
+
+use std::io::Write;
+use thiserror::Error;
+
+/// A write failed, or took no byte.
+#[derive(Clone, Copy, Debug, PartialEq, Eq, Error)]
+#[error("write failed")]
+pub struct WriteFault;
+
+#[tactic(auto, using(crate::proofs::WritingLemmas::sending))]
+/// Writes all the bytes, or after a fault a front of them.
+pub fn send<W: Write>(bytes: &[u8], writer: &mut W) -> Result<(), WriteFault>
+    ensures ok { OnOk result (Appends (W.contents writer.old) (W.contents writer.new) bytes.now) }
+    ensures err { OnErr result (AppendsFront (W.contents writer.old) (W.contents writer.new) bytes.now) }
+{
+    let mut sent = 0;
+    while sent < bytes.len() {
+        sent += write_some(&bytes[sent..], writer)?;
+    }
+    Ok(())
+}
+
+// Writes at least one of the bytes, and says how many.
+fn write_some<W: Write>(bytes: &[u8], writer: &mut W) -> Result<usize, WriteFault>
+    requires { 0 < length bytes.now }
+    ensures count { IfOk result (λ n. (0 < n) × (n ≤ length bytes.now)) }
+    ensures ok { IfOk result (λ n. Appends (W.contents writer.old) (W.contents writer.new) (take n bytes.now)) }
+    ensures err { OnErr result (Keeps (W.contents writer.old) (W.contents writer.new)) }
+{
+    match writer.write(bytes) {
+        Ok(0) | Err(_) => Err(WriteFault),
+        Ok(count) => Ok(count),
+    }
+}
