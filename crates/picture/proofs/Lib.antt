@@ -1,1 +1,5 @@
 pub mod WritingLemmas
+pub mod LineLemmas
+pub mod FlatLemmas
+pub mod PaletteLemmas
+pub mod CellSetLemmas

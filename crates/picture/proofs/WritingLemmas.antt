@@ -1,5 +1,5 @@
 -- What was written in two steps, as one front of the bytes.
-use Rattle.std.proofs.Common.{◌≡◌, ℕ, ◌+◌, ◌-◌, List, take, drop, length, Option}
+use Rattle.std.proofs.Common.{ℕ, ◌+◌, ◌-◌, List, take, drop, length, Option}
 use Rattle.std.proofs.Math.Seq.{take-add}
 use Rattle.std.proofs.lemmas.List.{take_rest}
 use Rattle.std.proofs.KnownBytes.{Appends-trans}

@@ -1,3 +1,9 @@
+pub mod CellSet
+pub mod Content
+pub mod Document
+pub mod Line
+pub mod Palette
+pub mod Picture
 pub mod Reading
 pub mod Rows
 pub mod Writing

@@ -1,5 +1,5 @@
 -- What a reader answers, against what its definition reads from the whole text.
-use Rattle.std.specs.Prelude.{◌≡◌, ◌⊎◌, Result, Ok, Err}
+use Rattle.std.specs.Prelude.{◌≡◌, ◌⊎◌, Result, Ok, Err, Option, None, Some}
 
 -- the next step of reading, where the one before met no fault
 infixl 10 ◌>>=◌
@@ -11,3 +11,8 @@ abbrev pub ◌>>=◌ : {A B E : Type 0} → Result A E → (A → Result B E) �
 abbrev pub Gives : {X Y E : Type 0} → E → (X → Y) → Result X E → Result Y E → Type 0
 Gives memory view (Ok x) read = read ≡ Ok (view x)
 Gives memory view (Err e) read = (e ≡ memory) ⊎ (read ≡ Err e)
+
+-- A call is refused exactly where there is a first fault, with that fault. Want of memory comes only where there is none.
+abbrev pub Refuses : {X E : Type 0} → E → Result X E → Option E → Type 0
+Refuses memory (Ok x) fault = fault ≡ None
+Refuses memory (Err e) fault = (fault ≡ Some e) ⊎ ((fault ≡ None) × (e ≡ memory))

@@ -1,10 +1,20 @@
 //! Palettes, pictures and what is borrowed from them: the values that every other crate speaks of.
 #![tactic(auto)]
 
+mod cell_set;
+mod document;
 mod line_id;
+mod line_view;
+mod palette;
+mod picture;
 mod rgb;
 mod writing;
 
+pub use cell_set::CellSet;
+pub use document::Document;
 pub use line_id::{Axis, LineId};
+pub use line_view::{LineIter, LineView};
+pub use palette::{Palette, PaletteFault};
+pub use picture::{MAX_COLOURS, MAX_SIDE, Picture};
 pub use rgb::Rgb;
 pub use writing::{WriteFault, send};

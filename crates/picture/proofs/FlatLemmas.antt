@@ -1,0 +1,197 @@
+-- Rows that lie in one flat list.
+use Rattle.std.proofs.Common.{◌≡◌, ℕ, zero, suc, ◌+◌, ◌*◌, ◌-◌, ◌<◌, ◌≤◌, List, [], ◌∷◌, ◌++◌, length, get_or, set, take, drop, map, replicate, arith, refl, ap, ◌∙◌, sym, subst}
+use Rattle.std.proofs.Common.{inl, inr}
+use Rattle.std.proofs.lemmas.List.{get_or_past, length-take, length-drop, get_or-take, get_or-drop, drop-drop, take-append-drop, take-replicate, drop-replicate, take-set-le, drop-set-lt, drop-set-add, length-set, length-map, get_or-map, ext_get_or, get_or-set_same, get_or-set_other}
+use Rattle.std.proofs.Math.Seq.{take-set-lt}
+use Rattle.std.proofs.lemmas.Bool.{cases_lt, cases_eq}
+use Rattle.std.specs.Cmp.Lexicographic.{pointwise}
+use Rattle.std.specs.Prelude.{IsTrue}
+use Rattle.std.proofs.Common.{Bool, eqb}
+use Rattle.std.proofs.lemmas.Slice.Eq.{slice_eq-Decides}
+use Rattle.std.proofs.lemmas.Bool.Decides.{Decides-eqb}
+use Rattle.picture.specs.declared.line_id.Axis.TheVariants.{Across, Down}
+use Rattle.picture.specs.declared.line_id.LineId.{LineId}
+use Rattle.picture.specs.Rows.{rows_of, width_of, row_at, cell_at, with_cell, line_along, line_of, lines_along, HasLine}
+use Rattle.picture.specs.Picture.{IsPicture, AreCells}
+use Rattle.picture.specs.Line.{spaced}
+use Rattle.picture.proofs.LineLemmas.{length-spaced, get_or-spaced}
+
+pub length-rows_of : (height width : ℕ) (cells : List ℕ) → length (rows_of height width cells) ≡ height
+length-rows_of zero width cells = refl
+length-rows_of (suc height) width cells = ap suc (length-rows_of height width (drop width cells))
+
+-- a row is a part of the flat list
+pub row_at-rows_of : (height width : ℕ) (cells : List ℕ) (i : ℕ) → i < height → row_at (rows_of height width cells) i ≡ take width (drop (i * width) cells)
+row_at-rows_of zero width cells i lt = absurd (omega (arith, lt))
+row_at-rows_of (suc height) width cells zero lt = let none : 0 * width ≡ 0 = omega arith in rw none refl
+row_at-rows_of (suc height) width cells (suc i) lt =
+    row_at-rows_of height width (drop width cells) i (omega arith)
+    ∙ ap (take width) (drop-drop (i * width) width cells ∙ ap (λ k. drop k cells) (omega arith))
+
+pub place_inside : (height width i j : ℕ) → i < height → j < width → i * width + j < height * width
+place_inside zero width i j lt in_row = absurd (omega (arith, lt))
+place_inside (suc height) width zero j lt in_row = let base : 0 ≤ height * width = omega arith in omega arith
+place_inside (suc height) width (suc i) j lt in_row = let h = place_inside height width i j (omega (arith, lt)) in_row in omega (arith, h)
+
+row_inside : (height width i : ℕ) → i < height → i * width + width ≤ height * width
+row_inside zero width i lt = absurd (omega (arith, lt))
+row_inside (suc height) width zero lt = let base : 0 ≤ height * width = omega arith in omega arith
+row_inside (suc height) width (suc i) lt = let h = row_inside height width i (omega (arith, lt)) in omega (arith, h)
+
+pub length-row : (height width : ℕ) (cells : List ℕ) (i : ℕ) → length cells ≡ height * width → i < height → length (row_at (rows_of height width cells) i) ≡ width
+length-row height width cells i count lt =
+    rw (row_at-rows_of height width cells i lt)
+    (let room = row_inside height width i lt in omega (arith, length-take width (drop (i * width) cells), length-drop (i * width) cells, count, room))
+
+pub cell_at-rows_of : (height width : ℕ) (cells : List ℕ) (i j : ℕ) → i < height → j < width → cell_at (rows_of height width cells) i j ≡ get_or cells (i * width + j) 0
+cell_at-rows_of height width cells i j lt in_row =
+    ap (λ (row : List ℕ). get_or row j 0) (row_at-rows_of height width cells i lt)
+    ∙ get_or-take width (drop (i * width) cells) j 0 in_row
+    ∙ get_or-drop (i * width) cells j 0
+
+cell_at_small : (height width : ℕ) (cells : List ℕ) (limit : ℕ) → length cells ≡ height * width → 0 < limit → ((k : ℕ) → get_or cells k 0 < limit) → (i j : ℕ) → cell_at (rows_of height width cells) i j < limit
+cell_at_small height width cells limit count some small i j =
+    elim (cases_lt i height) [
+      | inl in_rows ↦ elim (cases_lt j width) [
+        | inl in_row ↦ rw (cell_at-rows_of height width cells i j in_rows in_row) (small (i * width + j))
+        | inr past ↦ rw (get_or_past (row_at (rows_of height width cells) i) j 0 (omega (arith, length-row height width cells i count in_rows))) some
+      ]
+      | inr past ↦
+          let none : row_at (rows_of height width cells) i ≡ [] = get_or_past (rows_of height width cells) i [] (omega (arith, length-rows_of height width cells)) in
+          rw none some
+    ]
+
+pub is_picture : (height width : ℕ) (cells : List ℕ) → AreCells height width cells → IsPicture (rows_of height width cells)
+is_picture height width cells is =
+    let rows = rows_of height width cells in
+    let tall = length-rows_of height width cells in
+    let wide : width_of rows ≡ width = length-row height width cells 0 is.count is.has_row in
+    record {
+      has_row = omega (arith, tall, is.has_row);
+      rows_fit = omega (arith, tall, is.rows_fit);
+      has_column = omega (arith, wide, is.has_column);
+      columns_fit = omega (arith, wide, is.columns_fit);
+      rectangular = λ i lt. length-row height width cells i is.count (omega (arith, tall, lt)) ∙ sym wide;
+      colours = cell_at_small height width cells 16 is.count (omega arith) is.colours;
+    }
+
+-- what is known of rows that a flat list makes
+pub record Facts (height width : ℕ) (cells : List ℕ) (rows : List (List ℕ)) : Type 0 where
+  pub tall : length rows ≡ height
+  pub wide : width_of rows ≡ width
+  pub picture : IsPicture rows
+  pub cell : (i j : ℕ) → i < height → j < width → cell_at rows i j ≡ get_or cells (i * width + j) 0
+
+pub facts : (height width : ℕ) (cells : List ℕ) (rows : List (List ℕ)) → rows_of height width cells ≡ rows → AreCells height width cells → Facts height width cells rows
+facts height width cells rows e is = subst (Facts height width cells) e (record {
+  tall = length-rows_of height width cells;
+  wide = length-row height width cells 0 is.count is.has_row;
+  picture = is_picture height width cells is;
+  cell = cell_at-rows_of height width cells;
+})
+
+-- ---- lines
+
+pub row_is_spaced : (height width : ℕ) (cells : List ℕ) (i : ℕ) → length cells ≡ height * width → i < height → spaced cells (i * width) 1 width ≡ row_at (rows_of height width cells) i
+row_is_spaced height width cells i count lt =
+    ext_get_or 0 _ _ (length-spaced cells (i * width) 1 width ∙ sym (length-row height width cells i count lt))
+    (λ j in_row.
+    let in_width : j < width = omega (arith, in_row, length-spaced cells (i * width) 1 width) in
+    get_or-spaced cells (i * width) 1 width j in_width ∙ ap (λ k. get_or cells k 0) (omega arith) ∙ sym (cell_at-rows_of height width cells i j lt in_width))
+
+pub column_is_spaced : (height width : ℕ) (cells : List ℕ) (j : ℕ) → j < width → spaced cells j width height ≡ map (λ (row : List ℕ). get_or row j 0) (rows_of height width cells)
+column_is_spaced height width cells j in_row =
+    ext_get_or 0 _ _ (length-spaced cells j width height ∙ sym (length-map (rows_of height width cells) (λ (row : List ℕ). get_or row j 0) ∙ length-rows_of height width cells))
+    (λ i in_rows.
+    let in_height : i < height = omega (arith, in_rows, length-spaced cells j width height) in
+    get_or-spaced cells j width height i in_height ∙ ap (λ k. get_or cells k 0) (omega arith) ∙ sym (cell_at-rows_of height width cells i j in_height in_row)
+    ∙ sym (get_or-map (λ (row : List ℕ). get_or row j 0) (rows_of height width cells) i [] 0 (omega (arith, length-rows_of height width cells))))
+
+-- ---- one cell changed
+
+pub rows_of-set : (height width : ℕ) (cells : List ℕ) (i j x : ℕ) → i < height → j < width → rows_of height width (set cells (i * width + j) x) ≡ with_cell (rows_of height width cells) i j x
+rows_of-set zero width cells i j x lt in_row = absurd (omega (arith, lt))
+rows_of-set (suc height) width cells zero j x lt in_row =
+    let at : 0 * width + j ≡ j = omega arith in
+    rw (at, take-set-lt width cells j x in_row, drop-set-lt width cells j x in_row) refl
+rows_of-set (suc height) width cells (suc i) j x lt in_row =
+    let at : suc i * width + j ≡ width + (i * width + j) = omega arith in
+    let later : width ≤ width + (i * width + j) = omega arith in
+    rw (at, take-set-le width cells (width + (i * width + j)) x later, drop-set-add width cells (i * width + j) x)
+    (ap (λ (rows : List (List ℕ)). take width cells ∷ rows) (rows_of-set height width (drop width cells) i j x (omega (arith, lt)) in_row))
+
+pub are_cells_set : (height width : ℕ) (cells : List ℕ) (k x : ℕ) → AreCells height width cells → x < 16 → AreCells height width (set cells k x)
+are_cells_set height width cells k x is small = record {
+  has_row = is.has_row;
+  rows_fit = is.rows_fit;
+  has_column = is.has_column;
+  columns_fit = is.columns_fit;
+  count = length-set cells k x ∙ is.count;
+  colours = λ n. elim (cases_eq n k) [
+    | inl e ↦ elim (cases_lt k (length cells)) [
+      | inl lt ↦ rw (e, get_or-set_same cells k x 0 lt) small
+      | inr past ↦ rw (get_or_past (set cells k x) n 0 (omega (arith, length-set cells k x, e))) (omega arith)
+    ]
+    | inr other ↦ rw (get_or-set_other cells k n x 0 other) (is.colours n)
+  ];
+}
+
+-- ---- all background, and equal rows
+
+pub rows_of-replicate : (height width : ℕ) → rows_of height width (replicate (height * width) 0) ≡ replicate height (replicate width 0)
+rows_of-replicate zero width = refl
+rows_of-replicate (suc height) width =
+    let more : suc height * width ≡ width + height * width = omega arith in
+    let room : width ≤ width + height * width = omega arith in
+    let rest : width + height * width - width ≡ height * width = omega arith in
+    rw (more, take-replicate {X = ℕ} width (width + height * width) 0 room, drop-replicate {X = ℕ} width (width + height * width) 0, rest)
+    (ap (λ (rows : List (List ℕ)). replicate width 0 ∷ rows) (rows_of-replicate height width))
+
+pub same_cells : (height width : ℕ) (a b : List ℕ) → length a ≡ height * width → length b ≡ height * width → rows_of height width a ≡ rows_of height width b → a ≡ b
+same_cells zero width [] [] la lb e = refl
+same_cells zero width (x ∷ a) b la lb e = absurd (omega (arith, la))
+same_cells zero width [] (x ∷ b) la lb e = absurd (omega (arith, lb))
+same_cells (suc height) width a b la lb e =
+    let heads : take width a ≡ take width b = cc in
+    let tails : rows_of height width (drop width a) ≡ rows_of height width (drop width b) = cc in
+    let rest = same_cells height width (drop width a) (drop width b) (omega (arith, length-drop width a, la)) (omega (arith, length-drop width b, lb)) tails in
+    sym (take-append-drop width a) ∙ ap (λ (xs : List ℕ). xs ++ drop width a) heads ∙ ap (λ (xs : List ℕ). take width b ++ xs) rest ∙ take-append-drop width b
+
+-- ---- equal pictures
+
+module _ (h w h' w' : ℕ) (a b : List ℕ) (rows rows' : List (List ℕ)) (e : rows_of h w a ≡ rows) (e' : rows_of h' w' b ≡ rows') (is : AreCells h w a) (is' : AreCells h' w' b) where
+  -- equal sizes: the cells decide
+  pub same_when : h ≡ h' → w ≡ w' → (r : Bool) → r ≡ pointwise eqb a b → (IsTrue r → rows ≡ rows') × (rows ≡ rows' → IsTrue r)
+  same_when p q r test =
+      let decides = slice_eq-Decides Decides-eqb a b r test in (
+        λ (t : IsTrue r). sym e ∙ ap (λ n. rows_of n w a) p ∙ ap (λ n. rows_of h' n a) q ∙ ap (rows_of h' w') (decides.0 t) ∙ e',
+        λ (s : rows ≡ rows'). decides.1 (same_cells h' w' a b (is.count ∙ ap (λ n. n * w) p ∙ ap (λ n. h' * n) q) is'.count (ap (λ n. rows_of n w' a) (sym p) ∙ ap (λ n. rows_of h n a) (sym q) ∙ e ∙ s ∙ sym e')),
+      )
+
+  -- equal pictures have equal sizes
+  pub same_sizes : rows ≡ rows' → (h ≡ h') × (w ≡ w')
+  same_sizes s =
+      let f = facts h w a rows e is in
+      let f' = facts h' w' b rows' e' is' in
+      (sym f.tall ∙ ap length s ∙ f'.tall, sym f.wide ∙ ap width_of s ∙ f'.wide)
+
+-- a line of a picture whose rows lie in a flat list
+pub row_of_picture : (height width : ℕ) (cells : List ℕ) (rows : List (List ℕ)) (line : LineId) → rows_of height width cells ≡ rows → AreCells height width cells → line.axis ≡ Across → HasLine rows line
+    → spaced cells (line.at * width) 1 width ≡ line_of rows line
+row_of_picture height width cells rows line e is across has =
+    let f = facts height width cells rows e is in
+    let inside : line.at < height = omega (arith, f.tall, subst (λ axis. line.at < lines_along axis rows) across has) in
+    row_is_spaced height width cells line.at is.count inside
+    ∙ ap (λ grid. line_along Across line.at grid) e
+    ∙ ap (λ axis. line_along axis line.at rows) (sym across)
+
+pub column_of_picture : (height width : ℕ) (cells : List ℕ) (rows : List (List ℕ)) (line : LineId) → rows_of height width cells ≡ rows → AreCells height width cells → line.axis ≡ Down → HasLine rows line
+    → spaced cells line.at width height ≡ line_of rows line
+column_of_picture height width cells rows line e is down has =
+    let f = facts height width cells rows e is in
+    let inside : line.at < width = omega (arith, f.wide, subst (λ axis. line.at < lines_along axis rows) down has) in
+    column_is_spaced height width cells line.at inside
+    ∙ ap (λ grid. line_along Down line.at grid) e
+    ∙ ap (λ axis. line_along axis line.at rows) (sym down)
+
+pub ruleset flat = (length-rows_of, place_inside, rows_of-replicate)

@@ -1,0 +1,52 @@
+-- What is said of documents: each cell has a colour of the palette, and the ordered form.
+use Rattle.std.specs.Prelude.{ℕ, ◌<◌, List, [], ◌∷◌, ◌++◌, length, map, unwrap_or, slice_index_or, if◌then◌else◌}
+use Rattle.std.specs.List.{list_any, flat_map}
+use Rattle.picture.specs.declared.rgb.Rgb.{Rgb}
+use Rattle.picture.specs.Palette.{Colours, rgb_eq, place_of}
+use Rattle.picture.specs.Rows.{width_of, cell_at}
+use Rattle.picture.specs.CellSet.{HasCell}
+
+-- each cell has a number that the palette has
+abbrev pub AreColoured : List (List ℕ) → Colours → Type 0
+AreColoured rows colours = (i j : ℕ) → cell_at rows i j < length colours.triples
+
+-- each given is a cell of the picture
+abbrev pub AreInside : List ℕ → List (List ℕ) → Type 0
+AreInside givens rows = (i j : ℕ) → HasCell givens i j → (i < length rows) × (j < width_of rows)
+
+-- a document as its parts: the colours by number, the rows of cells, and the set of givens
+pub record Content : Type 0 where
+  pub colours : Colours
+  pub rows : List (List ℕ)
+  pub givens : List ℕ
+
+-- the background of a list of colours
+abbrev pub first_of : List Rgb → Rgb
+first_of triples = slice_index_or triples 0 (record { r = 0; g = 0; b = 0 })
+
+-- the triples of a list of cells
+abbrev pub triples_of : List Rgb → List ℕ → List Rgb
+triples_of triples cells = map (λ k. slice_index_or triples k (first_of triples)) cells
+
+-- the colours known, and then those of a list of cells that are not yet among them, by first appearance
+abbrev pub seen_after : List Rgb → List Rgb → List Rgb
+seen_after known [] = known
+seen_after known (t ∷ cells) = if list_any (rgb_eq t) known then seen_after known cells else seen_after (known ++ t ∷ []) cells
+
+-- the number of a triple among colours that have it
+abbrev pub number_among : List Rgb → Rgb → ℕ
+number_among triples t = unwrap_or (place_of t triples) 0
+
+-- the colours of a picture by first appearance in row order behind the background, with no colour that no cell has
+abbrev pub ordered_triples : List Rgb → List (List ℕ) → List Rgb
+ordered_triples triples rows = seen_after (first_of triples ∷ []) (flat_map (triples_of triples) rows)
+
+-- the same picture with its colours numbered so
+abbrev pub ordered_of : Content → Content
+ordered_of d =
+    let triples = ordered_triples d.colours.triples d.rows in
+    record {
+      colours = record { maxval = d.colours.maxval; triples = triples };
+      rows = map (λ row. map (number_among triples) (triples_of d.colours.triples row)) d.rows;
+      givens = d.givens;
+    }

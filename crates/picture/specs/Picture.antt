@@ -1,0 +1,22 @@
+-- A picture as its list of rows, and how the rows lie in one flat list of cells.
+use Rattle.std.specs.Prelude.{◌≡◌, ℕ, ◌*◌, ◌<◌, ◌≤◌, List, length, slice_index}
+use Rattle.picture.specs.declared.picture.TheConstants.{MAX_SIDE, MAX_COLOURS}
+use Rattle.picture.specs.Rows.{width_of, row_at, cell_at}
+
+-- what every picture is: 1 to 120 rows of 1 to 120 cells, each with one of 16 colours
+pub record IsPicture (rows : List (List ℕ)) : Type 0 where
+  pub has_row : 0 < length rows
+  pub rows_fit : length rows ≤ MAX_SIDE
+  pub has_column : 0 < width_of rows
+  pub columns_fit : width_of rows ≤ MAX_SIDE
+  pub rectangular : (i : ℕ) → i < length rows → length (row_at rows i) ≡ width_of rows
+  pub colours : (i j : ℕ) → cell_at rows i j < MAX_COLOURS
+
+-- what a picture's cells are, row after row
+pub record AreCells (height width : ℕ) (cells : List ℕ) : Type 0 where
+  pub has_row : 0 < height
+  pub rows_fit : height ≤ MAX_SIDE
+  pub has_column : 0 < width
+  pub columns_fit : width ≤ MAX_SIDE
+  pub count : length cells ≡ height * width
+  pub colours : (k : ℕ) → slice_index cells k < MAX_COLOURS

@@ -1,0 +1,125 @@
+//! A row or a column, borrowed from a picture. Nothing is copied.
+
+ghost use Rattle.std.specs.Prelude.{◌≡◌, ℕ, ◌+◌, ◌*◌, ◌-◌, ◌<◌, ◌≤◌, ◌↔◌, List, length, slice_index, IsTrue};
+ghost use Rattle.std.specs.Iterator.{YieldsFirst, YieldsLast, item_count};
+ghost use Rattle.picture.specs.Line.{spaced, IsLine, IsSpaced};
+
+use std::marker::Model;
+
+/// The cells of a row from the left, or of a column from the top.
+#[derive(Drop)]
+pub struct LineView<'a> {
+    cells: &'a [u8],
+    start: usize,
+    step: usize,
+    count: usize,
+}
+
+impl<'a> Model for LineView<'a> {
+    ghost Value = { List ℕ };
+
+    ghost view = { λ v. spaced v.cells.now v.start v.step v.count };
+
+    ghost invariant = { λ v. IsSpaced v.cells.now v.start v.step v.count };
+}
+
+#[tactic(auto, using(crate::proofs::LineLemmas::spacing))]
+impl<'a> LineView<'a> {
+    // The cells at `start`, `start + step` and so on.
+    pub(crate) fn new(cells: &'a [u8], start: usize, step: usize, count: usize) -> LineView<'a>
+        requires { IsSpaced cells.now start step count }
+        ensures { result ≡ spaced cells.now start step count }
+    {
+        LineView {
+            cells,
+            start,
+            step,
+            count,
+        }
+    }
+
+    /// How many cells the line has, from 1 to 120.
+    pub fn len(&self) -> usize
+        ensures value { result ≡ length self.now }
+        ensures line { IsLine self.now }
+    {
+        self.count
+    }
+
+    /// Whether the line has no cell.
+    pub fn is_empty(&self) -> bool
+        ensures { IsTrue result ↔ (length self.now ≡ 0) }
+    {
+        self.count == 0
+    }
+
+    /// The colour of the cell at a place from 0.
+    pub fn get(&self, i: usize) -> u8
+        requires { i < length self.now }
+        ensures { result ≡ slice_index self.now i }
+    {
+        self.cells[self.start + i * self.step]
+    }
+
+    /// The colours of the cells in order.
+    pub fn iter(&self) -> LineIter<'a>
+        ensures rest { result ≡ self.now }
+        ensures line { IsLine self.now }
+    {
+        LineIter {
+            cells: self.cells,
+            start: self.start,
+            step: self.step,
+            count: self.count,
+        }
+    }
+}
+
+/// The colours of a line's cells, from both ends.
+#[derive(Drop)]
+pub struct LineIter<'a> {
+    cells: &'a [u8],
+    start: usize,
+    step: usize,
+    count: usize,
+}
+
+impl<'a> Model for LineIter<'a> {
+    ghost Value = { List ℕ };
+
+    ghost view = { λ v. spaced v.cells.now v.start v.step v.count };
+
+    ghost invariant = { λ v. IsSpaced v.cells.now v.start v.step v.count };
+}
+
+#[tactic(auto, using(crate::proofs::LineLemmas::spacing))]
+impl<'a> Iterator for LineIter<'a> {
+    type Item = u8;
+
+    ghost next_gives = { YieldsFirst (λ s. s) };
+
+    ghost remaining = { item_count (λ s. s) };
+
+    fn next(&mut self) -> Option<u8> {
+        if self.count == 0 {
+            return None;
+        }
+        let cell = self.cells[self.start];
+        self.count -= 1;
+        self.start += self.step;
+        Some(cell)
+    }
+}
+
+#[tactic(auto, using(crate::proofs::LineLemmas::spacing))]
+impl<'a> DoubleEndedIterator for LineIter<'a> {
+    ghost next_back_gives = { YieldsLast (λ s. s) };
+
+    fn next_back(&mut self) -> Option<u8> {
+        if self.count == 0 {
+            return None;
+        }
+        self.count -= 1;
+        Some(self.cells[self.start + self.count * self.step])
+    }
+}

@@ -1,0 +1,126 @@
+//! A picture: rows of cells, each with a colour by its number.
+
+ghost use Rattle.std.specs.Prelude.{◌≡◌, ℕ, ◌*◌, ◌<◌, ◌≤◌, ◌↔◌, List, length, replicate, IfOk, IsTrue};
+ghost use Rattle.picture.specs.Rows.{rows_of, width_of, cell_at, with_cell, line_of, HasLine};
+ghost use Rattle.picture.specs.Picture.{IsPicture, AreCells};
+
+use crate::line_id::{Axis, LineId};
+use crate::line_view::LineView;
+use std::alloc::{AllocError, Global};
+use std::marker::Model;
+
+/// How many rows and how many columns a picture has at the most.
+pub const MAX_SIDE: u8 = 120;
+
+/// How many colours there are, the background among them.
+pub const MAX_COLOURS: u8 = 16;
+
+/// Rows of cells. A cell has a colour's number from 0 to 15, and 0 is the background.
+#[derive(Drop)]
+pub struct Picture {
+    height: u8,
+    width: u8,
+    cells: Vec<u8>,
+}
+
+impl Model for Picture {
+    ghost Value = { List (List ℕ) };
+
+    ghost view = { λ p. rows_of p.height p.width p.cells.items };
+
+    ghost invariant = { λ p. AreCells p.height p.width p.cells.items };
+}
+
+#[tactic(auto, using(crate::proofs::FlatLemmas::flat))]
+impl Picture {
+    /// A picture that is all background, of 1 to 120 rows and columns.
+    pub fn blank(alloc: Global, height: u8, width: u8) -> Result<Picture, AllocError>
+        requires has_row { 0 < height }
+        requires rows_fit { height ≤ MAX_SIDE }
+        requires has_column { 0 < width }
+        requires columns_fit { width ≤ MAX_SIDE }
+        ensures { IfOk result (λ p. p ≡ replicate height (replicate width 0)) }
+    {
+        let cells = vec![in alloc; 0u8; height as usize * width as usize]?;
+        Ok(Picture::from_cells(height, width, cells))
+    }
+
+    /// The picture of these cells, row after row from the top and each from the left.
+    pub fn from_cells(height: u8, width: u8, cells: Vec<u8>) -> Picture
+        requires { AreCells height width cells.items }
+        ensures { result ≡ rows_of height width cells.items }
+    {
+        Picture {
+            height,
+            width,
+            cells,
+        }
+    }
+
+    /// A second picture with the same cells.
+    pub fn copy(&self) -> Result<Picture, AllocError>
+        ensures { IfOk result (λ p. p ≡ self.now) }
+    {
+        let cells = Vec::from_slice(*self.cells.allocator(), &self.cells)?;
+        Ok(Picture::from_cells(self.height, self.width, cells))
+    }
+
+    /// How many rows it has.
+    pub fn height(&self) -> u8
+        ensures value { result ≡ length self.now }
+        ensures picture { IsPicture self.now }
+    {
+        self.height
+    }
+
+    /// How many columns it has.
+    pub fn width(&self) -> u8
+        ensures value { result ≡ width_of self.now }
+        ensures picture { IsPicture self.now }
+    {
+        self.width
+    }
+
+    /// The colour of the cell at a row and a column, from 0.
+    pub fn cell(&self, row: u8, col: u8) -> u8
+        requires in_rows { row < length self.now }
+        requires in_columns { col < width_of self.now }
+        ensures value { result ≡ cell_at self.now row col }
+        ensures picture { IsPicture self.now }
+    {
+        self.cells[row as usize * self.width as usize + col as usize]
+    }
+
+    /// Gives the cell at a row and a column a colour.
+    pub fn set(&mut self, row: u8, col: u8, colour: u8)
+        requires in_rows { row < length self.old }
+        requires in_columns { col < width_of self.old }
+        requires in_colours { colour < MAX_COLOURS }
+        ensures { self.new ≡ with_cell self.old row col colour }
+    {
+        self.cells[row as usize * self.width as usize + col as usize] = colour;
+    }
+
+    /// A row or a column. Nothing is copied.
+    pub fn line(&self, line: LineId) -> LineView<'_>
+        requires { HasLine self.now line }
+        ensures value { result ≡ line_of self.now line }
+        ensures picture { IsPicture self.now }
+    {
+        let width = self.width as usize;
+        let at = line.at as usize;
+        match line.axis {
+            Axis::Across => LineView::new(&self.cells, at * width, 1, width),
+            Axis::Down => LineView::new(&self.cells, at, width, self.height as usize),
+        }
+    }
+
+    /// Whether two pictures have the same size and the same cells.
+    pub fn same(&self, other: &Picture) -> bool
+        ensures { IsTrue result ↔ (self.now ≡ other.now) }
+    {
+        self.height == other.height
+            && self.width == other.width
+            && self.cells.as_slice() == other.cells.as_slice()
+    }
+}
