@@ -1,5 +1,7 @@
-pub mod WritingLemmas
-pub mod LineLemmas
-pub mod FlatLemmas
-pub mod PaletteLemmas
+pub mod BitLemmas
 pub mod CellSetLemmas
+pub mod FlatLemmas
+pub mod LineLemmas
+pub mod LineSetLemmas
+pub mod PaletteLemmas
+pub mod WritingLemmas

@@ -2,6 +2,7 @@ pub mod CellSet
 pub mod Content
 pub mod Document
 pub mod Line
+pub mod LineSet
 pub mod Palette
 pub mod Picture
 pub mod Reading

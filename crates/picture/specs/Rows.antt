@@ -1,5 +1,5 @@
 -- A grid of numbers as a list of rows. Pictures are grids of colours.
-use Rattle.std.specs.Prelude.{ℕ, zero, suc, ◌<◌, List, [], ◌∷◌, length, take, drop, map, slice_index, slice_index_or, slice_set}
+use Rattle.std.specs.Prelude.{ℕ, zero, suc, ◌<◌, List, [], ◌∷◌, length, take, drop, map, slice_index, slice_index_or, slice_set, insert, remove, swap, replicate}
 use Rattle.picture.specs.declared.line_id.Axis.{Axis}
 use Rattle.picture.specs.declared.line_id.Axis.TheVariants.{Across, Down}
 use Rattle.picture.specs.declared.line_id.LineId.{LineId}
@@ -41,3 +41,24 @@ lines_along Down rows = width_of rows
 -- the line is one of the grid's
 abbrev pub HasLine : List (List ℕ) → LineId → Type 0
 HasLine rows line = line.at < lines_along line.axis rows
+
+-- a line of background stands at the place, and later lines have moved up by one
+abbrev pub with_line : Axis → ℕ → List (List ℕ) → List (List ℕ)
+with_line Across i rows = insert rows i (replicate (width_of rows) 0)
+with_line Down j rows = map (λ row. insert row j 0) rows
+
+abbrev pub line_inserted : List (List ℕ) → LineId → List (List ℕ)
+line_inserted rows line = with_line line.axis line.at rows
+
+-- the line is gone, and later lines have moved down by one
+abbrev pub without_line : Axis → ℕ → List (List ℕ) → List (List ℕ)
+without_line Across i rows = remove rows i
+without_line Down j rows = map (λ row. remove row j) rows
+
+abbrev pub line_deleted : List (List ℕ) → LineId → List (List ℕ)
+line_deleted rows line = without_line line.axis line.at rows
+
+-- two lines are exchanged
+abbrev pub lines_swapped : Axis → ℕ → ℕ → List (List ℕ) → List (List ℕ)
+lines_swapped Across i j rows = swap rows i j
+lines_swapped Down i j rows = map (λ row. swap row i j) rows

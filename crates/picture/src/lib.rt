@@ -4,6 +4,7 @@
 mod cell_set;
 mod document;
 mod line_id;
+mod line_set;
 mod line_view;
 mod palette;
 mod picture;
@@ -13,8 +14,12 @@ mod writing;
 pub use cell_set::CellSet;
 pub use document::Document;
 pub use line_id::{Axis, LineId};
+pub use line_set::LineSet;
 pub use line_view::{LineIter, LineView};
 pub use palette::{Palette, PaletteFault};
 pub use picture::{MAX_COLOURS, MAX_SIDE, Picture};
 pub use rgb::Rgb;
 pub use writing::{WriteFault, send};
+
+#[cfg(test)]
+mod tests;

@@ -1,0 +1,68 @@
+-- One bit of a mask of 120 bits, put in or taken out.
+use Rattle.std.proofs.Common.{◌≡◌, ◌≢◌, ℕ, ◌*◌, ◌%◌, ◌^◌, ◌<◌, sym, ◌∙◌, subst, inl, inr, arith}
+use Rattle.std.specs.Prelude.{IsBitSet, ◌⊎◌, ◌↔◌, bit_and, bit_or}
+use Rattle.std.specs.Int.{w128, bit_not, bit_at}
+use Rattle.std.proofs.lemmas.Bool.{cases_lt, cases_eq}
+use Rattle.std.proofs.lemmas.Nat.{bit_set_by_shift, pow_below, and_le_l, or_lt}
+use Rattle.std.proofs.lemmas.Nat.Bits.{shr_and_one, bit_at_set_same, bit_at_set_other, bit_at_clear_same, bit_at_clear_other, bit_at_above, bit_at-zero}
+
+-- a bit is set exactly where it is 1
+pub set_is_one : (n k : ℕ) → IsBitSet n k ↔ (bit_at n k ≡ 1)
+set_is_one n k =
+    let by = bit_set_by_shift n k in
+    ((λ is. sym (shr_and_one n k) ∙ by.1 is), (λ one. by.0 (shr_and_one n k ∙ one)))
+
+pub zero_has_none : (k : ℕ) → IsBitSet 0 k → ⊥
+zero_has_none k is = let one = (set_is_one 0 k).0 is in let none = bit_at-zero k in absurd (omega arith)
+
+-- a bit that two numbers share
+same_bit : (m n i : ℕ) → bit_at m i ≡ bit_at n i → IsBitSet m i ↔ IsBitSet n i
+same_bit m n i e = ((λ is. (set_is_one n i).1 (sym e ∙ (set_is_one m i).0 is)), (λ is. (set_is_one m i).1 (e ∙ (set_is_one n i).0 is)))
+
+cleared_bit : (n k i : ℕ) → n < 2 ^ 120 → k < 120 → i ≢ k → bit_at (bit_and n (bit_not w128 (1 * 2 ^ k % 2 ^ 128))) i ≡ bit_at n i
+cleared_bit n k i small inside other =
+    elim (cases_lt i 128) [
+      | inl lt ↦ bit_at_clear_other w128 n k (omega (arith, inside)) i lt other
+      | inr past ↦
+          let mask = bit_and n (bit_not w128 (1 * 2 ^ k % 2 ^ 128)) in
+          bit_at_above mask 120 i (omega (arith, small, and_le_l n (bit_not w128 (1 * 2 ^ k % 2 ^ 128)))) (omega (arith, past)) ∙ sym (bit_at_above n 120 i small (omega (arith, past)))
+    ]
+
+-- what a mask with one bit cleared has
+pub cleared : (n k i : ℕ) → n < 2 ^ 120 → k < 120 → IsBitSet (bit_and n (bit_not w128 (1 * 2 ^ k % 2 ^ 128))) i ↔ (IsBitSet n i × (i ≡ k → ⊥))
+cleared n k i small inside =
+    let mask = bit_and n (bit_not w128 (1 * 2 ^ k % 2 ^ 128)) in
+    elim (cases_eq i k) [
+      | inl e ↦
+          let none : bit_at mask i ≡ 0 = subst (λ j. bit_at mask j ≡ 0) (sym e) (bit_at_clear_same w128 n k (omega (arith, inside))) in
+          ((λ is. let one = (set_is_one mask i).0 is in absurd (omega (arith, one, none))), (λ both. absurd (both.1 e)))
+      | inr other ↦
+          let same = same_bit mask n i (cleared_bit n k i small inside other) in
+          ((λ is. (same.0 is, other)), (λ both. same.1 both.0))
+    ]
+
+-- what a mask with one bit set has
+pub raised : (n k i : ℕ) → k < 120 → IsBitSet (bit_or n (1 * 2 ^ k % 2 ^ 128)) i ↔ (IsBitSet n i ⊎ (i ≡ k))
+raised n k i inside =
+    let mask = bit_or n (1 * 2 ^ k % 2 ^ 128) in
+    elim (cases_eq i k) [
+      | inl e ↦
+          let one : bit_at mask i ≡ 1 = subst (λ j. bit_at mask j ≡ 1) (sym e) (bit_at_set_same w128 n k (omega (arith, inside))) in
+          ((λ is. inr e), (λ _. (set_is_one mask i).1 one))
+      | inr other ↦
+          let same = same_bit mask n i (bit_at_set_other w128 n k (omega (arith, inside)) i other) in
+          ((λ is. inl (same.0 is)), (λ either. elim either [ inl is ↦ same.1 is | inr e ↦ absurd (other e) ]))
+    ]
+
+-- either way it keeps its width
+pub raised_small : (n k : ℕ) → n < 2 ^ 120 → k < 120 → bit_or n (1 * 2 ^ k % 2 ^ 128) < 2 ^ 120
+raised_small n k small inside = or_lt 120 n (1 * 2 ^ k % 2 ^ 128) small bit_small
+  where
+    grows : 2 ^ k < 2 ^ 120
+    grows = pow_below k 120 inside
+
+    bit_small : 1 * 2 ^ k % 2 ^ 128 < 2 ^ 120
+    bit_small = omega (arith, grows)
+
+pub cleared_small : (n k : ℕ) → n < 2 ^ 120 → bit_and n (bit_not w128 (1 * 2 ^ k % 2 ^ 128)) < 2 ^ 120
+cleared_small n k small = omega (arith, and_le_l n (bit_not w128 (1 * 2 ^ k % 2 ^ 128)), small)

@@ -1,0 +1,87 @@
+//! A set of names of rows and columns, in a fixed table.
+
+ghost use Rattle.std.specs.Prelude.{◌≡◌, ◌<◌, ◌↔◌, IsTrue};
+ghost use Rattle.picture.specs.LineSet.{HasName, PutsName, TakesOutName, name_count, no_names};
+
+use crate::line_id::{Axis, LineId};
+use crate::picture::MAX_SIDE;
+use std::marker::Model;
+
+/// A set of the 240 names of rows and columns, each at a place from 0 to 119. It takes no memory beside itself.
+#[derive(Clone, Copy)]
+pub struct LineSet {
+    rows: u128,
+    columns: u128,
+}
+
+impl Model for LineSet {
+    ghost use Rattle.picture.specs.LineSet.{Lines, IsLineSet};
+
+    ghost Value = { Lines };
+
+    ghost view = { λ s. record { rows = s.rows; columns = s.columns } };
+
+    ghost invariant = { λ s. IsLineSet (record { rows = s.rows; columns = s.columns }) };
+
+    ghost inverse = { λ lines. record { rows = lines.rows; columns = lines.columns } };
+}
+
+impl LineSet {
+    /// The set without a name.
+    pub fn empty() -> LineSet
+        ensures { result ≡ no_names }
+    {
+        LineSet {
+            rows: 0,
+            columns: 0,
+        }
+    }
+
+    /// Whether the set has a name.
+    pub fn has(&self, line: LineId) -> bool
+        requires { line.at < MAX_SIDE }
+        ensures { IsTrue result ↔ HasName self.now line }
+    {
+        let mask = match line.axis {
+            Axis::Across => self.rows,
+            Axis::Down => self.columns,
+        };
+        mask & (1 << line.at) != 0
+    }
+
+    /// Puts a name into the set, which may have it already.
+    pub fn put(&mut self, line: LineId)
+        requires { line.at < MAX_SIDE }
+        ensures { PutsName self.old self.new line }
+    {
+        match line.axis {
+            Axis::Across => self.rows |= 1 << line.at,
+            Axis::Down => self.columns |= 1 << line.at,
+        }
+    }
+
+    /// Takes a name out of the set, where the set has it.
+    pub fn take_out(&mut self, line: LineId)
+        requires { line.at < MAX_SIDE }
+        ensures { TakesOutName self.old self.new line }
+    {
+        match line.axis {
+            Axis::Across => self.rows &= !(1 << line.at),
+            Axis::Down => self.columns &= !(1 << line.at),
+        }
+    }
+
+    /// How many names the set has.
+    pub fn len(&self) -> usize
+        ensures { result ≡ name_count self.now }
+    {
+        self.rows.count_ones() as usize + self.columns.count_ones() as usize
+    }
+
+    /// Whether the set has no name.
+    pub fn is_empty(&self) -> bool
+        ensures { IsTrue result ↔ (name_count self.now ≡ 0) }
+    {
+        self.len() == 0
+    }
+}
