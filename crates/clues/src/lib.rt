@@ -2,5 +2,7 @@
 #![tactic(auto)]
 
 mod block;
+mod clue;
 
 pub use block::Block;
+pub use clue::Clue;
