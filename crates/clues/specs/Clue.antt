@@ -37,3 +37,7 @@ pub record IsBlock (b : Block) : Type 0 where
 
 abbrev pub IsClue : List Block → Type 0
 IsClue blocks = All IsBlock blocks
+
+-- a run as a list of blocks: none where it is background
+abbrev pub blocks_of : ℕ → ℕ → List Block
+blocks_of len colour = if colour == 0 then [] else (block len colour ∷ [])

@@ -3,6 +3,11 @@
 
 mod block;
 mod clue;
+mod clue_book;
+mod counting;
+mod matching;
 
 pub use block::Block;
 pub use clue::Clue;
+pub use clue_book::ClueBook;
+pub use counting::clue_of;
