@@ -1,5 +1,5 @@
 -- The clues of the lines along an axis, one after another.
-use Rattle.std.proofs.Common.{◌≡◌, ℕ, ◌+◌, ◌<◌, List, [], ◌∷◌, ◌++◌, length, get_or, map, refl, ◌≢◌, take, ap, sym, ◌∙◌, zero-add}
+use Rattle.std.proofs.Common.{◌≡◌, ℕ, ◌+◌, ◌<◌, List, [], ◌∷◌, ◌++◌, length, get_or, refl, ◌≢◌, take, ap, sym, ◌∙◌, zero-add}
 use Rattle.std.proofs.lemmas.List.{take_more}
 use Rattle.std.proofs.lemmas.List.FromFn.{length-map-range_with_len, get_or-map-range_with_len, map-range_with_len_more}
 use Rattle.picture.specs.declared.line_id.Axis.{Axis}
@@ -8,7 +8,7 @@ use Rattle.picture.specs.declared.line_id.LineId.{LineId}
 use Rattle.picture.specs.Rows.{line_along, line_of, lines_along, HasLine}
 use Rattle.clues.specs.declared.block.Block.{Block}
 use Rattle.clues.specs.Clue.{clue_of}
-use Rattle.clues.specs.ClueBook.{Clues, clues_along, clue_at, HasClue, first_clues, clues_of}
+use Rattle.clues.specs.ClueBook.{clues_along, clue_at, first_clues, clues_of}
 
 pub first_clues-none : (axis : Axis) (picture : List (List ℕ)) → first_clues axis picture 0 ≡ []
 unfolding first_clues

@@ -1,8 +1,7 @@
 -- The clue of a line that begins with a run.
-use Rattle.std.proofs.Common.{◌≡◌, ◌≢◌, ℕ, zero, suc, ◌+◌, ◌<◌, ◌≤◌, Bool, true, false, cond, eqb, List, [], ◌∷◌, ◌++◌, length, replicate, get_or, refl, sym, ap, ◌∙◌, add-one, arith, append_assoc, ◌↔◌}
+use Rattle.std.proofs.Common.{◌≡◌, ◌≢◌, ℕ, zero, suc, ◌+◌, ◌<◌, true, false, cond, eqb, List, [], ◌∷◌, ◌++◌, length, replicate, get_or, refl, sym, ap, ◌∙◌, add-one, arith, append_assoc, ◌↔◌}
 use Rattle.std.proofs.lemmas.Bool.{eq-eqb}
 use Rattle.std.proofs.lemmas.List.{append_cancel_left, nil_from_length}
-use Rattle.std.specs.List.{All}
 use Rattle.std.proofs.lemmas.List.Elements.{All-nil, All-cons, All-head, All-tail}
 use Rattle.clues.specs.declared.block.Block.{Block}
 use Rattle.clues.specs.Clue.{block, longer, joined, clue_of, blocks_of, IsBlock, IsClue}
@@ -91,9 +90,10 @@ clue_of-clue (suc x ∷ rest) small = joined-clue x rest (clue_of rest) (small 0
 
 -- where the line ends, the last run has to be all that is left
 pub last_run-matches : (n x : ℕ) (left rest : List Block) → (x ≢ 0 → 0 < n) → left ≡ blocks_of n x ++ rest → (clue_of (replicate n x ++ []) ≡ left) ↔ (length rest ≡ 0)
-last_run-matches n x left rest some e =
-    (λ h. ap length (append_cancel_left (blocks_of n x) rest [] (sym e ∙ (sym h ∙ clue_of-last_run n x some))),
-    λ h. clue_of-last_run n x some ∙ (ap (λ blocks. blocks_of n x ++ blocks) (sym (nil_from_length rest h)) ∙ sym e))
+last_run-matches n x left rest some e = (
+  λ h. ap length (append_cancel_left (blocks_of n x) rest [] (sym e ∙ (sym h ∙ clue_of-last_run n x some))),
+  λ h. clue_of-last_run n x some ∙ (ap (λ blocks. blocks_of n x ++ blocks) (sym (nil_from_length rest h)) ∙ sym e),
+)
 
 pub ruleset matching = (clue_of-run, clue_of-last_run, replicate-more, last_run-matches)
 

@@ -52,14 +52,15 @@ impl ClueBook {
     {
         let rows = copies(&self.rows)?;
         let columns = copies(&self.columns)?;
-        Ok(ClueBook { rows, columns })
+        Ok(ClueBook::from_parts(rows, columns))
     }
 
     /// Whether these are the clues of a picture, which may have another size. No memory is taken.
     pub fn has_clues(&self, picture: &Picture) -> bool
         ensures { IsTrue result ↔ (clues_of picture.now ≡ self.now) }
     {
-        are_clues(&self.rows, picture, Axis::Across) && are_clues(&self.columns, picture, Axis::Down)
+        are_clues(&self.rows, picture, Axis::Across)
+            && are_clues(&self.columns, picture, Axis::Down)
     }
 
     /// How many rows there are, from 1 to 120.

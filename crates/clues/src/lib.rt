@@ -6,6 +6,8 @@ mod clue;
 mod clue_book;
 mod counting;
 mod matching;
+#[cfg(test)]
+mod tests;
 
 pub use block::Block;
 pub use clue::Clue;

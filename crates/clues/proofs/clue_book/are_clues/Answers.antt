@@ -7,12 +7,13 @@ use Rattle.clues.proofs.clue_book.are_clues.Goals as goal
 pub returns-then-not-is_clue_of : goal.returns-then-not-is_clue_of
 returns-then-not-is_clue_of c =
     let decided = rw c.line.ensures.value at c.is_clue_of.ensures in
-    let read = rw c.from-in-loop-at.ensures at c.index-clues-from.is in
-    (λ e. absurd (false≢true e),
-    λ e.
-        absurd
-        (first_clues-differ c.args.axis c.args.picture.now c.args.clues.now _ c.loop-at.at c.index-clues-from.result
-        (omega arith) read (λ same. false≢true (sym c.if-not-is_clue_of.true ∙ decided.1 same)) e))
+    let read = rw c.from-in-loop-at.ensures at c.index-clues-from.is in (
+      λ e. absurd (false≢true e),
+      λ e.
+          absurd
+          (first_clues-differ c.args.axis c.args.picture.now c.args.clues.now _ c.loop-at.at c.index-clues-from.result
+          (omega arith) read (λ same. false≢true (sym c.if-not-is_clue_of.true ∙ decided.1 same)) e),
+    )
 
 -- one more clue is that of its line
 pub loop-at-preserved : goal.loop-at-preserved
