@@ -1,0 +1,2 @@
+pub mod LineClues
+pub mod Runs

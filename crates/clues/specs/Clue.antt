@@ -1,5 +1,6 @@
 -- The clue of a line: its runs of equal cells, without the background.
-use Rattle.std.specs.Prelude.{ℕ, zero, suc, ◌+◌, List, [], ◌∷◌, if◌then◌else◌, ◌==◌, refl, ◌≡◌}
+use Rattle.std.specs.Prelude.{ℕ, zero, suc, ◌+◌, ◌<◌, List, [], ◌∷◌, if◌then◌else◌, ◌==◌, refl, ◌≡◌}
+use Rattle.std.specs.List.{All}
 use Rattle.clues.specs.declared.block.Block.{Block}
 
 abbrev pub block : ℕ → ℕ → Block
@@ -27,3 +28,16 @@ two_colours = refl
 
 one_colour : clue_of (1 ∷ 0 ∷ 1 ∷ []) ≡ block 1 1 ∷ block 1 1 ∷ []
 one_colour = refl
+
+-- a block has a cell, and a colour from 1 to 15
+pub record IsBlock (b : Block) : Type 0 where
+  pub has_cells : 0 < b.len
+  pub has_colour : 0 < b.colour
+  pub in_palette : b.colour < 16
+
+abbrev pub IsClue : List Block → Type 0
+IsClue blocks = All IsBlock blocks
+
+-- a run as a list of blocks: none where it is background
+abbrev pub blocks_of : ℕ → ℕ → List Block
+blocks_of len colour = if colour == 0 then [] else (block len colour ∷ [])

@@ -1,1 +1,2 @@
 pub mod Clue
+pub mod ClueBook

@@ -1,0 +1,147 @@
+//! The clues of all lines of a picture.
+
+ghost use Rattle.std.specs.Prelude.{◌≡◌, ◌↔◌, ◌<◌, ◌≤◌, length, IfOk, IsTrue};
+ghost use Rattle.picture.specs.Rows.{lines_along};
+ghost use Rattle.clues.specs.ClueBook.{clue_at, clues_from, clues_of, first_clues, HasClue, IsBook};
+
+use crate::Clue;
+use crate::counting::clue_of;
+use crate::matching::is_clue_of;
+use picture::{Axis, LineId, MAX_SIDE, Picture};
+use std::alloc::{AllocError, Global};
+use std::marker::Model;
+
+/// The clue of each row, from the top, and of each column, from the left. There are 1 to 120 of both.
+#[derive(Drop)]
+pub struct ClueBook {
+    rows: Vec<Clue>,
+    columns: Vec<Clue>,
+}
+
+impl Model for ClueBook {
+    ghost use Rattle.clues.specs.ClueBook.{Clues, IsBook, clues_from};
+
+    ghost Value = { Clues };
+
+    ghost view = { λ b. clues_from b.rows.items b.columns.items };
+
+    ghost invariant = { λ b. IsBook (clues_from b.rows.items b.columns.items) };
+}
+
+impl ClueBook {
+    /// The clues of a picture's lines.
+    pub fn of(alloc: Global, picture: &Picture) -> Result<ClueBook, AllocError>
+        ensures { IfOk result (λ book. book ≡ clues_of picture.now) }
+    {
+        let rows = clues_along(alloc, picture, Axis::Across)?;
+        let columns = clues_along(alloc, picture, Axis::Down)?;
+        Ok(ClueBook::from_parts(rows, columns))
+    }
+
+    /// The clue book with these clues, of the rows from the top and of the columns from the left. No memory is taken.
+    pub fn from_parts(rows: Vec<Clue>, columns: Vec<Clue>) -> ClueBook
+        requires { IsBook (clues_from rows.items columns.items) }
+        ensures { result ≡ clues_from rows.items columns.items }
+    {
+        ClueBook { rows, columns }
+    }
+
+    /// The same clues once more, in memory of their own.
+    pub fn copy(&self) -> Result<ClueBook, AllocError>
+        ensures { IfOk result (λ book. book ≡ self.now) }
+    {
+        let rows = copies(&self.rows)?;
+        let columns = copies(&self.columns)?;
+        Ok(ClueBook::from_parts(rows, columns))
+    }
+
+    /// Whether these are the clues of a picture, which may have another size. No memory is taken.
+    pub fn has_clues(&self, picture: &Picture) -> bool
+        ensures { IsTrue result ↔ (clues_of picture.now ≡ self.now) }
+    {
+        are_clues(&self.rows, picture, Axis::Across)
+            && are_clues(&self.columns, picture, Axis::Down)
+    }
+
+    /// How many rows there are, from 1 to 120.
+    pub fn height(&self) -> u8
+        ensures value { result ≡ length self.now.rows }
+        ensures book { IsBook self.now }
+    {
+        self.rows.len() as u8
+    }
+
+    /// How many columns there are, from 1 to 120.
+    pub fn width(&self) -> u8
+        ensures value { result ≡ length self.now.columns }
+        ensures book { IsBook self.now }
+    {
+        self.columns.len() as u8
+    }
+
+    /// The clue of a line.
+    pub fn clue(&self, line: LineId) -> &Clue
+        requires { HasClue self.now line }
+        ensures value { result.now ≡ clue_at self.now line }
+        ensures book { IsBook self.now }
+    {
+        let at = usize::from(line.at);
+        match line.axis {
+            Axis::Across => &self.rows[at],
+            Axis::Down => &self.columns[at],
+        }
+    }
+}
+
+#[tactic(auto, using(crate::proofs::LineClues::counting))]
+// The clues of all lines along an axis.
+fn clues_along(alloc: Global, picture: &Picture, axis: Axis) -> Result<Vec<Clue>, AllocError>
+    ensures clues { IfOk result (λ clues. clues.items ≡ first_clues axis picture.now (lines_along axis picture.now)) }
+    ensures fits { IfOk result (λ clues. (0 < length clues.items) × (length clues.items ≤ MAX_SIDE)) }
+{
+    let count = line_count(picture, axis);
+    let mut clues = Vec::with_capacity(alloc, usize::from(count))?;
+    for at in 0..count {
+        clues.push(clue_of(alloc, picture.line(LineId { axis, at }))?)?;
+    }
+    Ok(clues)
+}
+
+// How many lines a picture has along an axis.
+fn line_count(picture: &Picture, axis: Axis) -> u8
+    ensures count { result ≡ lines_along axis picture.now }
+    ensures fits { (0 < result) × (result ≤ MAX_SIDE) }
+{
+    match axis {
+        Axis::Across => picture.height(),
+        Axis::Down => picture.width(),
+    }
+}
+
+// Each clue once more, in memory of its own.
+fn copies(clues: &Vec<Clue>) -> Result<Vec<Clue>, AllocError>
+    ensures { IfOk result (λ copies. copies.items ≡ clues.now.items) }
+{
+    let mut copies = Vec::with_capacity(*clues.allocator(), clues.len())?;
+    for clue in clues {
+        copies.push(clue.copy()?)?;
+    }
+    Ok(copies)
+}
+
+#[tactic(auto, using(crate::proofs::LineClues::counting))]
+// Whether these are the clues of all lines along an axis.
+fn are_clues(clues: &[Clue], picture: &Picture, axis: Axis) -> bool
+    ensures { IsTrue result ↔ (first_clues axis picture.now (lines_along axis picture.now) ≡ clues.now) }
+{
+    let count = line_count(picture, axis);
+    if clues.len() != usize::from(count) {
+        return false;
+    }
+    for at in 0..count {
+        if !is_clue_of(&clues[usize::from(at)], picture.line(LineId { axis, at })) {
+            return false;
+        }
+    }
+    true
+}
