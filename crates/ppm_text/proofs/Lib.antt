@@ -1,0 +1,3 @@
+pub mod Scanning
+pub mod Counting
+pub mod NextNumeral

@@ -1,0 +1,7 @@
+//! Pictures as plain PPM texts (P3): the reader and the writer.
+#![tactic(auto)]
+
+mod fault;
+mod scanner;
+
+pub use fault::PpmFault;
