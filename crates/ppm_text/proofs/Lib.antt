@@ -1,3 +1,4 @@
 pub mod Scanning
 pub mod Counting
 pub mod NextNumeral
+pub mod Caps
