@@ -2,3 +2,4 @@ pub mod Scanning
 pub mod Counting
 pub mod NextNumeral
 pub mod Caps
+pub mod Sending

@@ -2,3 +2,4 @@ pub mod Faults
 pub mod Tokens
 pub mod Numerals
 pub mod Samples
+pub mod Text

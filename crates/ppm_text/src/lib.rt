@@ -4,5 +4,6 @@
 mod fault;
 mod fields;
 mod scanner;
+mod writer;
 
 pub use fault::PpmFault;
