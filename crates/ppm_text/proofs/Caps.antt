@@ -3,6 +3,7 @@ use Rattle.std.proofs.Common.{◌≡◌, ℕ, ◌<◌, ◌≤◌, min, Bool, tru
 use Rattle.std.proofs.lemmas.Bool.{cases_lt}
 use Rattle.std.proofs.lemmas.Bool.Decides.{nat_tests}
 use Rattle.picture.specs.Reading.{◌>>=◌}
+use Rattle.picture.specs.declared.picture.TheConstants.{MAX_SIDE}
 use Rattle.ppm_text.specs.declared.fault.PpmFault.{PpmFault}
 use Rattle.ppm_text.specs.declared.fault.PpmFault.TheVariants.{EmptySize, TooLarge, SampleOver}
 use Rattle.ppm_text.specs.declared.scanner.Numeral.{Numeral}
@@ -17,7 +18,7 @@ by_cap next same (Ok n) = same n
 by_cap next same (Err e) = refl
 
 abbrev side_from : Numeral × List Token → Result (ℕ × List Token) PpmFault
-side_from side = cond (eqb side.0.value 0) (Err (EmptySize side.0.place)) (cond (ltb 120 side.0.value) (Err (TooLarge side.0.place)) (Ok (side.0.value, side.1)))
+side_from side = cond (eqb side.0.value 0) (Err (EmptySize side.0.place)) (cond (ltb MAX_SIDE side.0.value) (Err (TooLarge side.0.place)) (Ok (side.0.value, side.1)))
 
 side_same : (n : Numeral × List Token) → side_from (under_cap n) ≡ side_from n
 side_same n = grind (arith, nat_tests)

@@ -5,7 +5,8 @@ use Rattle.std.proofs.lemmas.List.{append-nil}
 use Rattle.std.proofs.lemmas.Bool.{ltb-true}
 use Rattle.picture.specs.Reading.{◌>>=◌}
 use Rattle.picture.specs.declared.rgb.Rgb.{Rgb}
-use Rattle.ppm_text.specs.TempPalette.{Colours, rgb_eq, place_of, with_colour}
+use Rattle.picture.specs.declared.picture.TheConstants.{MAX_COLOURS}
+use Rattle.picture.specs.Palette.{Colours, rgb_eq, place_of, with_colour}
 use Rattle.ppm_text.specs.declared.fault.PpmFault.{PpmFault}
 use Rattle.ppm_text.specs.declared.fault.PpmFault.TheVariants.{Memory, TooManyColours}
 use Rattle.ppm_text.specs.declared.fields.Triple.{Triple}
@@ -94,7 +95,7 @@ numbered_is : (colours : Colours) (triple : Triple) (place : Option ℕ) (cell :
 numbered_is colours triple (Some k) cell below e =
     subst (IsCellOf colours) (ok_is Memory (k, colours) cell e) (record { maxval = refl; longer = omega arith }, below k refl)
 numbered_is colours triple None cell below e =
-    let t = test_ok (ltb (length colours.triples) 16) (TooManyColours triple.place) (length colours.triples, with_colour colours triple.colour) cell e in
+    let t = test_ok (ltb (length colours.triples) MAX_COLOURS) (TooManyColours triple.place) (length colours.triples, with_colour colours triple.colour) cell e in
     let longer : length (with_colour colours triple.colour).triples ≡ length colours.triples + 1 = length-append colours.triples (triple.colour ∷ []) in
     subst (IsCellOf colours) t.1 (record { maxval = refl; longer = omega (arith, longer) }, omega (arith, longer))
 

@@ -5,10 +5,12 @@ use Rattle.ppm_text.specs.declared.fault.PpmFault.{PpmFault}
 use Rattle.ppm_text.specs.declared.fault.PpmFault.TheVariants.{NotP3, BadNumber, Truncated, BadMaxval, EmptySize, TooLarge, SampleOver, TooManyColours, TrailingToken}
 use Rattle.ppm_text.specs.Numerals.{numeral_at}
 use Rattle.ppm_text.specs.Samples.{side_at, sample_at, triple_at}
-use Rattle.ppm_text.specs.Ppm.{Image, palette_at, cell_at, cells_at, ppm_of}
+use Rattle.picture.specs.CellSet.{no_cells}
+use Rattle.picture.specs.Document.{Content}
+use Rattle.ppm_text.specs.Ppm.{palette_at, cell_at, cells_at, ppm_of}
 
-abbrev black_cell : Image
-black_cell = record { colours = record { maxval = 255; triples = record { r = 255; g = 255; b = 255 } ∷ record { r = 0; g = 0; b = 0 } ∷ [] }; rows = (1 ∷ []) ∷ [] }
+abbrev black_cell : Content
+black_cell = record { colours = record { maxval = 255; triples = record { r = 255; g = 255; b = 255 } ∷ record { r = 0; g = 0; b = 0 } ∷ [] }; rows = (1 ∷ []) ∷ []; givens = no_cells }
 
 with_comment : ppm_of (codes "P3\n# made by an editor\n1 1\n255\n0\n0\n0") None ≡ Ok black_cell
 unfolding ppm_of palette_at cell_at cells_at side_at sample_at triple_at numeral_at

@@ -2,6 +2,5 @@ pub mod Faults
 pub mod Tokens
 pub mod Numerals
 pub mod Samples
-pub mod TempPalette
 pub mod Ppm
 pub mod Text

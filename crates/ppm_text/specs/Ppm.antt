@@ -3,18 +3,16 @@ use Rattle.std.specs.Prelude.{ℕ, zero, suc, ◌*◌, ◌||◌, nat_lt, ◌==�
 use Rattle.picture.specs.Reading.{◌>>=◌}
 use Rattle.picture.specs.Rows.{rows_of}
 use Rattle.picture.specs.declared.rgb.Rgb.{Rgb}
-use Rattle.ppm_text.specs.TempPalette.{Colours, fits, place_of, with_colour, only_background}
+use Rattle.picture.specs.declared.picture.TheConstants.{MAX_COLOURS}
+use Rattle.picture.specs.CellSet.{no_cells}
+use Rattle.picture.specs.Document.{Content}
+use Rattle.picture.specs.Palette.{Colours, fits, place_of, with_colour, only_background}
 use Rattle.ppm_text.specs.declared.fault.PpmFault.{PpmFault}
 use Rattle.ppm_text.specs.declared.fault.PpmFault.TheVariants.{BadMaxval, SampleOver, TooManyColours, TrailingToken}
 use Rattle.ppm_text.specs.declared.fields.Triple.{Triple}
 use Rattle.ppm_text.specs.Tokens.{Token, magic_of}
 use Rattle.ppm_text.specs.Numerals.{numeral_at}
 use Rattle.ppm_text.specs.Samples.{side_at, triple_at}
-
--- a palette, and the rows of cells with its colours
-pub record Image : Type 0 where
-  pub colours : Colours
-  pub rows : List (List ℕ)
 
 -- the background that was handed in, or else white
 abbrev pub background_of : Option Rgb → ℕ → Rgb
@@ -32,7 +30,7 @@ palette_at background end tokens = do
 -- the number of a triple that stands in the palette at a place, or is added to it
 abbrev pub numbered_by : Option ℕ → Colours → Triple → Result (ℕ × Colours) PpmFault
 numbered_by (Some number) colours triple = Ok (number, colours)
-numbered_by None colours triple = if nat_lt (length colours.triples) 16 then Ok (length colours.triples, with_colour colours triple.colour) else Err (TooManyColours triple.place)
+numbered_by None colours triple = if nat_lt (length colours.triples) MAX_COLOURS then Ok (length colours.triples, with_colour colours triple.colour) else Err (TooManyColours triple.place)
 
 -- the number of a triple, and the palette with it
 abbrev pub numbered : Colours → Triple → Result (ℕ × Colours) PpmFault
@@ -59,11 +57,12 @@ at_the_end x [] = Ok x
 at_the_end x (token ∷ rest) = Err (TrailingToken token.place)
 
 -- What the whole text says: the magic, the width, the height, the maxval, a triple for each cell, and no more.
-unfoldable pub ppm_of : List ℕ → Option Rgb → Result Image PpmFault
+-- Nothing in it is a given.
+unfoldable pub ppm_of : List ℕ → Option Rgb → Result Content PpmFault
 ppm_of text background = do
   start ← magic_of text
   width ← side_at start.end start.tokens
   height ← side_at start.end width.1
   palette ← palette_at background start.end height.1
   cells ← cells_at start.end (height.0 * width.0) palette.0 palette.1
-  at_the_end (record { colours = cells.1; rows = rows_of height.0 width.0 cells.0 }) cells.2
+  at_the_end (record { colours = cells.1; rows = rows_of height.0 width.0 cells.0; givens = no_cells }) cells.2

@@ -1,5 +1,5 @@
 -- A P3 text taken apart: the magic, the comments, and the tokens with their places.
-use Rattle.std.specs.Prelude.{ℕ, zero, suc, Bool, true, false, not, ◌&&◌, ◌||◌, ◌==◌, nat_le, nat_eq, if◌then◌else◌, List, [], ◌∷◌, length, drop, slice_index, codes, Result, Ok, Err}
+use Rattle.std.specs.Prelude.{ℕ, zero, suc, Bool, true, false, not, ◌&&◌, ◌||◌, ◌==◌, nat_le, nat_eq, if◌then◌else◌, List, [], ◌∷◌, length, drop, slice_index, codes, Option, Some, None, Result, Ok, Err}
 use Rattle.std.specs.List.{starts_with, take_while}
 use Rattle.ppm_text.specs.declared.fault.PpmFault.{PpmFault}
 use Rattle.ppm_text.specs.declared.fault.PpmFault.TheVariants.{NotP3}
@@ -53,3 +53,8 @@ tokens_at text place = tokens_from false place (without_comments false (drop pla
 -- what is to be read behind the magic
 abbrev pub magic_of : List ℕ → Result Unread PpmFault
 magic_of text = if has_magic text then Ok (record { end = length text; tokens = tokens_at text 2 }) else Err (NotP3 0)
+
+-- where the next token begins, if there is one
+abbrev pub next_place : List Token → Option ℕ
+next_place [] = None
+next_place (token ∷ rest) = Some token.place

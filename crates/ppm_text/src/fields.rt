@@ -5,10 +5,7 @@ ghost use Rattle.ppm_text.specs.Samples.{side_at, sample_at, triple_at};
 
 use crate::fault::PpmFault;
 use crate::scanner::{Numeral, Scanner};
-use picture::Rgb;
-
-// The largest width and the largest height.
-const MAX_SIDE: u32 = 120;
+use picture::{MAX_SIDE, Rgb};
 
 /// A colour, and the byte at which its first sample begins.
 #[derive(Clone, Copy, Drop)]
@@ -27,7 +24,7 @@ pub fn read_side(scanner: &mut Scanner) -> Result<u8, PpmFault>
     if value == 0 {
         return Err(PpmFault::EmptySize(place));
     }
-    if value > MAX_SIDE {
+    if value > u32::from(MAX_SIDE) {
         return Err(PpmFault::TooLarge(place));
     }
     Ok(value as u8)
