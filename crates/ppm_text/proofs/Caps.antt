@@ -1,15 +1,18 @@
 -- The cap of a number decides nothing: each field is read from the capped number as from the number.
-use Rattle.std.proofs.Common.{◌≡◌, ℕ, ◌<◌, ◌≤◌, min, Bool, true, false, cond, eqb, ltb, List, Result, Ok, Err, refl, sym, ap, ◌∙◌, arith, inl, inr}
+use Rattle.std.proofs.Common.{◌≡◌, ℕ, ◌<◌, ◌≤◌, min, Bool, true, false, cond, ◌||◌, eqb, ltb, List, Option, Result, Ok, Err, refl, sym, ap, ◌∙◌, arith, inl, inr}
 use Rattle.std.proofs.lemmas.Bool.{cases_lt}
 use Rattle.std.proofs.lemmas.Bool.Decides.{nat_tests}
 use Rattle.picture.specs.Reading.{◌>>=◌}
 use Rattle.picture.specs.declared.picture.TheConstants.{MAX_SIDE}
 use Rattle.ppm_text.specs.declared.fault.PpmFault.{PpmFault}
-use Rattle.ppm_text.specs.declared.fault.PpmFault.TheVariants.{EmptySize, TooLarge, SampleOver}
+use Rattle.ppm_text.specs.declared.fault.PpmFault.TheVariants.{EmptySize, TooLarge, SampleOver, BadMaxval}
 use Rattle.ppm_text.specs.declared.scanner.Numeral.{Numeral}
 use Rattle.ppm_text.specs.Tokens.{Token}
 use Rattle.ppm_text.specs.Numerals.{numeral_at, capped_at, under_cap}
+use Rattle.picture.specs.declared.rgb.Rgb.{Rgb}
+use Rattle.picture.specs.Palette.{Colours}
 use Rattle.ppm_text.specs.Samples.{side_at, sample_at}
+use Rattle.ppm_text.specs.Ppm.{palette_at, first_palette}
 
 -- a step that answers from the capped number what it answers from the number
 by_cap : {A : Type 0} (next : Numeral × List Token → Result A PpmFault) → ((n : Numeral × List Token) → next (under_cap n) ≡ next n)
@@ -52,4 +55,23 @@ pub sample_by_cap : (end maxval : ℕ) (tokens : List Token) → maxval < 65536 
 unfolding sample_at
 sample_by_cap end maxval tokens lt = sym (by_cap (sample_from maxval) (sample_same maxval lt) (numeral_at end tokens))
 
+abbrev palette_from : Option Rgb → Numeral × List Token → Result (Colours × List Token) PpmFault
+palette_from background maxval = cond (eqb maxval.0.value 0 || ltb 65535 maxval.0.value) (Err (BadMaxval maxval.0.place)) (first_palette background maxval.0.value maxval.0.place >>= λ colours. Ok (colours, maxval.1))
+
+palette_same : (background : Option Rgb) (n : Numeral × List Token) → palette_from background (under_cap n) ≡ palette_from background n
+palette_same background n =
+    elim (cases_lt 65535 n.0.value) [
+      | inl over ↦
+        let a : (eqb n.0.value 0 || ltb 65535 n.0.value) ≡ true = grind (arith, nat_tests) in
+        let b : (eqb (min n.0.value 65536) 0 || ltb 65535 (min n.0.value 65536)) ≡ true = grind (arith, nat_tests) in
+        rw (a, b) refl
+      | inr le ↦ ap (palette_from background) (below_cap 65535 (omega arith) n le)
+    ]
+
+pub palette_by_cap : (background : Option Rgb) (end : ℕ) (tokens : List Token) → palette_at background end tokens ≡ (capped_at end tokens >>= palette_from background)
+unfolding palette_at
+palette_by_cap background end tokens = sym (by_cap (palette_from background) (palette_same background) (numeral_at end tokens))
+
 pub ruleset caps = (side_by_cap, sample_by_cap)
+
+pub ruleset palette_caps = (palette_by_cap)

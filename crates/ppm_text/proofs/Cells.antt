@@ -1,8 +1,8 @@
 -- Cells read one after the other, as a loop does, and what is true of cells that were read.
 use Rattle.std.proofs.Common.{◌≡◌, ℕ, zero, suc, ◌-◌, ◌+◌, ◌*◌, ◌≤◌, ◌<◌, Bool, true, false, cond, ltb, List, [], ◌∷◌, ◌++◌, length, get_or, Option, Some, None, Result, Ok, Err, refl, sym, ap, subst, ◌∙◌, append_assoc, length-append, arith, ◌⊎◌, inl, inr}
 use Rattle.std.specs.Option.{option_map}
-use Rattle.std.proofs.lemmas.List.{append-nil}
-use Rattle.std.proofs.lemmas.Bool.{ltb-true}
+use Rattle.std.proofs.lemmas.List.{append-nil, get_or_past}
+use Rattle.std.proofs.lemmas.Bool.{cases_lt}
 use Rattle.picture.specs.Reading.{◌>>=◌}
 use Rattle.picture.specs.declared.rgb.Rgb.{Rgb}
 use Rattle.picture.specs.declared.picture.TheConstants.{MAX_COLOURS}
@@ -135,3 +135,17 @@ cells_are end (suc count) colours tokens cells e =
       grows = Grows-trans colours a.0.1 b.0.1 first.0 others.grows;
       coloured = with_first a.0.0 b.0.0 (length b.0.1.triples) (omega (arith, first.1, others.grows.longer)) others.coloured;
     })
+
+pub all_read : (end count : ℕ) (colours : Colours) (tokens : List Token) (cells : List ℕ) (after : Colours) (rest : List Token) → cells_at end count colours tokens ≡ Ok (cells, after, rest) → length cells ≡ count
+all_read end count colours tokens cells after rest e = (cells_are end count colours tokens (cells, after, rest) e).all
+
+pub coloured_read : (end count : ℕ) (colours : Colours) (tokens : List Token) (cells : List ℕ) (after : Colours) (rest : List Token) → cells_at end count colours tokens ≡ Ok (cells, after, rest) → 0 < length colours.triples
+    → (k : ℕ) → get_or cells k 0 < length after.triples
+coloured_read end count colours tokens cells after rest e some k =
+    let are = cells_are end count colours tokens (cells, after, rest) e in
+    elim (cases_lt k (length cells)) [
+      | inl lt ↦ are.coloured k lt
+      | inr le ↦ rw (get_or_past cells k 0 le) (omega (arith, are.grows.longer))
+    ]
+
+pub ruleset read_cells = (all_read, coloured_read)

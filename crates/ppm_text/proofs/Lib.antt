@@ -5,4 +5,6 @@ pub mod Caps
 pub mod Sending
 pub mod Binds
 pub mod Cells
+pub mod Adding
+pub mod Pictures
 mod Examples

@@ -8,7 +8,7 @@ use Rattle.picture.specs.Reading.{◌>>=◌}
 use Rattle.ppm_text.specs.declared.fault.PpmFault.{PpmFault}
 use Rattle.ppm_text.specs.declared.fault.PpmFault.TheVariants.{Truncated, BadNumber}
 use Rattle.ppm_text.specs.declared.scanner.Numeral.{Numeral}
-use Rattle.ppm_text.specs.Tokens.{Token, tokens_at, tokens_from, without_comments, is_gap}
+use Rattle.ppm_text.specs.Tokens.{Token, tokens_at, tokens_from, without_comments, is_gap, next_place}
 use Rattle.ppm_text.specs.Numerals.{capped, capped_at, numeral_at, under_cap}
 use Rattle.ppm_text.proofs.Scanning.{token_begins}
 
@@ -59,3 +59,12 @@ other_token bytes from place end same lt stops rest given =
     ap (capped_at (length bytes)) (some_token bytes from place end same lt stops rest) ∙ read_token (length bytes) token (tokens_at bytes end) false no_digits
 
 pub ruleset next_numeral = (no_token, number_token, other_token)
+
+pub no_next : (bytes : List ℕ) (from place : ℕ) → tokens_at bytes place ≡ tokens_at bytes from → length bytes ≤ place → next_place (tokens_at bytes from) ≡ None
+no_next bytes from place same last =
+    ap next_place (sym same ∙ at_drop_all (λ bs. tokens_from false place (without_comments false bs)) bytes place last)
+
+pub some_next : (bytes : List ℕ) (from place : ℕ) → tokens_at bytes place ≡ tokens_at bytes from → place < length bytes → is_gap (get_or bytes place 0) ≡ false → next_place (tokens_at bytes from) ≡ Some place
+some_next bytes from place same lt stops = ap next_place (sym same ∙ token_begins bytes place lt stops)
+
+pub ruleset next_token = (no_next, some_next)

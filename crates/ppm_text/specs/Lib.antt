@@ -4,3 +4,4 @@ pub mod Numerals
 pub mod Samples
 pub mod Ppm
 pub mod Text
+pub mod Adding

@@ -19,13 +19,16 @@ abbrev pub background_of : Option Rgb → ℕ → Rgb
 background_of None maxval = record { r = maxval; g = maxval; b = maxval }
 background_of (Some rgb) maxval = rgb
 
+-- the palette of the background alone, whose samples must fit the maxval at that place
+abbrev pub first_palette : Option Rgb → ℕ → ℕ → Result Colours PpmFault
+first_palette background maxval place = if fits maxval (background_of background maxval) then Ok (only_background maxval (background_of background maxval)) else Err (SampleOver place)
+
 -- the maxval, with the background as the one colour so far
 unfoldable pub palette_at : Option Rgb → ℕ → List Token → Result (Colours × List Token) PpmFault
 palette_at background end tokens = do
   maxval ← numeral_at end tokens
   if maxval.0.value == 0 || nat_lt 65535 maxval.0.value then Err (BadMaxval maxval.0.place)
-    else (if fits maxval.0.value (background_of background maxval.0.value) then Ok (only_background maxval.0.value (background_of background maxval.0.value), maxval.1)
-    else Err (SampleOver maxval.0.place))
+    else (first_palette background maxval.0.value maxval.0.place >>= λ colours. Ok (colours, maxval.1))
 
 -- the number of a triple that stands in the palette at a place, or is added to it
 abbrev pub numbered_by : Option ℕ → Colours → Triple → Result (ℕ × Colours) PpmFault

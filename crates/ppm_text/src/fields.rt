@@ -1,4 +1,5 @@
-ghost use Rattle.std.specs.Prelude.{◌≡◌, ◌≤◌, IfOk};
+ghost use Rattle.std.specs.Prelude.{◌≡◌, ◌<◌, ◌≤◌, IfOk, IsTrue};
+ghost use Rattle.picture.specs.Palette.{fits};
 ghost use Rattle.picture.specs.Reading.{Gives};
 ghost use Rattle.ppm_text.specs.declared.fault.PpmFault.TheVariants.{Memory};
 ghost use Rattle.ppm_text.specs.Samples.{side_at, sample_at, triple_at};
@@ -18,6 +19,7 @@ pub struct Triple {
 /// Reads the width or the height.
 pub fn read_side(scanner: &mut Scanner) -> Result<u8, PpmFault>
     ensures read { Gives Memory (λ side. (side, scanner.new.tokens)) result (side_at scanner.old.end scanner.old.tokens) }
+    ensures within { IfOk result (λ side. (0 < side) × (side ≤ MAX_SIDE)) }
     ensures end { scanner.new.end ≡ scanner.old.end }
 {
     let Numeral { place, value } = scanner.numeral()?;
@@ -48,6 +50,7 @@ fn read_sample(scanner: &mut Scanner, maxval: u16) -> Result<Numeral, PpmFault>
 /// Reads a colour.
 pub fn read_triple(scanner: &mut Scanner, maxval: u16) -> Result<Triple, PpmFault>
     ensures read { Gives Memory (λ t. (t, scanner.new.tokens)) result (triple_at scanner.old.end maxval scanner.old.tokens) }
+    ensures within { IfOk result (λ t. IsTrue (fits maxval t.colour)) }
     ensures end { scanner.new.end ≡ scanner.old.end }
 {
     let first = read_sample(scanner, maxval)?;

@@ -3,7 +3,9 @@
 
 mod fault;
 mod fields;
+mod reader;
 mod scanner;
 mod writer;
 
 pub use fault::PpmFault;
+pub use reader::read_ppm;

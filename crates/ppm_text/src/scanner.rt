@@ -2,7 +2,7 @@ ghost use Rattle.std.specs.Prelude.{◌≡◌, ◌<◌, ◌≤◌, length, slice
 ghost use Rattle.std.specs.List.{take_while};
 ghost use Rattle.picture.specs.Reading.{Gives};
 ghost use Rattle.ppm_text.specs.declared.fault.PpmFault.TheVariants.{Memory};
-ghost use Rattle.ppm_text.specs.Tokens.{tokens_at, tokens_from, without_comments, is_gap, is_space, is_line_end, in_comment, magic_of};
+ghost use Rattle.ppm_text.specs.Tokens.{tokens_at, tokens_from, without_comments, is_gap, is_space, is_line_end, in_comment, magic_of, next_place};
 ghost use Rattle.ppm_text.specs.Numerals.{capped, with_byte, capped_at};
 
 use crate::fault::PpmFault;
@@ -58,6 +58,13 @@ impl<'a> Scanner<'a> {
         self.at = end;
         Ok(numeral)
     }
+
+    /// The byte at which the next token begins, if there is one.
+    pub fn next_place(&self) -> Option<usize>
+        ensures { result ≡ next_place self.now.tokens }
+    {
+        place_after(self.bytes, self.at)
+    }
 }
 
 #[tactic(auto, using(crate::proofs::NextNumeral::next_numeral))]
@@ -77,6 +84,16 @@ fn numeral_after(bytes: &[u8], from: usize) -> Result<(Numeral, usize), PpmFault
         Some(value) => Ok((Numeral { place, value }, end)),
         None => Err(PpmFault::BadNumber(place)),
     }
+}
+
+#[tactic(auto, using(crate::proofs::NextNumeral::next_token))]
+// Where the next token begins, if there is one.
+fn place_after(bytes: &[u8], from: usize) -> Option<usize>
+    requires { from ≤ length bytes.now }
+    ensures { result ≡ next_place (tokens_at bytes.now from) }
+{
+    let place = token_start(bytes, from);
+    (place < bytes.len()).then_some(place)
 }
 
 #[tactic(auto, using(crate::proofs::Scanning::scanning))]
