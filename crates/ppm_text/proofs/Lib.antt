@@ -1,0 +1,10 @@
+pub mod Scanning
+pub mod Counting
+pub mod NextNumeral
+pub mod Caps
+pub mod Sending
+pub mod Binds
+pub mod Cells
+pub mod Adding
+pub mod Pictures
+mod Examples

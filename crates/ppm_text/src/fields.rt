@@ -1,0 +1,68 @@
+ghost use Rattle.std.specs.Prelude.{◌≡◌, ◌<◌, ◌≤◌, IfOk, IsTrue};
+ghost use Rattle.picture.specs.Palette.{fits};
+ghost use Rattle.picture.specs.Reading.{Gives};
+ghost use Rattle.ppm_text.specs.declared.fault.PpmFault.TheVariants.{Memory};
+ghost use Rattle.ppm_text.specs.Samples.{side_at, sample_at, triple_at};
+
+use crate::fault::PpmFault;
+use crate::scanner::{Numeral, Scanner};
+use picture::{MAX_SIDE, Rgb};
+
+/// A colour, and the byte at which its first sample begins.
+#[derive(Clone, Copy, Drop)]
+pub struct Triple {
+    pub place: usize,
+    pub colour: Rgb,
+}
+
+#[tactic(auto, using(crate::proofs::Caps::caps))]
+/// Reads the width or the height.
+pub fn read_side(scanner: &mut Scanner) -> Result<u8, PpmFault>
+    ensures read { Gives Memory (λ side. (side, scanner.new.tokens)) result (side_at scanner.old.end scanner.old.tokens) }
+    ensures within { IfOk result (λ side. (0 < side) × (side ≤ MAX_SIDE)) }
+    ensures end { scanner.new.end ≡ scanner.old.end }
+{
+    let Numeral { place, value } = scanner.numeral()?;
+    if value == 0 {
+        return Err(PpmFault::EmptySize(place));
+    }
+    if value > u32::from(MAX_SIDE) {
+        return Err(PpmFault::TooLarge(place));
+    }
+    Ok(value as u8)
+}
+
+#[tactic(auto, using(crate::proofs::Caps::caps))]
+// Reads a sample up to the maxval.
+fn read_sample(scanner: &mut Scanner, maxval: u16) -> Result<Numeral, PpmFault>
+    ensures read { Gives Memory (λ n. (n, scanner.new.tokens)) result (sample_at scanner.old.end maxval scanner.old.tokens) }
+    ensures within { IfOk result (λ n. n.value ≤ maxval) }
+    ensures end { scanner.new.end ≡ scanner.old.end }
+{
+    let sample = scanner.numeral()?;
+    if sample.value > u32::from(maxval) {
+        return Err(PpmFault::SampleOver(sample.place));
+    }
+    Ok(sample)
+}
+
+#[tactic(auto, unfolding(crate::specs::Samples::triple_at))]
+/// Reads a colour.
+pub fn read_triple(scanner: &mut Scanner, maxval: u16) -> Result<Triple, PpmFault>
+    ensures read { Gives Memory (λ t. (t, scanner.new.tokens)) result (triple_at scanner.old.end maxval scanner.old.tokens) }
+    ensures within { IfOk result (λ t. IsTrue (fits maxval t.colour)) }
+    ensures end { scanner.new.end ≡ scanner.old.end }
+{
+    let first = read_sample(scanner, maxval)?;
+    let second = read_sample(scanner, maxval)?;
+    let third = read_sample(scanner, maxval)?;
+    let colour = Rgb {
+        r: first.value as u16,
+        g: second.value as u16,
+        b: third.value as u16,
+    };
+    Ok(Triple {
+        place: first.place,
+        colour,
+    })
+}

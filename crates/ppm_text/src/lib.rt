@@ -1,0 +1,11 @@
+//! Pictures as plain PPM texts (P3): the reader and the writer.
+#![tactic(auto)]
+
+mod fault;
+mod fields;
+mod reader;
+mod scanner;
+mod writer;
+
+pub use fault::PpmFault;
+pub use reader::read_ppm;

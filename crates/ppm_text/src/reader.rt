@@ -1,0 +1,143 @@
+ghost use Rattle.std.specs.Prelude.{◌≡◌, ℕ, ◌*◌, ◌<◌, ◌≤◌, length, slice_index, IsTrue, IfOk};
+ghost use Rattle.picture.specs.CellSet.{no_cells};
+ghost use Rattle.picture.specs.Rows.{rows_of};
+ghost use Rattle.picture.specs.Palette.{fits};
+ghost use Rattle.picture.specs.Content.{content_of};
+ghost use Rattle.picture.specs.Reading.{Gives};
+ghost use Rattle.ppm_text.specs.declared.fault.PpmFault.TheVariants.{Memory};
+ghost use Rattle.ppm_text.specs.Ppm.{first_palette, palette_at, numbered, cell_at, cells_at, ppm_of};
+ghost use Rattle.ppm_text.specs.Adding.{adding_fault};
+
+use crate::fault::PpmFault;
+use crate::fields::{Triple, read_side, read_triple};
+use crate::scanner::{Numeral, Scanner};
+use picture::{CellSet, Document, MAX_SIDE, Palette, PaletteFault, Picture, Rgb};
+use std::alloc::Global;
+
+#[tactic(auto, using(crate::proofs::Caps::palette_caps))]
+// Reads the maxval, and begins the palette with the background.
+fn read_palette(alloc: Global, scanner: &mut Scanner, background: Option<Rgb>) -> Result<Palette, PpmFault>
+    ensures read { Gives Memory (λ p. (p, scanner.new.tokens)) result (palette_at background scanner.old.end scanner.old.tokens) }
+    ensures end { scanner.new.end ≡ scanner.old.end }
+{
+    let Numeral { place, value } = scanner.numeral()?;
+    if value == 0 || value > u32::from(u16::MAX) {
+        return Err(PpmFault::BadMaxval(place));
+    }
+    begin_palette(alloc, place, value as u16, background)
+}
+
+// The palette of the background that was handed in, or else of white.
+fn begin_palette(alloc: Global, place: usize, maxval: u16, background: Option<Rgb>) -> Result<Palette, PpmFault>
+    requires { 0 < maxval }
+    ensures { Gives Memory (λ p. p) result (first_palette background maxval place) }
+{
+    let white = Rgb {
+        r: maxval,
+        g: maxval,
+        b: maxval,
+    };
+    match Palette::start(alloc, maxval, background.unwrap_or(white)) {
+        Ok(palette) => Ok(palette),
+        Err(PaletteFault::Memory) => Err(PpmFault::Memory),
+        Err(_) => Err(PpmFault::SampleOver(place)),
+    }
+}
+
+#[tactic(auto, using(crate::proofs::Adding::refused))]
+// The number of a triple in the palette, which is added where it is new.
+fn number_of(palette: &mut Palette, triple: Triple) -> Result<u8, PpmFault>
+    requires { IsTrue (fits palette.old.maxval triple.colour) }
+    ensures { Gives Memory (λ number. (number, palette.new)) result (numbered palette.old triple) }
+{
+    if let Some(number) = palette.number_of(triple.colour) {
+        return Ok(number);
+    }
+    match palette.add(triple.colour) {
+        Ok(number) => Ok(number),
+        Err(fault) => Err(adding_fault(fault, triple.place)),
+    }
+}
+
+// What it means that the palette refused a new triple with lawful samples: it is full, or memory ran out.
+fn adding_fault(fault: PaletteFault, place: usize) -> PpmFault
+    ensures { result ≡ adding_fault fault place }
+{
+    match fault {
+        PaletteFault::Memory => PpmFault::Memory,
+        _ => PpmFault::TooManyColours(place),
+    }
+}
+
+#[tactic(auto, unfolding(crate::specs::Ppm::cell_at))]
+// Reads a cell's triple, and gives its number.
+fn read_cell(scanner: &mut Scanner, palette: &mut Palette) -> Result<u8, PpmFault>
+    ensures read { Gives Memory (λ number. (number, palette.new, scanner.new.tokens)) result
+        (cell_at scanner.old.end palette.old scanner.old.tokens) }
+    ensures end { scanner.new.end ≡ scanner.old.end }
+{
+    let maxval = palette.maxval();
+    let triple = read_triple(scanner, maxval)?;
+    number_of(palette, triple)
+}
+
+#[tactic(auto, using(crate::proofs::Cells::cell_loop))]
+// Reads so many cells.
+fn read_cells(
+    alloc: Global,
+    scanner: &mut Scanner,
+    palette: &mut Palette,
+    count: usize,
+) -> Result<Vec<u8>, PpmFault>
+    ensures read { Gives Memory (λ cells. (cells.items, palette.new, scanner.new.tokens)) result
+        (cells_at scanner.old.end count palette.old scanner.old.tokens) }
+    ensures end { scanner.new.end ≡ scanner.old.end }
+{
+    let mut cells = Vec::new(alloc);
+    for _ in 0..count {
+        let cell = read_cell(scanner, palette)?;
+        cells.push(cell)?;
+    }
+    Ok(cells)
+}
+
+#[tactic(auto, using(crate::proofs::Pictures::coloured_rows))]
+// The document of these cells, which has no given.
+fn document_of(palette: Palette, height: u8, width: u8, cells: Vec<u8>) -> Document
+    requires has_row { 0 < height }
+    requires rows_fit { height ≤ MAX_SIDE }
+    requires has_column { 0 < width }
+    requires columns_fit { width ≤ MAX_SIDE }
+    requires count { length cells.items ≡ height * width }
+    requires coloured { (k : ℕ) → slice_index cells.items k < length palette.triples }
+    ensures { content_of result ≡ record {
+        colours = palette;
+        rows = rows_of height width cells.items;
+        givens = no_cells;
+    } }
+{
+    let _ = palette.len();
+    Document {
+        palette,
+        picture: Picture::from_cells(height, width, cells),
+        givens: CellSet::empty(),
+    }
+}
+
+#[tactic(auto, using(crate::proofs::Cells::read_cells), unfolding(crate::specs::Ppm::ppm_of))]
+/// Reads a P3 text whole. Number 0 is the background that was handed in, or else white, and the other
+/// colours are numbered by first appearance in row order. The first fault is answered, with its place.
+pub fn read_ppm(alloc: Global, bytes: &[u8], background: Option<Rgb>) -> Result<Document, PpmFault>
+    ensures { Gives Memory content_of result (ppm_of bytes.now background) }
+{
+    let mut scanner = Scanner::start(bytes)?;
+    let width = read_side(&mut scanner)?;
+    let height = read_side(&mut scanner)?;
+    let mut palette = read_palette(alloc, &mut scanner, background)?;
+    let count = usize::from(height) * usize::from(width);
+    let cells = read_cells(alloc, &mut scanner, &mut palette, count)?;
+    if let Some(place) = scanner.next_place() {
+        return Err(PpmFault::TrailingToken(place));
+    }
+    Ok(document_of(palette, height, width, cells))
+}
