@@ -1,0 +1,38 @@
+-- Clues as text: `r 1: 2a 1b` for a row, `c 1: 0` for a column without a block.
+use Rattle.std.specs.Prelude.{ℕ, ◌+◌, List, [], ◌∷◌, ◌++◌, map, codes, decimal}
+use Rattle.std.specs.List.{join_with_byte}
+use Rattle.picture.specs.declared.line_id.Axis.{Axis}
+use Rattle.picture.specs.declared.line_id.Axis.TheVariants.{Across, Down}
+use Rattle.clues.specs.declared.block.Block.{Block}
+use Rattle.clues.specs.ClueBook.{Clues}
+
+-- a block as its length and the letter of its colour, `a` for 1 up to `o` for 15
+abbrev pub block_text : Block → List ℕ
+block_text b = decimal b.len ++ (96 + b.colour) ∷ []
+
+-- a block behind another
+abbrev pub behind : Block → List ℕ
+behind b = 32 ∷ block_text b
+
+-- the blocks with a space between each two, or `0` where there is none
+abbrev pub clue_text : List Block → List ℕ
+clue_text [] = codes "0"
+clue_text (b ∷ blocks) = join_with_byte 32 (map block_text (b ∷ blocks))
+
+-- a letter for the axis, the line's number from 1, and its clue
+abbrev pub line_text : ℕ → ℕ → List Block → List ℕ
+line_text letter number clue = letter ∷ 32 ∷ (decimal number ++ (codes ": " ++ (clue_text clue ++ 10 ∷ [])))
+
+-- a line for each clue, with numbers from a first one on
+unfoldable pub lines_text : ℕ → ℕ → List (List Block) → List ℕ
+lines_text letter number [] = []
+lines_text letter number (clue ∷ clues) = line_text letter number clue ++ lines_text letter (number + 1) clues
+
+-- `r` for a row and `c` for a column
+abbrev pub letter_of : Axis → ℕ
+letter_of Across = 114
+letter_of Down = 99
+
+-- the clues of the rows and then of the columns
+abbrev pub clues_text : Clues → List ℕ
+clues_text clues = lines_text (letter_of Across) 1 clues.rows ++ lines_text (letter_of Down) 1 clues.columns

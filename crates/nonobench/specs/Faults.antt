@@ -1,0 +1,47 @@
+-- The program's line and status for each fault.
+use Rattle.std.specs.Prelude.{ℕ, List, ◌++◌, codes, decimal, unwrap_or}
+use Rattle.ppm_text.specs.declared.fault.PpmFault.{PpmFault}
+use Rattle.ppm_text.specs.declared.fault.PpmFault.TheVariants as ppm
+use Rattle.ppm_text.specs.Faults.{name_of, place_of}
+use Rattle.nonobench.specs.declared.paint.PaintFault.{PaintFault}
+use Rattle.nonobench.specs.declared.paint.PaintFault.TheVariants.{Place, Colour, NoChange}
+use Rattle.nonobench.specs.declared.fault.ProgramFault.{ProgramFault}
+use Rattle.nonobench.specs.declared.fault.ProgramFault.TheVariants.{Ppm, Edit, Memory, TooLong, Words, Read, Write}
+
+-- a fault of the P3 text, but want of memory is one fault wherever it comes
+abbrev pub fault_of : PpmFault → ProgramFault
+fault_of ppm.Memory = Memory
+fault_of (ppm.NotP3 at) = Ppm (ppm.NotP3 at)
+fault_of (ppm.BadNumber at) = Ppm (ppm.BadNumber at)
+fault_of (ppm.Truncated at) = Ppm (ppm.Truncated at)
+fault_of (ppm.BadMaxval at) = Ppm (ppm.BadMaxval at)
+fault_of (ppm.EmptySize at) = Ppm (ppm.EmptySize at)
+fault_of (ppm.TooLarge at) = Ppm (ppm.TooLarge at)
+fault_of (ppm.SampleOver at) = Ppm (ppm.SampleOver at)
+fault_of (ppm.TooManyColours at) = Ppm (ppm.TooManyColours at)
+fault_of (ppm.TrailingToken at) = Ppm (ppm.TrailingToken at)
+
+abbrev pub paint_name : PaintFault → List ℕ
+paint_name Place = codes "Place"
+paint_name Colour = codes "Colour"
+paint_name NoChange = codes "NoChange"
+
+-- what stands behind `nonobench: ` on standard error
+abbrev pub fault_text : ProgramFault → List ℕ
+fault_text (Ppm fault) = codes "ppm " ++ name_of fault ++ codes " at byte " ++ decimal (unwrap_or (place_of fault) 0)
+fault_text (Edit fault) = codes "edit " ++ paint_name fault
+fault_text Memory = codes "memory"
+fault_text TooLong = codes "input too long"
+fault_text Words = codes "words are not taken"
+fault_text Read = codes "read failed"
+fault_text Write = codes "write failed"
+
+-- the status with which the program ends
+abbrev pub status_of : ProgramFault → ℕ
+status_of (Ppm fault) = 1
+status_of (Edit fault) = 1
+status_of Memory = 1
+status_of TooLong = 1
+status_of Words = 2
+status_of Read = 3
+status_of Write = 3

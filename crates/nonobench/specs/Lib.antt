@@ -1,0 +1,4 @@
+pub mod ClueText
+pub mod Faults
+pub mod Paint
+pub mod Run

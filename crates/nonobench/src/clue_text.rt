@@ -1,0 +1,106 @@
+//! Clues as text, a line for each row and column.
+
+ghost use Rattle.std.specs.Prelude.{◌≡◌, ◌≤◌, ◌++◌, length, IfOk, OnOk};
+ghost use Rattle.std.specs.List.{flat_map};
+ghost use Rattle.clues.specs.Clue.{IsBlock, IsClue};
+ghost use Rattle.clues.specs.ClueBook.{clues_along};
+ghost use Rattle.nonobench.specs.ClueText.{behind, block_text, clue_text, letter_of, line_text, lines_text, clues_text};
+
+use clues::{Block, ClueBook};
+use itoa::Buffer;
+use picture::{Axis, LineId};
+use std::alloc::{AllocError, Global};
+
+/// The clues of the rows and then of the columns, a line each.
+pub fn clues_text(alloc: Global, book: &ClueBook) -> Result<Vec<u8>, AllocError>
+    ensures { IfOk result (λ text. text.items ≡ clues_text book.now) }
+{
+    let mut text = Vec::new(alloc);
+    push_lines(&mut text, book, Axis::Across)?;
+    push_lines(&mut text, book, Axis::Down)?;
+    Ok(text)
+}
+
+// A line for each row, or for each column.
+#[tactic(auto, using(crate::proofs::TextLemmas::lines))]
+fn push_lines(text: &mut Vec<u8>, book: &ClueBook, axis: Axis) -> Result<(), AllocError>
+    ensures { OnOk result (text.new.items ≡ text.old.items ++ lines_text (letter_of axis) 1 (clues_along axis book.now)) }
+{
+    for at in 0..line_count(book, axis) {
+        let clue = book.clue(LineId { axis, at });
+        push_line(text, letter_of(axis), at + 1, clue.blocks())?;
+    }
+    Ok(())
+}
+
+// `r` for a row and `c` for a column.
+fn letter_of(axis: Axis) -> u8
+    ensures { result ≡ letter_of axis }
+{
+    match axis {
+        Axis::Across => b'r',
+        Axis::Down => b'c',
+    }
+}
+
+// How many lines the book has along an axis.
+fn line_count(book: &ClueBook, axis: Axis) -> u8
+    ensures count { result ≡ length (clues_along axis book.now) }
+    ensures fits { result ≤ 120 }
+{
+    match axis {
+        Axis::Across => book.height(),
+        Axis::Down => book.width(),
+    }
+}
+
+// A line's letter, number and clue.
+fn push_line(text: &mut Vec<u8>, letter: u8, number: u8, blocks: &[Block]) -> Result<(), AllocError>
+    requires { IsClue blocks.now }
+    ensures { OnOk result (text.new.items ≡ text.old.items ++ line_text letter number blocks.now) }
+{
+    text.push(letter)?;
+    text.push(b' ')?;
+    text.extend_from_slice(Buffer::new().format(number).as_bytes())?;
+    text.extend_from_slice(b": ")?;
+    push_clue(text, blocks)?;
+    text.push(b'\n')?;
+    Ok(())
+}
+
+// The blocks of a clue with spaces between them, or `0`.
+fn push_clue(text: &mut Vec<u8>, blocks: &[Block]) -> Result<(), AllocError>
+    requires { IsClue blocks.now }
+    ensures { OnOk result (text.new.items ≡ text.old.items ++ clue_text blocks.now) }
+{
+    match blocks {
+        [] => text.push(b'0')?,
+        [first, others @ ..] => {
+            push_block(text, *first)?;
+            push_others(text, others)?;
+        }
+    }
+    Ok(())
+}
+
+// Each block behind a space.
+fn push_others(text: &mut Vec<u8>, blocks: &[Block]) -> Result<(), AllocError>
+    requires { IsClue blocks.now }
+    ensures { OnOk result (text.new.items ≡ text.old.items ++ flat_map behind blocks.now) }
+{
+    for block in blocks {
+        text.push(b' ')?;
+        push_block(text, *block)?;
+    }
+    Ok(())
+}
+
+// A block's length and the letter of its colour.
+fn push_block(text: &mut Vec<u8>, block: Block) -> Result<(), AllocError>
+    requires { IsBlock block }
+    ensures { OnOk result (text.new.items ≡ text.old.items ++ block_text block) }
+{
+    text.extend_from_slice(Buffer::new().format(block.len).as_bytes())?;
+    text.push(b'a' - 1 + block.colour)?;
+    Ok(())
+}

@@ -1,0 +1,98 @@
+//! Why the program ends without its answer.
+
+ghost use Rattle.std.specs.Prelude.{◌≡◌, Some};
+ghost use Rattle.nonobench.specs.declared.fault.ProgramFault.TheVariants.{Memory, Write as Unwritten};
+ghost use Rattle.nonobench.specs.Faults.{fault_of, fault_text, status_of};
+
+use crate::paint::PaintFault;
+use picture::WriteFault;
+use ppm_text::PpmFault;
+use std::alloc::{AllocError, AllocFailed};
+use std::fmt;
+
+/// Why the program ends without its answer, in the order of its parts.
+#[derive(Clone, Copy, Debug, PartialEq, Eq)]
+pub enum ProgramFault {
+    /// The P3 text was refused.
+    Ppm(PpmFault),
+    /// The paint was refused.
+    Edit(PaintFault),
+    /// Memory ran out.
+    Memory,
+    /// The input has more than 16,777,216 bytes.
+    TooLong,
+    /// The command line has words.
+    Words,
+    /// A read failed.
+    Read,
+    /// A write failed.
+    Write,
+}
+
+impl ProgramFault {
+    /// The status with which the program ends: 1 for what it was given, 2 for its words, 3 for reading and writing.
+    pub fn status(&self) -> u8
+        ensures { result ≡ status_of self.now }
+    {
+        match self {
+            ProgramFault::Ppm(_) | ProgramFault::Edit(_) => 1,
+            ProgramFault::Memory | ProgramFault::TooLong => 1,
+            ProgramFault::Words => 2,
+            ProgramFault::Read | ProgramFault::Write => 3,
+        }
+    }
+}
+
+impl fmt::Display for ProgramFault {
+    ghost output = { λ fault. Some (fault_text fault) };
+
+    fn fmt<W: fmt::Write>(&self, f: &mut fmt::Formatter<W>) -> fmt::Result {
+        match self {
+            ProgramFault::Ppm(fault) => {
+                let place = fault.place().unwrap_or(0);
+                write!(f, "ppm {} at byte {place}", fault.name())
+            }
+            ProgramFault::Edit(fault) => write!(f, "edit {}", fault.name()),
+            ProgramFault::Memory => f.write_str("memory"),
+            ProgramFault::TooLong => f.write_str("input too long"),
+            ProgramFault::Words => f.write_str("words are not taken"),
+            ProgramFault::Read => f.write_str("read failed"),
+            ProgramFault::Write => f.write_str("write failed"),
+        }
+    }
+}
+
+impl From<AllocError> for ProgramFault {
+    ghost from_gives = { λ _ e. e ≡ Memory };
+
+    fn from(_refused: AllocError) -> ProgramFault {
+        ProgramFault::Memory
+    }
+}
+
+impl<T: Drop> From<AllocFailed<T>> for ProgramFault {
+    ghost from_gives = { λ _ e. e ≡ Memory };
+
+    fn from(_refused: AllocFailed<T>) -> ProgramFault {
+        ProgramFault::Memory
+    }
+}
+
+impl From<WriteFault> for ProgramFault {
+    ghost from_gives = { λ _ e. e ≡ Unwritten };
+
+    fn from(_fault: WriteFault) -> ProgramFault {
+        ProgramFault::Write
+    }
+}
+
+impl From<PpmFault> for ProgramFault {
+    ghost from_gives = { λ fault e. e ≡ fault_of fault };
+
+    fn from(fault: PpmFault) -> ProgramFault {
+        match fault {
+            PpmFault::Memory => ProgramFault::Memory,
+            _ => ProgramFault::Ppm(fault),
+        }
+    }
+}

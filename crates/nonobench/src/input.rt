@@ -1,0 +1,47 @@
+//! Standard input, read to its end.
+
+ghost use Rattle.std.specs.Prelude.{◌≡◌, ◌⊎◌, ◌<◌, ◌≤◌, length, take, IfOk, IfErr, IfSome};
+ghost use Rattle.std.specs.Io.KnownBytes.{Consumes, IsAtEnd};
+ghost use Rattle.nonobench.specs.declared.fault.ProgramFault.TheVariants.{Memory, TooLong, Read as Unread};
+
+use crate::fault::ProgramFault;
+use std::alloc::Global;
+use std::io::Read;
+
+/// How many bytes an input has at the most.
+pub const MAX_INPUT: usize = 16_777_216;
+
+// How many bytes one read has room for.
+const ROOM: usize = 4096;
+
+/// All bytes up to the end of the input. It is too long where it has more than 16,777,216 bytes.
+pub fn read_input<R: Read>(alloc: Global, reader: &mut R) -> Result<Vec<u8>, ProgramFault>
+    ensures all { IfOk result (λ bytes. IfSome (R.remaining reader.old) (λ input. bytes.items ≡ input)) }
+    ensures fits { IfOk result (λ bytes. length bytes.items ≤ MAX_INPUT) }
+    ensures long { result ≡ Err ProgramFault.TooLong → IfSome (R.remaining reader.old) (λ input. MAX_INPUT < length input) }
+    ensures only { IfErr result (λ e. (e ≡ TooLong) ⊎ ((e ≡ Unread) ⊎ (e ≡ Memory))) }
+{
+    let mut bytes = Vec::new(alloc);
+    let mut buffer = [0; ROOM];
+    loop {
+        let count = read_some(reader, &mut buffer)?;
+        if count == 0 {
+            return Ok(bytes);
+        }
+        if bytes.len() + count > MAX_INPUT {
+            return Err(ProgramFault::TooLong);
+        }
+        bytes.extend_from_slice(&buffer[..count])?;
+    }
+}
+
+// One read, and how many bytes it gave: none only at the end of the input.
+fn read_some<R: Read>(reader: &mut R, buffer: &mut [u8]) -> Result<usize, ProgramFault>
+    requires { 0 < length buffer.old }
+    ensures within { IfOk result (λ count. count ≤ length buffer.new) }
+    ensures bytes { IfOk result (λ count. Consumes (R.remaining reader.old) (R.remaining reader.new) (take count buffer.new)) }
+    ensures end { IfOk result (λ count. count ≡ 0 → IsAtEnd (R.remaining reader.new)) }
+    ensures err { IfErr result (λ e. e ≡ Unread) }
+{
+    reader.read(buffer).map_err(|_| ProgramFault::Read)
+}
