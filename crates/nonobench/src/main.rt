@@ -6,6 +6,8 @@ mod fault;
 mod input;
 mod paint;
 mod run;
+#[cfg(test)]
+mod tests;
 
 use crate::fault::ProgramFault;
 use crate::input::read_input;

@@ -1,0 +1,150 @@
+use super::*;
+use crate::input::MAX_INPUT;
+use crate::paint::PaintFault;
+use ppm_text::PpmFault;
+use std::io::{Read, Write};
+use std::test::Fail;
+
+const WHITE: &[u8] = b"P3\n1 1\n255\n255 255 255\n";
+
+const THREE_BLACK: &[u8] = b"P3\n2 2\n255\n0 0 0\n0 0 0\n0 0 0\n255 255 255\n";
+
+#[test]
+fn the_clues_of_a_picture_are_written(rt: HostRuntime) -> Result<(), Fail> {
+    let cases = [
+        (WHITE, None, "r 1: 0\nc 1: 0\n"),
+        (THREE_BLACK, None, "r 1: 2a\nr 2: 1a\nc 1: 2a\nc 2: 1a\n"),
+        (THREE_BLACK, Some((0, 0, 0)), "r 1: 1a\nr 2: 1a\nc 1: 1a\nc 2: 1a\n"),
+        (b"P3 3 1 2 1 0 0 0 1 0 0 1 0".as_slice(), None, "r 1: 1a 2b\nc 1: 1a\nc 2: 1b\nc 3: 1b\n"),
+    ];
+    for (bytes, paint, want) in cases {
+        let mut text = Vec::new(rt.alloc());
+        assert_eq!(rt; run_clues(rt.alloc(), bytes, paint, &mut text), Ok(()));
+        assert_eq!(rt; text.as_slice(), want.as_bytes());
+    }
+    Ok(())
+}
+
+#[test]
+fn a_refused_picture_or_paint_writes_nothing(rt: HostRuntime) -> Result<(), Fail> {
+    let cases = [
+        (THREE_BLACK, Some((2, 0, 0)), "edit Place", 1),
+        (THREE_BLACK, Some((0, 2, 9)), "edit Place", 1),
+        (THREE_BLACK, Some((0, 0, 2)), "edit Colour", 1),
+        (THREE_BLACK, Some((0, 0, 1)), "edit NoChange", 1),
+        (b"P3 1 1 255 0 256 0".as_slice(), None, "ppm SampleOver at byte 13", 1),
+        (b"P6".as_slice(), None, "ppm NotP3 at byte 0", 1),
+    ];
+    for (bytes, paint, want, status) in cases {
+        let mut text = Vec::new(rt.alloc());
+        match run_clues(rt.alloc(), bytes, paint, &mut text) {
+            Ok(()) => assert!(rt; false, "{want}"),
+            Err(fault) => {
+                assert_eq!(rt; format!(in rt.alloc(); "{fault}")?.as_str(), want);
+                assert_eq!(rt; fault.status(), status);
+            }
+        }
+        assert!(rt; text.is_empty());
+    }
+    Ok(())
+}
+
+#[test]
+fn every_fault_has_its_line_and_status(rt: HostRuntime) -> Result<(), Fail> {
+    let cases = [
+        (ProgramFault::Ppm(PpmFault::Truncated(35)), "ppm Truncated at byte 35", 1),
+        (ProgramFault::Edit(PaintFault::Colour), "edit Colour", 1),
+        (ProgramFault::Memory, "memory", 1),
+        (ProgramFault::TooLong, "input too long", 1),
+        (ProgramFault::Words, "words are not taken", 2),
+        (ProgramFault::Read, "read failed", 3),
+        (ProgramFault::Write, "write failed", 3),
+    ];
+    for (fault, want, status) in cases {
+        assert_eq!(rt; format!(in rt.alloc(); "{fault}")?.as_str(), want);
+        assert_eq!(rt; fault.status(), status);
+    }
+    Ok(())
+}
+
+// Gives so many spaces, and then ends or fails.
+#[derive(Drop)]
+struct Spaces {
+    left: usize,
+    fails: bool,
+}
+
+impl Read for Spaces {
+    fn read(&mut self, buffer: &mut [u8]) -> io::Result<usize> {
+        if self.left == 0 && self.fails {
+            return Err(io::Error::from(io::ErrorKind::Other));
+        }
+        let count = buffer.len().min(self.left);
+        for byte in buffer.iter_mut() {
+            *byte = b' ';
+        }
+        self.left -= count;
+        Ok(count)
+    }
+}
+
+#[test]
+fn an_input_has_a_limit(rt: HostRuntime) {
+    let mut most = Spaces {
+        left: MAX_INPUT,
+        fails: false,
+    };
+    assert_eq!(rt; read_input(rt.alloc(), &mut most).map(|bytes| bytes.len()), Ok(MAX_INPUT));
+    let mut more = Spaces {
+        left: MAX_INPUT + 1,
+        fails: false,
+    };
+    assert_eq!(rt; read_input(rt.alloc(), &mut more).map(|bytes| bytes.len()), Err(ProgramFault::TooLong));
+    let mut broken = Spaces {
+        left: 5000,
+        fails: true,
+    };
+    assert_eq!(rt; read_input(rt.alloc(), &mut broken).map(|bytes| bytes.len()), Err(ProgramFault::Read));
+}
+
+#[test]
+fn an_input_is_read_whole(rt: HostRuntime) -> Result<(), Fail> {
+    let mut reader = THREE_BLACK;
+    let bytes = read_input(rt.alloc(), &mut reader).ok().ok_or("it is short")?;
+    assert_eq!(rt; bytes.as_slice(), THREE_BLACK);
+    Ok(())
+}
+
+// Takes so many bytes, and then fails.
+#[derive(Drop)]
+struct Full {
+    room: usize,
+}
+
+impl Write for Full {
+    fn write(&mut self, bytes: &[u8]) -> io::Result<usize> {
+        if self.room == 0 {
+            return Err(io::Error::from(io::ErrorKind::Other));
+        }
+        let count = bytes.len().min(self.room);
+        self.room -= count;
+        Ok(count)
+    }
+
+    fn flush(&mut self) -> io::Result<()> {
+        Ok(())
+    }
+}
+
+#[test]
+fn a_failed_write_is_answered(rt: HostRuntime) {
+    // The clues of the white picture are fourteen bytes.
+    for room in 0..14 {
+        let mut writer = Full { room };
+        assert_eq!(rt; run_clues(rt.alloc(), WHITE, None, &mut writer), Err(ProgramFault::Write));
+        assert_eq!(rt; writer.room, 0);
+    }
+    let mut writer = Full { room: 14 };
+    assert_eq!(rt; run_clues(rt.alloc(), WHITE, None, &mut writer), Ok(()));
+    assert_eq!(rt; writer.room, 0);
+}
