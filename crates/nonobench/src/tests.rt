@@ -14,8 +14,16 @@ fn the_clues_of_a_picture_are_written(rt: HostRuntime) -> Result<(), Fail> {
     let cases = [
         (WHITE, None, "r 1: 0\nc 1: 0\n"),
         (THREE_BLACK, None, "r 1: 2a\nr 2: 1a\nc 1: 2a\nc 2: 1a\n"),
-        (THREE_BLACK, Some((0, 0, 0)), "r 1: 1a\nr 2: 1a\nc 1: 1a\nc 2: 1a\n"),
-        (b"P3 3 1 2 1 0 0 0 1 0 0 1 0".as_slice(), None, "r 1: 1a 2b\nc 1: 1a\nc 2: 1b\nc 3: 1b\n"),
+        (
+            THREE_BLACK,
+            Some((0, 0, 0)),
+            "r 1: 1a\nr 2: 1a\nc 1: 1a\nc 2: 1a\n",
+        ),
+        (
+            b"P3 3 1 2 1 0 0 0 1 0 0 1 0".as_slice(),
+            None,
+            "r 1: 1a 2b\nc 1: 1a\nc 2: 1b\nc 3: 1b\n",
+        ),
     ];
     for (bytes, paint, want) in cases {
         let mut text = Vec::new(rt.alloc());
@@ -32,7 +40,12 @@ fn a_refused_picture_or_paint_writes_nothing(rt: HostRuntime) -> Result<(), Fail
         (THREE_BLACK, Some((0, 2, 9)), "edit Place", 1),
         (THREE_BLACK, Some((0, 0, 2)), "edit Colour", 1),
         (THREE_BLACK, Some((0, 0, 1)), "edit NoChange", 1),
-        (b"P3 1 1 255 0 256 0".as_slice(), None, "ppm SampleOver at byte 13", 1),
+        (
+            b"P3 1 1 255 0 256 0".as_slice(),
+            None,
+            "ppm SampleOver at byte 13",
+            1,
+        ),
         (b"P6".as_slice(), None, "ppm NotP3 at byte 0", 1),
     ];
     for (bytes, paint, want, status) in cases {
@@ -52,7 +65,11 @@ fn a_refused_picture_or_paint_writes_nothing(rt: HostRuntime) -> Result<(), Fail
 #[test]
 fn every_fault_has_its_line_and_status(rt: HostRuntime) -> Result<(), Fail> {
     let cases = [
-        (ProgramFault::Ppm(PpmFault::Truncated(35)), "ppm Truncated at byte 35", 1),
+        (
+            ProgramFault::Ppm(PpmFault::Truncated(35)),
+            "ppm Truncated at byte 35",
+            1,
+        ),
         (ProgramFault::Edit(PaintFault::Colour), "edit Colour", 1),
         (ProgramFault::Memory, "memory", 1),
         (ProgramFault::TooLong, "input too long", 1),
@@ -94,23 +111,34 @@ fn an_input_has_a_limit(rt: HostRuntime) {
         left: MAX_INPUT,
         fails: false,
     };
-    assert_eq!(rt; read_input(rt.alloc(), &mut most).map(|bytes| bytes.len()), Ok(MAX_INPUT));
+    assert_eq!(rt;
+        read_input(rt.alloc(), &mut most).map(|bytes| bytes.len()),
+        Ok(MAX_INPUT)
+    );
     let mut more = Spaces {
         left: MAX_INPUT + 1,
         fails: false,
     };
-    assert_eq!(rt; read_input(rt.alloc(), &mut more).map(|bytes| bytes.len()), Err(ProgramFault::TooLong));
+    assert_eq!(rt;
+        read_input(rt.alloc(), &mut more).map(|bytes| bytes.len()),
+        Err(ProgramFault::TooLong)
+    );
     let mut broken = Spaces {
         left: 5000,
         fails: true,
     };
-    assert_eq!(rt; read_input(rt.alloc(), &mut broken).map(|bytes| bytes.len()), Err(ProgramFault::Read));
+    assert_eq!(rt;
+        read_input(rt.alloc(), &mut broken).map(|bytes| bytes.len()),
+        Err(ProgramFault::Read)
+    );
 }
 
 #[test]
 fn an_input_is_read_whole(rt: HostRuntime) -> Result<(), Fail> {
     let mut reader = THREE_BLACK;
-    let bytes = read_input(rt.alloc(), &mut reader).ok().ok_or("it is short")?;
+    let bytes = read_input(rt.alloc(), &mut reader)
+        .ok()
+        .ok_or("it is short")?;
     assert_eq!(rt; bytes.as_slice(), THREE_BLACK);
     Ok(())
 }
@@ -141,7 +169,10 @@ fn a_failed_write_is_answered(rt: HostRuntime) {
     // The clues of the white picture are fourteen bytes.
     for room in 0..14 {
         let mut writer = Full { room };
-        assert_eq!(rt; run_clues(rt.alloc(), WHITE, None, &mut writer), Err(ProgramFault::Write));
+        assert_eq!(rt;
+            run_clues(rt.alloc(), WHITE, None, &mut writer),
+            Err(ProgramFault::Write)
+        );
         assert_eq!(rt; writer.room, 0);
     }
     let mut writer = Full { room: 14 };
