@@ -1,2 +1,3 @@
 pub mod LineClues
+pub mod MovedLines
 pub mod Runs
