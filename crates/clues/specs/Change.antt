@@ -1,5 +1,5 @@
 -- What an edit changes: which line of the new picture is which line of the old one, and which lines have other cells.
-use Rattle.std.specs.Prelude.{◌≡◌, ℕ, ◌<◌, ◌≤◌, ◌⊎◌, List, length, Option, Some, option_map}
+use Rattle.std.specs.Prelude.{◌≡◌, ℕ, ◌<◌, ◌≤◌, ◌⊎◌, List, length, slice_index, Option, Some, option_map}
 use Rattle.picture.specs.declared.line_id.Axis.{Axis}
 use Rattle.picture.specs.declared.line_id.Axis.TheVariants.{Across, Down}
 use Rattle.picture.specs.declared.line_id.LineId.{LineId}
@@ -100,6 +100,16 @@ IsOldLine moves old new line = (from : LineId) × HasLine old from × (image_of 
 pub record Follows (change : Changes) (old new : List (List ℕ)) : Type 0 where
   pub sizes : (axis : Axis) → lines_along axis new ≡ lines_after axis change.moves
   pub untouched : (line : LineId) → HasLine new line → (IsTouched change line → ⊥) → IsOldLine change.moves old new line
+
+-- after an exchange a line has the cells of the old line that it is, where it does not cross the two lines in different cells
+pub record FollowsSwap (axis : Axis) (first second : ℕ) (moves : Moves) (old new : List (List ℕ)) : Type 0 where
+  pub sizes : (along : Axis) → lines_along along new ≡ lines_after along moves
+  pub same : (line : LineId) → HasLine new line → (line.axis ≡ crossing axis → slice_index (line_of old line) first ≡ slice_index (line_of old line) second) → IsOldLine moves old new line
+
+-- where no line moves, a line with the same cells as before is the old one
+pub record FollowsCells (moves : Moves) (old new : List (List ℕ)) : Type 0 where
+  pub sizes : (along : Axis) → lines_along along new ≡ lines_after along moves
+  pub same : (line : LineId) → HasLine new line → line_of new line ≡ line_of old line → IsOldLine moves old new line
 
 -- the clue of a line of the new picture is that of the old line that it is
 abbrev pub HasOldClue : Moves → Clues → List (List ℕ) → LineId → Type 0

@@ -5,7 +5,7 @@ ghost use Rattle.picture.specs.Rows.{line_deleted, line_inserted, line_of, lines
 ghost use Rattle.picture.specs.declared.line_id.LineId.{LineId};
 ghost use Rattle.clues.specs.Places.{count_after};
 ghost use Rattle.picture.specs.LineSet.{no_names};
-ghost use Rattle.clues.specs.Change.{AreMoves, Follows, IsSize, HasSize, IsOldLine, IsTouched, Stays, crossing, image_of, lines_after, lines_before, moved_along, origin_of, places_along, still};
+ghost use Rattle.clues.specs.Change.{AreMoves, Follows, FollowsCells, FollowsSwap, IsSize, HasSize, IsOldLine, IsTouched, Stays, crossing, image_of, lines_after, lines_before, moved_along, origin_of, places_along, still};
 
 use crate::places::Places;
 use picture::{Axis, LineId, LineSet, MAX_SIDE};
@@ -46,6 +46,7 @@ impl Change {
         requires { IsSize height width }
         ensures moves { result.moves ≡ still height width }
         ensures untouched { (line : LineId) → IsTouched result line → ⊥ }
+        ensures lines { (old new : List (List ℕ)) → HasSize height width old → HasSize height width new → FollowsCells result.moves old new }
     {
         Change {
             height,
@@ -64,6 +65,7 @@ impl Change {
         requires room { lines_before line.axis (still height width) < MAX_SIDE }
         ensures moves { result.moves ≡ moved_along line.axis (Places.Inserted line.at) height width }
         ensures touched { (other : LineId) → IsTouched result other ↔ ((other ≡ line) ⊎ (other.axis ≡ crossing line.axis)) }
+        ensures lines { (picture : List (List ℕ)) → HasSize height width picture → Follows result picture (line_inserted picture line) }
     {
         Change::along(line.axis, Places::Inserted(line.at), height, width)
     }
@@ -75,6 +77,7 @@ impl Change {
         requires more { 1 < lines_before line.axis (still height width) }
         ensures moves { result.moves ≡ moved_along line.axis (Places.Deleted line.at) height width }
         ensures touched { (other : LineId) → IsTouched result other ↔ (other.axis ≡ crossing line.axis) }
+        ensures lines { (picture : List (List ℕ)) → HasSize height width picture → Follows result picture (line_deleted picture line) }
     {
         Change::along(line.axis, Places::Deleted(line.at), height, width)
     }
@@ -86,6 +89,7 @@ impl Change {
         requires second_in { second < lines_before axis (still height width) }
         ensures moves { result.moves ≡ moved_along axis (Places.Swapped first second) height width }
         ensures untouched { (line : LineId) → IsTouched result line → ⊥ }
+        ensures lines { (picture : List (List ℕ)) → HasSize height width picture → FollowsSwap axis first second result.moves picture (lines_swapped axis first second picture) }
     {
         Change::along(axis, Places::Swapped(first, second), height, width)
     }
@@ -93,7 +97,8 @@ impl Change {
     // The change that moves lines along one axis, and touches no line besides.
     fn along(axis: Axis, places: Places, height: u8, width: u8) -> Change
         requires { AreMoves (moved_along axis places height width) }
-        ensures { result ≡ record { moves = moved_along axis places height width; marked = no_names } }
+        ensures change { result ≡ record { moves = moved_along axis places height width; marked = no_names } }
+        ensures moves { AreMoves result.moves }
     {
         let (rows, columns) = match axis {
             Axis::Across => (places, Places::Kept),
