@@ -1,20 +1,20 @@
 -- The lines of a picture after lines were inserted, deleted or exchanged.
-use Rattle.std.proofs.Common.{◌≡◌, ◌≢◌, ℕ, zero, suc, ◌+◌, ◌-◌, ◌<◌, ◌≤◌, ◌⊎◌, inl, inr, cond, eqb, ltb, Option, Some, None, option_map, List, [], ◌∷◌, length, get_or, set, map, replicate, refl, sym, ap, ◌∙◌, arith, rules}
+use Rattle.std.proofs.Common.{◌≡◌, ◌≢◌, ℕ, suc, ◌+◌, ◌-◌, ◌<◌, ◌≤◌, ◌⊎◌, inl, inr, Some, option_map, List, [], ◌∷◌, length, get_or, set, map, replicate, refl, sym, ap, ◌∙◌, arith}
 use Rattle.std.specs.List.{insert, remove, swap}
 use Rattle.std.proofs.lemmas.Bool.{cases_lt, cases_eq}
 use Rattle.std.proofs.lemmas.Bool.Decides.{nat_tests}
-use Rattle.std.proofs.lemmas.List.{length-map, length-replicate, get_or-map, map-set, set-get_or, get_or_default, length-set}
-use Rattle.std.proofs.lemmas.List.Edits.{length-insert, get_or-insert_below, get_or-insert_at, get_or-insert_above, length-remove, get_or-remove_below, get_or-remove_above, swap_is, length-swap, Swapped as AreSwapped, swapped_from_swap}
+use Rattle.std.proofs.lemmas.List.{length-map, length-replicate, get_or-map, map-set, set-get_or}
+use Rattle.std.proofs.lemmas.List.Edits.{length-insert, get_or-insert_below, get_or-insert_at, get_or-insert_above, length-remove, get_or-remove_below, get_or-remove_above, swap_is, length-swap, swapped_from_swap}
 use Rattle.picture.specs.declared.line_id.Axis.{Axis}
 use Rattle.picture.specs.declared.line_id.Axis.TheVariants.{Across, Down}
 use Rattle.picture.specs.declared.line_id.LineId.{LineId}
 use Rattle.picture.specs.Picture.{IsPicture}
-use Rattle.picture.specs.Rows.{row_at, width_of, line_along, lines_along, line_of, HasLine, line_inserted, line_deleted, lines_swapped, with_line, without_line}
+use Rattle.picture.specs.Rows.{width_of, line_along, lines_along, line_inserted, line_deleted, lines_swapped, with_line, without_line}
 use Rattle.clues.specs.declared.places.Places.{Places}
 use Rattle.clues.specs.declared.places.Places.TheVariants.{Kept, Inserted, Deleted, Swapped}
 use Rattle.clues.specs.Places.{exchanged, new_place, count_after, AreAmong, IsNewAt, ChangesLength}
 use Rattle.picture.specs.LineSet.{Lines}
-use Rattle.clues.specs.Change.{AreMoves, FollowsSwap, FollowsCells, Changes, Moves, HasSize, IsSize, IsTouched, IsOldLine, Follows, crossing, line_at, places_along, lines_before, lines_after, image_of, moved_along, still}
+use Rattle.clues.specs.Change.{AreMoves, FollowsSwap, HasSize, IsTouched, IsOldLine, Follows, crossing, line_at, lines_before, lines_after, image_of, moved_along, still}
 
 -- a list whose items have moved, with an item at a new place
 abbrev edited : {X : Type 0} → Places → X → List X → List X
@@ -58,12 +58,12 @@ get_or-swap : {X : Type 0} (xs : List X) (first second at : ℕ) (d : X) → fir
 get_or-swap xs first second at d in_first in_second =
     let swapped = swapped_from_swap xs (swap xs first second) first second d in_first in_second refl in
     elim (cases_eq at first) [
-      inl f ↦ rw (f, exchanged-first) swapped.1
-    | inr f ↦
-        elim (cases_eq at second) [
-          inl s ↦ rw (s, exchanged-second) swapped.0
-        | inr s ↦ rw (exchanged-other first second at f s) (swapped.2 at f s)
-        ]
+      | inl f ↦ rw (f, exchanged-first) swapped.1
+      | inr f ↦
+          elim (cases_eq at second) [
+            | inl s ↦ rw (s, exchanged-second) swapped.0
+            | inr s ↦ rw (exchanged-other first second at f s) (swapped.2 at f s)
+          ]
     ]
 
 -- an item is found at its new place
@@ -71,16 +71,16 @@ get_or-edited : {X : Type 0} (places : Places) (new d : X) (xs : List X) (from t
 get_or-edited Kept new d xs from to among within e = let same : to ≡ from = cc e in rw same refl
 get_or-edited (Inserted place) new d xs from to among within e =
     elim (cases_lt from place) [
-      inl h ↦ rw (inserted-below place from to h e) (get_or-insert_below xs place new d from h among)
-    | inr h ↦ rw (inserted-above place from to h e) (get_or-insert_above xs place new d from h among)
+      | inl h ↦ rw (inserted-below place from to h e) (get_or-insert_below xs place new d from h among)
+      | inr h ↦ rw (inserted-above place from to h e) (get_or-insert_above xs place new d from h among)
     ]
 get_or-edited (Deleted place) new d xs from to among within e =
     elim (cases_lt from place) [
-      inl h ↦ rw (deleted-below place from to h e) (get_or-remove_below xs place d from h among)
-    | inr h ↦
-        let above : place < from = omega (arith, deleted-not place from to e) in
-        let moved = deleted-above place from to above e in
-        rw moved (get_or-remove_above xs place d to (omega (arith, moved)) among)
+      | inl h ↦ rw (deleted-below place from to h e) (get_or-remove_below xs place d from h among)
+      | inr h ↦
+          let above : place < from = omega (arith, deleted-not place from to e) in
+          let moved = deleted-above place from to above e in
+          rw moved (get_or-remove_above xs place d to (omega (arith, moved)) among)
     ]
 get_or-edited (Swapped first second) new d xs from to among within e =
     let moved : to ≡ exchanged first second from = cc e in
@@ -98,13 +98,13 @@ origin Kept count at among within old = (at, within, refl)
 origin (Inserted place) count at among within old =
     let other : at ≢ place = old in
     elim (cases_lt at place) [
-      inl h ↦ (at, omega arith, grind (arith, nat_tests))
-    | inr h ↦ (at - 1, omega arith, grind (arith, nat_tests))
+      | inl h ↦ (at, omega arith, grind (arith, nat_tests))
+      | inr h ↦ (at - 1, omega arith, grind (arith, nat_tests))
     ]
 origin (Deleted place) count at among within old =
     elim (cases_lt at place) [
-      inl h ↦ (at, omega arith, grind (arith, nat_tests))
-    | inr h ↦ (at + 1, omega arith, grind (arith, nat_tests))
+      | inl h ↦ (at, omega arith, grind (arith, nat_tests))
+      | inr h ↦ (at + 1, omega arith, grind (arith, nat_tests))
     ]
 origin (Swapped first second) count at among within old =
     (exchanged first second at, exchanged-within first second count at among.0 among.1 within, ap Some (exchanged-exchanged first second at))
@@ -146,10 +146,10 @@ get_or-edited_new (Swapped first second) new d xs at among n = absurd n
 first_row : (places : Places) (picture : List (List ℕ)) → IsPicture picture → AreAmong places (length picture) → 0 < count_after places (length picture) → length (get_or (edited places (replicate (width_of picture) 0) picture) 0 []) ≡ width_of picture
 first_row places picture is among some =
     elim (new_or_old places 0) [
-      inl n ↦ ap length (get_or-edited_new places (replicate (width_of picture) 0) [] picture 0 among n) ∙ length-replicate (width_of picture) 0
-    | inr old ↦
-        let from = origin places (length picture) 0 among some old in
-        ap length (get_or-edited places (replicate (width_of picture) 0) [] picture from.0 0 among from.1 from.2) ∙ is.rectangular from.0 from.1
+      | inl n ↦ ap length (get_or-edited_new places (replicate (width_of picture) 0) [] picture 0 among n) ∙ length-replicate (width_of picture) 0
+      | inr old ↦
+          let from = origin places (length picture) 0 among some old in
+          ap length (get_or-edited places (replicate (width_of picture) 0) [] picture from.0 0 among from.1 from.2) ∙ is.rectangular from.0 from.1
     ]
 
 edited-sizes : (axis : Axis) (places : Places) (height width : ℕ) (picture : List (List ℕ)) → HasSize height width picture → AreAmong places (lines_before axis (still height width)) → 0 < lines_after axis (moved_along axis places height width) → (along : Axis) → lines_along along (edited_picture axis places picture) ≡ lines_after along (moved_along axis places height width)
@@ -224,7 +224,7 @@ follows axis places height width marked picture changes has moves among =
     let sizes = edited-sizes axis places height width picture has among (moves.some_after axis) in
     record {
       sizes = sizes;
-      untouched = λ line within untouched. untouched_line axis line.axis places height width marked picture line.at changes has among (rw sizes at within) untouched
+      untouched = λ line within untouched. untouched_line axis line.axis places height width marked picture line.at changes has among (rw sizes at within) untouched;
     }
 
 follows_insert_along : (axis : Axis) (at height width : ℕ) (marked : Lines) (picture : List (List ℕ)) → HasSize height width picture → AreMoves (moved_along axis (Inserted at) height width) → Follows (record { moves = moved_along axis (Inserted at) height width; marked = marked }) picture (with_line axis at picture)

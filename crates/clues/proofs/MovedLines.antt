@@ -1,10 +1,14 @@
 -- Lines that an edit moves: where they stand before and after.
-use Rattle.std.proofs.Common.{◌≡◌, ◌≢◌, ℕ, ◌+◌, ◌-◌, ◌<◌, ◌≤◌, ◌↔◌, Option, Some, None, arith, cond, eqb, ltb}
-use Rattle.std.specs.Prelude.{IfSome}
+use Rattle.std.proofs.Common.{◌≡◌, ℕ, ◌<◌, Option, Some, None, arith, List, option_map, refl, sym, ap}
 use Rattle.std.proofs.lemmas.Bool.Decides.{nat_tests}
 use Rattle.clues.specs.declared.places.Places.{Places}
 use Rattle.clues.specs.declared.places.Places.TheVariants.{Kept, Inserted, Deleted, Swapped}
-use Rattle.clues.specs.Places.{exchanged, new_place, reversed, old_place, count_after, AreAmong, IsNewAt, ChangesLength}
+use Rattle.picture.specs.declared.line_id.LineId.{LineId}
+use Rattle.picture.specs.Rows.{HasLine, line_of}
+use Rattle.clues.specs.Clue.{clue_of}
+use Rattle.clues.specs.ClueBook.{Clues, HasClue, clue_at}
+use Rattle.clues.specs.Change.{CanRefresh, Changes, IsTouched, Moves, image_of, line_at, origin_of, places_along}
+use Rattle.clues.specs.Places.{new_place, old_place, count_after, AreAmong}
 
 -- a line that is still there came from its old place
 pub old_place-new_place : (places : Places) (at to : ℕ) → new_place places at ≡ Some to → old_place places to ≡ Some at
@@ -19,5 +23,24 @@ new_place-among Kept count at to among within e = grind arith
 new_place-among (Inserted place) count at to among within e = grind (arith, nat_tests)
 new_place-among (Deleted place) count at to among within e = grind (arith, nat_tests)
 new_place-among (Swapped first second) count at to among within e = grind (arith, nat_tests)
+
+-- the line that an old line is came from it
+origin_from_place : (moves : Moves) (from line : LineId) (to : Option ℕ) → new_place (places_along from.axis moves) from.at ≡ to → option_map (line_at from.axis) to ≡ Some line → origin_of moves line ≡ Some from
+origin_from_place moves from line None place e = absurd (cc e)
+origin_from_place moves from line (Some to) place e =
+    let is : line_at from.axis to ≡ line = cc e in
+    rw (← is) (ap (option_map (line_at from.axis)) (old_place-new_place (places_along from.axis moves) from.at to place))
+
+pub origin_of-image : (moves : Moves) (from line : LineId) → image_of moves from ≡ Some line → origin_of moves line ≡ Some from
+origin_of-image moves from line e = origin_from_place moves from line (new_place (places_along from.axis moves) from.at) refl e
+
+-- an untouched line has the clue of the line that it was
+pub old_clue : (clues : Clues) (picture : List (List ℕ)) (change : Changes) (line old : LineId) → CanRefresh clues picture change → HasLine picture line → (IsTouched change line → ⊥) → origin_of change.moves line ≡ Some old → HasClue clues old × (clue_at clues old ≡ clue_of (line_of picture line))
+old_clue clues picture change line old can has untouched e =
+    let is = can.untouched line has untouched in
+    let same : is.0 ≡ old = cc (origin_of-image change.moves is.0 line is.2, e) in
+    rw (← same) (is.1, sym is.3)
+
+pub ruleset refreshing = (old_clue)
 
 pub ruleset moving = (old_place-new_place, new_place-among)

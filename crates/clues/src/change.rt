@@ -27,16 +27,12 @@ impl Model for Change {
 
     ghost Value = { Changes };
 
-    ghost view = {
-        λ c. record {
-            moves = record { height = c.height; width = c.width; rows = c.rows; columns = c.columns };
-            marked = c.marked
-        }
-    };
+    ghost view = { λ c. record {
+      moves = record { height = c.height; width = c.width; rows = c.rows; columns = c.columns };
+      marked = c.marked;
+    } };
 
-    ghost invariant = {
-        λ c. AreMoves (record { height = c.height; width = c.width; rows = c.rows; columns = c.columns })
-    };
+    ghost invariant = { λ c. AreMoves (record { height = c.height; width = c.width; rows = c.rows; columns = c.columns }) };
 }
 
 #[tactic(auto, using(crate::proofs::MovedLines::moving))]
