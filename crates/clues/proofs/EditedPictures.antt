@@ -253,7 +253,7 @@ swapped_line Down Down first second height width picture at has among within sam
 swapped_lines : (axis : Axis) (first second height width : ℕ) (picture : List (List ℕ)) → HasSize height width picture → AreMoves (moved_along axis (Swapped first second) height width) → AreAmong (Swapped first second) (lines_before axis (still height width)) → FollowsSwap axis first second (moved_along axis (Swapped first second) height width) picture (edited_picture axis (Swapped first second) picture)
 swapped_lines axis first second height width picture has moves among =
     let sizes = edited-sizes axis (Swapped first second) height width picture has among (moves.some_after axis) in
-    record { sizes = sizes; same = λ line within same. swapped_line axis line.axis first second height width picture line.at has among (rw sizes at within) same }
+    record { sizes = sizes; alike = λ line within same. swapped_line axis line.axis first second height width picture line.at has among (rw sizes at within) same }
 
 pub follows_swap : (axis : Axis) (first second height width : ℕ) (picture : List (List ℕ)) → HasSize height width picture → AreMoves (moved_along axis (Swapped first second) height width) → FollowsSwap axis first second (moved_along axis (Swapped first second) height width) picture (lines_swapped axis first second picture)
 follows_swap Across first second height width picture has moves = swapped_lines Across first second height width picture has moves (moves.among Across)

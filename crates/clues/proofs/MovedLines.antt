@@ -1,13 +1,15 @@
 -- Lines that an edit moves: where they stand before and after.
-use Rattle.std.proofs.Common.{◌≡◌, ℕ, ◌<◌, Option, Some, None, arith, List, option_map, refl, sym, ap}
+use Rattle.std.proofs.Common.{◌≡◌, ℕ, ◌<◌, Option, Some, None, arith, List, option_map, refl, sym, ap, ◌∙◌}
 use Rattle.std.proofs.lemmas.Bool.Decides.{nat_tests}
 use Rattle.clues.specs.declared.places.Places.{Places}
 use Rattle.clues.specs.declared.places.Places.TheVariants.{Kept, Inserted, Deleted, Swapped}
 use Rattle.picture.specs.declared.line_id.LineId.{LineId}
-use Rattle.picture.specs.Rows.{HasLine, line_of}
+use Rattle.picture.specs.Rows.{HasLine, line_of, lines_along}
+use Rattle.picture.specs.declared.line_id.Axis.{Axis}
+use Rattle.clues.proofs.LineClues.{clue_at-clues_of, has_clue-clues_of}
 use Rattle.clues.specs.Clue.{clue_of}
-use Rattle.clues.specs.ClueBook.{Clues, HasClue, clue_at}
-use Rattle.clues.specs.Change.{CanRefresh, Changes, IsTouched, Moves, image_of, line_at, origin_of, places_along}
+use Rattle.clues.specs.ClueBook.{Clues, HasClue, clue_at, clues_of}
+use Rattle.clues.specs.Change.{CanRefresh, Changes, Follows, IsTouched, Moves, image_of, line_at, origin_of, places_along}
 use Rattle.clues.specs.Places.{new_place, old_place, count_after, AreAmong}
 
 -- a line that is still there came from its old place
@@ -40,6 +42,24 @@ old_clue clues picture change line old can has untouched e =
     let is = can.untouched line has untouched in
     let same : is.0 ≡ old = cc (origin_of-image change.moves is.0 line is.2, e) in
     rw (← same) (is.1, sym is.3)
+
+-- where untouched lines have the cells of the lines that they were, they have their clues
+pub can_refresh : (change : Changes) (old new : List (List ℕ)) → Follows change old new → CanRefresh (clues_of old) new change
+can_refresh change old new follows = record {
+  sizes = follows.sizes;
+  untouched = λ line has untouched.
+      let from = follows.untouched line has untouched in
+      (from.0, has_clue-clues_of old from.0 from.1, from.2, ap clue_of from.3 ∙ sym (clue_at-clues_of old from.0 from.1));
+}
+
+-- untouched lines may be looked up in another picture where they have the same cells
+pub follows_alike : (change : Changes) (old between new : List (List ℕ)) → Follows change old between → ((axis : Axis) → lines_along axis new ≡ lines_along axis between) → ((line : LineId) → HasLine new line → (IsTouched change line → ⊥) → line_of new line ≡ line_of between line) → Follows change old new
+follows_alike change old between new follows sizes alike = record {
+  sizes = λ axis. sizes axis ∙ follows.sizes axis;
+  untouched = λ line has untouched.
+      let from = follows.untouched line (rw (← sizes line.axis) has) untouched in
+      (from.0, from.1, from.2, alike line has untouched ∙ from.3);
+}
 
 pub ruleset refreshing = (old_clue)
 

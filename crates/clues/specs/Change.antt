@@ -63,13 +63,17 @@ IsTouched change line =
     IsNewAt (places_along line.axis change.moves) line.at
     ⊎ (ChangesLength (places_along (crossing line.axis) change.moves) ⊎ HasName change.marked line)
 
--- nothing moves along either axis, or lines of one axis move
-abbrev pub still : ℕ → ℕ → Moves
-still height width = record { height = height; width = width; rows = Kept; columns = Kept }
+abbrev pub moves_from : ℕ → ℕ → Places → Places → Moves
+moves_from height width rows columns = record { height = height; width = width; rows = rows; columns = columns }
 
+-- no line moves
+abbrev pub still : ℕ → ℕ → Moves
+still height width = moves_from height width Kept Kept
+
+-- lines of one axis move
 abbrev pub moved_along : Axis → Places → ℕ → ℕ → Moves
-moved_along Across places height width = record { height = height; width = width; rows = places; columns = Kept }
-moved_along Down places height width = record { height = height; width = width; rows = Kept; columns = places }
+moved_along Across places height width = moves_from height width places Kept
+moved_along Down places height width = moves_from height width Kept places
 
 -- the sizes are 1 to 120 before and after, and what moves is among the lines
 pub record AreMoves (moves : Moves) : Type 0 where
@@ -94,17 +98,23 @@ pub record HasSize (height width : ℕ) (picture : List (List ℕ)) : Type 0 whe
 
 -- the line of the new picture has the cells of the old line that it is
 abbrev pub IsOldLine : Moves → List (List ℕ) → List (List ℕ) → LineId → Type 0
-IsOldLine moves old new line = (from : LineId) × HasLine old from × (image_of moves from ≡ Some line) × (line_of new line ≡ line_of old from)
+IsOldLine moves old new line =
+    (from : LineId) × HasLine old from × (image_of moves from ≡ Some line) × (line_of new line ≡ line_of old from)
 
 -- the new picture has the sizes that the change gives, and untouched lines have the cells of the old lines that they are
 pub record Follows (change : Changes) (old new : List (List ℕ)) : Type 0 where
   pub sizes : (axis : Axis) → lines_along axis new ≡ lines_after axis change.moves
   pub untouched : (line : LineId) → HasLine new line → (IsTouched change line → ⊥) → IsOldLine change.moves old new line
 
--- after an exchange a line has the cells of the old line that it is, where it does not cross the two lines in different cells
+-- a line that crosses lines of an axis has the same cell in two of them
+abbrev pub CrossesAlike : Axis → ℕ → ℕ → List (List ℕ) → LineId → Type 0
+CrossesAlike axis first second picture line =
+    line.axis ≡ crossing axis → slice_index (line_of picture line) first ≡ slice_index (line_of picture line) second
+
+-- after an exchange a line has the cells of the old line that it is, unless it crosses the two in different cells
 pub record FollowsSwap (axis : Axis) (first second : ℕ) (moves : Moves) (old new : List (List ℕ)) : Type 0 where
   pub sizes : (along : Axis) → lines_along along new ≡ lines_after along moves
-  pub same : (line : LineId) → HasLine new line → (line.axis ≡ crossing axis → slice_index (line_of old line) first ≡ slice_index (line_of old line) second) → IsOldLine moves old new line
+  pub alike : (line : LineId) → HasLine new line → CrossesAlike axis first second old line → IsOldLine moves old new line
 
 -- where no line moves, a line with the same cells as before is the old one
 pub record FollowsCells (moves : Moves) (old new : List (List ℕ)) : Type 0 where
@@ -113,7 +123,8 @@ pub record FollowsCells (moves : Moves) (old new : List (List ℕ)) : Type 0 whe
 
 -- the clue of a line of the new picture is that of the old line that it is
 abbrev pub HasOldClue : Moves → Clues → List (List ℕ) → LineId → Type 0
-HasOldClue moves clues picture line = (from : LineId) × HasClue clues from × (image_of moves from ≡ Some line) × (clue_of (line_of picture line) ≡ clue_at clues from)
+HasOldClue moves clues picture line =
+    (from : LineId) × HasClue clues from × (image_of moves from ≡ Some line) × (clue_of (line_of picture line) ≡ clue_at clues from)
 
 -- the clue book is of the old size, the picture of the new one, and untouched lines have their old clues
 pub record CanRefresh (clues : Clues) (picture : List (List ℕ)) (change : Changes) : Type 0 where
