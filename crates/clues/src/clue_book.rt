@@ -107,9 +107,9 @@ impl ClueBook {
         requires line { HasLine picture.now line }
         ensures { IfOk result (λ clue. clue ≡ clue_of (line_of picture.now line)) }
     {
-        match change.origin(line) {
-            Some(old) if !change.touched(line) => self.clue(old).copy(),
-            _ => clue_of(*self.rows.allocator(), picture.line(line)),
+        match change.kept_from(line) {
+            Some(old) => self.clue(old).copy(),
+            None => clue_of(*self.rows.allocator(), picture.line(line)),
         }
     }
 
