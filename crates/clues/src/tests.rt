@@ -122,3 +122,18 @@ fn a_change_of_cells_moves_no_line(rt: HostRuntime) {
     assert!(rt; change.stays(Axis::Down, 1));
     assert!(rt; !change.touched(row(1)));
 }
+
+// `a.` and, with a row inserted above, `../a.`
+#[test]
+fn a_book_is_refreshed_after_an_insertion(rt: HostRuntime) -> Result<(), Fail> {
+    let mut old = Picture::blank(rt.alloc(), 1, 2)?;
+    old.set(0, 0, 1);
+    let mut new = Picture::blank(rt.alloc(), 2, 2)?;
+    new.set(1, 0, 1);
+    let book = ClueBook::of(rt.alloc(), &old)?;
+    let _ = old.height();
+    let refreshed = book.refresh(&new, &Change::insert(1, 2, row(0)))?;
+    assert!(rt; refreshed.has_clues(&new));
+    assert!(rt; !refreshed.has_clues(&old));
+    Ok(())
+}
