@@ -1,2 +1,4 @@
+pub mod EditedPictures
 pub mod LineClues
+pub mod MovedLines
 pub mod Runs

@@ -8,7 +8,7 @@ use Rattle.picture.specs.declared.line_id.LineId.{LineId}
 use Rattle.picture.specs.Rows.{line_along, line_of, lines_along, HasLine}
 use Rattle.clues.specs.declared.block.Block.{Block}
 use Rattle.clues.specs.Clue.{clue_of}
-use Rattle.clues.specs.ClueBook.{clues_along, clue_at, first_clues, clues_of}
+use Rattle.clues.specs.ClueBook.{HasClue, clues_along, clue_at, first_clues, clues_of}
 
 pub first_clues-none : (axis : Axis) (picture : List (List ℕ)) → first_clues axis picture 0 ≡ []
 unfolding first_clues
@@ -46,5 +46,9 @@ clues_along-clues_of Down picture = refl
 -- the clue of a line in the clues of a picture
 pub clue_at-clues_of : (picture : List (List ℕ)) (line : LineId) → HasLine picture line → clue_at (clues_of picture) line ≡ clue_of (line_of picture line)
 clue_at-clues_of picture line has = rw clues_along-clues_of (get_or-first_clues line.axis picture (lines_along line.axis picture) line.at [] has)
+
+-- a line of a picture has a clue among the picture's clues
+pub has_clue-clues_of : (picture : List (List ℕ)) (line : LineId) → HasLine picture line → HasClue (clues_of picture) line
+has_clue-clues_of picture line has = rw (clues_along-clues_of, length-first_clues) has
 
 pub ruleset counting = (first_clues-none, first_clues-more, length-first_clues)

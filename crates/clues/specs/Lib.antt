@@ -1,2 +1,4 @@
+pub mod Change
 pub mod Clue
 pub mod ClueBook
+pub mod Places

@@ -1,12 +1,14 @@
 //! The clues of all lines of a picture.
 
 ghost use Rattle.std.specs.Prelude.{◌≡◌, ◌↔◌, ◌<◌, ◌≤◌, length, IfOk, IsTrue};
-ghost use Rattle.picture.specs.Rows.{lines_along};
+ghost use Rattle.picture.specs.Rows.{line_of, lines_along, HasLine};
+ghost use Rattle.clues.specs.Clue.{clue_of};
+ghost use Rattle.clues.specs.Change.{CanRefresh};
 ghost use Rattle.clues.specs.ClueBook.{clue_at, clues_from, clues_of, first_clues, HasClue, IsBook};
 
-use crate::Clue;
 use crate::counting::clue_of;
 use crate::matching::is_clue_of;
+use crate::{Change, Clue};
 use picture::{Axis, LineId, MAX_SIDE, Picture};
 use std::alloc::{AllocError, Global};
 use std::marker::Model;
@@ -28,6 +30,7 @@ impl Model for ClueBook {
     ghost invariant = { λ b. IsBook (clues_from b.rows.items b.columns.items) };
 }
 
+#[tactic(auto, using(crate::proofs::LineClues::counting, crate::proofs::MovedLines::refreshing))]
 impl ClueBook {
     /// The clues of a picture's lines.
     pub fn of(alloc: Global, picture: &Picture) -> Result<ClueBook, AllocError>
@@ -61,6 +64,53 @@ impl ClueBook {
     {
         are_clues(&self.rows, picture, Axis::Across)
             && are_clues(&self.columns, picture, Axis::Down)
+    }
+
+    /// The clue book of a picture after a change, where each untouched line has the clue of the old line that it is.
+    /// Only touched lines are counted; the clues of the others are copied.
+    pub fn refresh(&self, picture: &Picture, change: &Change) -> Result<ClueBook, AllocError>
+        requires { CanRefresh self.now picture.now change.now }
+        ensures { IfOk result (λ book. book ≡ clues_of picture.now) }
+    {
+        let rows = self.refreshed(picture, change, Axis::Across)?;
+        let columns = self.refreshed(picture, change, Axis::Down)?;
+        Ok(ClueBook::from_parts(rows, columns))
+    }
+
+    // The clues of all lines of the new picture along an axis.
+    fn refreshed(
+        &self,
+        picture: &Picture,
+        change: &Change,
+        axis: Axis,
+    ) -> Result<Vec<Clue>, AllocError>
+        requires { CanRefresh self.now picture.now change.now }
+        ensures clues { IfOk result (λ clues. clues.items ≡ first_clues axis picture.now (lines_along axis picture.now)) }
+        ensures fits { IfOk result (λ clues. (0 < length clues.items) × (length clues.items ≤ MAX_SIDE)) }
+    {
+        let count = line_count(picture, axis);
+        let mut clues = Vec::with_capacity(*self.rows.allocator(), usize::from(count))?;
+        for at in 0..count {
+            clues.push(self.refreshed_clue(picture, change, LineId { axis, at })?)?;
+        }
+        Ok(clues)
+    }
+
+    // The clue of a line of the new picture.
+    fn refreshed_clue(
+        &self,
+        picture: &Picture,
+        change: &Change,
+        line: LineId,
+    ) -> Result<Clue, AllocError>
+        requires can { CanRefresh self.now picture.now change.now }
+        requires line { HasLine picture.now line }
+        ensures { IfOk result (λ clue. clue ≡ clue_of (line_of picture.now line)) }
+    {
+        match change.kept_from(line) {
+            Some(old) => self.clue(old).copy(),
+            None => clue_of(*self.rows.allocator(), picture.line(line)),
+        }
     }
 
     /// How many rows there are, from 1 to 120.

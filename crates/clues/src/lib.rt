@@ -2,14 +2,17 @@
 #![tactic(auto)]
 
 mod block;
+mod change;
 mod clue;
 mod clue_book;
 mod counting;
 mod matching;
+mod places;
 #[cfg(test)]
 mod tests;
 
 pub use block::Block;
+pub use change::Change;
 pub use clue::Clue;
 pub use clue_book::ClueBook;
 pub use counting::clue_of;

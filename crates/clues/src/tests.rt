@@ -1,6 +1,6 @@
 ghost use Rattle.std.specs.Prelude.{◌≡◌};
 
-use crate::{Block, Clue, ClueBook, clue_of};
+use crate::{Block, Change, Clue, ClueBook, clue_of};
 use picture::{Axis, LineId, Picture};
 use std::alloc::{AllocError, Global};
 use std::test::Fail;
@@ -78,5 +78,62 @@ fn the_clue_book_of_a_diagonal(rt: HostRuntime) -> Result<(), Fail> {
     assert!(rt; book.has_clues(&picture));
     assert!(rt; !book.has_clues(&Picture::blank(rt.alloc(), 2, 2)?));
     assert!(rt; !book.has_clues(&Picture::blank(rt.alloc(), 3, 2)?));
+    Ok(())
+}
+
+#[test]
+fn an_inserted_row_moves_the_later_ones(rt: HostRuntime) {
+    let change = Change::insert(1, 2, row(0));
+    assert_eq!(rt; change.image(row(0)), Some(row(1)));
+    assert_eq!(rt; change.image(column(1)), Some(column(1)));
+    assert!(rt; !change.stays(Axis::Down, 0));
+    assert!(rt; change.stays(Axis::Across, 1));
+    assert!(rt; change.touched(row(0)));
+    assert!(rt; !change.touched(row(1)));
+    assert!(rt; change.touched(column(1)));
+}
+
+#[test]
+fn a_deleted_column_has_no_image(rt: HostRuntime) {
+    let change = Change::delete(1, 3, column(1));
+    assert_eq!(rt; change.image(column(0)), Some(column(0)));
+    assert_eq!(rt; change.image(column(1)), None);
+    assert_eq!(rt; change.image(column(2)), Some(column(1)));
+    assert!(rt; change.touched(row(0)));
+    assert!(rt; !change.touched(column(1)));
+}
+
+#[test]
+fn exchanged_rows_do_not_stay(rt: HostRuntime) {
+    let mut change = Change::swap(2, 2, Axis::Across, 0, 1);
+    assert_eq!(rt; change.image(row(0)), Some(row(1)));
+    assert!(rt; !change.stays(Axis::Down, 0));
+    assert!(rt; change.stays(Axis::Across, 0));
+    assert!(rt; !change.touched(column(0)));
+    change.touch(column(0));
+    assert!(rt; change.touched(column(0)));
+    assert!(rt; !change.touched(column(1)));
+}
+
+#[test]
+fn a_change_of_cells_moves_no_line(rt: HostRuntime) {
+    let change = Change::cells(2, 2);
+    assert_eq!(rt; change.image(row(1)), Some(row(1)));
+    assert!(rt; change.stays(Axis::Down, 1));
+    assert!(rt; !change.touched(row(1)));
+}
+
+// `a.` and, with a row inserted above, `../a.`
+#[test]
+fn a_book_is_refreshed_after_an_insertion(rt: HostRuntime) -> Result<(), Fail> {
+    let mut old = Picture::blank(rt.alloc(), 1, 2)?;
+    old.set(0, 0, 1);
+    let mut new = Picture::blank(rt.alloc(), 2, 2)?;
+    new.set(1, 0, 1);
+    let book = ClueBook::of(rt.alloc(), &old)?;
+    let _ = old.height();
+    let refreshed = book.refresh(&new, &Change::insert(1, 2, row(0)))?;
+    assert!(rt; refreshed.has_clues(&new));
+    assert!(rt; !refreshed.has_clues(&old));
     Ok(())
 }

@@ -1,0 +1,66 @@
+-- Lines that an edit moves: where they stand before and after.
+use Rattle.std.proofs.Common.{◌≡◌, ℕ, ◌<◌, Option, Some, None, arith, List, option_map, refl, sym, ap, ◌∙◌}
+use Rattle.std.proofs.lemmas.Bool.Decides.{nat_tests}
+use Rattle.clues.specs.declared.places.Places.{Places}
+use Rattle.clues.specs.declared.places.Places.TheVariants.{Kept, Inserted, Deleted, Swapped}
+use Rattle.picture.specs.declared.line_id.LineId.{LineId}
+use Rattle.picture.specs.Rows.{HasLine, line_of, lines_along}
+use Rattle.picture.specs.declared.line_id.Axis.{Axis}
+use Rattle.clues.proofs.LineClues.{clue_at-clues_of, has_clue-clues_of}
+use Rattle.clues.specs.Clue.{clue_of}
+use Rattle.clues.specs.ClueBook.{Clues, HasClue, clue_at, clues_of}
+use Rattle.clues.specs.Change.{CanRefresh, Changes, Follows, IsTouched, Moves, image_of, line_at, origin_of, places_along}
+use Rattle.clues.specs.Places.{new_place, old_place, count_after, AreAmong}
+
+-- a line that is still there came from its old place
+pub old_place-new_place : (places : Places) (at to : ℕ) → new_place places at ≡ Some to → old_place places to ≡ Some at
+old_place-new_place Kept at to e = grind arith
+old_place-new_place (Inserted place) at to e = grind (arith, nat_tests)
+old_place-new_place (Deleted place) at to e = grind (arith, nat_tests)
+old_place-new_place (Swapped first second) at to e = grind (arith, nat_tests)
+
+-- a line keeps among the others
+pub new_place-among : (places : Places) (count at to : ℕ) → AreAmong places count → at < count → new_place places at ≡ Some to → to < count_after places count
+new_place-among Kept count at to among within e = grind arith
+new_place-among (Inserted place) count at to among within e = grind (arith, nat_tests)
+new_place-among (Deleted place) count at to among within e = grind (arith, nat_tests)
+new_place-among (Swapped first second) count at to among within e = grind (arith, nat_tests)
+
+-- the line that an old line is came from it
+origin_from_place : (moves : Moves) (from line : LineId) (to : Option ℕ) → new_place (places_along from.axis moves) from.at ≡ to → option_map (line_at from.axis) to ≡ Some line → origin_of moves line ≡ Some from
+origin_from_place moves from line None place e = absurd (cc e)
+origin_from_place moves from line (Some to) place e =
+    let is : line_at from.axis to ≡ line = cc e in
+    rw (← is) (ap (option_map (line_at from.axis)) (old_place-new_place (places_along from.axis moves) from.at to place))
+
+pub origin_of-image : (moves : Moves) (from line : LineId) → image_of moves from ≡ Some line → origin_of moves line ≡ Some from
+origin_of-image moves from line e = origin_from_place moves from line (new_place (places_along from.axis moves) from.at) refl e
+
+-- an untouched line has the clue of the line that it was
+pub old_clue : (clues : Clues) (picture : List (List ℕ)) (change : Changes) (line old : LineId) → CanRefresh clues picture change → HasLine picture line → (IsTouched change line → ⊥) → origin_of change.moves line ≡ Some old → HasClue clues old × (clue_at clues old ≡ clue_of (line_of picture line))
+old_clue clues picture change line old can has untouched e =
+    let is = can.untouched line has untouched in
+    let same : is.0 ≡ old = cc (origin_of-image change.moves is.0 line is.2, e) in
+    rw (← same) (is.1, sym is.3)
+
+-- where untouched lines have the cells of the lines that they were, they have their clues
+pub can_refresh : (change : Changes) (old new : List (List ℕ)) → Follows change old new → CanRefresh (clues_of old) new change
+can_refresh change old new follows = record {
+  sizes = follows.sizes;
+  untouched = λ line has untouched.
+      let from = follows.untouched line has untouched in
+      (from.0, has_clue-clues_of old from.0 from.1, from.2, ap clue_of from.3 ∙ sym (clue_at-clues_of old from.0 from.1));
+}
+
+-- untouched lines may be looked up in another picture where they have the same cells
+pub follows_alike : (change : Changes) (old between new : List (List ℕ)) → Follows change old between → ((axis : Axis) → lines_along axis new ≡ lines_along axis between) → ((line : LineId) → HasLine new line → (IsTouched change line → ⊥) → line_of new line ≡ line_of between line) → Follows change old new
+follows_alike change old between new follows sizes alike = record {
+  sizes = λ axis. sizes axis ∙ follows.sizes axis;
+  untouched = λ line has untouched.
+      let from = follows.untouched line (rw (← sizes line.axis) has) untouched in
+      (from.0, from.1, from.2, alike line has untouched ∙ from.3);
+}
+
+pub ruleset refreshing = (old_clue)
+
+pub ruleset moving = (old_place-new_place, new_place-among)

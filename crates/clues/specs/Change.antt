@@ -1,0 +1,132 @@
+-- What an edit changes: which line of the new picture is which line of the old one, and which lines have other cells.
+use Rattle.std.specs.Prelude.{◌≡◌, ℕ, ◌<◌, ◌≤◌, ◌⊎◌, List, length, slice_index, Option, Some, option_map}
+use Rattle.picture.specs.declared.line_id.Axis.{Axis}
+use Rattle.picture.specs.declared.line_id.Axis.TheVariants.{Across, Down}
+use Rattle.picture.specs.declared.line_id.LineId.{LineId}
+use Rattle.picture.specs.declared.picture.TheConstants.{MAX_SIDE}
+use Rattle.picture.specs.LineSet.{Lines, HasName}
+use Rattle.picture.specs.Picture.{IsPicture}
+use Rattle.picture.specs.Rows.{lines_along, line_of, width_of, HasLine}
+use Rattle.clues.specs.declared.places.Places.{Places}
+use Rattle.clues.specs.declared.places.Places.TheVariants.{Kept}
+use Rattle.clues.specs.Places.{new_place, old_place, count_after, AreAmong, IsNewAt, ChangesLength}
+use Rattle.clues.specs.Clue.{clue_of}
+use Rattle.clues.specs.ClueBook.{Clues, clue_at, HasClue}
+
+-- the sizes before, and where the rows and the columns go
+pub record Moves : Type 0 where
+  pub height : ℕ
+  pub width : ℕ
+  pub rows : Places
+  pub columns : Places
+
+-- the moves, and the lines that were touched besides
+pub record Changes : Type 0 where
+  pub moves : Moves
+  pub marked : Lines
+
+-- the way of the lines that cross
+abbrev pub crossing : Axis → Axis
+crossing Across = Down
+crossing Down = Across
+
+abbrev pub line_at : Axis → ℕ → LineId
+line_at axis at = record { axis = axis; at = at }
+
+abbrev pub places_along : Axis → Moves → Places
+places_along Across moves = moves.rows
+places_along Down moves = moves.columns
+
+-- how many lines there were, and are
+abbrev pub lines_before : Axis → Moves → ℕ
+lines_before Across moves = moves.height
+lines_before Down moves = moves.width
+
+abbrev pub lines_after : Axis → Moves → ℕ
+lines_after axis moves = count_after (places_along axis moves) (lines_before axis moves)
+
+-- which new line an old line is, if it is still there
+abbrev pub image_of : Moves → LineId → Option LineId
+image_of moves line = option_map (line_at line.axis) (new_place (places_along line.axis moves) line.at)
+
+-- which old line a new line is, if it was there before
+abbrev pub origin_of : Moves → LineId → Option LineId
+origin_of moves line = option_map (line_at line.axis) (old_place (places_along line.axis moves) line.at)
+
+-- the line that crosses lines of this axis at the position is its own image
+abbrev pub Stays : Moves → Axis → ℕ → Type 0
+Stays moves axis position = image_of moves (line_at (crossing axis) position) ≡ Some (line_at (crossing axis) position)
+
+-- the line is new, or has another length, or was touched
+abbrev pub IsTouched : Changes → LineId → Type 0
+IsTouched change line =
+    IsNewAt (places_along line.axis change.moves) line.at
+    ⊎ (ChangesLength (places_along (crossing line.axis) change.moves) ⊎ HasName change.marked line)
+
+abbrev pub moves_from : ℕ → ℕ → Places → Places → Moves
+moves_from height width rows columns = record { height = height; width = width; rows = rows; columns = columns }
+
+-- no line moves
+abbrev pub still : ℕ → ℕ → Moves
+still height width = moves_from height width Kept Kept
+
+-- lines of one axis move
+abbrev pub moved_along : Axis → Places → ℕ → ℕ → Moves
+moved_along Across places height width = moves_from height width places Kept
+moved_along Down places height width = moves_from height width Kept places
+
+-- the sizes are 1 to 120 before and after, and what moves is among the lines
+pub record AreMoves (moves : Moves) : Type 0 where
+  pub some_before : (axis : Axis) → 0 < lines_before axis moves
+  pub fit_before : (axis : Axis) → lines_before axis moves ≤ MAX_SIDE
+  pub some_after : (axis : Axis) → 0 < lines_after axis moves
+  pub fit_after : (axis : Axis) → lines_after axis moves ≤ MAX_SIDE
+  pub among : (axis : Axis) → AreAmong (places_along axis moves) (lines_before axis moves)
+
+-- the size of a picture
+pub record IsSize (height width : ℕ) : Type 0 where
+  pub has_row : 0 < height
+  pub rows_fit : height ≤ MAX_SIDE
+  pub has_column : 0 < width
+  pub columns_fit : width ≤ MAX_SIDE
+
+-- a picture of this size
+pub record HasSize (height width : ℕ) (picture : List (List ℕ)) : Type 0 where
+  pub is_picture : IsPicture picture
+  pub row_count : length picture ≡ height
+  pub column_count : width_of picture ≡ width
+
+-- the line of the new picture has the cells of the old line that it is
+abbrev pub IsOldLine : Moves → List (List ℕ) → List (List ℕ) → LineId → Type 0
+IsOldLine moves old new line =
+    (from : LineId) × HasLine old from × (image_of moves from ≡ Some line) × (line_of new line ≡ line_of old from)
+
+-- the new picture has the sizes that the change gives, and untouched lines have the cells of the old lines that they are
+pub record Follows (change : Changes) (old new : List (List ℕ)) : Type 0 where
+  pub sizes : (axis : Axis) → lines_along axis new ≡ lines_after axis change.moves
+  pub untouched : (line : LineId) → HasLine new line → (IsTouched change line → ⊥) → IsOldLine change.moves old new line
+
+-- a line that crosses lines of an axis has the same cell in two of them
+abbrev pub CrossesAlike : Axis → ℕ → ℕ → List (List ℕ) → LineId → Type 0
+CrossesAlike axis first second picture line =
+    line.axis ≡ crossing axis → slice_index (line_of picture line) first ≡ slice_index (line_of picture line) second
+
+-- after an exchange a line has the cells of the old line that it is, unless it crosses the two in different cells
+pub record FollowsSwap (axis : Axis) (first second : ℕ) (moves : Moves) (old new : List (List ℕ)) : Type 0 where
+  pub sizes : (along : Axis) → lines_along along new ≡ lines_after along moves
+  pub alike : (line : LineId) → HasLine new line → CrossesAlike axis first second old line → IsOldLine moves old new line
+
+-- where no line moves, a line with the same cells as before is the old one
+pub record FollowsCells (moves : Moves) (old new : List (List ℕ)) : Type 0 where
+  pub sizes : (along : Axis) → lines_along along new ≡ lines_after along moves
+  pub same : (line : LineId) → HasLine new line → line_of new line ≡ line_of old line → IsOldLine moves old new line
+
+-- the clue of a line of the new picture is that of the old line that it is
+abbrev pub HasOldClue : Moves → Clues → List (List ℕ) → LineId → Type 0
+HasOldClue moves clues picture line =
+    (from : LineId) × HasClue clues from × (image_of moves from ≡ Some line) × (clue_of (line_of picture line) ≡ clue_at clues from)
+
+-- the clue book is of the old size, the picture of the new one, and untouched lines have their old clues
+pub record CanRefresh (clues : Clues) (picture : List (List ℕ)) (change : Changes) : Type 0 where
+  pub sizes : (axis : Axis) → lines_along axis picture ≡ lines_after axis change.moves
+  pub untouched : (line : LineId) → HasLine picture line → (IsTouched change line → ⊥) → HasOldClue change.moves clues picture line
