@@ -2,11 +2,11 @@
 use Rattle.std.proofs.Common.{◌≡◌, ℕ, zero, suc, ◌+◌, ◌*◌, ◌-◌, ◌<◌, ◌≤◌, List, [], ◌∷◌, ◌++◌, length, get_or, set, take, drop, map, replicate, arith, refl, ap, ◌∙◌, sym, subst, inl, inr}
 use Rattle.std.specs.List.{AllByRecursion, concat, insert, remove, swap}
 use Rattle.std.proofs.lemmas.Bool.{cases_lt}
-use Rattle.std.proofs.lemmas.List.{append-nil, append_assoc, length-append, length-map, length-drop, length-set, length-replicate, take_at, drop_at, take_all, drop_all, take-append-drop, drop_more, map_more, get_or_past, get_or-drop, get_or-append-add, get_or_append_left, set-append_left, set-append_right, nil_from_length}
-use Rattle.std.proofs.lemmas.List.Edits.{swap_is, length-insert, length-remove, length-swap, insert-append_right, remove-append_right, remove-append_left}
+use Rattle.std.proofs.lemmas.List.{append-nil, append_assoc, length-append, length-map, length-drop, length-set, length-replicate, length-take-le, take_at, drop_at, take_all, drop_all, take-append-drop, drop_more, map_more, get_or_past, get_or-append-add, get_or_append_left, set-append_left, set-append_right, nil_from_length}
+use Rattle.std.proofs.lemmas.List.Edits.{swap_is, length-insert, length-remove, length-swap, remove-append_right, remove-append_left}
 use Rattle.picture.specs.Picture.{AreCells}
 use Rattle.picture.specs.Rows.{rows_of}
-use Rattle.picture.proofs.FlatLemmas.{length-rows_of}
+use Rattle.picture.proofs.FlatLemmas.{length-rows_of, row_at-rows_of}
 
 -- ---- what holds of each element
 
@@ -25,7 +25,7 @@ module _ {X : Type 0} (P : X → Type 0) where
   every_drop (suc n) [] all = tt
   every_drop (suc n) (x ∷ xs) all = every_drop n xs all.1
 
-  every_set : (xs : List X) (i : ℕ) (x : X) → P x → AllByRecursion P xs → AllByRecursion P (set xs i x)
+  pub every_set : (xs : List X) (i : ℕ) (x : X) → P x → AllByRecursion P xs → AllByRecursion P (set xs i x)
   every_set [] i x is all = all
   every_set (y ∷ xs) zero x is all = (is, all.1)
   every_set (y ∷ xs) (suc i) x is all = (all.0, every_set xs i x is all.1)
@@ -34,7 +34,7 @@ module _ {X : Type 0} (P : X → Type 0) where
   every_replicate zero x is = tt
   every_replicate (suc n) x is = (is, every_replicate n x is)
 
-  every_at : (xs : List X) (i : ℕ) (d : X) → i < length xs → AllByRecursion P xs → P (get_or xs i d)
+  pub every_at : (xs : List X) (i : ℕ) (d : X) → i < length xs → AllByRecursion P xs → P (get_or xs i d)
   every_at [] i d lt all = absurd (omega (arith, lt))
   every_at (x ∷ xs) zero d lt all = all.0
   every_at (x ∷ xs) (suc i) d lt all = every_at xs i d (omega (arith, lt)) all.1
@@ -76,7 +76,7 @@ pub record IsGrid (height width : ℕ) (rows : List (List ℕ)) : Type 0 where
   pub tall : length rows ≡ height
   pub each : AllByRecursion (IsRow width) rows
 
-concat-append : (xss yss : List (List ℕ)) → concat (xss ++ yss) ≡ concat xss ++ concat yss
+pub concat-append : (xss yss : List (List ℕ)) → concat (xss ++ yss) ≡ concat xss ++ concat yss
 concat-append [] yss = refl
 concat-append (xs ∷ xss) yss = ap (λ zs. xs ++ zs) (concat-append xss yss) ∙ sym (append_assoc xs (concat xss) (concat yss))
 
@@ -162,7 +162,17 @@ grid-mapped height width wide f rows edits is = record {
   each = every_map (IsRow width) (IsRow wide) f edits.keeps rows is.each;
 }
 
-pub inserts_cell : (width at : ℕ) → at ≤ width → EditsRows width (width + 1) (λ row. insert row at 0)
+-- the edits of a row that an edit of columns makes
+abbrev pub with_gap : ℕ → List ℕ → List ℕ
+with_gap at row = insert row at 0
+
+abbrev pub without_cell : ℕ → List ℕ → List ℕ
+without_cell at row = remove row at
+
+abbrev pub with_exchange : ℕ → ℕ → List ℕ → List ℕ
+with_exchange i j row = swap row i j
+
+pub inserts_cell : (width at : ℕ) → at ≤ width → EditsRows width (width + 1) (with_gap at)
 inserts_cell width at place = record {
   keeps = λ row is. record {
     wide = let n = length-insert row at 0 (omega (arith, is.wide, place)) in omega (arith, n, is.wide);
@@ -170,7 +180,7 @@ inserts_cell width at place = record {
   };
 }
 
-pub removes_cell : (width at : ℕ) → at < width → EditsRows width (width - 1) (λ row. remove row at)
+pub removes_cell : (width at : ℕ) → at < width → EditsRows width (width - 1) (without_cell at)
 removes_cell width at place = record {
   keeps = λ row is. record {
     wide = let n = length-remove row at (omega (arith, is.wide, place)) in omega (arith, n, is.wide);
@@ -178,7 +188,7 @@ removes_cell width at place = record {
   };
 }
 
-pub swaps_cells : (width i j : ℕ) → i < width → j < width → EditsRows width width (λ row. swap row i j)
+pub swaps_cells : (width i j : ℕ) → i < width → j < width → EditsRows width width (with_exchange i j)
 swaps_cells width i j in_i in_j = record {
   keeps = λ row is. record {
     wide = length-swap row i j ∙ is.wide;
@@ -195,3 +205,143 @@ joined f n rows = concat (map f (take n rows))
 -- the first n rows are edited, and the others are as before
 unfoldable pub edited : (List ℕ → List ℕ) → ℕ → List (List ℕ) → List ℕ
 edited f n rows = joined f n rows ++ concat (drop n rows)
+
+pub joined_none : (f : List ℕ → List ℕ) (rows : List (List ℕ)) → joined f 0 rows ≡ []
+unfolding joined
+joined_none f rows = refl
+
+joined_all : (f : List ℕ → List ℕ) (n : ℕ) (rows : List (List ℕ)) → length rows ≡ n → joined f n rows ≡ concat (map f rows)
+unfolding joined
+joined_all f n rows all = ap (λ xs. concat (map f xs)) (take_all n rows (omega (arith, all)))
+
+joined_more : (f : List ℕ → List ℕ) (n : ℕ) (rows : List (List ℕ)) → n < length rows → joined f (n + 1) rows ≡ joined f n rows ++ f (get_or rows n [])
+unfolding joined
+joined_more f n rows lt =
+    ap concat (map_more f rows n [] lt) ∙ concat-append (map f (take n rows)) (f (get_or rows n []) ∷ []) ∙ ap (λ xs. concat (map f (take n rows)) ++ xs) (append-nil (f (get_or rows n [])))
+
+length-joined : (width wide : ℕ) (f : List ℕ → List ℕ) (n : ℕ) (rows : List (List ℕ)) → EditsRows width wide f → AllByRecursion (IsRow width) rows → n ≤ length rows → length (joined f n rows) ≡ n * wide
+unfolding joined
+length-joined width wide f n rows edits all within =
+    length-concat wide (map f (take n rows)) (every_map (IsRow width) (IsRow wide) f edits.keeps (take n rows) (every_take (IsRow width) n rows all))
+    ∙ ap (λ k. k * wide) (length-map (take n rows) f ∙ length-take-le n rows within)
+
+edited_none : (f : List ℕ → List ℕ) (rows : List (List ℕ)) → edited f 0 rows ≡ concat rows
+unfolding edited joined
+edited_none f rows = refl
+
+edited_all : (f : List ℕ → List ℕ) (n : ℕ) (rows : List (List ℕ)) → length rows ≡ n → edited f n rows ≡ concat (map f rows)
+unfolding edited
+edited_all f n rows all = rw (joined_all f n rows all, drop_all n rows (omega (arith, all))) (append-nil (concat (map f rows)))
+
+-- the row whose turn it is, between the rows before and after it
+edited_here : (f : List ℕ → List ℕ) (n : ℕ) (rows : List (List ℕ)) → n < length rows → edited f n rows ≡ joined f n rows ++ (get_or rows n [] ++ concat (drop (n + 1) rows))
+unfolding edited
+edited_here f n rows lt = ap (λ xs. joined f n rows ++ concat xs) (drop_more rows n [] lt)
+
+edited_more : (f : List ℕ → List ℕ) (n : ℕ) (rows : List (List ℕ)) → n < length rows → edited f (n + 1) rows ≡ joined f n rows ++ (f (get_or rows n []) ++ concat (drop (n + 1) rows))
+unfolding edited
+edited_more f n rows lt = ap (λ xs. xs ++ concat (drop (n + 1) rows)) (joined_more f n rows lt) ∙ append_assoc (joined f n rows) (f (get_or rows n [])) (concat (drop (n + 1) rows))
+
+-- ---- one turn of each loop
+
+-- two cells exchanged in the middle of a list
+swap-within : (front row rest : List ℕ) (n i j : ℕ) → length front ≡ n → i < length row → j < length row → swap (front ++ (row ++ rest)) (n + i) (n + j) ≡ front ++ (swap row i j ++ rest)
+swap-within front row rest n i j long in_i in_j =
+    let whole = front ++ (row ++ rest) in
+    let sizes = length-append front (row ++ rest) in
+    let sizes2 = length-append row rest in
+    let at_i : n + i - n ≡ i = omega arith in
+    let at_j : n + j - n ≡ j = omega arith in
+    let x = get_or row i 0 in
+    let y = get_or row j 0 in
+    let written : set (set whole (n + i) y) (n + j) x ≡ front ++ (set (set row i y) j x ++ rest) =
+    ap (λ xs. set xs (n + j) x) (set-append_right front (row ++ rest) n (n + i) y long (omega arith) ∙ ap (λ k. front ++ set (row ++ rest) k y) at_i ∙ ap (λ xs. front ++ xs) (set-append_left row rest i y in_i))
+    ∙ set-append_right front (set row i y ++ rest) n (n + j) x long (omega arith)
+    ∙ ap (λ k. front ++ set (set row i y ++ rest) k x) at_j
+    ∙ ap (λ xs. front ++ xs) (set-append_left (set row i y) rest j x (omega (arith, length-set row i y, in_j))) in
+    sym (swap_is whole (n + i) (n + j) 0 (omega arith) (omega arith))
+    ∙ ap (λ z. set (set whole (n + i) z) (n + j) (get_or whole (n + i) 0)) (read_within front row rest n j long in_j)
+    ∙ ap (λ z. set (set whole (n + i) y) (n + j) z) (read_within front row rest n i long in_i)
+    ∙ written
+    ∙ ap (λ xs. front ++ (xs ++ rest)) (swap_is row i j 0 in_i in_j)
+  where
+    read_within : (front row rest : List ℕ) (n i : ℕ) → length front ≡ n → i < length row → get_or (front ++ (row ++ rest)) (n + i) 0 ≡ get_or row i 0
+    read_within front row rest n i long in_i =
+        ap (λ k. get_or (front ++ (row ++ rest)) (k + i) 0) (sym long) ∙ get_or-append-add front (row ++ rest) i 0 ∙ get_or_append_left row rest 0 i in_i
+
+module _ (height width : ℕ) (old : List ℕ) (is : AreCells height width old) where
+  abbrev rows : List (List ℕ)
+  rows = rows_of height width old
+
+  all : AllByRecursion (IsRow width) rows
+  all = (grid_of height width old is).each
+
+  tall : length rows ≡ height
+  tall = length-rows_of height width old
+
+  pub none_edited : (f : List ℕ → List ℕ) → old ≡ edited f 0 (rows_of height width old)
+  none_edited f = sym (edited_none f rows ∙ concat-rows_of height width old is.count)
+
+  pub all_edited : (f : List ℕ → List ℕ) (n : ℕ) → n ≡ height → edited f n (rows_of height width old) ≡ concat (map f (rows_of height width old))
+  all_edited f n last = edited_all f n rows (tall ∙ sym last)
+
+  pub all_joined : (f : List ℕ → List ℕ) (n : ℕ) → n ≡ height → joined f n (rows_of height width old) ≡ concat (map f (rows_of height width old))
+  all_joined f n last = joined_all f n rows (tall ∙ sym last)
+
+  pub cell_removed : (at n : ℕ) (cells : List ℕ) → at < width → n < height → cells ≡ edited (without_cell at) n (rows_of height width old) → remove cells (n * (width - 1) + at) ≡ edited (without_cell at) (n + 1) (rows_of height width old)
+  cell_removed at n cells place turn so_far =
+      let f = without_cell at in
+      let lt : n < length rows = omega (arith, tall, turn) in
+      let row = get_or rows n [] in
+      let wide : length row ≡ width = (every_at (IsRow width) rows n [] lt all).wide in
+      let front = length-joined width (width - 1) f n rows (removes_cell width at place) all (omega arith) in
+      let here : n * (width - 1) + at - n * (width - 1) ≡ at = omega arith in
+      ap (λ xs. remove xs (n * (width - 1) + at)) (so_far ∙ edited_here f n rows lt)
+      ∙ remove-append_right (joined f n rows) (row ++ concat (drop (n + 1) rows)) (n * (width - 1)) (n * (width - 1) + at) front (omega arith)
+      ∙ ap (λ k. joined f n rows ++ remove (row ++ concat (drop (n + 1) rows)) k) here
+      ∙ ap (λ xs. joined f n rows ++ xs) (remove-append_left row (concat (drop (n + 1) rows)) at (omega arith))
+      ∙ sym (edited_more f n rows lt)
+
+  pub place_of_removal : (at n : ℕ) (cells : List ℕ) → at < width → n < height → cells ≡ edited (without_cell at) n (rows_of height width old) → n * (width - 1) + at < length cells
+  place_of_removal at n cells place turn so_far =
+      let f = without_cell at in
+      let lt : n < length rows = omega (arith, tall, turn) in
+      let row = get_or rows n [] in
+      let wide : length row ≡ width = (every_at (IsRow width) rows n [] lt all).wide in
+      let front = length-joined width (width - 1) f n rows (removes_cell width at place) all (omega arith) in
+      let long : length cells ≡ length (joined f n rows) + (length row + length (concat (drop (n + 1) rows))) =
+      ap length (so_far ∙ edited_here f n rows lt) ∙ length-append (joined f n rows) (row ++ concat (drop (n + 1) rows)) ∙ ap (λ k. length (joined f n rows) + k) (length-append row (concat (drop (n + 1) rows))) in
+      omega arith
+
+  pub gap_pushed : (at n : ℕ) (wider more : List ℕ) → n < height → wider ≡ joined (with_gap at) n (rows_of height width old) → more ≡ wider ++ insert (take ((n + 1) * width - n * width) (drop (n * width) old)) at 0
+      → more ≡ joined (with_gap at) (n + 1) (rows_of height width old)
+  gap_pushed at n wider more turn so_far pushed =
+      let f = with_gap at in
+      let one : (n + 1) * width - n * width ≡ width = omega arith in
+      pushed
+      ∙ ap (λ xs. xs ++ insert (take ((n + 1) * width - n * width) (drop (n * width) old)) at 0) so_far
+      ∙ ap (λ k. joined f n rows ++ insert (take k (drop (n * width) old)) at 0) one
+      ∙ ap (λ row. joined f n rows ++ insert row at 0) (sym (row_at-rows_of height width old n turn))
+      ∙ sym (joined_more f n rows (omega (arith, tall, turn)))
+
+  pub cells_exchanged : (i j n : ℕ) (cells : List ℕ) → i < width → j < width → n < height → cells ≡ edited (with_exchange i j) n (rows_of height width old) → swap cells (n * width + i) (n * width + j) ≡ edited (with_exchange i j) (n + 1) (rows_of height width old)
+  cells_exchanged i j n cells in_i in_j turn so_far =
+      let f = with_exchange i j in
+      let lt : n < length rows = omega (arith, tall, turn) in
+      let row = get_or rows n [] in
+      let wide : length row ≡ width = (every_at (IsRow width) rows n [] lt all).wide in
+      let front = length-joined width width f n rows (swaps_cells width i j in_i in_j) all (omega arith) in
+      ap (λ xs. swap xs (n * width + i) (n * width + j)) (so_far ∙ edited_here f n rows lt)
+      ∙ swap-within (joined f n rows) row (concat (drop (n + 1) rows)) (n * width) i j front (omega arith) (omega arith)
+      ∙ sym (edited_more f n rows lt)
+
+  pub place_of_exchange : (i j k n : ℕ) (cells : List ℕ) → i < width → j < width → k < width → n < height → cells ≡ edited (with_exchange i j) n (rows_of height width old) → n * width + k < length cells
+  place_of_exchange i j k n cells in_i in_j in_k turn so_far =
+      let f = with_exchange i j in
+      let lt : n < length rows = omega (arith, tall, turn) in
+      let row = get_or rows n [] in
+      let wide : length row ≡ width = (every_at (IsRow width) rows n [] lt all).wide in
+      let front = length-joined width width f n rows (swaps_cells width i j in_i in_j) all (omega arith) in
+      let long : length cells ≡ length (joined f n rows) + (length row + length (concat (drop (n + 1) rows))) =
+      ap length (so_far ∙ edited_here f n rows lt) ∙ length-append (joined f n rows) (row ++ concat (drop (n + 1) rows)) ∙ ap (λ k. length (joined f n rows) + k) (length-append row (concat (drop (n + 1) rows))) in
+      omega arith

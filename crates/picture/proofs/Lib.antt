@@ -2,6 +2,7 @@ pub mod BitLemmas
 pub mod CellSetLemmas
 pub mod FlatLemmas
 pub mod GridLemmas
+pub mod LineEditLemmas
 pub mod LineLemmas
 pub mod LineSetLemmas
 pub mod PaletteLemmas

@@ -3,6 +3,7 @@
 
 mod cell_set;
 mod document;
+mod line_edits;
 mod line_id;
 mod line_set;
 mod line_view;

@@ -1,9 +1,10 @@
 //! A picture: rows of cells, each with a colour by its number.
 
-ghost use Rattle.std.specs.Prelude.{◌≡◌, ℕ, ◌*◌, ◌<◌, ◌≤◌, ◌↔◌, List, length, replicate, IfOk, IsTrue};
-ghost use Rattle.picture.specs.Rows.{rows_of, width_of, cell_at, with_cell, line_of, HasLine};
+ghost use Rattle.std.specs.Prelude.{◌≡◌, ℕ, ◌*◌, ◌<◌, ◌≤◌, ◌↔◌, List, length, replicate, IfOk, OnOk, OnErr, IsTrue};
+ghost use Rattle.picture.specs.Rows.{rows_of, width_of, cell_at, with_cell, line_of, lines_along, HasLine, line_inserted, line_deleted, lines_swapped};
 ghost use Rattle.picture.specs.Picture.{IsPicture, AreCells};
 
+use crate::line_edits;
 use crate::line_id::{Axis, LineId};
 use crate::line_view::LineView;
 use std::alloc::{AllocError, Global};
@@ -112,6 +113,66 @@ impl Picture {
         match line.axis {
             Axis::Across => LineView::new(&self.cells, at * width, 1, width),
             Axis::Down => LineView::new(&self.cells, at, width, self.height as usize),
+        }
+    }
+
+    /// Puts a line of background at a place. Later lines move up by one. After a fault the picture is as before.
+    pub fn insert_line(&mut self, line: LineId) -> Result<(), AllocError>
+        requires place { line.at ≤ lines_along line.axis self.old }
+        requires room { lines_along line.axis self.old < MAX_SIDE }
+        ensures ok { OnOk result (self.new ≡ line_inserted self.old line) }
+        ensures err { OnErr result (self.new ≡ self.old) }
+    {
+        let width = self.width as usize;
+        let height = self.height as usize;
+        let at = line.at as usize;
+        match line.axis {
+            Axis::Across => {
+                line_edits::insert_row(&mut self.cells, width, at)?;
+                self.height += 1;
+            }
+            Axis::Down => {
+                line_edits::insert_column(&mut self.cells, height, width, at)?;
+                self.width += 1;
+            }
+        }
+        Ok(())
+    }
+
+    /// Takes a line out, which is not the last one along its axis. Later lines move down by one.
+    pub fn delete_line(&mut self, line: LineId)
+        requires line { HasLine self.old line }
+        requires others { 1 < lines_along line.axis self.old }
+        ensures { self.new ≡ line_deleted self.old line }
+    {
+        let width = self.width as usize;
+        let height = self.height as usize;
+        let at = line.at as usize;
+        match line.axis {
+            Axis::Across => {
+                line_edits::delete_row(&mut self.cells, width, at);
+                self.height -= 1;
+            }
+            Axis::Down => {
+                line_edits::delete_column(&mut self.cells, height, width, at);
+                self.width -= 1;
+            }
+        }
+    }
+
+    /// Exchanges two lines along an axis, which may be the same.
+    pub fn swap_lines(&mut self, axis: Axis, i: u8, j: u8)
+        requires first { i < lines_along axis self.old }
+        requires second { j < lines_along axis self.old }
+        ensures { self.new ≡ lines_swapped axis i j self.old }
+    {
+        let width = self.width as usize;
+        let height = self.height as usize;
+        match axis {
+            Axis::Across => line_edits::swap_rows(&mut self.cells, width, i as usize, j as usize),
+            Axis::Down => {
+                line_edits::swap_columns(&mut self.cells, height, width, i as usize, j as usize)
+            }
         }
     }
 
