@@ -11,7 +11,7 @@ use Rattle.picture.proofs.FlatLemmas.{length-rows_of, row_at-rows_of}
 -- ---- what holds of each element
 
 module _ {X : Type 0} (P : X → Type 0) where
-  every_append : (xs ys : List X) → AllByRecursion P xs → AllByRecursion P ys → AllByRecursion P (xs ++ ys)
+  pub every_append : (xs ys : List X) → AllByRecursion P xs → AllByRecursion P ys → AllByRecursion P (xs ++ ys)
   every_append [] ys all more = more
   every_append (x ∷ xs) ys all more = (all.0, every_append xs ys all.1 more)
 
@@ -51,17 +51,17 @@ module _ {X : Type 0} (P : X → Type 0) where
       rw (← swap_is (x ∷ xs) i j x in_i in_j)
       (every_set (set (x ∷ xs) i (get_or (x ∷ xs) j x)) j (get_or (x ∷ xs) i x) (every_at (x ∷ xs) i x in_i all) (every_set (x ∷ xs) i (get_or (x ∷ xs) j x) (every_at (x ∷ xs) j x in_j all) all))
 
-every_map : {X Y : Type 0} (P : X → Type 0) (Q : Y → Type 0) (f : X → Y) → ((x : X) → P x → Q (f x)) → (xs : List X) → AllByRecursion P xs → AllByRecursion Q (map f xs)
+pub every_map : {X Y : Type 0} (P : X → Type 0) (Q : Y → Type 0) (f : X → Y) → ((x : X) → P x → Q (f x)) → (xs : List X) → AllByRecursion P xs → AllByRecursion Q (map f xs)
 every_map P Q f keeps [] all = tt
 every_map P Q f keeps (x ∷ xs) all = (keeps x all.0, every_map P Q f keeps xs all.1)
 
-every_at_all : (limit : ℕ) (xs : List ℕ) → 0 < limit → AllByRecursion (λ x. x < limit) xs → (k : ℕ) → get_or xs k 0 < limit
+pub every_at_all : (limit : ℕ) (xs : List ℕ) → 0 < limit → AllByRecursion (λ x. x < limit) xs → (k : ℕ) → get_or xs k 0 < limit
 every_at_all limit xs some all k = elim (cases_lt k (length xs)) [
   | inl lt ↦ every_at (λ x. x < limit) xs k 0 lt all
   | inr past ↦ rw (get_or_past xs k 0 past) some
 ]
 
-all_of_each : (limit : ℕ) (xs : List ℕ) → ((k : ℕ) → get_or xs k 0 < limit) → AllByRecursion (λ x. x < limit) xs
+pub all_of_each : (limit : ℕ) (xs : List ℕ) → ((k : ℕ) → get_or xs k 0 < limit) → AllByRecursion (λ x. x < limit) xs
 all_of_each limit [] each = tt
 all_of_each limit (x ∷ xs) each = (each 0, all_of_each limit xs (λ k. each (suc k)))
 

@@ -5,5 +5,6 @@ pub mod GridLemmas
 pub mod LineEditLemmas
 pub mod LineLemmas
 pub mod LineSetLemmas
+pub mod OrderLemmas
 pub mod PaletteLemmas
 pub mod WritingLemmas

@@ -7,6 +7,7 @@ mod line_edits;
 mod line_id;
 mod line_set;
 mod line_view;
+mod ordered;
 mod palette;
 mod picture;
 mod rgb;

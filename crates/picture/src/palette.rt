@@ -1,9 +1,10 @@
 //! The colours of a picture, by their numbers.
 
-ghost use Rattle.std.specs.Prelude.{◌≡◌, ◌<◌, ◌↔◌, true, false, length, slice_get, IfOk, IfErr, OnOk, OnErr, IsTrue};
+ghost use Rattle.std.specs.Prelude.{◌≡◌, ◌<◌, ◌↔◌, [], ◌∷◌, true, false, length, slice_get, IfOk, IfErr, OnOk, OnErr, IsTrue};
 ghost use Rattle.std.specs.List.{list_any};
 ghost use Rattle.picture.specs.declared.palette.PaletteFault.TheVariants.{Memory};
 ghost use Rattle.picture.specs.Palette.{place_of, with_colour, with_triple, without_last, only_background, start_fault, add_fault, set_fault, stands_elsewhere, rgb_eq, fits, IsPalette};
+ghost use Rattle.picture.specs.Document.{first_of, with_seen, number_among};
 ghost use Rattle.picture.specs.Reading.{Refuses};
 
 use crate::picture::MAX_COLOURS;
@@ -155,6 +156,32 @@ impl Palette {
             return Ok(());
         }
         self.replace(number, rgb)
+    }
+
+    // A palette with the same maxval and the background alone.
+    pub(crate) fn background_alone(&self) -> Result<Palette, AllocError>
+        ensures { IfOk result (λ p. p ≡ only_background self.now.maxval (first_of self.now.triples)) }
+    {
+        let mut colours = IndexSet::new(*self.colours.allocator());
+        colours.insert(self.rgb(0))?;
+        Ok(Palette {
+            maxval: self.maxval,
+            colours,
+        })
+    }
+
+    // The number of a colour, which is added where the palette does not have it. The caller's colours are no more than 16 and have no sample above the maxval, so only memory can be wanting.
+    pub(crate) fn number_for(&mut self, rgb: Rgb) -> Result<u8, AllocError>
+        ensures palette { OnOk result (self.new ≡ with_seen self.old (rgb ∷ [])) }
+        ensures number { IfOk result (λ number. number ≡ number_among self.new.triples rgb) }
+    {
+        match self.number_of(rgb) {
+            Some(number) => Ok(number),
+            None => match self.add(rgb) {
+                Ok(number) => Ok(number),
+                Err(_) => Err(AllocError),
+            },
+        }
     }
 
     // Whether another number than this one has the colour.

@@ -1,12 +1,15 @@
 //! A picture: rows of cells, each with a colour by its number.
 
-ghost use Rattle.std.specs.Prelude.{◌≡◌, ℕ, ◌*◌, ◌<◌, ◌≤◌, ◌↔◌, List, length, replicate, IfOk, OnOk, OnErr, IsTrue};
+ghost use Rattle.std.specs.Prelude.{◌≡◌, ℕ, ◌*◌, ◌<◌, ◌≤◌, ◌↔◌, List, length, map, slice_index, EachIndex, replicate, IfOk, OnOk, OnErr, IsTrue};
+ghost use Rattle.std.specs.List.{flat_map};
 ghost use Rattle.picture.specs.Rows.{rows_of, width_of, cell_at, with_cell, line_of, lines_along, HasLine, line_inserted, line_deleted, lines_swapped};
 ghost use Rattle.picture.specs.Picture.{IsPicture, AreCells};
+ghost use Rattle.picture.specs.Document.{AreColoured, triples_of, with_seen, number_among, renumbered_rows};
 
 use crate::line_edits;
 use crate::line_id::{Axis, LineId};
 use crate::line_view::LineView;
+use crate::palette::Palette;
 use std::alloc::{AllocError, Global};
 use std::marker::Model;
 
@@ -176,6 +179,23 @@ impl Picture {
         }
     }
 
+    // The same picture with the numbers that its colours have in another palette, to which they are added as they come, row after row.
+    pub(crate) fn renumbered(
+        &self,
+        colours: &Palette,
+        palette: &mut Palette,
+    ) -> Result<Picture, AllocError>
+        requires { AreColoured self.now colours.now }
+        ensures palette { OnOk result (palette.new ≡ with_seen palette.old (flat_map (triples_of colours.now.triples) self.now)) }
+        ensures rows { IfOk result (λ p. p ≡ renumbered_rows palette.new.triples colours.now.triples self.now) }
+        ensures coloured { IfOk result (λ p. AreColoured p palette.new) }
+    {
+        let _ = colours.len();
+        let numbers = numbers_for(*self.cells.allocator(), &self.cells, colours, palette)?;
+        let _ = palette.len();
+        Ok(Picture::from_cells(self.height, self.width, numbers))
+    }
+
     /// Whether two pictures have the same size and the same cells.
     pub fn same(&self, other: &Picture) -> bool
         ensures { IsTrue result ↔ (self.now ≡ other.now) }
@@ -184,4 +204,22 @@ impl Picture {
             && self.width == other.width
             && self.cells.as_slice() == other.cells.as_slice()
     }
+}
+
+// The numbers that the colours of cells have in a palette, to which they are added as they come.
+fn numbers_for(
+    alloc: Global,
+    cells: &[u8],
+    colours: &Palette,
+    palette: &mut Palette,
+) -> Result<Vec<u8>, AllocError>
+    requires { EachIndex cells.now (λ k. slice_index cells.now k < length colours.now.triples) }
+    ensures palette { OnOk result (palette.new ≡ with_seen palette.old (triples_of colours.now.triples cells.now)) }
+    ensures numbers { IfOk result (λ numbers. numbers.items ≡ map (number_among palette.new.triples) (triples_of colours.now.triples cells.now)) }
+{
+    let mut numbers = Vec::with_capacity(alloc, cells.len())?;
+    for cell in cells {
+        numbers.push(palette.number_for(colours.rgb(*cell))?)?;
+    }
+    Ok(numbers)
 }
