@@ -49,7 +49,7 @@ cell_at-rows_of height width cells i j lt in_row =
     ∙ get_or-take width (drop (i * width) cells) j 0 in_row
     ∙ get_or-drop (i * width) cells j 0
 
-cell_at_small : (height width : ℕ) (cells : List ℕ) (limit : ℕ) → length cells ≡ height * width → 0 < limit → ((k : ℕ) → get_or cells k 0 < limit) → (i j : ℕ) → cell_at (rows_of height width cells) i j < limit
+pub cell_at_small : (height width : ℕ) (cells : List ℕ) (limit : ℕ) → length cells ≡ height * width → 0 < limit → ((k : ℕ) → get_or cells k 0 < limit) → (i j : ℕ) → cell_at (rows_of height width cells) i j < limit
 cell_at_small height width cells limit count some small i j =
     elim (cases_lt i height) [
       | inl in_rows ↦ elim (cases_lt j width) [

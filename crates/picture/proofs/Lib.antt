@@ -1,7 +1,10 @@
 pub mod BitLemmas
 pub mod CellSetLemmas
 pub mod FlatLemmas
+pub mod GridLemmas
+pub mod LineEditLemmas
 pub mod LineLemmas
 pub mod LineSetLemmas
+pub mod OrderLemmas
 pub mod PaletteLemmas
 pub mod WritingLemmas

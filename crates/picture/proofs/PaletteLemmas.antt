@@ -1,13 +1,16 @@
 -- Colours in a palette's list, and the first reason against one more.
-use Rattle.std.proofs.Common.{◌≡◌, ℕ, suc, ◌+◌, ◌<◌, ◌≤◌, Bool, true, false, cond, ltb, not, List, [], ◌∷◌, length, Some, None, refl, ap, ◌∙◌, inl, inr, arith}
+use Rattle.std.proofs.Common.{◌≡◌, ℕ, zero, suc, ◌+◌, ◌-◌, ◌<◌, ◌≤◌, Bool, true, false, cond, ltb, eqb, not, ◌&&◌, ◌||◌, List, [], ◌∷◌, ◌++◌, length, get_or, set, Option, Some, None, refl, sym, subst, ap, ◌∙◌, inl, inr, arith}
 use Rattle.std.specs.Option.{option_map}
-use Rattle.std.specs.Prelude.{position, nat_le}
-use Rattle.std.specs.List.{list_any, position_or_len}
-use Rattle.std.proofs.lemmas.Bool.{cases_lt, lt-ltb, le-ltb}
+use Rattle.std.specs.Prelude.{position, nat_le, slice_get, IfSome, option_to_list}
+use Rattle.std.specs.List.{list_any, position_or_len, AllByRecursion, IsDistinct, swap_remove, remove}
+use Rattle.std.proofs.lemmas.Bool.{cases_lt, lt-ltb, le-ltb, false≢true, eqb-true}
+use Rattle.std.proofs.lemmas.Option.{get_or_from_slice_get, slice_get_within, slice_get-get_or}
+use Rattle.std.proofs.lemmas.Map.Keys.{IsDistinct-head, IsDistinct-tail}
+use Rattle.std.proofs.lemmas.List.{length_push, get_or_push, length-set, length-append, set-append_left, set-get_or, take_at}
 use Rattle.std.proofs.lemmas.Bool.Decides.{nat_tests}
 use Rattle.picture.specs.declared.rgb.Rgb.{Rgb}
 use Rattle.picture.specs.declared.palette.PaletteFault.TheVariants.{Duplicate, SampleOver}
-use Rattle.picture.specs.Palette.{Colours, rgb_eq, fits, place_of, add_fault}
+use Rattle.picture.specs.Palette.{Colours, rgb_eq, fits, place_of, add_fault, with_triple, stands_elsewhere, IsPalette}
 
 later : (k n : ℕ) → cond (ltb (1 + k) (suc n)) (Some (1 + k)) None ≡ option_map (λ j. j + 1) (cond (ltb k n) (Some k) None)
 later k n = elim (cases_lt k n) [
@@ -35,3 +38,131 @@ stands_twice colours rgb room there = rw (not_full (length colours.triples) room
 
 pub is_over : (colours : Colours) (rgb : Rgb) → length colours.triples < 16 → list_any (rgb_eq rgb) colours.triples ≡ false → fits colours.maxval rgb ≡ false → add_fault colours rgb ≡ Some SampleOver
 is_over colours rgb room there over = rw (not_full (length colours.triples) room, there, over) refl
+
+-- ---- a colour in place of another
+
+same_rgb : (a b : Rgb) → rgb_eq a b ≡ true → a ≡ b
+same_rgb a b e = by (eqb a.r b.r) refl (eqb a.g b.g) refl (eqb a.b b.b) refl e
+  where
+    by : (x : Bool) → eqb a.r b.r ≡ x → (y : Bool) → eqb a.g b.g ≡ y → (z : Bool) → eqb a.b b.b ≡ z → (x && (y && z)) ≡ true → a ≡ b
+    by true p true q true r _ = let rs = eqb-true _ _ p in let gs = eqb-true _ _ q in let bs = eqb-true _ _ r in λ i. record { r = rs i; g = gs i; b = bs i }
+    by true p true q false r isnt = absurd (false≢true isnt)
+    by true p false q z r isnt = absurd (false≢true isnt)
+    by false p y q z r isnt = absurd (false≢true isnt)
+
+rgb_eq-sym : (a b : Rgb) → rgb_eq a b ≡ false → rgb_eq b a ≡ false
+rgb_eq-sym a b isnt = by (rgb_eq b a) refl
+  where
+    by : (x : Bool) → rgb_eq b a ≡ x → x ≡ false
+    by false e = refl
+    by true e = let same = same_rgb b a e in absurd (false≢true (sym isnt ∙ subst (λ t. rgb_eq t b ≡ true) same (subst (λ t. rgb_eq b t ≡ true) (sym same) e)))
+
+at_each : (P : Rgb → Type 0) (triples : List Rgb) (k : ℕ) (d : Rgb) → k < length triples → AllByRecursion P triples → P (get_or triples k d)
+at_each P [] k d lt all = absurd (omega (arith, lt))
+at_each P (t ∷ triples) zero d lt all = all.0
+at_each P (t ∷ triples) (suc k) d lt all = at_each P triples k d (omega (arith, lt)) all.1
+
+every_set : (P : Rgb → Type 0) (triples : List Rgb) (k : ℕ) (t : Rgb) → P t → AllByRecursion P triples → AllByRecursion P (set triples k t)
+every_set P [] k t is all = all
+every_set P (x ∷ triples) zero t is all = (is, all.1)
+every_set P (x ∷ triples) (suc k) t is all = (all.0, every_set P triples k t is all.1)
+
+every_front : (P : Rgb → Type 0) (xs ys : List Rgb) → AllByRecursion P (xs ++ ys) → AllByRecursion P xs
+every_front P [] ys all = tt
+every_front P (x ∷ xs) ys all = (all.0, every_front P xs ys all.1)
+
+none_equal : (rgb : Rgb) (triples : List Rgb) → AllByRecursion (λ t. rgb_eq rgb t ≡ false) triples → list_any (rgb_eq rgb) triples ≡ false
+none_equal rgb [] all = refl
+none_equal rgb (t ∷ triples) all = rw all.0 (none_equal rgb triples all.1)
+
+-- a colour that stands at k stands nowhere else
+at_no_other : (rgb d : Rgb) (triples : List Rgb) (k : ℕ) → k < length triples → IsDistinct rgb_eq triples → rgb_eq (get_or triples k d) rgb ≡ true → list_any (rgb_eq rgb) (remove triples k) ≡ false
+at_no_other rgb d [] k lt distinct at = absurd (omega (arith, lt))
+at_no_other rgb d (t ∷ triples) zero lt distinct at =
+    none_equal rgb triples (subst (λ u. AllByRecursion (λ y. rgb_eq u y ≡ false) triples) (same_rgb t rgb at) (IsDistinct-head rgb_eq t triples distinct))
+at_no_other rgb d (t ∷ triples) (suc k) lt distinct at =
+    let inside : k < length triples = omega (arith, lt) in
+    let other = at_each (λ y. rgb_eq t y ≡ false) triples k d inside (IsDistinct-head rgb_eq t triples distinct) in
+    rw (rgb_eq-sym t rgb (subst (λ u. rgb_eq t u ≡ false) (same_rgb (get_or triples k d) rgb at) other))
+    (at_no_other rgb d triples k inside (IsDistinct-tail rgb_eq t triples distinct) at)
+
+-- a colour that doesn't stand at k
+at_others : (rgb d : Rgb) (triples : List Rgb) (k : ℕ) → k < length triples → rgb_eq (get_or triples k d) rgb ≡ false → list_any (rgb_eq rgb) (remove triples k) ≡ list_any (rgb_eq rgb) triples
+at_others rgb d [] k lt isnt = absurd (omega (arith, lt))
+at_others rgb d (t ∷ triples) zero lt isnt = rw (rgb_eq-sym t rgb isnt) refl
+at_others rgb d (t ∷ triples) (suc k) lt isnt = ap (λ rest. rgb_eq rgb t || rest) (at_others rgb d triples k (omega (arith, lt)) isnt)
+
+-- the last colour moved to the place of another
+moved_over : (triples : List Rgb) (t d : Rgb) (k : ℕ) → k < length triples → swap_remove (triples ++ t ∷ []) k d ≡ set triples k t
+moved_over triples t d k lt =
+    let n = length_push triples t in
+    let last : length (triples ++ t ∷ []) - 1 ≡ length triples = omega arith in
+    let long : length (set triples k t) ≡ length triples = length-set triples k t in
+    rw (last, get_or_push triples t d (length triples) refl, set-append_left triples (t ∷ []) k t lt) (take_at (set triples k t) (t ∷ []) (length triples) long)
+
+pub replaced : (maxval : ℕ) (triples new : List Rgb) (k : ℕ) (t : Rgb) → IsPalette (record { maxval = maxval; triples = triples }) → fits maxval t ≡ true → new ≡ set triples k t → IsDistinct rgb_eq new → IsPalette (record { maxval = maxval; triples = new })
+replaced maxval triples new k t is fit e distinct =
+    let n : length new ≡ length triples = ap length e ∙ length-set triples k t in
+    record {
+      has_maxval = is.has_maxval;
+      maxval_fits = is.maxval_fits;
+      has_background = omega (arith, n, is.has_background);
+      colours_fit = omega (arith, n, is.colours_fit);
+      distinct = distinct;
+      samples_fit = rw e (every_set _ triples k t fit is.samples_fit);
+    }
+
+at_most_one : (gone : Option Rgb) → length (option_to_list gone) ≤ 1
+at_most_one (Some t) = omega arith
+at_most_one None = omega arith
+
+pub popped : (maxval : ℕ) (triples new : List Rgb) (gone : Option Rgb) → IsPalette (record { maxval = maxval; triples = triples }) → triples ≡ new ++ option_to_list gone → 1 < length triples → IsDistinct rgb_eq new → IsPalette (record { maxval = maxval; triples = new })
+popped maxval triples new gone is e some distinct =
+    let n : length triples ≡ length new + length (option_to_list gone) = ap length e ∙ length-append new (option_to_list gone) in
+    let few = at_most_one gone in
+    record {
+      has_maxval = is.has_maxval;
+      maxval_fits = is.maxval_fits;
+      has_background = omega arith;
+      colours_fit = omega (arith, n, is.colours_fit);
+      distinct = distinct;
+      samples_fit = every_front _ new (option_to_list gone) (rw e at is.samples_fit);
+    }
+
+not_true : (b ne : Bool) → ne ≡ not b → ne ≡ true → b ≡ false
+not_true true ne is isnt = absurd (false≢true (sym is ∙ isnt))
+not_true false ne is isnt = refl
+
+not_false : (b ne : Bool) → ne ≡ not b → ne ≡ false → b ≡ true
+not_false true ne is isnt = refl
+not_false false ne is isnt = absurd (false≢true (sym isnt ∙ is))
+
+-- what two tests tell of the other numbers: `shown` is how the list was read
+module _ (rgb d : Rgb) (triples shown : List Rgb) (k : ℕ) (ne : Bool) (read : shown ≡ triples) (lt : k < length triples) (is : ne ≡ not (rgb_eq (get_or shown k d) rgb)) where
+  pub stands_if_differs : ne ≡ true → list_any (rgb_eq rgb) triples ≡ stands_elsewhere triples k rgb
+  stands_if_differs holds = sym (at_others rgb d triples k lt (subst (λ xs. rgb_eq (get_or xs k d) rgb ≡ false) read (not_true _ ne is holds)))
+
+  pub stands_if_same : IsDistinct rgb_eq triples → ne ≡ false → ne ≡ stands_elsewhere triples k rgb
+  stands_if_same distinct isnt = isnt ∙ sym (at_no_other rgb d triples k lt distinct (subst (λ xs. rgb_eq (get_or xs k d) rgb ≡ true) read (not_false _ ne is isnt)))
+
+pub stands_nowhere : (rgb t : Rgb) (triples : List Rgb) (k : ℕ) (eq : Bool) → slice_get triples k ≡ Some t → eq ≡ rgb_eq t rgb → eq ≡ false → stands_elsewhere triples k rgb ≡ false → list_any (rgb_eq rgb) triples ≡ false
+stands_nowhere rgb t triples k eq at is isnt nowhere =
+    sym (at_others rgb t triples k (slice_get_within triples k t at) (rw (get_or_from_slice_get triples k t t at) (sym is ∙ isnt))) ∙ nowhere
+
+pub kept_over : (colours : Colours) (k : ℕ) (rgb t : Rgb) (eq : Bool) → slice_get colours.triples k ≡ Some t → eq ≡ rgb_eq t rgb → eq ≡ true → colours ≡ with_triple colours k rgb
+kept_over colours k rgb t eq at is holds =
+    ap (λ triples. record { maxval = colours.maxval; triples = triples })
+    (sym (set-get_or colours.triples k t) ∙ ap (λ u. set colours.triples k u) (get_or_from_slice_get colours.triples k t t at ∙ same_rgb t rgb (sym is ∙ holds)))
+
+-- a new colour put last and then moved to a number
+pub swapped_in : (old mid new : List Rgb) (k : ℕ) (t : Rgb) (gone : Option Rgb) → k < length old → list_any (rgb_eq t) old ≡ false → mid ≡ cond (list_any (rgb_eq t) old) old (old ++ t ∷ [])
+    → gone ≡ slice_get mid k → IfSome gone (λ d. new ≡ swap_remove mid k d) → new ≡ set old k t
+swapped_in old mid new k t (Some d) lt absent is read swapped =
+    let pushed : mid ≡ old ++ t ∷ [] = is ∙ ap (λ b. cond b old (old ++ t ∷ [])) absent in
+    swapped ∙ ap (λ xs. swap_remove xs k d) pushed ∙ moved_over old t d k lt
+swapped_in old mid new k t None lt absent is read swapped =
+    let pushed : mid ≡ old ++ t ∷ [] = is ∙ ap (λ b. cond b old (old ++ t ∷ [])) absent in
+    let n = ap length pushed in
+    let m = length_push old t in
+    let some = slice_get-get_or mid k t (omega arith) in
+    absurd (cc)

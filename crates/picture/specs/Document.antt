@@ -33,9 +33,17 @@ abbrev pub seen_after : List Rgb → List Rgb → List Rgb
 seen_after known [] = known
 seen_after known (t ∷ cells) = if list_any (rgb_eq t) known then seen_after known cells else seen_after (known ++ t ∷ []) cells
 
+-- a palette after colours have come, each added where it is not yet there
+abbrev pub with_seen : Colours → List Rgb → Colours
+with_seen colours triples = record { maxval = colours.maxval; triples = seen_after colours.triples triples }
+
 -- the number of a triple among colours that have it
 abbrev pub number_among : List Rgb → Rgb → ℕ
 number_among triples t = unwrap_or (place_of t triples) 0
+
+-- the rows of a picture with each cell's colour by its number among other colours
+abbrev pub renumbered_rows : List Rgb → List Rgb → List (List ℕ) → List (List ℕ)
+renumbered_rows among triples rows = map (λ row. map (number_among among) (triples_of triples row)) rows
 
 -- the colours of a picture by first appearance in row order behind the background, with no colour that no cell has
 abbrev pub ordered_triples : List Rgb → List (List ℕ) → List Rgb
@@ -47,6 +55,6 @@ ordered_of d =
     let triples = ordered_triples d.colours.triples d.rows in
     record {
       colours = record { maxval = d.colours.maxval; triples = triples };
-      rows = map (λ row. map (number_among triples) (triples_of d.colours.triples row)) d.rows;
+      rows = renumbered_rows triples d.colours.triples d.rows;
       givens = d.givens;
     }

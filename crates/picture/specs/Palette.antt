@@ -1,10 +1,10 @@
 -- A palette as its maxval and its colours, and what can be added to it.
-use Rattle.std.specs.Prelude.{ℕ, ◌+◌, ◌<◌, ◌≤◌, Bool, ◌&&◌, List, [], ◌∷◌, ◌++◌, length, Option, None, Some, nat_le, ◌==◌, if◌then◌else◌, IsTrue}
+use Rattle.std.specs.Prelude.{ℕ, ◌+◌, ◌-◌, ◌<◌, ◌≤◌, Bool, ◌&&◌, List, [], ◌∷◌, ◌++◌, length, take, remove, slice_set, Option, None, Some, nat_le, ◌==◌, if◌then◌else◌, IsTrue}
 use Rattle.std.specs.List.{list_any, AllByRecursion, IsDistinct}
 use Rattle.std.specs.Option.{option_map}
 use Rattle.picture.specs.declared.rgb.Rgb.{Rgb}
 use Rattle.picture.specs.declared.palette.PaletteFault.{PaletteFault}
-use Rattle.picture.specs.declared.palette.PaletteFault.TheVariants.{Full, Duplicate, SampleOver}
+use Rattle.picture.specs.declared.palette.PaletteFault.TheVariants.{Full, Duplicate, SampleOver, Background}
 use Rattle.picture.specs.declared.picture.TheConstants.{MAX_COLOURS}
 
 -- the largest sample, and the colours by their numbers: number 0 is the background
@@ -42,6 +42,24 @@ add_fault colours rgb =
     if nat_le MAX_COLOURS (length colours.triples) then Some Full
     else (if list_any (rgb_eq rgb) colours.triples then Some Duplicate
     else (if fits colours.maxval rgb then None else Some SampleOver))
+
+-- the palette with another colour at a number
+abbrev pub with_triple : Colours → ℕ → Rgb → Colours
+with_triple colours k rgb = record { maxval = colours.maxval; triples = slice_set colours.triples k rgb }
+
+-- the colour stands at another number than k
+abbrev pub stands_elsewhere : List Rgb → ℕ → Rgb → Bool
+stands_elsewhere triples k rgb = list_any (rgb_eq rgb) (remove triples k)
+
+-- the first reason why a number cannot have a colour
+abbrev pub set_fault : Colours → ℕ → Rgb → Option PaletteFault
+set_fault colours k rgb =
+    if stands_elsewhere colours.triples k rgb then Some Duplicate
+    else (if fits colours.maxval rgb then (if k == 0 then Some Background else None) else Some SampleOver)
+
+-- the palette without its last colour
+abbrev pub without_last : Colours → Colours
+without_last colours = record { maxval = colours.maxval; triples = take (length colours.triples - 1) colours.triples }
 
 -- what every palette is: 1 to 16 colours, no two alike, with no sample above the maxval, which is 1 to 65,535
 pub record IsPalette (colours : Colours) : Type 0 where

@@ -1,5 +1,5 @@
 -- A picture as its list of rows, and how the rows lie in one flat list of cells.
-use Rattle.std.specs.Prelude.{◌≡◌, ℕ, ◌*◌, ◌<◌, ◌≤◌, List, length, slice_index}
+use Rattle.std.specs.Prelude.{◌≡◌, ℕ, ◌+◌, ◌*◌, ◌<◌, ◌≤◌, List, ◌++◌, length, take, drop, slice_index}
 use Rattle.picture.specs.declared.picture.TheConstants.{MAX_SIDE, MAX_COLOURS}
 use Rattle.picture.specs.Rows.{width_of, row_at, cell_at}
 
@@ -20,3 +20,11 @@ pub record AreCells (height width : ℕ) (cells : List ℕ) : Type 0 where
   pub columns_fit : width ≤ MAX_SIDE
   pub count : length cells ≡ height * width
   pub colours : (k : ℕ) → slice_index cells k < MAX_COLOURS
+
+-- `count` cells from a place on
+abbrev pub part : List ℕ → ℕ → ℕ → List ℕ
+part cells start count = take count (drop start cells)
+
+-- the cells with others in place of those from a place on
+abbrev pub with_part : List ℕ → ℕ → List ℕ → List ℕ
+with_part cells start others = take start cells ++ (others ++ drop (start + length others) cells)

@@ -3,9 +3,11 @@
 
 mod cell_set;
 mod document;
+mod line_edits;
 mod line_id;
 mod line_set;
 mod line_view;
+mod ordered;
 mod palette;
 mod picture;
 mod rgb;

@@ -1,8 +1,10 @@
 //! The colours of a picture, by their numbers.
 
-ghost use Rattle.std.specs.Prelude.{◌≡◌, ◌<◌, ◌↔◌, length, slice_get, IfOk, OnOk, OnErr, IsTrue};
+ghost use Rattle.std.specs.Prelude.{◌≡◌, ◌<◌, ◌↔◌, [], ◌∷◌, true, false, length, slice_get, IfOk, IfErr, OnOk, OnErr, IsTrue};
+ghost use Rattle.std.specs.List.{list_any};
 ghost use Rattle.picture.specs.declared.palette.PaletteFault.TheVariants.{Memory};
-ghost use Rattle.picture.specs.Palette.{place_of, with_colour, only_background, start_fault, add_fault, fits, IsPalette};
+ghost use Rattle.picture.specs.Palette.{place_of, with_colour, with_triple, without_last, only_background, start_fault, add_fault, set_fault, stands_elsewhere, rgb_eq, fits, IsPalette};
+ghost use Rattle.picture.specs.Document.{first_of, with_seen, number_among};
 ghost use Rattle.picture.specs.Reading.{Refuses};
 
 use crate::picture::MAX_COLOURS;
@@ -132,6 +134,85 @@ impl Palette {
         let number = self.colours.len() as u8;
         self.colours.insert(rgb)?;
         Ok(number)
+    }
+
+    /// Gives a number another colour. A number keeps the colour it has already, but for the background, which is refused. After a fault the palette is as before.
+    pub fn set(&mut self, number: u8, rgb: Rgb) -> Result<(), PaletteFault>
+        requires { number < length self.old.triples }
+        ensures ok { OnOk result (self.new ≡ with_triple self.old number rgb) }
+        ensures fault { Refuses PaletteFault.Memory result (set_fault self.old number rgb) }
+        ensures err { OnErr result (self.new ≡ self.old) }
+    {
+        if self.stands_elsewhere(number, rgb) {
+            return Err(PaletteFault::Duplicate);
+        }
+        if !within(self.maxval, rgb) {
+            return Err(PaletteFault::SampleOver);
+        }
+        if number == 0 {
+            return Err(PaletteFault::Background);
+        }
+        if self.rgb(number) == rgb {
+            return Ok(());
+        }
+        self.replace(number, rgb)
+    }
+
+    // A palette with the same maxval and the background alone.
+    pub(crate) fn background_alone(&self) -> Result<Palette, AllocError>
+        ensures { IfOk result (λ p. p ≡ only_background self.now.maxval (first_of self.now.triples)) }
+    {
+        let mut colours = IndexSet::new(*self.colours.allocator());
+        colours.insert(self.rgb(0))?;
+        Ok(Palette {
+            maxval: self.maxval,
+            colours,
+        })
+    }
+
+    // The number of a colour, which is added where the palette does not have it. The caller's colours are no more than 16 and have no sample above the maxval, so only memory can be wanting.
+    pub(crate) fn number_for(&mut self, rgb: Rgb) -> Result<u8, AllocError>
+        ensures palette { OnOk result (self.new ≡ with_seen self.old (rgb ∷ [])) }
+        ensures number { IfOk result (λ number. number ≡ number_among self.new.triples rgb) }
+    {
+        match self.number_of(rgb) {
+            Some(number) => Ok(number),
+            None => match self.add(rgb) {
+                Ok(number) => Ok(number),
+                Err(_) => Err(AllocError),
+            },
+        }
+    }
+
+    // Whether another number than this one has the colour.
+    fn stands_elsewhere(&self, number: u8, rgb: Rgb) -> bool
+        requires { number < length self.now.triples }
+        ensures { result ≡ stands_elsewhere self.now.triples number rgb }
+    {
+        self.colours.as_slice()[number as usize] != rgb && self.colours.contains(&rgb)
+    }
+
+    // Gives a number a colour that no number has.
+    fn replace(&mut self, number: u8, rgb: Rgb) -> Result<(), PaletteFault>
+        requires in_palette { number < length self.old.triples }
+        requires is_new { list_any (rgb_eq rgb) self.old.triples ≡ false }
+        requires in_range { fits self.old.maxval rgb ≡ true }
+        ensures ok { OnOk result (self.new ≡ with_triple self.old number rgb) }
+        ensures memory { IfErr result (λ e. e ≡ Memory) }
+        ensures err { OnErr result (self.new ≡ self.old) }
+    {
+        self.colours.insert(rgb)?;
+        // The last colour, which is the new one, takes the place.
+        self.colours.swap_remove_index(number as usize);
+        Ok(())
+    }
+
+    /// Takes the last colour away.
+    pub fn pop_last(&mut self)
+        requires { 1 < length self.old.triples }
+        ensures { self.new ≡ without_last self.old }
+    {
+        self.colours.pop();
     }
 
     /// A second palette with the same maxval and colours.

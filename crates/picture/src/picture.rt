@@ -1,11 +1,15 @@
 //! A picture: rows of cells, each with a colour by its number.
 
-ghost use Rattle.std.specs.Prelude.{◌≡◌, ℕ, ◌*◌, ◌<◌, ◌≤◌, ◌↔◌, List, length, replicate, IfOk, IsTrue};
-ghost use Rattle.picture.specs.Rows.{rows_of, width_of, cell_at, with_cell, line_of, HasLine};
+ghost use Rattle.std.specs.Prelude.{◌≡◌, ℕ, ◌*◌, ◌<◌, ◌≤◌, ◌↔◌, List, length, map, slice_index, EachIndex, replicate, IfOk, OnOk, OnErr, IsTrue};
+ghost use Rattle.std.specs.List.{flat_map};
+ghost use Rattle.picture.specs.Rows.{rows_of, width_of, cell_at, with_cell, line_of, lines_along, HasLine, line_inserted, line_deleted, lines_swapped};
 ghost use Rattle.picture.specs.Picture.{IsPicture, AreCells};
+ghost use Rattle.picture.specs.Document.{AreColoured, triples_of, with_seen, number_among, renumbered_rows};
 
+use crate::line_edits;
 use crate::line_id::{Axis, LineId};
 use crate::line_view::LineView;
+use crate::palette::Palette;
 use std::alloc::{AllocError, Global};
 use std::marker::Model;
 
@@ -115,6 +119,83 @@ impl Picture {
         }
     }
 
+    /// Puts a line of background at a place. Later lines move up by one. After a fault the picture is as before.
+    pub fn insert_line(&mut self, line: LineId) -> Result<(), AllocError>
+        requires place { line.at ≤ lines_along line.axis self.old }
+        requires room { lines_along line.axis self.old < MAX_SIDE }
+        ensures ok { OnOk result (self.new ≡ line_inserted self.old line) }
+        ensures err { OnErr result (self.new ≡ self.old) }
+    {
+        let width = self.width as usize;
+        let height = self.height as usize;
+        let at = line.at as usize;
+        match line.axis {
+            Axis::Across => {
+                line_edits::insert_row(&mut self.cells, width, at)?;
+                self.height += 1;
+            }
+            Axis::Down => {
+                line_edits::insert_column(&mut self.cells, height, width, at)?;
+                self.width += 1;
+            }
+        }
+        Ok(())
+    }
+
+    /// Takes a line out, which is not the last one along its axis. Later lines move down by one.
+    pub fn delete_line(&mut self, line: LineId)
+        requires line { HasLine self.old line }
+        requires others { 1 < lines_along line.axis self.old }
+        ensures { self.new ≡ line_deleted self.old line }
+    {
+        let width = self.width as usize;
+        let height = self.height as usize;
+        let at = line.at as usize;
+        match line.axis {
+            Axis::Across => {
+                line_edits::delete_row(&mut self.cells, width, at);
+                self.height -= 1;
+            }
+            Axis::Down => {
+                line_edits::delete_column(&mut self.cells, height, width, at);
+                self.width -= 1;
+            }
+        }
+    }
+
+    /// Exchanges two lines along an axis, which may be the same.
+    pub fn swap_lines(&mut self, axis: Axis, i: u8, j: u8)
+        requires first { i < lines_along axis self.old }
+        requires second { j < lines_along axis self.old }
+        ensures { self.new ≡ lines_swapped axis i j self.old }
+    {
+        let width = self.width as usize;
+        let height = self.height as usize;
+        match axis {
+            Axis::Across => line_edits::swap_rows(&mut self.cells, width, i as usize, j as usize),
+            Axis::Down => {
+                line_edits::swap_columns(&mut self.cells, height, width, i as usize, j as usize)
+            }
+        }
+    }
+
+    // The same picture with the numbers that its colours have in another palette, to which they are added as they come, row after row.
+    pub(crate) fn renumbered(
+        &self,
+        colours: &Palette,
+        palette: &mut Palette,
+    ) -> Result<Picture, AllocError>
+        requires { AreColoured self.now colours.now }
+        ensures palette { OnOk result (palette.new ≡ with_seen palette.old (flat_map (triples_of colours.now.triples) self.now)) }
+        ensures rows { IfOk result (λ p. p ≡ renumbered_rows palette.new.triples colours.now.triples self.now) }
+        ensures coloured { IfOk result (λ p. AreColoured p palette.new) }
+    {
+        let _ = colours.len();
+        let numbers = numbers_for(*self.cells.allocator(), &self.cells, colours, palette)?;
+        let _ = palette.len();
+        Ok(Picture::from_cells(self.height, self.width, numbers))
+    }
+
     /// Whether two pictures have the same size and the same cells.
     pub fn same(&self, other: &Picture) -> bool
         ensures { IsTrue result ↔ (self.now ≡ other.now) }
@@ -123,4 +204,22 @@ impl Picture {
             && self.width == other.width
             && self.cells.as_slice() == other.cells.as_slice()
     }
+}
+
+// The numbers that the colours of cells have in a palette, to which they are added as they come.
+fn numbers_for(
+    alloc: Global,
+    cells: &[u8],
+    colours: &Palette,
+    palette: &mut Palette,
+) -> Result<Vec<u8>, AllocError>
+    requires { EachIndex cells.now (λ k. slice_index cells.now k < length colours.now.triples) }
+    ensures palette { OnOk result (palette.new ≡ with_seen palette.old (triples_of colours.now.triples cells.now)) }
+    ensures numbers { IfOk result (λ numbers. numbers.items ≡ map (number_among palette.new.triples) (triples_of colours.now.triples cells.now)) }
+{
+    let mut numbers = Vec::with_capacity(alloc, cells.len())?;
+    for cell in cells {
+        numbers.push(palette.number_for(colours.rgb(*cell))?)?;
+    }
+    Ok(numbers)
 }

@@ -1,0 +1,206 @@
+-- Colours added to a list as they come, and their numbers in it.
+use Rattle.std.proofs.Common.{◌≡◌, ℕ, zero, suc, ◌+◌, ◌*◌, ◌<◌, true, false, ◌||◌, List, [], ◌∷◌, ◌++◌, length, get_or, take, drop, map, Option, Some, None, refl, ap, ◌∙◌, sym, subst, inl, inr, arith}
+use Rattle.std.specs.List.{list_any, AllByRecursion, concat, flat_map}
+use Rattle.std.specs.Option.{option_map}
+use Rattle.std.specs.Prelude.{unwrap_or, slice_get}
+use Rattle.std.proofs.lemmas.Bool.{eq-eqb, cases_Bool, false≢true}
+use Rattle.std.proofs.lemmas.List.Folds.{list_any-append}
+use Rattle.std.proofs.lemmas.List.{append-nil, append_assoc, map-append, map_more, take-map, drop-map, length-map}
+use Rattle.std.proofs.lemmas.Option.{get_or_from_slice_get}
+use Rattle.picture.specs.declared.rgb.Rgb.{Rgb}
+use Rattle.picture.specs.Palette.{Colours, rgb_eq, place_of, IsPalette}
+use Rattle.picture.specs.Document.{seen_after, with_seen, number_among, triples_of, first_of, renumbered_rows}
+use Rattle.picture.specs.Picture.{AreCells}
+use Rattle.picture.specs.Rows.{rows_of, cell_at}
+use Rattle.picture.proofs.FlatLemmas.{cell_at_small}
+use Rattle.picture.proofs.GridLemmas.{every_append, every_map, every_at_all, all_of_each, concat-rows_of}
+
+same : (t : Rgb) → rgb_eq t t ≡ true
+same t = rw (eq-eqb t.r t.r refl, eq-eqb t.g t.g refl, eq-eqb t.b t.b refl) refl
+
+any_front : (t : Rgb) (xs ys : List Rgb) → list_any (rgb_eq t) xs ≡ true → list_any (rgb_eq t) (xs ++ ys) ≡ true
+any_front t xs ys has = list_any-append (rgb_eq t) xs ys ∙ ap (λ b. b || list_any (rgb_eq t) ys) has
+
+any_last : (t : Rgb) (xs : List Rgb) → list_any (rgb_eq t) (xs ++ t ∷ []) ≡ true
+any_last t [] = rw (same t) refl
+any_last t (x ∷ xs) = elim (cases_Bool (rgb_eq t x)) [
+  | inl e ↦ rw e refl
+  | inr e ↦ rw e (any_last t xs)
+]
+
+-- ---- numbers
+
+pub place-front : (t : Rgb) (xs ys : List Rgb) → list_any (rgb_eq t) xs ≡ true → place_of t (xs ++ ys) ≡ place_of t xs
+place-front t [] ys has = absurd (cc)
+place-front t (x ∷ xs) ys has = elim (cases_Bool (rgb_eq t x)) [
+  | inl e ↦ rw e refl
+  | inr e ↦ rw e (ap (option_map (λ k. k + 1)) (place-front t xs ys (rw e at has)))
+]
+
+pub place-last : (t : Rgb) (xs : List Rgb) → list_any (rgb_eq t) xs ≡ false → place_of t (xs ++ t ∷ []) ≡ Some (length xs)
+place-last t [] none = rw (same t) refl
+place-last t (x ∷ xs) none = elim (cases_Bool (rgb_eq t x)) [
+  | inl e ↦ absurd (false≢true (sym (rw e at none)))
+  | inr e ↦ rw e (ap (option_map (λ k. k + 1)) (place-last t xs (rw e at none)) ∙ ap Some (omega arith))
+]
+
+later : (n : ℕ) (place : Option ℕ) → unwrap_or place 0 < n → unwrap_or (option_map (λ k. k + 1) place) 0 < suc n
+later n (Some k) lt = omega (arith, lt)
+later n None lt = omega arith
+
+pub number_small : (t : Rgb) (xs : List Rgb) → list_any (rgb_eq t) xs ≡ true → number_among xs t < length xs
+number_small t [] has = absurd (cc)
+number_small t (x ∷ xs) has = elim (cases_Bool (rgb_eq t x)) [
+  | inl e ↦ rw e (omega arith)
+  | inr e ↦ rw e (later (length xs) (place_of t xs) (number_small t xs (rw e at has)))
+]
+
+-- a colour without a place is not in the list
+pub unplaced : (t : Rgb) (xs : List Rgb) → list_any (rgb_eq t) xs ≡ false → place_of t xs ≡ None
+unplaced t [] none = refl
+unplaced t (x ∷ xs) none = elim (cases_Bool (rgb_eq t x)) [
+  | inl e ↦ absurd (false≢true (sym (rw e at none)))
+  | inr e ↦ rw e (ap (option_map (λ k. k + 1)) (unplaced t xs (rw e at none)))
+]
+
+pub placed : (t : Rgb) (xs : List Rgb) (k : ℕ) → Some k ≡ place_of t xs → list_any (rgb_eq t) xs ≡ true
+placed t xs k at = elim (cases_Bool (list_any (rgb_eq t) xs)) [
+  | inl e ↦ e
+  | inr e ↦ let none = unplaced t xs e in absurd (cc)
+]
+
+-- ---- colours seen
+
+pub seen-append : (known xs ys : List Rgb) → seen_after known (xs ++ ys) ≡ seen_after (seen_after known xs) ys
+seen-append known [] ys = refl
+seen-append known (x ∷ xs) ys = elim (cases_Bool (list_any (rgb_eq x) known)) [
+  | inl e ↦ rw e (seen-append known xs ys)
+  | inr e ↦ rw e (seen-append (known ++ x ∷ []) xs ys)
+]
+
+-- what was known stays in front
+seen-front : (known xs : List Rgb) → (more : List Rgb) × (seen_after known xs ≡ known ++ more)
+seen-front known [] = ([], sym (append-nil known))
+seen-front known (x ∷ xs) = elim (cases_Bool (list_any (rgb_eq x) known)) [
+  | inl e ↦ rw e (seen-front known xs)
+  | inr e ↦ let rest = seen-front (known ++ x ∷ []) xs in rw e (x ∷ rest.0, rest.1 ∙ append_assoc known (x ∷ []) rest.0)
+]
+
+keeps : (t : Rgb) (known xs : List Rgb) → list_any (rgb_eq t) known ≡ true → list_any (rgb_eq t) (seen_after known xs) ≡ true
+keeps t known xs has = let front = seen-front known xs in rw front.1 (any_front t known front.0 has)
+
+seen-known : (known xs : List Rgb) (x : Rgb) → list_any (rgb_eq x) known ≡ true → seen_after known (x ∷ xs) ≡ seen_after known xs
+seen-known known xs x e = rw e refl
+
+seen-new : (known xs : List Rgb) (x : Rgb) → list_any (rgb_eq x) known ≡ false → seen_after known (x ∷ xs) ≡ seen_after (known ++ x ∷ []) xs
+seen-new known xs x e = rw e refl
+
+pub seen-all : (known xs : List Rgb) → AllByRecursion (λ t. list_any (rgb_eq t) (seen_after known xs) ≡ true) xs
+seen-all known [] = tt
+seen-all known (x ∷ xs) = elim (cases_Bool (list_any (rgb_eq x) known)) [
+  | inl e ↦ subst (λ all. AllByRecursion (λ t. list_any (rgb_eq t) all ≡ true) (x ∷ xs)) (sym (seen-known known xs x e)) (keeps x known xs e, seen-all known xs)
+  | inr e ↦
+      subst (λ all. AllByRecursion (λ t. list_any (rgb_eq t) all ≡ true) (x ∷ xs)) (sym (seen-new known xs x e))
+      (keeps x (known ++ x ∷ []) xs (any_last x known), seen-all (known ++ x ∷ []) xs)
+]
+
+-- ---- one colour more
+
+pub known_stays : (colours : Colours) (t : Rgb) (k : ℕ) → Some k ≡ place_of t colours.triples → colours ≡ with_seen colours (t ∷ [])
+known_stays colours t k at = ap (λ triples. record { maxval = colours.maxval; triples = triples }) (sym (seen-known colours.triples [] t (placed t colours.triples k at)))
+
+none_before : (place : Option ℕ) → None ≡ option_map (λ k. k + 1) place → None ≡ place
+none_before (Some k) none = absurd (cc)
+none_before None none = refl
+
+absent : (t : Rgb) (xs : List Rgb) → None ≡ place_of t xs → list_any (rgb_eq t) xs ≡ false
+absent t [] none = refl
+absent t (x ∷ xs) none = elim (cases_Bool (rgb_eq t x)) [
+  | inl e ↦ let some = rw e at none in absurd (cc)
+  | inr e ↦ rw e (absent t xs (none_before (place_of t xs) (rw e at none)))
+]
+
+pub number_added : (t : Rgb) (xs : List Rgb) → None ≡ place_of t xs → number_among (xs ++ t ∷ []) t ≡ length xs
+number_added t xs none = ap (λ place. unwrap_or place 0) (place-last t xs (absent t xs none))
+
+-- the numbers given so far stay as they are
+numbers_stay : (known more : List Rgb) (xs : List Rgb) → AllByRecursion (λ t. list_any (rgb_eq t) known ≡ true) xs → map (number_among (known ++ more)) xs ≡ map (number_among known) xs
+numbers_stay known more [] all = refl
+numbers_stay known more (x ∷ xs) all = rw (place-front x known more all.0, numbers_stay known more xs all.1) refl
+
+module _ (old : Colours) (xs : List Rgb) (t : Rgb) where
+  pub seen_more : (now new : Colours) → now ≡ with_seen old xs → new ≡ with_seen now (t ∷ []) → new ≡ with_seen old (xs ++ t ∷ [])
+  seen_more now new so_far step = step ∙ ap (λ colours. with_seen colours (t ∷ [])) so_far ∙ ap (λ triples. record { maxval = old.maxval; triples = triples }) (sym (seen-append old.triples xs (t ∷ [])))
+
+  pub numbered_more : (now new : Colours) (numbers more : List ℕ) (number : ℕ) → now ≡ with_seen old xs → new ≡ with_seen now (t ∷ []) → numbers ≡ map (number_among now.triples) xs
+      → number ≡ number_among new.triples t → more ≡ numbers ++ number ∷ [] → more ≡ map (number_among new.triples) (xs ++ t ∷ [])
+  numbered_more now new numbers more number so_far step given is pushed =
+      let front = seen-front now.triples (t ∷ []) in
+      let extends : new.triples ≡ now.triples ++ front.0 = ap (λ colours. colours.triples) step ∙ front.1 in
+      let all = subst (λ colours. AllByRecursion (λ u. list_any (rgb_eq u) colours.triples ≡ true) xs) (sym so_far) (seen-all old.triples xs) in
+      let stays : map (number_among new.triples) xs ≡ map (number_among now.triples) xs = ap (λ triples. map (number_among triples) xs) extends ∙ numbers_stay now.triples front.0 xs all in
+      pushed ∙ ap (λ ns. ns ++ number ∷ []) (given ∙ sym stays) ∙ ap (λ n. map (number_among new.triples) xs ++ n ∷ []) is ∙ sym (map-append (number_among new.triples) xs (t ∷ []))
+
+pub triples_more : (triples : List Rgb) (cells : List ℕ) (i : ℕ) (t : Rgb) → i < length cells → slice_get triples (get_or cells i 0) ≡ Some t → triples_of triples (take (i + 1) cells) ≡ triples_of triples (take i cells) ++ t ∷ []
+triples_more triples cells i t lt at =
+    map_more (λ k. get_or triples k (first_of triples)) cells i 0 lt ∙ ap (λ u. triples_of triples (take i cells) ++ u ∷ []) (get_or_from_slice_get triples (get_or cells i 0) t (first_of triples) at)
+
+-- ---- whole pictures
+
+rows_coloured : (limit : ℕ) (rows : List (List ℕ)) → ((i j : ℕ) → cell_at rows i j < limit) → AllByRecursion (λ x. x < limit) (concat rows)
+rows_coloured limit [] each = tt
+rows_coloured limit (row ∷ rows) each = every_append (λ x. x < limit) row (concat rows) (all_of_each limit row (each 0)) (rows_coloured limit rows (λ i. each (suc i)))
+
+concat-triples : (triples : List Rgb) (rows : List (List ℕ)) → triples_of triples (concat rows) ≡ flat_map (triples_of triples) rows
+concat-triples triples [] = refl
+concat-triples triples (row ∷ rows) = map-append (λ k. get_or triples k (first_of triples)) row (concat rows) ∙ ap (λ ts. triples_of triples row ++ ts) (concat-triples triples rows)
+
+rows_of-renumbered : (among triples : List Rgb) (height width : ℕ) (cells : List ℕ) → rows_of height width (map (number_among among) (triples_of triples cells)) ≡ renumbered_rows among triples (rows_of height width cells)
+rows_of-renumbered among triples zero width cells = refl
+rows_of-renumbered among triples (suc height) width cells =
+    let f : ℕ → Rgb = λ k. get_or triples k (first_of triples) in
+    rw (take-map (number_among among) width (triples_of triples cells), take-map f width cells, drop-map (number_among among) width (triples_of triples cells), drop-map f width cells)
+    (ap (λ rows. map (number_among among) (triples_of triples (take width cells)) ∷ rows) (rows_of-renumbered among triples height width (drop width cells)))
+
+numbers_below : (among ts : List Rgb) → AllByRecursion (λ t. list_any (rgb_eq t) among ≡ true) ts → AllByRecursion (λ n. n < length among) (map (number_among among) ts)
+numbers_below among ts all = every_map (λ t. list_any (rgb_eq t) among ≡ true) (λ n. n < length among) (number_among among) (λ t. number_small t among) ts all
+
+module _ (height width : ℕ) (cells : List ℕ) (now : List (List ℕ)) (reads : rows_of height width cells ≡ now) (is : AreCells height width cells) (triples : List Rgb) where
+  whole : cells ≡ concat now
+  whole = sym (concat-rows_of height width cells is.count) ∙ ap concat reads
+
+  pub cells_coloured : (shown : List ℕ) → shown ≡ cells → (limit : ℕ) → 0 < limit → ((i j : ℕ) → cell_at now i j < limit) → (k : ℕ) → get_or shown k 0 < limit
+  cells_coloured shown e limit some each k = rw (e ∙ whole) (every_at_all limit (concat now) some (rows_coloured limit now each) k)
+
+  -- `shown` is how the cells were read
+  pub seen_in_rows : (shown : List ℕ) → shown ≡ cells → (old new : Colours) → new ≡ with_seen old (triples_of triples shown) → new ≡ with_seen old (flat_map (triples_of triples) now)
+  seen_in_rows shown e old new seen = seen ∙ ap (λ xs. with_seen old (triples_of triples xs)) (e ∙ whole) ∙ ap (with_seen old) (concat-triples triples now)
+
+  module _ (shown : List ℕ) (e : shown ≡ cells) (old new : Colours) (numbers : List ℕ) (palette : IsPalette new) (seen : new ≡ with_seen old (triples_of triples shown)) (given : numbers ≡ map (number_among new.triples) (triples_of triples shown)) where
+    below : (k : ℕ) → get_or numbers k 0 < length new.triples
+    below k =
+        let all = subst (λ colours. AllByRecursion (λ t. list_any (rgb_eq t) colours.triples ≡ true) (triples_of triples shown)) (sym seen) (seen-all old.triples (triples_of triples shown)) in
+        rw given (every_at_all (length new.triples) _ palette.has_background (numbers_below new.triples (triples_of triples shown) all) k)
+
+    as_many : length numbers ≡ height * width
+    as_many = ap length given ∙ length-map (triples_of triples shown) (number_among new.triples) ∙ length-map shown (λ k. get_or triples k (first_of triples)) ∙ ap length e ∙ is.count
+
+    pub are_numbers : AreCells height width numbers
+    are_numbers = record {
+      has_row = is.has_row;
+      rows_fit = is.rows_fit;
+      has_column = is.has_column;
+      columns_fit = is.columns_fit;
+      count = as_many;
+      colours = λ k. omega (arith, below k, palette.colours_fit);
+    }
+
+    pub rows_renumbered : rows_of height width numbers ≡ renumbered_rows new.triples triples now
+    rows_renumbered =
+        ap (rows_of height width) given
+        ∙ ap (λ xs. rows_of height width (map (number_among new.triples) (triples_of triples xs))) e
+        ∙ rows_of-renumbered new.triples triples height width cells
+        ∙ ap (renumbered_rows new.triples triples) reads
+
+    pub numbers_coloured : (result : List (List ℕ)) → result ≡ rows_of height width numbers → (i j : ℕ) → cell_at result i j < length new.triples
+    numbers_coloured result is_result i j = rw is_result (cell_at_small height width numbers (length new.triples) as_many palette.has_background below i j)

@@ -1,0 +1,23 @@
+//! A document with its colours numbered as they appear.
+
+ghost use Rattle.std.specs.Prelude.{◌≡◌, IfOk};
+ghost use Rattle.picture.specs.Content.{content_of};
+ghost use Rattle.picture.specs.Document.{ordered_of};
+
+use crate::document::Document;
+use std::alloc::AllocError;
+
+impl Document {
+    /// The same picture with its colours numbered by first appearance, row after row from the top and behind the background, and with no colour that no cell has.
+    pub fn ordered(&self) -> Result<Document, AllocError>
+        ensures { IfOk result (λ d. content_of d ≡ ordered_of (content_of self.now)) }
+    {
+        let mut palette = self.palette.background_alone()?;
+        let picture = self.picture.renumbered(&self.palette, &mut palette)?;
+        Ok(Document {
+            palette,
+            picture,
+            givens: self.givens,
+        })
+    }
+}
