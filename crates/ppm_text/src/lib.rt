@@ -9,3 +9,4 @@ mod writer;
 
 pub use fault::PpmFault;
 pub use reader::read_ppm;
+pub use writer::write_ppm;
