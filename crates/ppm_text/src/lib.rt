@@ -10,3 +10,6 @@ mod writer;
 pub use fault::PpmFault;
 pub use reader::read_ppm;
 pub use writer::write_ppm;
+
+#[cfg(test)]
+mod tests;
