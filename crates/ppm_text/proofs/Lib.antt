@@ -7,4 +7,5 @@ pub mod Binds
 pub mod Cells
 pub mod Adding
 pub mod Pictures
+pub mod Spelled
 mod Examples

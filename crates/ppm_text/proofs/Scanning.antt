@@ -42,13 +42,13 @@ skip_end bytes at commented le = at_drop_all (λ bs. tokens_from false at (witho
 pub ruleset scanning = (skip_step, skip_end)
 
 -- outside of comments and gaps a byte is left as it is
-gap_parts : (b : ℕ) → is_gap b ≡ false → (is_space b ≡ false) × (eqb b 35 ≡ false)
+pub gap_parts : (b : ℕ) → is_gap b ≡ false → (is_space b ≡ false) × (eqb b 35 ≡ false)
 gap_parts b h = or_parts (is_space b) (eqb b 35) h where
   or_parts : (x y : Bool) → (x || y) ≡ false → (x ≡ false) × (y ≡ false)
   or_parts true y e = absurd cc
   or_parts false y e = (refl, e)
 
-no_comment : (b : ℕ) → is_gap b ≡ false → in_comment false b ≡ false
+pub no_comment : (b : ℕ) → is_gap b ≡ false → in_comment false b ≡ false
 no_comment b h = rw (gap_parts b h).1 refl
 
 -- the token's bytes are those up to the next gap
