@@ -8,4 +8,5 @@ pub mod Cells
 pub mod Adding
 pub mod Pictures
 pub mod Spelled
+pub mod Numbering
 mod Examples
