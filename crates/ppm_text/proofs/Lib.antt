@@ -9,4 +9,5 @@ pub mod Adding
 pub mod Pictures
 pub mod Spelled
 pub mod Numbering
+pub mod Seen
 mod Examples

@@ -22,7 +22,7 @@ use Rattle.ppm_text.proofs.Binds.{bind_is}
 use Rattle.ppm_text.proofs.Adding.{stands_nowhere}
 use Rattle.ppm_text.proofs.Spelled.{text_tokens, behind_triple, triple_again}
 
-rgb_eq-refl : (t : Rgb) → rgb_eq t t ≡ true
+pub rgb_eq-refl : (t : Rgb) → rgb_eq t t ≡ true
 rgb_eq-refl t = grind (arith, nat_tests)
 
 abbrev later : Option ℕ → Option ℕ
@@ -100,7 +100,7 @@ by_place maxval place known t ts final None e seen room =
     ∙ ap (λ b. cond b (Ok (length known, palette_of maxval now)) (Err (TooManyColours place))) fit
     ∙ ap (λ (n : ℕ). Ok (n, palette_of maxval now)) (sym number), grows)
 
-abbrev AreLawful : ℕ → List Rgb → Type 0
+abbrev pub AreLawful : ℕ → List Rgb → Type 0
 AreLawful maxval ts = AllByRecursion (λ t. fits maxval t ≡ true) ts
 
 -- cells that are read with these numbers, where the text goes on with the rest
