@@ -10,4 +10,5 @@ pub mod Pictures
 pub mod Spelled
 pub mod Numbering
 pub mod Seen
+pub mod Again
 mod Examples

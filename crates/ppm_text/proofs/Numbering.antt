@@ -1,20 +1,17 @@
 -- Colours that are numbered as they are read are numbered by first appearance.
-use Rattle.std.proofs.Common.{◌≡◌, ℕ, zero, suc, ◌+◌, ◌<◌, ◌≤◌, Bool, true, false, ◌&&◌, ◌||◌, cond, eqb, ltb, List, [], ◌∷◌, ◌++◌, length, map, get_or, Option, Some, None, Result, Ok, Err, refl, sym, ap, subst, ◌∙◌, append_assoc, length-append, arith, ◌⊎◌, inl, inr}
+use Rattle.std.proofs.Common.{◌≡◌, ℕ, suc, ◌+◌, ◌<◌, ◌≤◌, Bool, true, false, ◌||◌, cond, ltb, List, [], ◌∷◌, ◌++◌, length, map, Option, Some, None, Ok, Err, refl, sym, ap, ◌∙◌, append_assoc, length-append, arith}
 use Rattle.std.specs.Prelude.{unwrap_or}
 use Rattle.std.specs.Option.{option_map}
 use Rattle.std.specs.List.{list_any, flat_map, AllByRecursion}
 use Rattle.std.proofs.lemmas.Bool.Decides.{nat_tests}
 use Rattle.std.proofs.lemmas.List.{append-nil}
-use Rattle.std.proofs.lemmas.List.Folds.{list_any-append}
 use Rattle.picture.specs.Reading.{◌>>=◌}
 use Rattle.picture.specs.declared.rgb.Rgb.{Rgb}
 use Rattle.picture.specs.declared.picture.TheConstants.{MAX_COLOURS}
-use Rattle.picture.specs.Palette.{Colours, rgb_eq, fits, place_of, with_colour}
+use Rattle.picture.specs.Palette.{Colours, rgb_eq, fits, place_of}
 use Rattle.picture.specs.Document.{seen_after, number_among}
-use Rattle.ppm_text.specs.declared.fault.PpmFault.{PpmFault}
 use Rattle.ppm_text.specs.declared.fault.PpmFault.TheVariants.{TooManyColours}
 use Rattle.ppm_text.specs.declared.fields.Triple.{Triple}
-use Rattle.ppm_text.specs.Tokens.{Token}
 use Rattle.ppm_text.specs.Samples.{triple_at}
 use Rattle.ppm_text.specs.Ppm.{numbered, numbered_by, cell_at, cells_at}
 use Rattle.ppm_text.specs.Text.{triple_text}
@@ -95,10 +92,13 @@ by_place maxval place known t ts final None e seen room =
     let number : number_among final t ≡ length known = ap (λ (xs : List Rgb). number_among xs t) all ∙ ap (λ (p : Option ℕ). unwrap_or p 0) (place_new t known ext.0 e) in
     let count : length final ≡ length known + suc (length ext.0) = ap length all ∙ length-append known (t ∷ ext.0) in
     let below : length known < MAX_COLOURS = omega arith in
-    let fit : ltb (length known) MAX_COLOURS ≡ true = grind (arith, nat_tests) in
-    (now, ap (λ (p : Option ℕ). numbered_by p (palette_of maxval known) (record { place = place; colour = t })) e
-    ∙ ap (λ b. cond b (Ok (length known, palette_of maxval now)) (Err (TooManyColours place))) fit
-    ∙ ap (λ (n : ℕ). Ok (n, palette_of maxval now)) (sym number), grows)
+    let fit : ltb (length known) MAX_COLOURS ≡ true = grind (arith, nat_tests) in (
+      now,
+      ap (λ (p : Option ℕ). numbered_by p (palette_of maxval known) (record { place = place; colour = t })) e
+          ∙ ap (λ b. cond b (Ok (length known, palette_of maxval now)) (Err (TooManyColours place))) fit
+          ∙ ap (λ (n : ℕ). Ok (n, palette_of maxval now)) (sym number),
+      grows,
+    )
 
 abbrev pub AreLawful : ℕ → List Rgb → Type 0
 AreLawful maxval ts = AllByRecursion (λ t. fits maxval t ≡ true) ts
@@ -124,10 +124,12 @@ cells_again end maxval (t ∷ ts) place known final rest most lawful seen room =
     let now = palette_of maxval one.0 in
     let number = number_among final t in
     let first : cell_at end colours (text_tokens place (triple_text t ++ tail)) ≡ Ok (number, now, after) =
-        bind_is (triple_at end maxval (text_tokens place (triple_text t ++ tail))) (triple, after) (λ read. numbered colours read.0 >>= λ cell. Ok (cell.0, cell.1, read.1)) (triple_again end maxval place t tail lawful.0 most)
-        ∙ bind_is (numbered colours triple) (number, now) (λ cell. Ok (cell.0, cell.1, after)) one.1 in
-    (others.0, ap (λ (text : List ℕ). cells_at end (suc (length ts)) colours (text_tokens place text)) regrouped
-    ∙ bind_is (cell_at end colours (text_tokens place (triple_text t ++ tail))) (number, now, after)
-        (λ f. cells_at end (length ts) f.1 f.2 >>= λ o. Ok (f.0 ∷ o.0, o.1, o.2)) first
-    ∙ bind_is (cells_at end (length ts) now after) (map (number_among final) ts, palette_of maxval final, text_tokens others.0 rest)
-        (λ o. Ok (number ∷ o.0, o.1, o.2)) others.1)
+    bind_is (triple_at end maxval (text_tokens place (triple_text t ++ tail))) (triple, after) (λ read. numbered colours read.0 >>= λ cell. Ok (cell.0, cell.1, read.1)) (triple_again end maxval place t tail lawful.0 most)
+    ∙ bind_is (numbered colours triple) (number, now) (λ cell. Ok (cell.0, cell.1, after)) one.1 in (
+      others.0,
+      ap (λ (text : List ℕ). cells_at end (suc (length ts)) colours (text_tokens place text)) regrouped
+          ∙ bind_is (cell_at end colours (text_tokens place (triple_text t ++ tail))) (number, now, after)
+          (λ f. cells_at end (length ts) f.1 f.2 >>= λ o. Ok (f.0 ∷ o.0, o.1, o.2)) first
+          ∙ bind_is (cells_at end (length ts) now after) (map (number_among final) ts, palette_of maxval final, text_tokens others.0 rest)
+          (λ o. Ok (number ∷ o.0, o.1, o.2)) others.1,
+    )

@@ -1,8 +1,7 @@
 -- Colours by first appearance are no more than the palette that they are taken from.
-use Rattle.std.proofs.Common.{◌≡◌, ℕ, zero, suc, ◌+◌, ◌<◌, ◌≤◌, Bool, true, false, ◌||◌, cond, List, [], ◌∷◌, ◌++◌, length, get_or, map, refl, sym, ap, subst, ◌∙◌, length-append, arith, ◌⊎◌, inl, inr}
+use Rattle.std.proofs.Common.{◌≡◌, ℕ, zero, suc, ◌+◌, ◌<◌, ◌≤◌, Bool, true, false, ◌||◌, cond, List, [], ◌∷◌, ◌++◌, length, get_or, refl, sym, ap, subst, ◌∙◌, length-append, arith, inl, inr}
 use Rattle.std.specs.List.{list_any, flat_map, AllByRecursion}
 use Rattle.std.proofs.lemmas.Bool.{cases_lt}
-use Rattle.std.proofs.lemmas.Bool.Decides.{nat_tests}
 use Rattle.std.proofs.lemmas.List.{get_or_past, get_or_default}
 use Rattle.std.proofs.lemmas.List.Elements.{All-from_recursion}
 use Rattle.std.proofs.lemmas.List.Folds.{list_any-append}
@@ -83,7 +82,7 @@ room triples ts some among = seen_room triples ts (first_of triples ∷ []) amon
 
 -- ---- each cell has one of the palette's colours
 
-first_among : (triples : List Rgb) → 0 < length triples → Among triples (first_of triples)
+pub first_among : (triples : List Rgb) → 0 < length triples → Among triples (first_of triples)
 first_among [] some = absurd (omega arith)
 first_among (t ∷ triples) some = (0, omega arith, refl)
 
@@ -106,7 +105,7 @@ pub rows_among : (triples : List Rgb) (rows : List (List ℕ)) → 0 < length tr
 rows_among triples [] some = tt
 rows_among triples (row ∷ rows) some = both_all (Among triples) (triples_of triples row) (flat_map (triples_of triples) rows) (row_among triples row some) (rows_among triples rows some)
 
-one_lawful : (maxval : ℕ) (triples : List Rgb) (t : Rgb) → AreLawful maxval triples → Among triples t → fits maxval t ≡ true
+pub one_lawful : (maxval : ℕ) (triples : List Rgb) (t : Rgb) → AreLawful maxval triples → Among triples t → fits maxval t ≡ true
 one_lawful maxval triples t lawful among =
     subst (λ (x : Rgb). fits maxval x ≡ true) among.2 (All-from_recursion (λ (x : Rgb). fits maxval x ≡ true) triples lawful among.0 t among.1)
 

@@ -1,5 +1,5 @@
 -- What two writes after each other have appended.
-use Rattle.std.proofs.Common.{◌≡◌, ℕ, ◌+◌, ◌-◌, ◌<◌, ◌≤◌, min, List, [], ◌∷◌, ◌++◌, take, drop, get_or, length, Option, Some, None, sym, ap, ◌∙◌, subst, refl, arith, inl, inr}
+use Rattle.std.proofs.Common.{◌≡◌, ℕ, ◌+◌, ◌<◌, ◌≤◌, List, [], ◌∷◌, ◌++◌, take, drop, get_or, length, Option, Some, sym, ap, ◌∙◌, subst, arith, inl, inr}
 use Rattle.std.proofs.lemmas.Bool.{cases_lt}
 use Rattle.std.proofs.lemmas.List.{take-append-le, take_all, take_more, take-append-drop, append-nil}
 use Rattle.std.proofs.lemmas.Result.{on_err_weaker}

@@ -1,5 +1,5 @@
 -- Numbers that are written with a space or a line end behind them are read again.
-use Rattle.std.proofs.Common.{◌≡◌, ℕ, zero, suc, ◌+◌, ◌^◌, ◌<◌, ◌≤◌, Bool, true, false, not, ◌&&◌, ◌||◌, cond, eqb, ltb, leb, List, [], ◌∷◌, ◌++◌, length, Result, Ok, Err, Option, Some, refl, sym, ap, ◌∙◌, append_assoc, add-one, arith, rules}
+use Rattle.std.proofs.Common.{◌≡◌, ℕ, suc, ◌+◌, ◌^◌, ◌<◌, ◌≤◌, Bool, true, false, not, ◌&&◌, ◌||◌, cond, eqb, ltb, leb, List, [], ◌∷◌, ◌++◌, length, Result, Ok, Err, Some, refl, ap, ◌∙◌, append_assoc, arith, rules}
 use Rattle.std.specs.Prelude.{decimal}
 use Rattle.std.specs.Char.{is_ascii_digit}
 use Rattle.std.specs.Str.{all_ascii_digits}
@@ -12,15 +12,14 @@ use Rattle.std.proofs.lemmas.Str.Parse.{IsNumeralModel, numerals_by_fold}
 use Rattle.std.proofs.lemmas.Fmt.{digits_decimal, digits_value-decimal, decimal_nonempty}
 use Rattle.picture.specs.Reading.{◌>>=◌}
 use Rattle.picture.specs.declared.rgb.Rgb.{Rgb}
-use Rattle.picture.specs.Palette.{Colours, fits, only_background}
+use Rattle.picture.specs.Palette.{fits, only_background}
 use Rattle.ppm_text.specs.declared.fault.PpmFault.{PpmFault}
-use Rattle.ppm_text.specs.declared.fault.PpmFault.TheVariants.{BadNumber, EmptySize, TooLarge, SampleOver, BadMaxval}
+use Rattle.ppm_text.specs.declared.fault.PpmFault.TheVariants.{BadNumber}
 use Rattle.ppm_text.specs.declared.scanner.Numeral.{Numeral}
-use Rattle.ppm_text.specs.declared.fields.Triple.{Triple}
 use Rattle.ppm_text.specs.Tokens.{Token, tokens_from, without_comments, is_gap, is_space, in_comment}
 use Rattle.ppm_text.specs.Numerals.{numeral_at}
 use Rattle.ppm_text.specs.Samples.{side_at, sample_at, triple_at}
-use Rattle.ppm_text.specs.Ppm.{palette_at, first_palette}
+use Rattle.ppm_text.specs.Ppm.{palette_at}
 use Rattle.ppm_text.specs.Text.{number_text, triple_text}
 use Rattle.ppm_text.proofs.Binds.{bind_is}
 use Rattle.ppm_text.proofs.Scanning.{no_comment, gap_parts}
@@ -145,14 +144,14 @@ triple_again end maxval place rgb rest lawful most =
     let regrouped : triple_text rgb ++ rest ≡ number_text rgb.r 32 ++ second = append_assoc (number_text rgb.r 32) (number_text rgb.g 32 ++ number_text rgb.b 10) rest ∙ ap (λ (x : List ℕ). number_text rgb.r 32 ++ x) (append_assoc (number_text rgb.g 32) (number_text rgb.b 10) rest) in
     ap (λ (text : List ℕ). triple_at end maxval (text_tokens place text)) regrouped
     ∙ bind_is (sample_at end maxval (text_tokens place (number_text rgb.r 32 ++ second))) (record { place = place; value = rgb.r }, text_tokens (behind place rgb.r) second)
-        (λ r. sample_at end maxval r.1 >>= λ g. sample_at end maxval g.1 >>= λ b. Ok (record { place = r.0.place; colour = record { r = r.0.value; g = g.0.value; b = b.0.value } }, b.1))
-        (sample_again end maxval place rgb.r 32 second below.0 most space_closes)
+    (λ r. sample_at end maxval r.1 >>= λ g. sample_at end maxval g.1 >>= λ b. Ok (record { place = r.0.place; colour = record { r = r.0.value; g = g.0.value; b = b.0.value } }, b.1))
+    (sample_again end maxval place rgb.r 32 second below.0 most space_closes)
     ∙ bind_is (sample_at end maxval (text_tokens (behind place rgb.r) second)) (record { place = behind place rgb.r; value = rgb.g }, text_tokens (behind (behind place rgb.r) rgb.g) third)
-        (λ g. sample_at end maxval g.1 >>= λ b. Ok (record { place = place; colour = record { r = rgb.r; g = g.0.value; b = b.0.value } }, b.1))
-        (sample_again end maxval (behind place rgb.r) rgb.g 32 third below.1 most space_closes)
+    (λ g. sample_at end maxval g.1 >>= λ b. Ok (record { place = place; colour = record { r = rgb.r; g = g.0.value; b = b.0.value } }, b.1))
+    (sample_again end maxval (behind place rgb.r) rgb.g 32 third below.1 most space_closes)
     ∙ bind_is (sample_at end maxval (text_tokens (behind (behind place rgb.r) rgb.g) third)) (record { place = behind (behind place rgb.r) rgb.g; value = rgb.b }, text_tokens (behind_triple place rgb) rest)
-        (λ b. Ok (record { place = place; colour = record { r = rgb.r; g = rgb.g; b = b.0.value } }, b.1))
-        (sample_again end maxval (behind (behind place rgb.r) rgb.g) rgb.b 10 rest below.2 most line_end_closes)
+    (λ b. Ok (record { place = place; colour = record { r = rgb.r; g = rgb.g; b = b.0.value } }, b.1))
+    (sample_again end maxval (behind (behind place rgb.r) rgb.g) rgb.b 10 rest below.2 most line_end_closes)
 
 pub palette_again : (background : Rgb) (end place maxval : ℕ) (rest : List ℕ) → 0 < maxval → maxval ≤ 65535 → fits maxval background ≡ true
     → palette_at (Some background) end (text_tokens place (number_text maxval 10 ++ rest)) ≡ Ok (only_background maxval background, text_tokens (behind place maxval) rest)

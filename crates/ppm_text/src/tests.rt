@@ -62,7 +62,11 @@ fn each_front_of_a_text_is_refused(rt: HostRuntime) {
         } else {
             PpmFault::Truncated(len)
         };
-        assert_eq!(rt; fault_of(rt.alloc(), &EDITED[..len]), Some(fault), "the first {len} bytes");
+        assert_eq!(rt;
+            fault_of(rt.alloc(), &EDITED[..len]),
+            Some(fault),
+            "the first {len} bytes"
+        );
     }
 }
 
@@ -86,7 +90,11 @@ fn the_first_fault_is_answered(rt: HostRuntime) {
         ("P3\n1 1\n255\n0 0 0x", PpmFault::BadNumber(15)),
     ];
     for (text, fault) in faults {
-        assert_eq!(rt; fault_of(rt.alloc(), text.as_bytes()), Some(fault), "{text}");
+        assert_eq!(rt;
+            fault_of(rt.alloc(), text.as_bytes()),
+            Some(fault),
+            "{text}"
+        );
     }
 }
 
@@ -105,7 +113,10 @@ fn row_of(alloc: Global, shades: &[u8]) -> Result<String, AllocError> {
 fn sixteen_colours_are_the_most(rt: HostRuntime) -> Result<(), Fail> {
     let all = [0, 1, 2, 3, 4, 5, 6, 7, 8, 9, 10, 11, 12, 13, 14, 15, 16];
     let text = row_of(rt.alloc(), &all)?;
-    assert_eq!(rt; fault_of(rt.alloc(), text.as_bytes()), Some(PpmFault::TooManyColours(116)));
+    assert_eq!(rt;
+        fault_of(rt.alloc(), text.as_bytes()),
+        Some(PpmFault::TooManyColours(116))
+    );
     let without_15 = [0, 1, 2, 3, 4, 5, 6, 7, 8, 9, 10, 11, 12, 13, 14, 16];
     let text = row_of(rt.alloc(), &without_15)?;
     let document = read_ppm(rt.alloc(), text.as_bytes(), None)?;

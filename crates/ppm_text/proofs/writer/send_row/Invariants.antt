@@ -1,6 +1,6 @@
 use Rattle.std.proofs.Common.{◌≡◌, length, take}
 use Rattle.std.specs.Io.KnownBytes.{Appends}
-use Rattle.picture.specs.Rows.{row_at, width_of}
+use Rattle.picture.specs.Rows.{row_at}
 use Rattle.ppm_text.specs.Text.{row_text}
 use Rattle.ppm_text.proofs.writer.send_row.Given as goal
 
