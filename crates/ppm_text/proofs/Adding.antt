@@ -1,5 +1,5 @@
 -- A new triple with lawful samples is refused where the palette is full, and else only for want of memory.
-use Rattle.std.proofs.Common.{◌≡◌, ℕ, ◌+◌, ◌<◌, ◌≤◌, Bool, true, false, ◌||◌, cond, ltb, leb, List, [], ◌∷◌, length, Option, Some, None, Result, Ok, Err, refl, sym, ap, ◌∙◌, arith, ◌⊎◌, inl, inr}
+use Rattle.std.proofs.Common.{◌≡◌, ℕ, ◌+◌, Bool, true, false, ◌||◌, cond, ltb, leb, List, [], ◌∷◌, length, Option, Some, None, Result, Ok, Err, refl, ap, ◌∙◌, arith, ◌⊎◌, inl, inr}
 use Rattle.std.specs.Option.{option_map}
 use Rattle.std.specs.List.{list_any}
 use Rattle.std.proofs.lemmas.Bool.{cases_lt}
@@ -48,15 +48,15 @@ refused colours triple e new lawful h =
     let tests : add_fault colours triple.colour ≡ cond (leb MAX_COLOURS n) (Some palette.Full) None = rw (stands_nowhere triple.colour colours.triples new, lawful) refl in
     let full : numbered colours triple ≡ cond (leb MAX_COLOURS n) (Err (TooManyColours triple.place)) room = ap (λ (o : Option ℕ). numbered_by o colours triple) new ∙ other_way n triple.place room in
     rw full (by_room (leb MAX_COLOURS n) triple.place e room (rw tests at h)) where
-  other_way : (n place : ℕ) (room : Result (ℕ × Colours) PpmFault) → cond (ltb n MAX_COLOURS) room (Err (TooManyColours place)) ≡ cond (leb MAX_COLOURS n) (Err (TooManyColours place)) room
-  other_way n place room =
-      elim (cases_lt n MAX_COLOURS) [
-        | inl lt ↦
-          let a : ltb n MAX_COLOURS ≡ true = grind (arith, nat_tests) in
-          let b : leb MAX_COLOURS n ≡ false = grind (arith, nat_tests) in
-          rw (a, b) refl
-        | inr le ↦
-          let a : ltb n MAX_COLOURS ≡ false = grind (arith, nat_tests) in
-          let b : leb MAX_COLOURS n ≡ true = grind (arith, nat_tests) in
-          rw (a, b) refl
-      ]
+      other_way : (n place : ℕ) (room : Result (ℕ × Colours) PpmFault) → cond (ltb n MAX_COLOURS) room (Err (TooManyColours place)) ≡ cond (leb MAX_COLOURS n) (Err (TooManyColours place)) room
+      other_way n place room =
+          elim (cases_lt n MAX_COLOURS) [
+            | inl lt ↦
+                let a : ltb n MAX_COLOURS ≡ true = grind (arith, nat_tests) in
+                let b : leb MAX_COLOURS n ≡ false = grind (arith, nat_tests) in
+                rw (a, b) refl
+            | inr le ↦
+                let a : ltb n MAX_COLOURS ≡ false = grind (arith, nat_tests) in
+                let b : leb MAX_COLOURS n ≡ true = grind (arith, nat_tests) in
+                rw (a, b) refl
+          ]

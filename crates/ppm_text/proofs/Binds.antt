@@ -1,5 +1,5 @@
 -- Steps of reading one after the other, taken apart.
-use Rattle.std.proofs.Common.{◌≡◌, Bool, true, false, cond, Result, Ok, Err, refl}
+use Rattle.std.proofs.Common.{◌≡◌, Bool, true, false, cond, Result, Ok, Err, refl, ap}
 use Rattle.picture.specs.Reading.{◌>>=◌}
 
 -- the answer of a step that met no fault
@@ -17,3 +17,7 @@ found e x = Ok x
 
 pub ok_is : {A E : Type 0} (e : E) (x y : A) → found e x ≡ found e y → x ≡ y
 ok_is e x y h = cc
+
+-- a step behind one that met no fault
+pub bind_is : {A B E : Type 0} (r : Result A E) (x : A) (next : A → Result B E) → r ≡ Ok x → (r >>= next) ≡ next x
+bind_is r x next h = ap (λ (s : Result _ _). s >>= next) h

@@ -1,5 +1,5 @@
 -- The cap of a number decides nothing: each field is read from the capped number as from the number.
-use Rattle.std.proofs.Common.{◌≡◌, ℕ, ◌<◌, ◌≤◌, min, Bool, true, false, cond, ◌||◌, eqb, ltb, List, Option, Result, Ok, Err, refl, sym, ap, ◌∙◌, arith, inl, inr}
+use Rattle.std.proofs.Common.{◌≡◌, ℕ, ◌<◌, ◌≤◌, min, true, cond, ◌||◌, eqb, ltb, List, Option, Result, Ok, Err, refl, sym, ap, arith, inl, inr}
 use Rattle.std.proofs.lemmas.Bool.{cases_lt}
 use Rattle.std.proofs.lemmas.Bool.Decides.{nat_tests}
 use Rattle.picture.specs.Reading.{◌>>=◌}
@@ -45,9 +45,9 @@ sample_same : (maxval : ℕ) → maxval < 65536 → (n : Numeral × List Token) 
 sample_same maxval lt n =
     elim (cases_lt maxval n.0.value) [
       | inl over ↦
-        let a : ltb maxval n.0.value ≡ true = grind (arith, nat_tests) in
-        let b : ltb maxval (min n.0.value 65536) ≡ true = grind (arith, nat_tests) in
-        rw (a, b) refl
+          let a : ltb maxval n.0.value ≡ true = grind (arith, nat_tests) in
+          let b : ltb maxval (min n.0.value 65536) ≡ true = grind (arith, nat_tests) in
+          rw (a, b) refl
       | inr le ↦ ap (sample_from maxval) (below_cap maxval lt n le)
     ]
 
@@ -62,9 +62,9 @@ palette_same : (background : Option Rgb) (n : Numeral × List Token) → palette
 palette_same background n =
     elim (cases_lt 65535 n.0.value) [
       | inl over ↦
-        let a : (eqb n.0.value 0 || ltb 65535 n.0.value) ≡ true = grind (arith, nat_tests) in
-        let b : (eqb (min n.0.value 65536) 0 || ltb 65535 (min n.0.value 65536)) ≡ true = grind (arith, nat_tests) in
-        rw (a, b) refl
+          let a : (eqb n.0.value 0 || ltb 65535 n.0.value) ≡ true = grind (arith, nat_tests) in
+          let b : (eqb (min n.0.value 65536) 0 || ltb 65535 (min n.0.value 65536)) ≡ true = grind (arith, nat_tests) in
+          rw (a, b) refl
       | inr le ↦ ap (palette_from background) (below_cap 65535 (omega arith) n le)
     ]
 

@@ -1,5 +1,5 @@
 -- Cells read one after the other, as a loop does, and what is true of cells that were read.
-use Rattle.std.proofs.Common.{◌≡◌, ℕ, zero, suc, ◌-◌, ◌+◌, ◌*◌, ◌≤◌, ◌<◌, Bool, true, false, cond, ltb, List, [], ◌∷◌, ◌++◌, length, get_or, Option, Some, None, Result, Ok, Err, refl, sym, ap, subst, ◌∙◌, append_assoc, length-append, arith, ◌⊎◌, inl, inr}
+use Rattle.std.proofs.Common.{◌≡◌, ℕ, zero, suc, ◌-◌, ◌+◌, ◌≤◌, ◌<◌, Bool, true, false, cond, ltb, List, [], ◌∷◌, ◌++◌, length, get_or, Option, Some, None, Result, Ok, Err, refl, sym, ap, subst, ◌∙◌, append_assoc, length-append, arith, ◌⊎◌, inl, inr}
 use Rattle.std.specs.Option.{option_map}
 use Rattle.std.proofs.lemmas.List.{append-nil, get_or_past}
 use Rattle.std.proofs.lemmas.Bool.{cases_lt}
@@ -43,9 +43,9 @@ cells_stop e front end count i colours tokens total lt h so_far =
     elim h [
       | inl none ↦ inl none
       | inr fault ↦
-        let k : count - i ≡ suc (count - (i + 1)) = omega arith in
-        let one : with_front front (cells_at end (count - i) colours tokens) ≡ Err e = rw (k, fault) refl in
-        inr (sym so_far ∙ one)
+          let k : count - i ≡ suc (count - (i + 1)) = omega arith in
+          let one : with_front front (cells_at end (count - i) colours tokens) ≡ Err e = rw (k, fault) refl in
+          inr (sym so_far ∙ one)
     ]
 
 pub cells_end : (front : List ℕ) (end count i : ℕ) (colours : Colours) (tokens : List Token) (total : Result (List ℕ × Colours × List Token) PpmFault)
@@ -130,7 +130,7 @@ cells_are end (suc count) colours tokens cells e =
     let first = cell_is end colours tokens a.0 a.1 in
     let others = cells_are end count a.0.1 a.0.2 b.0 b.1 in
     let made : Cells = (a.0.0 ∷ b.0.0, b.0.1, b.0.2) in
-    subst (λ (c : Cells). AreRead (suc count) colours c.0 c.1) (ok_is Memory made cells b.2) (record {
+    subst (λ (c : Cells). AreRead (suc count) colours c.0 c.1) {x = made} (ok_is Memory made cells b.2) (record {
       all = ap suc others.all;
       grows = Grows-trans colours a.0.1 b.0.1 first.0 others.grows;
       coloured = with_first a.0.0 b.0.0 (length b.0.1.triples) (omega (arith, first.1, others.grows.longer)) others.coloured;

@@ -1,8 +1,7 @@
 -- The definitions at short texts.
-use Rattle.std.proofs.Common.{◌≡◌, ℕ, List, [], ◌∷◌, ◌++◌, Some, None, Result, Ok, Err, refl}
+use Rattle.std.proofs.Common.{◌≡◌, [], ◌∷◌, None, Ok, Err, refl}
 use Rattle.std.specs.Prelude.{codes}
-use Rattle.ppm_text.specs.declared.fault.PpmFault.{PpmFault}
-use Rattle.ppm_text.specs.declared.fault.PpmFault.TheVariants.{NotP3, BadNumber, Truncated, BadMaxval, EmptySize, TooLarge, SampleOver, TooManyColours, TrailingToken}
+use Rattle.ppm_text.specs.declared.fault.PpmFault.TheVariants.{NotP3, Truncated, TooLarge, SampleOver, TrailingToken}
 use Rattle.ppm_text.specs.Numerals.{numeral_at}
 use Rattle.ppm_text.specs.Samples.{side_at, sample_at, triple_at}
 use Rattle.picture.specs.CellSet.{no_cells}

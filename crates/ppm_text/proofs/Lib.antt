@@ -7,4 +7,8 @@ pub mod Binds
 pub mod Cells
 pub mod Adding
 pub mod Pictures
+pub mod Spelled
+pub mod Numbering
+pub mod Seen
+pub mod Again
 mod Examples

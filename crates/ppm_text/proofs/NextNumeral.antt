@@ -1,15 +1,12 @@
 -- The next number of a text, by where its token begins and ends.
-use Rattle.std.proofs.Common.{◌≡◌, ℕ, zero, suc, ◌+◌, ◌-◌, ◌*◌, ◌<◌, ◌≤◌, min, Bool, true, false, not, cond, List, [], ◌∷◌, length, get_or, drop, Option, Some, None, Result, Ok, Err, refl, sym, ap, ◌∙◌, arith}
+use Rattle.std.proofs.Common.{◌≡◌, ℕ, ◌<◌, ◌≤◌, min, Bool, true, false, not, cond, List, [], ◌∷◌, length, get_or, drop, Some, None, Ok, Err, refl, sym, ap, ◌∙◌, arith}
 use Rattle.std.specs.Str.{all_ascii_digits}
 use Rattle.std.specs.Str.Parse.{digits_value}
 use Rattle.std.specs.List.{take_while}
 use Rattle.std.proofs.lemmas.List.{at_drop_all}
-use Rattle.picture.specs.Reading.{◌>>=◌}
-use Rattle.ppm_text.specs.declared.fault.PpmFault.{PpmFault}
 use Rattle.ppm_text.specs.declared.fault.PpmFault.TheVariants.{Truncated, BadNumber}
-use Rattle.ppm_text.specs.declared.scanner.Numeral.{Numeral}
 use Rattle.ppm_text.specs.Tokens.{Token, tokens_at, tokens_from, without_comments, is_gap, next_place}
-use Rattle.ppm_text.specs.Numerals.{capped, capped_at, numeral_at, under_cap}
+use Rattle.ppm_text.specs.Numerals.{capped, capped_at, numeral_at}
 use Rattle.ppm_text.proofs.Scanning.{token_begins}
 
 pub no_token : (bytes : List ℕ) (from place : ℕ) → tokens_at bytes place ≡ tokens_at bytes from → place ≡ length bytes

@@ -1,10 +1,10 @@
 -- How the scanner's loops go over a text: step by step the tokens to come stay the same.
-use Rattle.std.proofs.Common.{◌≡◌, ℕ, zero, suc, ◌+◌, ◌<◌, ◌≤◌, Bool, true, false, not, ◌&&◌, ◌||◌, cond, eqb, List, [], ◌∷◌, length, get_or, drop, refl, sym, ap, ◌∙◌, subst, add-one, arith}
+use Rattle.std.proofs.Common.{◌≡◌, ℕ, ◌+◌, ◌<◌, ◌≤◌, Bool, true, false, not, ◌&&◌, ◌||◌, cond, eqb, List, [], ◌∷◌, length, get_or, drop, refl, sym, ap, ◌∙◌, add-one, arith}
 use Rattle.std.specs.List.{take_while}
 use Rattle.std.proofs.lemmas.Bool.Decides.{nat_tests}
 use Rattle.std.proofs.lemmas.List.{at_drop_more, at_drop_all}
 use Rattle.std.proofs.lemmas.List.Sums.{take_while-cons}
-use Rattle.ppm_text.specs.Tokens.{Token, tokens_at, tokens_from, without_comments, is_gap, is_space, is_line_end, in_comment}
+use Rattle.ppm_text.specs.Tokens.{tokens_at, tokens_from, without_comments, is_gap, is_space, is_line_end, in_comment}
 
 line_ends_are_space : (b : ℕ) → is_line_end b ≡ true → is_space b ≡ true
 line_ends_are_space b h = grind (arith, nat_tests)
@@ -42,13 +42,13 @@ skip_end bytes at commented le = at_drop_all (λ bs. tokens_from false at (witho
 pub ruleset scanning = (skip_step, skip_end)
 
 -- outside of comments and gaps a byte is left as it is
-gap_parts : (b : ℕ) → is_gap b ≡ false → (is_space b ≡ false) × (eqb b 35 ≡ false)
+pub gap_parts : (b : ℕ) → is_gap b ≡ false → (is_space b ≡ false) × (eqb b 35 ≡ false)
 gap_parts b h = or_parts (is_space b) (eqb b 35) h where
   or_parts : (x y : Bool) → (x || y) ≡ false → (x ≡ false) × (y ≡ false)
   or_parts true y e = absurd cc
   or_parts false y e = (refl, e)
 
-no_comment : (b : ℕ) → is_gap b ≡ false → in_comment false b ≡ false
+pub no_comment : (b : ℕ) → is_gap b ≡ false → in_comment false b ≡ false
 no_comment b h = rw (gap_parts b h).1 refl
 
 -- the token's bytes are those up to the next gap
@@ -79,7 +79,7 @@ token_begins bytes place lt h =
     let outside : without_comments false (b ∷ rest) ≡ b ∷ without_comments false rest = ap (λ t. cond t 32 b ∷ without_comments t rest) (no_comment b h) in
     let one : tokens_from false place (b ∷ without_comments false rest) ≡ record { place = place; bytes = take_while (λ x. not (is_space x)) (b ∷ without_comments false rest) } ∷ tokens_from true place (b ∷ without_comments false rest) = rw (gap_parts b h).0 refl in
     let same : tokens_from false place (without_comments false (b ∷ rest)) ≡ record { place = place; bytes = take_while (λ x. not (is_gap x)) (b ∷ rest) } ∷ tokens_from true place (without_comments false (b ∷ rest)) =
-        ap (tokens_from false place) outside ∙ one ∙ ap (λ (bs : List ℕ). record { place = place; bytes = take_while (λ x. not (is_space x)) bs } ∷ tokens_from true place bs) (sym outside) ∙ ap (λ (bs : List ℕ). record { place = place; bytes = bs } ∷ tokens_from true place (without_comments false (b ∷ rest))) (token_bytes (b ∷ rest)) in
+    ap (tokens_from false place) outside ∙ one ∙ ap (λ (bs : List ℕ). record { place = place; bytes = take_while (λ x. not (is_space x)) bs } ∷ tokens_from true place bs) (sym outside) ∙ ap (λ (bs : List ℕ). record { place = place; bytes = bs } ∷ tokens_from true place (without_comments false (b ∷ rest))) (token_bytes (b ∷ rest)) in
     whole ∙ same ∙ sym (at_drop_more (λ bs. record { place = place; bytes = take_while (λ x. not (is_gap x)) bs } ∷ tokens_from true place (without_comments false bs)) bytes place 0 lt)
 
 -- a byte of a token is stepped over

@@ -1,11 +1,17 @@
 -- What two writes after each other have appended.
-use Rattle.std.proofs.Common.{◌≡◌, ℕ, ◌+◌, ◌-◌, ◌<◌, ◌≤◌, min, List, [], ◌∷◌, ◌++◌, take, length, Option, sym, ap, ◌∙◌, subst, refl, arith, inl, inr}
+use Rattle.std.proofs.Common.{◌≡◌, ℕ, ◌+◌, ◌<◌, ◌≤◌, List, [], ◌∷◌, ◌++◌, take, drop, get_or, length, Option, Some, sym, ap, ◌∙◌, subst, arith, inl, inr}
 use Rattle.std.proofs.lemmas.Bool.{cases_lt}
-use Rattle.std.proofs.lemmas.List.{take-append-le, take_all}
+use Rattle.std.proofs.lemmas.List.{take-append-le, take_all, take_more, take-append-drop, append-nil}
 use Rattle.std.proofs.lemmas.Result.{on_err_weaker}
 use Rattle.std.proofs.Math.Seq.{take-append_seam, take-append-add}
-use Rattle.std.specs.Prelude.{Result, OnErr}
-use Rattle.std.proofs.KnownBytes.{Appends-trans}
+use Rattle.std.specs.Prelude.{Result, OnErr, slice_get, codes}
+use Rattle.std.specs.List.{flat_map}
+use Rattle.std.proofs.lemmas.List.Concat.{flat_map-append}
+use Rattle.std.proofs.lemmas.Option.{get_or_from_slice_get}
+use Rattle.picture.specs.declared.rgb.Rgb.{Rgb}
+use Rattle.picture.specs.Document.{first_of}
+use Rattle.ppm_text.specs.Text.{triple_text, cell_text, row_text, rows_text, header_text}
+use Rattle.std.proofs.KnownBytes.{Appends-trans, Appends-nil}
 use Rattle.std.specs.Io.KnownBytes.{Appends}
 use Rattle.picture.specs.Writing.{AppendsFront}
 
@@ -29,3 +35,78 @@ pub last_front : {T E : Type 0} (r : Result T E) (a b c : Option (List ℕ)) (x 
 last_front r a b c x y first h = on_err_weaker r (second_front a b c x y first) h
 
 pub ruleset sending = (both_sent, first_front, second_front, middle_front, last_front)
+
+-- a colour that the palette has at a number
+pub looked_up : (triples : List Rgb) (number : ℕ) (rgb : Rgb) → slice_get triples number ≡ Some rgb → cell_text triples number ≡ triple_text rgb
+looked_up triples number rgb h = ap triple_text (get_or_from_slice_get triples number rgb (first_of triples) h)
+
+pub ruleset cell_lookup = (looked_up)
+
+-- one piece more of a text in pieces
+pieces_more : {X : Type 0} (piece : X → List ℕ) (xs : List X) (i : ℕ) (d : X) → i < length xs → flat_map piece (take (i + 1) xs) ≡ flat_map piece (take i xs) ++ piece (get_or xs i d)
+pieces_more piece xs i d lt =
+    ap (flat_map piece) (take_more xs i d lt) ∙ flat_map-append piece (take i xs) (get_or xs i d ∷ []) ∙ ap (λ (x : List ℕ). flat_map piece (take i xs) ++ x) (append-nil (piece (get_or xs i d)))
+
+-- the pieces behind the first ones
+pieces_parts : {X : Type 0} (piece : X → List ℕ) (xs : List X) (i : ℕ) → flat_map piece xs ≡ flat_map piece (take i xs) ++ flat_map piece (drop i xs)
+pieces_parts piece xs i = ap (flat_map piece) (sym (take-append-drop i xs)) ∙ flat_map-append piece (take i xs) (drop i xs)
+
+module _ (a b c : Option (List ℕ)) where
+  piece_sent : {X : Type 0} (piece : X → List ℕ) (xs : List X) (i : ℕ) (d : X) → i < length xs
+      → Appends a b (flat_map piece (take i xs)) → Appends b c (piece (get_or xs i d)) → Appends a c (flat_map piece (take (i + 1) xs))
+  piece_sent piece xs i d lt before now = rw (pieces_more piece xs i d lt) (both_sent a b c (flat_map piece (take i xs)) (piece (get_or xs i d)) before now)
+
+  piece_cut : {X : Type 0} (piece : X → List ℕ) (xs : List X) (i : ℕ) (d : X) → i < length xs
+      → Appends a b (flat_map piece (take i xs)) → AppendsFront b c (piece (get_or xs i d)) → AppendsFront a c (flat_map piece xs)
+  piece_cut piece xs i d lt before now =
+      let front : AppendsFront a c (flat_map piece (take (i + 1) xs)) = rw (pieces_more piece xs i d lt) (second_front a b c (flat_map piece (take i xs)) (piece (get_or xs i d)) before now) in
+      rw (pieces_parts piece xs (i + 1)) (first_front a c (flat_map piece (take (i + 1) xs)) (flat_map piece (drop (i + 1) xs)) front)
+
+  pub cell_sent : (triples : List Rgb) (row : List ℕ) (col : ℕ) → col < length row
+      → Appends a b (row_text triples (take col row)) → Appends b c (cell_text triples (get_or row col 0)) → Appends a c (row_text triples (take (col + 1) row))
+  cell_sent triples row col lt before now = piece_sent (cell_text triples) row col 0 lt before now
+
+  pub cell_cut : (triples : List Rgb) (row : List ℕ) (col : ℕ) → col < length row
+      → Appends a b (row_text triples (take col row)) → AppendsFront b c (cell_text triples (get_or row col 0)) → AppendsFront a c (row_text triples row)
+  cell_cut triples row col lt before now = piece_cut (cell_text triples) row col 0 lt before now
+
+  pub row_sent : (triples : List Rgb) (rows : List (List ℕ)) (i : ℕ) → i < length rows
+      → Appends a b (rows_text triples (take i rows)) → Appends b c (row_text triples (get_or rows i [])) → Appends a c (rows_text triples (take (i + 1) rows))
+  row_sent triples rows i lt before now = piece_sent (row_text triples) rows i [] lt before now
+
+  pub row_cut : (triples : List Rgb) (rows : List (List ℕ)) (i : ℕ) → i < length rows
+      → Appends a b (rows_text triples (take i rows)) → AppendsFront b c (row_text triples (get_or rows i [])) → AppendsFront a c (rows_text triples rows)
+  row_cut triples rows i lt before now = piece_cut (row_text triples) rows i [] lt before now
+
+pub cells_sent : (a b : Option (List ℕ)) (triples : List Rgb) (row : List ℕ) (col : ℕ) → length row ≤ col → Appends a b (row_text triples (take col row)) → Appends a b (row_text triples row)
+cells_sent a b triples row col le h = subst (λ (x : List ℕ). Appends a b (row_text triples x)) (take_all col row le) h
+
+pub rows_sent : (a b : Option (List ℕ)) (triples : List Rgb) (rows : List (List ℕ)) (i : ℕ) → length rows ≤ i → Appends a b (rows_text triples (take i rows)) → Appends a b (rows_text triples rows)
+rows_sent a b triples rows i le h = subst (λ (x : List (List ℕ)). Appends a b (rows_text triples x)) (take_all i rows le) h
+
+pub no_cell_sent : (a : Option (List ℕ)) (triples : List Rgb) (row : List ℕ) → Appends a a (row_text triples (take 0 row))
+no_cell_sent a triples row = Appends-nil a
+
+pub no_row_sent : (a : Option (List ℕ)) (triples : List Rgb) (rows : List (List ℕ)) → Appends a a (rows_text triples (take 0 rows))
+no_row_sent a triples rows = Appends-nil a
+
+pub ruleset row_loop = (cell_sent, cells_sent, no_cell_sent)
+
+pub ruleset rows_loop = (row_sent, rows_sent, no_row_sent)
+
+-- the magic, and what follows it
+pub magic_cut : (a b : Option (List ℕ)) (x : List ℕ) → AppendsFront a b (codes "P3\n") → AppendsFront a b (codes "P3\n" ++ x)
+magic_cut a b x h = first_front a b (codes "P3\n") x h
+
+pub behind_magic_cut : {T E : Type 0} (r : Result T E) (a b c : Option (List ℕ)) (x : List ℕ) → Appends a b (codes "P3\n") → OnErr r (AppendsFront b c x) → OnErr r (AppendsFront a c (codes "P3\n" ++ x))
+behind_magic_cut r a b c x first h = last_front r a b c (codes "P3\n") x first h
+
+pub ruleset magic_first = (both_sent, magic_cut, behind_magic_cut)
+
+pub header_cut : (a b : Option (List ℕ)) (width height maxval : ℕ) (x : List ℕ) → AppendsFront a b (header_text width height maxval) → AppendsFront a b (header_text width height maxval ++ x)
+header_cut a b width height maxval x h = first_front a b (header_text width height maxval) x h
+
+pub behind_header_cut : {T E : Type 0} (r : Result T E) (a b c : Option (List ℕ)) (width height maxval : ℕ) (x : List ℕ) → Appends a b (header_text width height maxval) → OnErr r (AppendsFront b c x) → OnErr r (AppendsFront a c (header_text width height maxval ++ x))
+behind_header_cut r a b c width height maxval x first h = last_front r a b c (header_text width height maxval) x first h
+
+pub ruleset whole = (both_sent, header_cut, behind_header_cut)

@@ -5,3 +5,4 @@ pub mod Samples
 pub mod Ppm
 pub mod Text
 pub mod Adding
+pub mod RoundTrip

@@ -7,7 +7,7 @@ use Rattle.picture.specs.Reading.{◌>>=◌}
 use Rattle.ppm_text.specs.declared.fault.PpmFault.{PpmFault}
 use Rattle.ppm_text.specs.declared.fault.PpmFault.TheVariants.{Truncated, BadNumber}
 use Rattle.ppm_text.specs.declared.scanner.Numeral.{Numeral}
-use Rattle.ppm_text.specs.Tokens.{Token, is_gap}
+use Rattle.ppm_text.specs.Tokens.{Token}
 
 -- the value of digits up to the cap, and nothing for other bytes
 abbrev pub capped : List ℕ → Option ℕ

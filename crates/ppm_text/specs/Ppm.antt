@@ -21,19 +21,23 @@ background_of (Some rgb) maxval = rgb
 
 -- the palette of the background alone, whose samples must fit the maxval at that place
 abbrev pub first_palette : Option Rgb → ℕ → ℕ → Result Colours PpmFault
-first_palette background maxval place = if fits maxval (background_of background maxval) then Ok (only_background maxval (background_of background maxval)) else Err (SampleOver place)
+first_palette background maxval place =
+    if fits maxval (background_of background maxval) then Ok (only_background maxval (background_of background maxval))
+    else Err (SampleOver place)
 
 -- the maxval, with the background as the one colour so far
 unfoldable pub palette_at : Option Rgb → ℕ → List Token → Result (Colours × List Token) PpmFault
 palette_at background end tokens = do
   maxval ← numeral_at end tokens
   if maxval.0.value == 0 || nat_lt 65535 maxval.0.value then Err (BadMaxval maxval.0.place)
-    else (first_palette background maxval.0.value maxval.0.place >>= λ colours. Ok (colours, maxval.1))
+      else (first_palette background maxval.0.value maxval.0.place >>= λ colours. Ok (colours, maxval.1))
 
 -- the number of a triple that stands in the palette at a place, or is added to it
 abbrev pub numbered_by : Option ℕ → Colours → Triple → Result (ℕ × Colours) PpmFault
 numbered_by (Some number) colours triple = Ok (number, colours)
-numbered_by None colours triple = if nat_lt (length colours.triples) MAX_COLOURS then Ok (length colours.triples, with_colour colours triple.colour) else Err (TooManyColours triple.place)
+numbered_by None colours triple =
+    if nat_lt (length colours.triples) MAX_COLOURS then Ok (length colours.triples, with_colour colours triple.colour)
+    else Err (TooManyColours triple.place)
 
 -- the number of a triple, and the palette with it
 abbrev pub numbered : Colours → Triple → Result (ℕ × Colours) PpmFault

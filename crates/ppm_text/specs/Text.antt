@@ -1,6 +1,9 @@
 -- The one text that is written for a picture.
-use Rattle.std.specs.Prelude.{ℕ, List, [], ◌∷◌, ◌++◌, decimal}
+use Rattle.std.specs.Prelude.{ℕ, List, [], ◌∷◌, ◌++◌, length, codes, decimal, slice_index_or}
+use Rattle.std.specs.List.{flat_map}
 use Rattle.picture.specs.declared.rgb.Rgb.{Rgb}
+use Rattle.picture.specs.Rows.{width_of}
+use Rattle.picture.specs.Document.{Content, first_of}
 
 -- a number, and the byte that closes it
 abbrev pub number_text : ℕ → ℕ → List ℕ
@@ -9,3 +12,27 @@ number_text n close = decimal n ++ close ∷ []
 -- a cell's samples with spaces between them, on a line of their own
 abbrev pub triple_text : Rgb → List ℕ
 triple_text rgb = number_text rgb.r 32 ++ (number_text rgb.g 32 ++ number_text rgb.b 10)
+
+-- a cell, by the colours of the palette
+abbrev pub cell_text : List Rgb → ℕ → List ℕ
+cell_text triples number = triple_text (slice_index_or triples number (first_of triples))
+
+-- the cells of a row from the left
+abbrev pub row_text : List Rgb → List ℕ → List ℕ
+row_text triples row = flat_map (cell_text triples) row
+
+-- the rows from the top
+abbrev pub rows_text : List Rgb → List (List ℕ) → List ℕ
+rows_text triples rows = flat_map (row_text triples) rows
+
+-- the width and the height on a line, and the maxval on a line
+abbrev pub sizes_text : ℕ → ℕ → ℕ → List ℕ
+sizes_text width height maxval = number_text width 32 ++ (number_text height 10 ++ number_text maxval 10)
+
+-- the magic on a line, and the sizes
+abbrev pub header_text : ℕ → ℕ → ℕ → List ℕ
+header_text width height maxval = codes "P3\n" ++ sizes_text width height maxval
+
+-- the header and the rows
+abbrev pub ppm_text : Content → List ℕ
+ppm_text d = header_text (width_of d.rows) (length d.rows) d.colours.maxval ++ rows_text d.colours.triples d.rows

@@ -1,5 +1,5 @@
 -- A P3 text taken apart: the magic, the comments, and the tokens with their places.
-use Rattle.std.specs.Prelude.{ℕ, zero, suc, Bool, true, false, not, ◌&&◌, ◌||◌, ◌==◌, nat_le, nat_eq, if◌then◌else◌, List, [], ◌∷◌, length, drop, slice_index, codes, Option, Some, None, Result, Ok, Err}
+use Rattle.std.specs.Prelude.{ℕ, suc, Bool, true, false, not, ◌&&◌, ◌||◌, ◌==◌, nat_le, nat_eq, if◌then◌else◌, List, [], ◌∷◌, length, drop, slice_index, codes, Option, Some, None, Result, Ok, Err}
 use Rattle.std.specs.List.{starts_with, take_while}
 use Rattle.ppm_text.specs.declared.fault.PpmFault.{PpmFault}
 use Rattle.ppm_text.specs.declared.fault.PpmFault.TheVariants.{NotP3}
@@ -31,11 +31,18 @@ pub record Token : Type 0 where
   pub place : ℕ
   pub bytes : List ℕ
 
+-- the token that begins a text: its bytes up to the next white space
+abbrev pub token_with : ℕ → List ℕ → Token
+token_with place text = record { place = place; bytes = take_while (λ x. not (is_space x)) text }
+
 -- A token begins at each byte that is no white space and follows none that is part of a token, and
 -- goes on to the next white space. `within` says that the byte before is part of a token.
 abbrev pub tokens_from : Bool → ℕ → List ℕ → List Token
 tokens_from within place [] = []
-tokens_from within place (b ∷ rest) = if is_space b then tokens_from false (suc place) rest else (if within then tokens_from true (suc place) rest else (record { place = place; bytes = take_while (λ x. not (is_space x)) (b ∷ rest) } ∷ tokens_from true (suc place) rest))
+tokens_from within place (b ∷ rest) =
+    if is_space b then tokens_from false (suc place) rest
+    else (if within then tokens_from true (suc place) rest
+    else (token_with place (b ∷ rest) ∷ tokens_from true (suc place) rest))
 
 -- The text begins with P3, and then ends or goes on with white space or a comment.
 abbrev pub has_magic : List ℕ → Bool

@@ -18,7 +18,8 @@ pub struct Triple {
 #[tactic(auto, using(crate::proofs::Caps::caps))]
 /// Reads the width or the height.
 pub fn read_side(scanner: &mut Scanner) -> Result<u8, PpmFault>
-    ensures read { Gives Memory (λ side. (side, scanner.new.tokens)) result (side_at scanner.old.end scanner.old.tokens) }
+    ensures read { Gives Memory (λ side. (side, scanner.new.tokens)) result
+        (side_at scanner.old.end scanner.old.tokens) }
     ensures within { IfOk result (λ side. (0 < side) × (side ≤ MAX_SIDE)) }
     ensures end { scanner.new.end ≡ scanner.old.end }
 {
@@ -35,7 +36,8 @@ pub fn read_side(scanner: &mut Scanner) -> Result<u8, PpmFault>
 #[tactic(auto, using(crate::proofs::Caps::caps))]
 // Reads a sample up to the maxval.
 fn read_sample(scanner: &mut Scanner, maxval: u16) -> Result<Numeral, PpmFault>
-    ensures read { Gives Memory (λ n. (n, scanner.new.tokens)) result (sample_at scanner.old.end maxval scanner.old.tokens) }
+    ensures read { Gives Memory (λ n. (n, scanner.new.tokens)) result
+        (sample_at scanner.old.end maxval scanner.old.tokens) }
     ensures within { IfOk result (λ n. n.value ≤ maxval) }
     ensures end { scanner.new.end ≡ scanner.old.end }
 {
@@ -49,7 +51,8 @@ fn read_sample(scanner: &mut Scanner, maxval: u16) -> Result<Numeral, PpmFault>
 #[tactic(auto, unfolding(crate::specs::Samples::triple_at))]
 /// Reads a colour.
 pub fn read_triple(scanner: &mut Scanner, maxval: u16) -> Result<Triple, PpmFault>
-    ensures read { Gives Memory (λ t. (t, scanner.new.tokens)) result (triple_at scanner.old.end maxval scanner.old.tokens) }
+    ensures read { Gives Memory (λ t. (t, scanner.new.tokens)) result
+        (triple_at scanner.old.end maxval scanner.old.tokens) }
     ensures within { IfOk result (λ t. IsTrue (fits maxval t.colour)) }
     ensures end { scanner.new.end ≡ scanner.old.end }
 {

@@ -3,9 +3,15 @@
 
 mod fault;
 mod fields;
+mod laws;
 mod reader;
 mod scanner;
 mod writer;
 
 pub use fault::PpmFault;
+pub use laws::{round_trip, round_trip_of};
 pub use reader::read_ppm;
+pub use writer::write_ppm;
+
+#[cfg(test)]
+mod tests;

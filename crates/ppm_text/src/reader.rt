@@ -16,8 +16,13 @@ use std::alloc::Global;
 
 #[tactic(auto, using(crate::proofs::Caps::palette_caps))]
 // Reads the maxval, and begins the palette with the background.
-fn read_palette(alloc: Global, scanner: &mut Scanner, background: Option<Rgb>) -> Result<Palette, PpmFault>
-    ensures read { Gives Memory (λ p. (p, scanner.new.tokens)) result (palette_at background scanner.old.end scanner.old.tokens) }
+fn read_palette(
+    alloc: Global,
+    scanner: &mut Scanner,
+    background: Option<Rgb>,
+) -> Result<Palette, PpmFault>
+    ensures read { Gives Memory (λ p. (p, scanner.new.tokens)) result
+        (palette_at background scanner.old.end scanner.old.tokens) }
     ensures end { scanner.new.end ≡ scanner.old.end }
 {
     let Numeral { place, value } = scanner.numeral()?;
@@ -28,7 +33,12 @@ fn read_palette(alloc: Global, scanner: &mut Scanner, background: Option<Rgb>) -
 }
 
 // The palette of the background that was handed in, or else of white.
-fn begin_palette(alloc: Global, place: usize, maxval: u16, background: Option<Rgb>) -> Result<Palette, PpmFault>
+fn begin_palette(
+    alloc: Global,
+    place: usize,
+    maxval: u16,
+    background: Option<Rgb>,
+) -> Result<Palette, PpmFault>
     requires { 0 < maxval }
     ensures { Gives Memory (λ p. p) result (first_palette background maxval place) }
 {
@@ -59,7 +69,7 @@ fn number_of(palette: &mut Palette, triple: Triple) -> Result<u8, PpmFault>
     }
 }
 
-// What it means that the palette refused a new triple with lawful samples: it is full, or memory ran out.
+// Why the palette refused a new triple with lawful samples: it is full, or memory ran out.
 fn adding_fault(fault: PaletteFault, place: usize) -> PpmFault
     ensures { result ≡ adding_fault fault place }
 {
@@ -111,9 +121,9 @@ fn document_of(palette: Palette, height: u8, width: u8, cells: Vec<u8>) -> Docum
     requires count { length cells.items ≡ height * width }
     requires coloured { (k : ℕ) → slice_index cells.items k < length palette.triples }
     ensures { content_of result ≡ record {
-        colours = palette;
-        rows = rows_of height width cells.items;
-        givens = no_cells;
+      colours = palette;
+      rows = rows_of height width cells.items;
+      givens = no_cells;
     } }
 {
     let _ = palette.len();
@@ -125,8 +135,17 @@ fn document_of(palette: Palette, height: u8, width: u8, cells: Vec<u8>) -> Docum
 }
 
 #[tactic(auto, using(crate::proofs::Cells::read_cells), unfolding(crate::specs::Ppm::ppm_of))]
-/// Reads a P3 text whole. Number 0 is the background that was handed in, or else white, and the other
-/// colours are numbered by first appearance in row order. The first fault is answered, with its place.
+/// Reads a plain PPM text (P3) whole: the magic, the width and the height from 1 to 120, the maxval
+/// from 1 to 65535, and the samples of each cell in row order, each a decimal number of any length.
+///
+/// White space is space, TAB, LF, VT, FF and CR. A comment from `#` to the next LF or CR, or to the
+/// end of the text, counts as white space anywhere behind the magic. Lines may have any length.
+///
+/// The first colour, number 0, is the background that was handed in, or else white. The others are
+/// numbered by first appearance in row order, up to 16 in all. No cell is a given.
+///
+/// The text is read from the front, and the first fault is answered, with the byte at which it was
+/// met. A background with a sample above the maxval is refused at the maxval.
 pub fn read_ppm(alloc: Global, bytes: &[u8], background: Option<Rgb>) -> Result<Document, PpmFault>
     ensures { Gives Memory content_of result (ppm_of bytes.now background) }
 {

@@ -2,7 +2,8 @@ ghost use Rattle.std.specs.Prelude.{◌≡◌, ◌<◌, ◌≤◌, length, slice
 ghost use Rattle.std.specs.List.{take_while};
 ghost use Rattle.picture.specs.Reading.{Gives};
 ghost use Rattle.ppm_text.specs.declared.fault.PpmFault.TheVariants.{Memory};
-ghost use Rattle.ppm_text.specs.Tokens.{tokens_at, tokens_from, without_comments, is_gap, is_space, is_line_end, in_comment, magic_of, next_place};
+ghost use Rattle.ppm_text.specs.Tokens.{is_space, is_gap, in_comment, without_comments};
+ghost use Rattle.ppm_text.specs.Tokens.{tokens_from, tokens_at, magic_of, next_place};
 ghost use Rattle.ppm_text.specs.Numerals.{capped, with_byte, capped_at};
 
 use crate::fault::PpmFault;
@@ -51,7 +52,8 @@ impl<'a> Scanner<'a> {
 
     /// Reads the next token as a number.
     pub fn numeral(&mut self) -> Result<Numeral, PpmFault>
-        ensures read { Gives Memory (λ n. (n, self.new.tokens)) result (capped_at self.old.end self.old.tokens) }
+        ensures read { Gives Memory (λ n. (n, self.new.tokens)) result
+            (capped_at self.old.end self.old.tokens) }
         ensures end { self.new.end ≡ self.old.end }
     {
         let (numeral, end) = numeral_after(self.bytes, self.at)?;
@@ -119,7 +121,8 @@ fn count_digits(bytes: &[u8], from: usize) -> (Option<u32>, usize)
     requires { from ≤ length bytes.now }
     ensures value { result.0 ≡ capped (take_while (λ b. not (is_gap b)) (drop from bytes.now)) }
     ensures within { result.1 ≤ length bytes.now }
-    ensures rest { tokens_from true from (without_comments false (drop from bytes.now)) ≡ tokens_at bytes.now result.1 }
+    ensures rest { tokens_from true from (without_comments false (drop from bytes.now))
+        ≡ tokens_at bytes.now result.1 }
 {
     let mut at = from;
     let mut number = Some(0);

@@ -1,17 +1,22 @@
-ghost use Rattle.std.specs.Prelude.{OnOk, OnErr};
+ghost use Rattle.std.specs.Prelude.{◌≡◌, ◌<◌, length, OnOk, OnErr};
 ghost use Rattle.std.specs.Io.KnownBytes.{Appends};
+ghost use Rattle.picture.specs.Content.{content_of};
+ghost use Rattle.picture.specs.Rows.{cell_at, row_at, width_of};
 ghost use Rattle.picture.specs.Writing.{AppendsFront};
-ghost use Rattle.ppm_text.specs.Text.{number_text, triple_text};
+ghost use Rattle.ppm_text.specs.Text.{number_text, triple_text, cell_text, row_text, rows_text};
+ghost use Rattle.ppm_text.specs.Text.{sizes_text, header_text, ppm_text};
 
 use itoa::Buffer;
-use picture::{Rgb, WriteFault, send};
+use picture::{Document, Rgb, WriteFault, send};
 use std::io::Write;
 
 #[tactic(auto, using(crate::proofs::Sending::sending))]
 // Writes a number and the byte that closes it.
 fn send_number<W: Write>(number: u16, close: u8, writer: &mut W) -> Result<(), WriteFault>
-    ensures ok { OnOk result (Appends (W.contents writer.old) (W.contents writer.new) (number_text number close)) }
-    ensures err { OnErr result (AppendsFront (W.contents writer.old) (W.contents writer.new) (number_text number close)) }
+    ensures ok { OnOk result (Appends (W.contents writer.old) (W.contents writer.new)
+        (number_text number close)) }
+    ensures err { OnErr result (AppendsFront (W.contents writer.old) (W.contents writer.new)
+        (number_text number close)) }
 {
     let mut buffer = Buffer::new();
     send(buffer.format(number).as_bytes(), writer)?;
@@ -21,10 +26,113 @@ fn send_number<W: Write>(number: u16, close: u8, writer: &mut W) -> Result<(), W
 #[tactic(auto, using(crate::proofs::Sending::sending))]
 // Writes a cell's samples as a line.
 fn send_triple<W: Write>(rgb: Rgb, writer: &mut W) -> Result<(), WriteFault>
-    ensures ok { OnOk result (Appends (W.contents writer.old) (W.contents writer.new) (triple_text rgb)) }
-    ensures err { OnErr result (AppendsFront (W.contents writer.old) (W.contents writer.new) (triple_text rgb)) }
+    ensures ok { OnOk result (Appends (W.contents writer.old) (W.contents writer.new)
+        (triple_text rgb)) }
+    ensures err { OnErr result (AppendsFront (W.contents writer.old) (W.contents writer.new)
+        (triple_text rgb)) }
 {
     send_number(rgb.r, b' ', writer)?;
     send_number(rgb.g, b' ', writer)?;
     send_number(rgb.b, b'\n', writer)
+}
+
+#[tactic(auto, using(crate::proofs::Sending::cell_lookup))]
+// Writes a cell.
+fn send_cell<W: Write>(
+    document: &Document,
+    row: u8,
+    col: u8,
+    writer: &mut W,
+) -> Result<(), WriteFault>
+    requires in_rows { row < length document.now.picture }
+    requires in_columns { col < width_of document.now.picture }
+    ensures ok { OnOk result (Appends (W.contents writer.old) (W.contents writer.new)
+        (cell_text document.now.palette.triples (cell_at document.now.picture row col))) }
+    ensures err { OnErr result (AppendsFront (W.contents writer.old) (W.contents writer.new)
+        (cell_text document.now.palette.triples (cell_at document.now.picture row col))) }
+{
+    let number = document.picture.cell(row, col);
+    send_triple(document.palette.rgb(number), writer)
+}
+
+#[tactic(auto, using(crate::proofs::Sending::row_loop))]
+// Writes a row.
+fn send_row<W: Write>(document: &Document, row: u8, writer: &mut W) -> Result<(), WriteFault>
+    requires { row < length document.now.picture }
+    ensures ok { OnOk result (Appends (W.contents writer.old) (W.contents writer.new)
+        (row_text document.now.palette.triples (row_at document.now.picture row))) }
+    ensures err { OnErr result (AppendsFront (W.contents writer.old) (W.contents writer.new)
+        (row_text document.now.palette.triples (row_at document.now.picture row))) }
+{
+    for col in 0..document.picture.width() {
+        send_cell(document, row, col, writer)?;
+    }
+    Ok(())
+}
+
+#[tactic(auto, using(crate::proofs::Sending::sending))]
+// Writes the sizes and the maxval.
+fn send_sizes<W: Write>(
+    width: u8,
+    height: u8,
+    maxval: u16,
+    writer: &mut W,
+) -> Result<(), WriteFault>
+    ensures ok { OnOk result (Appends (W.contents writer.old) (W.contents writer.new)
+        (sizes_text width height maxval)) }
+    ensures err { OnErr result (AppendsFront (W.contents writer.old) (W.contents writer.new)
+        (sizes_text width height maxval)) }
+{
+    send_number(u16::from(width), b' ', writer)?;
+    send_number(u16::from(height), b'\n', writer)?;
+    send_number(maxval, b'\n', writer)
+}
+
+#[tactic(auto, using(crate::proofs::Sending::magic_first))]
+// Writes what stands before the cells.
+fn send_header<W: Write>(
+    width: u8,
+    height: u8,
+    maxval: u16,
+    writer: &mut W,
+) -> Result<(), WriteFault>
+    ensures ok { OnOk result (Appends (W.contents writer.old) (W.contents writer.new)
+        (header_text width height maxval)) }
+    ensures err { OnErr result (AppendsFront (W.contents writer.old) (W.contents writer.new)
+        (header_text width height maxval)) }
+{
+    send(b"P3\n", writer)?;
+    send_sizes(width, height, maxval, writer)
+}
+
+#[tactic(auto, using(crate::proofs::Sending::whole))]
+/// Writes the document's picture as a plain PPM text: `P3` on a line, the width and the height on a
+/// line, the maxval on a line, and then each cell's samples on a line, in row order. Numbers have no
+/// leading zeros. After a fault a front of the text is written. The givens are not written, and
+/// neither are colours that no cell has.
+pub fn write_ppm<W: Write>(document: &Document, writer: &mut W) -> Result<(), WriteFault>
+    ensures ok { OnOk result (Appends (W.contents writer.old) (W.contents writer.new)
+        (ppm_text (content_of document.now))) }
+    ensures err { OnErr result (AppendsFront (W.contents writer.old) (W.contents writer.new)
+        (ppm_text (content_of document.now))) }
+{
+    let width = document.picture.width();
+    let height = document.picture.height();
+    send_header(width, height, document.palette.maxval(), writer)?;
+    send_rows(document, height, writer)
+}
+
+#[tactic(auto, using(crate::proofs::Sending::rows_loop))]
+// Writes all the rows.
+fn send_rows<W: Write>(document: &Document, height: u8, writer: &mut W) -> Result<(), WriteFault>
+    requires { height ≡ length document.now.picture }
+    ensures ok { OnOk result (Appends (W.contents writer.old) (W.contents writer.new)
+        (rows_text document.now.palette.triples document.now.picture)) }
+    ensures err { OnErr result (AppendsFront (W.contents writer.old) (W.contents writer.new)
+        (rows_text document.now.palette.triples document.now.picture)) }
+{
+    for row in 0..height {
+        send_row(document, row, writer)?;
+    }
+    Ok(())
 }

@@ -1,5 +1,5 @@
 use Rattle.std.proofs.Common.{length, ◌-◌, ◌≡◌, ◌≤◌, drop, true, false, Some, IfSome}
-use Rattle.ppm_text.specs.Tokens.{tokens_at, tokens_from, without_comments}
+use Rattle.ppm_text.specs.Tokens.{tokens_from, without_comments}
 use Rattle.ppm_text.proofs.Counting.{read_on}
 use Rattle.ppm_text.proofs.scanner.count_digits.Given as goal
 

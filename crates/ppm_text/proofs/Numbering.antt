@@ -1,0 +1,135 @@
+-- Colours that are numbered as they are read are numbered by first appearance.
+use Rattle.std.proofs.Common.{◌≡◌, ℕ, suc, ◌+◌, ◌<◌, ◌≤◌, Bool, true, false, ◌||◌, cond, ltb, List, [], ◌∷◌, ◌++◌, length, map, Option, Some, None, Ok, Err, refl, sym, ap, ◌∙◌, append_assoc, length-append, arith}
+use Rattle.std.specs.Prelude.{unwrap_or}
+use Rattle.std.specs.Option.{option_map}
+use Rattle.std.specs.List.{list_any, flat_map, AllByRecursion}
+use Rattle.std.proofs.lemmas.Bool.Decides.{nat_tests}
+use Rattle.std.proofs.lemmas.List.{append-nil}
+use Rattle.picture.specs.Reading.{◌>>=◌}
+use Rattle.picture.specs.declared.rgb.Rgb.{Rgb}
+use Rattle.picture.specs.declared.picture.TheConstants.{MAX_COLOURS}
+use Rattle.picture.specs.Palette.{Colours, rgb_eq, fits, place_of}
+use Rattle.picture.specs.Document.{seen_after, number_among}
+use Rattle.ppm_text.specs.declared.fault.PpmFault.TheVariants.{TooManyColours}
+use Rattle.ppm_text.specs.declared.fields.Triple.{Triple}
+use Rattle.ppm_text.specs.Samples.{triple_at}
+use Rattle.ppm_text.specs.Ppm.{numbered, numbered_by, cell_at, cells_at}
+use Rattle.ppm_text.specs.Text.{triple_text}
+use Rattle.ppm_text.proofs.Binds.{bind_is}
+use Rattle.ppm_text.proofs.Adding.{stands_nowhere}
+use Rattle.ppm_text.proofs.Spelled.{text_tokens, behind_triple, triple_again}
+
+pub rgb_eq-refl : (t : Rgb) → rgb_eq t t ≡ true
+rgb_eq-refl t = grind (arith, nat_tests)
+
+abbrev later : Option ℕ → Option ℕ
+later o = option_map (λ k. k + 1) o
+
+-- ---- a colour's place stays where colours are added at the end
+
+known_by : (here : Bool) (o p : Option ℕ) (k : ℕ) → ((j : ℕ) → o ≡ Some j → p ≡ Some j) → cond here (Some 0) (later o) ≡ Some k → cond here (Some 0) (later p) ≡ Some k
+known_by true o p k h e = e
+known_by false None p k h e = absurd cc
+known_by false (Some j) p k h e = ap later (h j refl) ∙ e
+
+place_stays : (t : Rgb) (known more : List Rgb) (k : ℕ) → place_of t known ≡ Some k → place_of t (known ++ more) ≡ Some k
+place_stays t [] more k e = absurd cc
+place_stays t (x ∷ known) more k e = known_by (rgb_eq t x) (place_of t known) (place_of t (known ++ more)) k (λ j h. place_stays t known more j h) e
+
+new_by : (here : Bool) (o p : Option ℕ) (n : ℕ) → (o ≡ None → p ≡ Some n) → cond here (Some 0) (later o) ≡ None → cond here (Some 0) (later p) ≡ Some (suc n)
+new_by true o p n h e = absurd cc
+new_by false None p n h e = ap later (h refl) ∙ ap (λ (k : ℕ). Some k) (omega arith)
+new_by false (Some j) p n h e = absurd cc
+
+place_new : (t : Rgb) (known more : List Rgb) → place_of t known ≡ None → place_of t (known ++ t ∷ more) ≡ Some (length known)
+place_new t [] more e = ap (λ b. cond b (Some 0) (later (place_of t more))) (rgb_eq-refl t)
+place_new t (x ∷ known) more e = new_by (rgb_eq t x) (place_of t known) (place_of t (known ++ t ∷ more)) (length known) (place_new t known more) e
+
+some_by : (here others : Bool) (o : Option ℕ) (k : ℕ) → ((j : ℕ) → o ≡ Some j → others ≡ true) → cond here (Some 0) (later o) ≡ Some k → (here || others) ≡ true
+some_by true others o k h e = refl
+some_by false others None k h e = absurd cc
+some_by false others (Some j) k h e = h j refl
+
+stands_somewhere : (t : Rgb) (known : List Rgb) (k : ℕ) → place_of t known ≡ Some k → list_any (rgb_eq t) known ≡ true
+stands_somewhere t [] k e = absurd cc
+stands_somewhere t (x ∷ known) k e = some_by (rgb_eq t x) (list_any (rgb_eq t) known) (place_of t known) k (λ j h. stands_somewhere t known j h) e
+
+-- ---- what is seen after other colours begins with them
+
+abbrev Extends : List Rgb → List Rgb → Type 0
+Extends known final = (more : List Rgb) × (final ≡ known ++ more)
+
+extends_by : (known : List Rgb) (t : Rgb) (seen : Bool) (old new : List Rgb) → Extends known old → Extends (known ++ t ∷ []) new → Extends known (cond seen old new)
+extends_by known t true old new p q = p
+extends_by known t false old new p q = (t ∷ q.0, q.1 ∙ append_assoc known (t ∷ []) q.0)
+
+seen_extends : (known ts : List Rgb) → Extends known (seen_after known ts)
+seen_extends known [] = ([], sym (append-nil known))
+seen_extends known (t ∷ ts) =
+    extends_by known t (list_any (rgb_eq t) known) (seen_after known ts) (seen_after (known ++ t ∷ []) ts) (seen_extends known ts) (seen_extends (known ++ t ∷ []) ts)
+
+-- ---- one triple and then all of them
+
+abbrev palette_of : ℕ → List Rgb → Colours
+palette_of maxval known = record { maxval = maxval; triples = known }
+
+-- the next triple has its number among all the colours, and the others go on from a palette
+abbrev IsNumbered : ℕ → ℕ → List Rgb → Rgb → List Rgb → List Rgb → Type 0
+IsNumbered maxval place known t ts final =
+    (now : List Rgb) × (numbered (palette_of maxval known) (record { place = place; colour = t }) ≡ Ok (number_among final t, palette_of maxval now)) × (seen_after now ts ≡ final)
+
+by_place : (maxval place : ℕ) (known : List Rgb) (t : Rgb) (ts final : List Rgb) (o : Option ℕ) → place_of t known ≡ o → seen_after known (t ∷ ts) ≡ final → length final ≤ MAX_COLOURS → IsNumbered maxval place known t ts final
+by_place maxval place known t ts final (Some k) e seen room =
+    let stays : seen_after known ts ≡ final = ap (λ b. cond b (seen_after known ts) (seen_after (known ++ t ∷ []) ts)) (sym (stands_somewhere t known k e)) ∙ seen in
+    let ext = seen_extends known ts in
+    let number : number_among final t ≡ k = ap (λ (xs : List Rgb). number_among xs t) (sym stays ∙ ext.1) ∙ ap (λ (p : Option ℕ). unwrap_or p 0) (place_stays t known ext.0 k e) in
+    (known, ap (λ (p : Option ℕ). numbered_by p (palette_of maxval known) (record { place = place; colour = t })) e ∙ ap (λ (n : ℕ). Ok (n, palette_of maxval known)) (sym number), stays)
+by_place maxval place known t ts final None e seen room =
+    let now = known ++ t ∷ [] in
+    let grows : seen_after now ts ≡ final = ap (λ b. cond b (seen_after known ts) (seen_after now ts)) (sym (stands_nowhere t known e)) ∙ seen in
+    let ext = seen_extends now ts in
+    let all : final ≡ known ++ t ∷ ext.0 = sym grows ∙ ext.1 ∙ append_assoc known (t ∷ []) ext.0 in
+    let number : number_among final t ≡ length known = ap (λ (xs : List Rgb). number_among xs t) all ∙ ap (λ (p : Option ℕ). unwrap_or p 0) (place_new t known ext.0 e) in
+    let count : length final ≡ length known + suc (length ext.0) = ap length all ∙ length-append known (t ∷ ext.0) in
+    let below : length known < MAX_COLOURS = omega arith in
+    let fit : ltb (length known) MAX_COLOURS ≡ true = grind (arith, nat_tests) in (
+      now,
+      ap (λ (p : Option ℕ). numbered_by p (palette_of maxval known) (record { place = place; colour = t })) e
+          ∙ ap (λ b. cond b (Ok (length known, palette_of maxval now)) (Err (TooManyColours place))) fit
+          ∙ ap (λ (n : ℕ). Ok (n, palette_of maxval now)) (sym number),
+      grows,
+    )
+
+abbrev pub AreLawful : ℕ → List Rgb → Type 0
+AreLawful maxval ts = AllByRecursion (λ t. fits maxval t ≡ true) ts
+
+-- cells that are read with these numbers, where the text goes on with the rest
+abbrev ReadsCells : ℕ → ℕ → ℕ → List Rgb → List Rgb → List Rgb → List ℕ → Type 0
+ReadsCells end place maxval known ts final rest =
+    (next : ℕ) × (cells_at end (length ts) (palette_of maxval known) (text_tokens place (flat_map triple_text ts ++ rest)) ≡ Ok (map (number_among final) ts, palette_of maxval final, text_tokens next rest))
+
+pub cells_again : (end maxval : ℕ) (ts : List Rgb) (place : ℕ) (known final : List Rgb) (rest : List ℕ) → maxval ≤ 65535 → AreLawful maxval ts → seen_after known ts ≡ final → length final ≤ MAX_COLOURS
+    → ReadsCells end place maxval known ts final rest
+unfolding cells_at cell_at
+cells_again end maxval [] place known final rest most lawful seen room =
+    (place, ap (λ (xs : List Rgb). Ok ([], palette_of maxval xs, text_tokens place rest)) seen)
+cells_again end maxval (t ∷ ts) place known final rest most lawful seen room =
+    let one = by_place maxval place known t ts final (place_of t known) refl seen room in
+    let others = cells_again end maxval ts (behind_triple place t) one.0 final rest most lawful.1 one.2 room in
+    let tail : List ℕ = flat_map triple_text ts ++ rest in
+    let after = text_tokens (behind_triple place t) tail in
+    let triple : Triple = record { place = place; colour = t } in
+    let regrouped : flat_map triple_text (t ∷ ts) ++ rest ≡ triple_text t ++ tail = append_assoc (triple_text t) (flat_map triple_text ts) rest in
+    let colours = palette_of maxval known in
+    let now = palette_of maxval one.0 in
+    let number = number_among final t in
+    let first : cell_at end colours (text_tokens place (triple_text t ++ tail)) ≡ Ok (number, now, after) =
+    bind_is (triple_at end maxval (text_tokens place (triple_text t ++ tail))) (triple, after) (λ read. numbered colours read.0 >>= λ cell. Ok (cell.0, cell.1, read.1)) (triple_again end maxval place t tail lawful.0 most)
+    ∙ bind_is (numbered colours triple) (number, now) (λ cell. Ok (cell.0, cell.1, after)) one.1 in (
+      others.0,
+      ap (λ (text : List ℕ). cells_at end (suc (length ts)) colours (text_tokens place text)) regrouped
+          ∙ bind_is (cell_at end colours (text_tokens place (triple_text t ++ tail))) (number, now, after)
+          (λ f. cells_at end (length ts) f.1 f.2 >>= λ o. Ok (f.0 ∷ o.0, o.1, o.2)) first
+          ∙ bind_is (cells_at end (length ts) now after) (map (number_among final) ts, palette_of maxval final, text_tokens others.0 rest)
+          (λ o. Ok (number ∷ o.0, o.1, o.2)) others.1,
+    )
