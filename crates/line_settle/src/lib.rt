@@ -1,0 +1,11 @@
+//! One line compared with its clue: which colours each of its cells can still have.
+#![tactic(auto)]
+
+/// How the comparison of a line with its clue ends.
+#[derive(Clone, Copy, Debug, PartialEq, Eq)]
+pub enum Outcome {
+    /// Some list of colours fits.
+    Narrowed,
+    /// No list of colours fits.
+    Dead,
+}
