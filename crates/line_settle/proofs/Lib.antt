@@ -4,4 +4,9 @@ pub mod PatternLemmas
 pub mod StateLemmas
 pub mod StepLemmas
 pub mod TableLemmas
+pub mod BitLemmas
+pub mod RowLemmas
+pub mod FillLemmas
+pub mod StoreLemmas
+pub mod WritingLemmas
 pub mod FittingLemmas

@@ -35,8 +35,8 @@ finish_crosses pattern mask later q h = elim (or_cases _ _ h) [
 
 pub crosses_pass : (pattern : List ℕ) (mask : ℕ) (before later : ℕ → Bool) (q k : ℕ) → before q ≡ true → Crosses pattern mask later q k → passes pattern mask before later q k ≡ true
 crosses_pass pattern mask before later q k h c = and_from _ _ h (elim c.step [
-    inl a ↦ or_left _ _ (and_from _ _ (lt-ltb _ _ a.0) (and_from _ _ (eq-eqb _ _ (sym a.1)) (and_from _ _ c.allowed (ap later (sym a.2) ∙ c.reaches_good))))
-  | inr b ↦ or_right _ _ (and_from _ _ (eq-eqb _ _ b.0) (and_from _ _ b.1 (and_from _ _ c.allowed (ap later (sym b.2) ∙ c.reaches_good)))) ])
+    inl a ↦ or_left _ _ (and_from _ _ (and_from _ _ (lt-ltb _ _ a.0) (and_from _ _ (ap (allows mask) (sym a.1) ∙ c.allowed) (ap later (sym a.2) ∙ c.reaches_good))) (eq-eqb _ _ (sym a.1)))
+  | inr b ↦ or_right _ _ (and_from _ _ (and_from _ _ b.1 (and_from _ _ (ap (allows mask) (sym b.0) ∙ c.allowed) (ap later (sym b.2) ∙ c.reaches_good))) (eq-eqb _ _ (sym b.0))) ])
 
 pub pass_crosses : (pattern : List ℕ) (mask : ℕ) (before later : ℕ → Bool) (q k : ℕ) → passes pattern mask before later q k ≡ true → (before q ≡ true) × Crosses pattern mask later q k
 pass_crosses pattern mask before later q k h =
@@ -44,16 +44,16 @@ pass_crosses pattern mask before later q k h =
     (p.0, elim (or_cases _ _ p.1) [
       inl a ↦
         let l = and_parts _ _ a in
-        let r = and_parts _ _ l.1 in
+        let r = and_parts _ _ l.0 in
         let t = and_parts _ _ r.1 in
-        let e = eqb-true _ _ r.0 in
         let K : ℕ → Type 0 = λ x. Crosses pattern mask later q x in
-        subst K e (forward pattern mask later q (ltb-true _ _ l.0) (ap (allows mask) e ∙ t.0) t.1)
+        subst K (eqb-true _ _ l.1) (forward pattern mask later q (ltb-true _ _ r.0) t.0 t.1)
     | inr b ↦
         let l = and_parts _ _ b in
-        let r = and_parts _ _ l.1 in
+        let r = and_parts _ _ l.0 in
         let t = and_parts _ _ r.1 in
-        stay pattern mask later q k (eqb-true _ _ l.0) r.0 t.0 t.1 ])
+        let K : ℕ → Type 0 = λ x. Crosses pattern mask later q x in
+        subst K (eqb-true _ _ l.1) (stay pattern mask later q 0 refl r.0 t.0 t.1) ])
 
 -- a state that a cell leads to from one of the states `before`
 pub record Reached (pattern : List ℕ) (mask : ℕ) (before : ℕ → Bool) (r : ℕ) : Type 0 where
@@ -82,7 +82,7 @@ reached_by_step pattern mask before r h e = elim (or_cases _ _ e) [
         from = r - 1;
         colour = get_or pattern r 0;
         was = t.1;
-        step = inl (omega arith, ap (λ k. get_or pattern k 0) (sym n), sym n);
+        step = (let w : r - 1 + 1 < length pattern = omega arith in inl (w, ap (λ k. get_or pattern k 0) (sym n), sym n));
         allowed = t.0 }
   | inr b ↦
       let l = and_parts _ _ b in

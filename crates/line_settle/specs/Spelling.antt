@@ -1,5 +1,5 @@
 -- A clue spelled cell by cell: its pattern, and the states that a line goes through as it is read along the pattern.
-use Rattle.std.specs.Prelude.{ℕ, zero, suc, ◌<◌, ◌+◌, ◌-◌, ◌/◌, ◌^◌, List, [], ◌∷◌, ◌++◌, Bool, true, false, cond, ◌&&◌, ◌||◌, not, ◌==◌, nat_le, nat_lt, length, slice_index, bit_and, replicate}
+use Rattle.std.specs.Prelude.{ℕ, zero, suc, ◌<◌, ◌+◌, ◌-◌, ◌*◌, ◌/◌, ◌^◌, List, [], ◌∷◌, ◌++◌, Bool, true, false, cond, ◌&&◌, ◌||◌, not, ◌==◌, nat_le, nat_lt, length, slice_index, slice_index_or, bit_and, replicate}
 
 use Rattle.clues.specs.declared.block.Block.{Block}
 
@@ -16,10 +16,6 @@ spelled_after last (b ∷ bs) = gap (b.colour == last) ++ (replicate b.len b.col
 abbrev pub pattern_of : List Block → List ℕ
 pattern_of blocks = 0 ∷ spelled_after 0 blocks
 
--- a block of a clue has a cell, and a colour that is not the background
-abbrev pub IsBlock : Block → Type 0
-IsBlock b = (0 < b.len) × (0 < b.colour) × (b.colour < 16)
-
 -- colour k is left in a mask, as a program tests it
 abbrev pub allows : ℕ → ℕ → Bool
 allows mask k = bit_and (mask / 2 ^ k) 1 == 1
@@ -29,10 +25,17 @@ allows mask k = bit_and (mask / 2 ^ k) 1 == 1
 abbrev pub waits : List ℕ → ℕ → Bool
 waits pattern q = nat_le (length pattern) (q + 1) || (not (slice_index pattern (q + 1) == 0) && not (slice_index pattern (q + 1) == slice_index pattern q))
 
--- a line can go from state q to the end, whose first cell has one of the mask's colours, where `later` says it of the cells behind
+-- A cell with one of the mask's colours leads from state q to the next state, or leaves it in state q, and from there
+-- `later` holds.
+abbrev pub advances : List ℕ → ℕ → (ℕ → Bool) → ℕ → Bool
+advances pattern mask later q = nat_lt (q + 1) (length pattern) && (allows mask (slice_index pattern (q + 1)) && later (q + 1))
+
+abbrev pub rests : List ℕ → ℕ → (ℕ → Bool) → ℕ → Bool
+rests pattern mask later q = waits pattern q && (allows mask 0 && later q)
+
+-- a line can go from state q to the end, where `later` says it of the cells behind its first
 abbrev pub finish_step : List ℕ → ℕ → (ℕ → Bool) → ℕ → Bool
-finish_step pattern mask later q =
-    (nat_lt (q + 1) (length pattern) && (allows mask (slice_index pattern (q + 1)) && later (q + 1))) || (waits pattern q && (allows mask 0 && later q))
+finish_step pattern mask later q = advances pattern mask later q || rests pattern mask later q
 
 -- a line of cells with these masks can go from state q to the pattern's end
 abbrev pub finishes : List ℕ → List ℕ → ℕ → Bool
@@ -42,7 +45,7 @@ finishes pattern (mask ∷ masks) q = finish_step pattern mask (finishes pattern
 -- a line can come to state q by a cell with one of the mask's colours, where `before` says it of the cells before
 abbrev pub reach_step : List ℕ → ℕ → (ℕ → Bool) → ℕ → Bool
 reach_step pattern mask before q =
-    (nat_lt 0 q && (allows mask (slice_index pattern q) && before (q - 1))) || (waits pattern q && (allows mask 0 && before q))
+    (nat_lt 0 q && (allows mask (slice_index pattern q) && before (q - 1))) || rests pattern mask before q
 
 -- the first i cells of a line with these masks can come to state q
 abbrev pub reaches : List ℕ → List ℕ → ℕ → ℕ → Bool
@@ -52,4 +55,20 @@ reaches pattern masks (suc i) q = reach_step pattern (slice_index masks i) (reac
 -- a line can pass from state q through a cell with one of the mask's colours, that colour being k
 abbrev pub passes : List ℕ → ℕ → (ℕ → Bool) → (ℕ → Bool) → ℕ → ℕ → Bool
 passes pattern mask before later q k =
-    before q && ((nat_lt (q + 1) (length pattern) && (slice_index pattern (q + 1) == k && (allows mask k && later (q + 1)))) || (k == 0 && (waits pattern q && (allows mask k && later q))))
+    before q && ((advances pattern mask later q && slice_index pattern (q + 1) == k) || (rests pattern mask later q && 0 == k))
+
+-- some state below n lets a line pass so
+abbrev pub passes_below : List ℕ → ℕ → (ℕ → Bool) → (ℕ → Bool) → ℕ → ℕ → Bool
+passes_below pattern mask before later zero k = false
+passes_below pattern mask before later (suc n) k = passes_below pattern mask before later n k || passes pattern mask before later n k
+
+-- a row of truths, and row i of a table of such rows
+abbrev pub truth_at : List Bool → ℕ → Bool
+truth_at row q = slice_index_or row q false
+
+abbrev pub table_row : List Bool → ℕ → ℕ → ℕ → Bool
+table_row table width i q = slice_index_or table (i * width + q) false
+
+-- a block of a clue has a cell, and a colour that is not the background
+abbrev pub IsBlock : Block → Type 0
+IsBlock b = (0 < b.len) × (0 < b.colour) × (b.colour < 16)

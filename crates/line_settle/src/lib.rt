@@ -1,11 +1,8 @@
 //! One line compared with its clue: which colours each of its cells can still have.
 #![tactic(auto)]
 
-/// How the comparison of a line with its clue ends.
-#[derive(Clone, Copy, Debug, PartialEq, Eq)]
-pub enum Outcome {
-    /// Some list of colours fits.
-    Narrowed,
-    /// No list of colours fits.
-    Dead,
-}
+mod line_engine;
+mod pattern;
+mod tables;
+
+pub use line_engine::Outcome;
