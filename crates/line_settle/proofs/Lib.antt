@@ -8,5 +8,6 @@ pub mod BitLemmas
 pub mod RowLemmas
 pub mod FillLemmas
 pub mod StoreLemmas
+pub mod NarrowLemmas
 pub mod WritingLemmas
 pub mod FittingLemmas

@@ -131,13 +131,15 @@ fn store_row(row: &[bool], table: &mut [bool], i: usize)
     table[start..start + row.len()].copy_from_slice(row);
 }
 
-/// Fills row i of a table with the states that finish before cell i, for each cell and for the line's end.
+/// Fills row i of a table with the states that finish before cell i, for each cell and for the line's end, and leaves
+/// those before the first cell in `row`.
 pub fn mark_finishing(pattern: &[u8], left: &[u16], row: &mut [bool], table: &mut [bool])
     requires colours { All (λ colour. colour < 16) pattern.now }
     requires begun { 0 < length pattern.now }
     requires row { length pattern.now ≤ length row.old }
     requires room { length left.now * length row.old + length row.old ≤ length table.old }
-    ensures { (i q : ℕ) → i ≤ length left.now → q < length pattern.now
+    ensures first { (q : ℕ) → q < length pattern.now → truth_at row.new q ≡ finishes pattern.now left.now q }
+    ensures each { (i q : ℕ) → i ≤ length left.now → q < length pattern.now
         → table_row table.new (length row.old) i q ≡ finishes pattern.now (drop i left.now) q }
 {
     mark_state(row, pattern.len() - 1);
