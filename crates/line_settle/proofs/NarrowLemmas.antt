@@ -9,11 +9,12 @@ use Rattle.std.proofs.lemmas.List.Elements.{All-append, All-cons, All-nil, All-r
 use Rattle.std.proofs.lemmas.Bool.{or_cases, or_left, or_right, cases_lt, false≢true}
 use Rattle.std.proofs.lemmas.Nat.Bits.{bit_at-zero, same_from_bits, bit_at-lt}
 use Rattle.clues.specs.declared.block.Block.{Block}
+use Rattle.clues.specs.Clue.{IsBlock, IsClue}
 use Rattle.line_settle.specs.declared.line_engine.Outcome.{Outcome}
 use Rattle.line_settle.specs.declared.line_engine.Outcome.TheVariants.{Narrowed, Dead}
 use Rattle.line_settle.specs.Fitting.{CanFit, CanHave}
 use Rattle.line_settle.specs.Narrowing.{Narrows}
-use Rattle.line_settle.specs.Spelling.{IsBlock, gap, spelled_after, pattern_of, allows, finishes, reaches, passes, passes_below}
+use Rattle.line_settle.specs.Spelling.{gap, spelled_after, pattern_of, allows, finishes, reaches, passes, passes_below}
 use Rattle.line_settle.proofs.PatternLemmas.{first_is, rest_are}
 use Rattle.line_settle.proofs.BitLemmas.{allows_none, allows_is}
 use Rattle.line_settle.proofs.TableLemmas.{Passing, Shown}
@@ -23,16 +24,16 @@ gap_colours : (meets : Bool) → All (λ c. c < 16) (gap meets)
 gap_colours true = All-cons (λ c. c < 16) 0 [] (omega arith) (All-nil (λ c. c < 16))
 gap_colours false = All-nil (λ c. c < 16)
 
-spelled_colours : (last : ℕ) (blocks : List Block) → All IsBlock blocks → All (λ c. c < 16) (spelled_after last blocks)
+spelled_colours : (last : ℕ) (blocks : List Block) → IsClue blocks → All (λ c. c < 16) (spelled_after last blocks)
 spelled_colours last [] h = All-nil (λ c. c < 16)
 spelled_colours last (b ∷ bs) h =
     let f = first_is IsBlock b bs h in
     let r = spelled_colours b.colour bs (rest_are IsBlock b bs h) in
     let g = gap (b.colour == last) in
     All-append (λ c. c < 16) g (replicate b.len b.colour ++ spelled_after b.colour bs) (gap_colours (b.colour == last))
-      (All-append (λ c. c < 16) (replicate b.len b.colour) (spelled_after b.colour bs) (All-replicate (λ c. c < 16) b.len b.colour f.2) r)
+      (All-append (λ c. c < 16) (replicate b.len b.colour) (spelled_after b.colour bs) (All-replicate (λ c. c < 16) b.len b.colour f.in_palette) r)
 
-pub pattern_colours : (blocks : List Block) → All IsBlock blocks → All (λ c. c < 16) (pattern_of blocks)
+pub pattern_colours : (blocks : List Block) → IsClue blocks → All (λ c. c < 16) (pattern_of blocks)
 pattern_colours blocks h = All-cons (λ c. c < 16) 0 (spelled_after 0 blocks) (omega arith) (spelled_colours 0 blocks h)
 
 -- some state lets a line pass exactly where one below the pattern's length does
@@ -57,7 +58,7 @@ Collected pattern left out = (i k : ℕ) → i < length left → allows (get_or 
 past_end : (out : List ℕ) (i k : ℕ) → length out ≤ i → allows (get_or out i 0) k ≡ true → ⊥
 past_end out i k h e = false≢true (sym (ap (λ m. allows m k) (get_or-eq_default out 0 h) ∙ allows_none k) ∙ e)
 
-collected_have : (clue : List Block) (left out : List ℕ) → All IsBlock clue → length out ≡ length left → Collected (pattern_of clue) left out → (i k : ℕ) → allows (get_or out i 0) k ≡ true → CanHave clue left i k
+collected_have : (clue : List Block) (left out : List ℕ) → IsClue clue → length out ≡ length left → Collected (pattern_of clue) left out → (i k : ℕ) → allows (get_or out i 0) k ≡ true → CanHave clue left i k
 collected_have clue left out b n c i k e = elim (cases_lt i (length left)) [
     inl l ↦
       let pattern = pattern_of clue in
@@ -67,7 +68,7 @@ collected_have clue left out b n c i k e = elim (cases_lt i (length left)) [
       shown_have clue left i k b l (subst P s p)
   | inr l ↦ absurd (past_end out i k (omega arith) e) ]
 
-have_collected : (clue : List Block) (left out : List ℕ) → All IsBlock clue → Collected (pattern_of clue) left out → (i k : ℕ) → CanHave clue left i k → allows (get_or out i 0) k ≡ true
+have_collected : (clue : List Block) (left out : List ℕ) → IsClue clue → Collected (pattern_of clue) left out → (i k : ℕ) → CanHave clue left i k → allows (get_or out i 0) k ≡ true
 have_collected clue left out b c i k h =
     let pattern = pattern_of clue in
     let P : ℕ → Type 0 = λ m. Passing pattern (get_or left i 0) (reaches pattern left i) (finishes pattern (drop m left)) k in
@@ -87,14 +88,14 @@ no_colour mask h = same_from_bits mask 0 (λ k. elim (cases_lt (bit_at mask k) 1
 dead_empty : (clue : List Block) (left out : List ℕ) → ((i k : ℕ) → allows (get_or out i 0) k ≡ true → CanHave clue left i k) → (CanFit clue left → ⊥) → (i : ℕ) → get_or out i 0 ≡ 0
 dead_empty clue left out have none i = no_colour (get_or out i 0) (λ k e. none (have_fits (have i k e)))
 
-pub narrows_some : (clue : List Block) (left out : List ℕ) → All IsBlock clue → length out ≡ length left → finishes (pattern_of clue) left 0 ≡ true → Collected (pattern_of clue) left out → Narrows clue left Narrowed out
+pub narrows_some : (clue : List Block) (left out : List ℕ) → IsClue clue → length out ≡ length left → finishes (pattern_of clue) left 0 ≡ true → Collected (pattern_of clue) left out → Narrows clue left Narrowed out
 narrows_some clue left out b n f c = record {
     same_length = n;
     fits = ((λ _. finishes_fit clue left b f), (λ _. refl));
     exact = λ i k. ((λ s. collected_have clue left out b n c i k (bit_allows _ _ s)), (λ h. allows_bit _ _ (have_collected clue left out b c i k h)));
     empty = λ e. absurd (let z : ⊥ = cc in z) }
 
-pub narrows_none : (clue : List Block) (left out : List ℕ) → All IsBlock clue → length out ≡ length left → finishes (pattern_of clue) left 0 ≡ false → Collected (pattern_of clue) left out → Narrows clue left Dead out
+pub narrows_none : (clue : List Block) (left out : List ℕ) → IsClue clue → length out ≡ length left → finishes (pattern_of clue) left 0 ≡ false → Collected (pattern_of clue) left out → Narrows clue left Dead out
 narrows_none clue left out b n f c =
     let none : CanFit clue left → ⊥ = λ h. false≢true (sym f ∙ fit_finishes clue left b h) in
     record {
@@ -109,7 +110,7 @@ zeros (suc n) zero = refl
 zeros (suc n) (suc i) = zeros n i
 
 -- a pattern that is longer than the line and one cell
-pub narrows_long : (clue : List Block) (left out : List ℕ) → All IsBlock clue → out ≡ replicate (length left) 0 → length left + 1 < length (pattern_of clue) → Narrows clue left Dead out
+pub narrows_long : (clue : List Block) (left out : List ℕ) → IsClue clue → out ≡ replicate (length left) 0 → length left + 1 < length (pattern_of clue) → Narrows clue left Dead out
 narrows_long clue left out b n l =
     let none = too_long clue left b l in
     let z : (i : ℕ) → get_or out i 0 ≡ 0 = λ i. ap (λ xs. get_or xs i 0) n ∙ zeros (length left) i in
@@ -120,13 +121,13 @@ narrows_long clue left out b n l =
       empty = λ e. z }
 
 -- the same over what was written for the pattern
-pub narrows_some_at : (clue : List Block) (left out written : List ℕ) → All IsBlock clue → written ≡ pattern_of clue → length out ≡ length left → finishes written left 0 ≡ true → Collected written left out → Narrows clue left Narrowed out
+pub narrows_some_at : (clue : List Block) (left out written : List ℕ) → IsClue clue → written ≡ pattern_of clue → length out ≡ length left → finishes written left 0 ≡ true → Collected written left out → Narrows clue left Narrowed out
 narrows_some_at clue left out written b e n f c =
     narrows_some clue left out b n (let P : List ℕ → Type 0 = λ p. finishes p left 0 ≡ true in subst P e f) (let P : List ℕ → Type 0 = λ p. Collected p left out in subst P e c)
 
-pub narrows_none_at : (clue : List Block) (left out written : List ℕ) → All IsBlock clue → written ≡ pattern_of clue → length out ≡ length left → finishes written left 0 ≡ false → Collected written left out → Narrows clue left Dead out
+pub narrows_none_at : (clue : List Block) (left out written : List ℕ) → IsClue clue → written ≡ pattern_of clue → length out ≡ length left → finishes written left 0 ≡ false → Collected written left out → Narrows clue left Dead out
 narrows_none_at clue left out written b e n f c =
     narrows_none clue left out b n (let P : List ℕ → Type 0 = λ p. finishes p left 0 ≡ false in subst P e f) (let P : List ℕ → Type 0 = λ p. Collected p left out in subst P e c)
 
-pub written_colours : (clue : List Block) (written : List ℕ) → All IsBlock clue → written ≡ pattern_of clue → All (λ c. c < 16) written
+pub written_colours : (clue : List Block) (written : List ℕ) → IsClue clue → written ≡ pattern_of clue → All (λ c. c < 16) written
 written_colours clue written b e = let P : List ℕ → Type 0 = λ p. All (λ c. c < 16) p in subst P (sym e) (pattern_colours clue b)

@@ -3,8 +3,8 @@ use Rattle.std.proofs.Common.{◌≡◌, ◌≢◌, ℕ, zero, suc, ◌+◌, ◌
 use Rattle.std.specs.List.{All}
 use Rattle.std.proofs.lemmas.Bool.{cases_eq, cond-true, cond-false}
 use Rattle.clues.specs.declared.block.Block.{Block}
-use Rattle.clues.specs.Clue.{block, longer, joined, clue_of}
-use Rattle.line_settle.specs.Spelling.{gap, spelled_after, pattern_of, IsBlock}
+use Rattle.clues.specs.Clue.{block, longer, joined, clue_of, IsBlock, IsClue}
+use Rattle.line_settle.specs.Spelling.{gap, spelled_after, pattern_of}
 use Rattle.line_settle.proofs.ClueLemmas.{Apart, clue_more, clue_apart}
 use Rattle.line_settle.proofs.SpellsLemmas.{Spells, Tight, BeginsWith, clue_from_spells, spells_from_clue}
 
@@ -37,11 +37,11 @@ tight_piece last (suc n) colour bs l h t = elim (cases_eq colour last) [
       let P : Bool → Type 0 = λ m. Tight last (piece m (suc n) colour bs) in
       subst P (sym (ne_eqb colour last d)) (tight_run last n colour (spelled_after colour bs) h t) ]
 
-pub tight_spelled : (last : ℕ) (bs : List Block) → All IsBlock bs → Tight last (spelled_after last bs)
+pub tight_spelled : (last : ℕ) (bs : List Block) → IsClue bs → Tight last (spelled_after last bs)
 tight_spelled last [] h = tt
 tight_spelled last (b ∷ bs) h =
     let f = first_is IsBlock b bs h in
-    tight_piece last b.len b.colour bs f.0 (λ z. absurd (omega arith)) (tight_spelled b.colour bs (rest_are IsBlock b bs h))
+    tight_piece last b.len b.colour bs f.has_cells (λ z. absurd (omega arith)) (tight_spelled b.colour bs (rest_are IsBlock b bs h))
 
 -- a block is not followed by a cell of its colour
 apart_piece : (c len colour : ℕ) (bs : List Block) → c ≢ 0 → 0 < len → Apart c (piece (colour == c) len colour bs)
@@ -50,9 +50,9 @@ apart_piece c (suc k) colour bs n l = elim (cases_eq colour c) [
     inl e ↦ let P : Bool → Type 0 = λ m. Apart c (piece m (suc k) colour bs) in subst P (sym (eq-eqb colour c e)) n
   | inr d ↦ let P : Bool → Type 0 = λ m. Apart c (piece m (suc k) colour bs) in subst P (sym (ne_eqb colour c d)) (λ e. d (sym e)) ]
 
-apart_spelled : (c : ℕ) (bs : List Block) → c ≢ 0 → All IsBlock bs → Apart c (spelled_after c bs)
+apart_spelled : (c : ℕ) (bs : List Block) → c ≢ 0 → IsClue bs → Apart c (spelled_after c bs)
 apart_spelled c [] n h = tt
-apart_spelled c (b ∷ bs) n h = apart_piece c b.len b.colour bs n (first_is IsBlock b bs h).0
+apart_spelled c (b ∷ bs) n h = apart_piece c b.len b.colour bs n (first_is IsBlock b bs h).has_cells
 
 clue_gap : (meets : Bool) (rest : List ℕ) → clue_of (gap meets ++ rest) ≡ clue_of rest
 clue_gap true rest = refl
@@ -62,19 +62,19 @@ clue_piece : (meets : Bool) (len colour : ℕ) (bs : List Block) → 0 < len →
 clue_piece meets zero colour bs l h a = absurd (omega arith)
 clue_piece meets (suc n) colour bs l h a = clue_gap meets _ ∙ clue_run n colour (spelled_after colour bs) h a
 
-pub clue_spelled : (last : ℕ) (bs : List Block) → All IsBlock bs → clue_of (spelled_after last bs) ≡ bs
+pub clue_spelled : (last : ℕ) (bs : List Block) → IsClue bs → clue_of (spelled_after last bs) ≡ bs
 clue_spelled last [] h = refl
 clue_spelled last (b ∷ bs) h =
     let f = first_is IsBlock b bs h in
     let n : b.colour ≢ 0 = λ z. absurd (omega arith) in
     let r = rest_are IsBlock b bs h in
-    clue_piece (b.colour == last) b.len b.colour bs f.0 n (apart_spelled b.colour bs n r) ∙ ap (λ l. b ∷ l) (clue_spelled b.colour bs r)
+    clue_piece (b.colour == last) b.len b.colour bs f.has_cells n (apart_spelled b.colour bs n r) ∙ ap (λ l. b ∷ l) (clue_spelled b.colour bs r)
 
 -- a list has the clue exactly when it spells the clue's pattern
-pub clue_is_spelled : (bs : List Block) (line : List ℕ) → All IsBlock bs → Spells 0 (spelled_after 0 bs) line → clue_of line ≡ bs
+pub clue_is_spelled : (bs : List Block) (line : List ℕ) → IsClue bs → Spells 0 (spelled_after 0 bs) line → clue_of line ≡ bs
 clue_is_spelled bs line h s = clue_from_spells 0 (spelled_after 0 bs) line (tight_spelled 0 bs h) s ∙ clue_spelled 0 bs h
 
-pub spells_clue : (bs : List Block) (line : List ℕ) → All IsBlock bs → clue_of line ≡ bs → Spells 0 (spelled_after 0 bs) line
+pub spells_clue : (bs : List Block) (line : List ℕ) → IsClue bs → clue_of line ≡ bs → Spells 0 (spelled_after 0 bs) line
 spells_clue bs line h e = spells_from_clue 0 (spelled_after 0 bs) line (tight_spelled 0 bs h) (e ∙ sym (clue_spelled 0 bs h))
 
 -- a line is no shorter than the pattern that it spells

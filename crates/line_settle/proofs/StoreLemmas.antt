@@ -32,3 +32,10 @@ pub row_kept : (table ys : List Bool) (w k i j q : ℕ) → k ≡ w → i * w + 
 row_kept table ys w k i j q e room len n l =
     let P : ℕ → Type 0 = λ m. get_or (take (i * w) table ++ (ys ++ drop m (drop (i * w) table))) (j * w + q) false ≡ get_or table (j * w + q) false in
     subst P (sym e) (read_outside (i * w) w table ys (j * w + q) false room len (row_apart i j w q n l))
+
+-- a table of as many rows as a row is wide has room for the rows before n cells and behind them
+pub rows_fit : (n longest w t : ℕ) → n ≤ longest → w ≡ longest + 1 → t ≡ (longest + 1) * (longest + 1) → n * w + w ≤ t
+rows_fit n longest w t h e f =
+    let P : ℕ → Type 0 = λ m. n * m + m ≤ t in
+    let m = mul-le (suc n) (longest + 1) (longest + 1) (longest + 1) (omega arith) (omega arith) in
+    subst P (sym e) (omega arith)

@@ -1,3 +1,4 @@
+pub mod Engine
 pub mod Fitting
 pub mod Narrowing
 pub mod Spelling

@@ -1,6 +1,5 @@
 -- A clue spelled cell by cell: its pattern, and the states that a line goes through as it is read along the pattern.
-use Rattle.std.specs.Prelude.{ℕ, zero, suc, ◌<◌, ◌+◌, ◌-◌, ◌*◌, ◌/◌, ◌^◌, List, [], ◌∷◌, ◌++◌, Bool, true, false, cond, ◌&&◌, ◌||◌, not, ◌==◌, nat_le, nat_lt, length, slice_index, slice_index_or, bit_and, replicate}
-
+use Rattle.std.specs.Prelude.{ℕ, zero, suc, ◌+◌, ◌-◌, ◌*◌, ◌/◌, ◌^◌, List, [], ◌∷◌, ◌++◌, Bool, true, false, cond, ◌&&◌, ◌||◌, not, ◌==◌, nat_le, nat_lt, length, slice_index, slice_index_or, bit_and, replicate}
 use Rattle.clues.specs.declared.block.Block.{Block}
 
 -- one background cell where two blocks of one colour meet
@@ -68,7 +67,3 @@ truth_at row q = slice_index_or row q false
 
 abbrev pub table_row : List Bool → ℕ → ℕ → ℕ → Bool
 table_row table width i q = slice_index_or table (i * width + q) false
-
--- a block of a clue has a cell, and a colour that is not the background
-abbrev pub IsBlock : Block → Type 0
-IsBlock b = (0 < b.len) × (0 < b.colour) × (b.colour < 16)

@@ -4,6 +4,8 @@
 mod line;
 mod line_engine;
 mod pattern;
+mod plain_engine;
 mod tables;
 
-pub use line_engine::Outcome;
+pub use line_engine::{LineEngine, Outcome};
+pub use plain_engine::PlainEngine;

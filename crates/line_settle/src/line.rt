@@ -1,7 +1,6 @@
 ghost use Rattle.std.specs.Prelude.{◌≡◌, ◌+◌, ◌*◌, ◌<◌, ◌≤◌, length};
-ghost use Rattle.std.specs.List.{All};
+ghost use Rattle.clues.specs.Clue.{IsClue};
 ghost use Rattle.line_settle.specs.Narrowing.{Narrows};
-ghost use Rattle.line_settle.specs.Spelling.{IsBlock};
 
 use clues::Block;
 
@@ -18,7 +17,7 @@ pub fn narrow_line(
     row: &mut [bool],
     table: &mut [bool],
 ) -> Outcome
-    requires blocks_of_clue { All IsBlock blocks.now }
+    requires blocks_of_clue { IsClue blocks.now }
     requires same_length { length left.now ≡ length out.old }
     requires pattern_room { length left.now < length pattern.old }
     requires small { length pattern.old ≤ 256 }

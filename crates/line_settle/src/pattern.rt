@@ -1,6 +1,6 @@
 ghost use Rattle.std.specs.Prelude.{◌≡◌, ℕ, ◌+◌, ◌<◌, ◌≤◌, ◌++◌, ◌==◌, length, take, replicate, MatchOption};
-ghost use Rattle.std.specs.List.{All};
-ghost use Rattle.line_settle.specs.Spelling.{IsBlock, gap, pattern_of, waits, allows};
+ghost use Rattle.clues.specs.Clue.{IsClue};
+ghost use Rattle.line_settle.specs.Spelling.{gap, pattern_of, waits, allows};
 
 use clues::Block;
 
@@ -8,7 +8,7 @@ use clues::Block;
 /// Spells a clue cell by cell behind one background cell, with background only between two blocks of one colour, and
 /// answers how many cells that takes; `None` where the buffer is shorter.
 pub fn spell(blocks: &[Block], buffer: &mut [u8]) -> Option<usize>
-    requires blocks_of_clue { All IsBlock blocks.now }
+    requires blocks_of_clue { IsClue blocks.now }
     requires room { 0 < length buffer.old }
     requires small { length buffer.old ≤ 256 }
     ensures { MatchOption
