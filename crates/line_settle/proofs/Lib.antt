@@ -9,5 +9,8 @@ pub mod RowLemmas
 pub mod FillLemmas
 pub mod StoreLemmas
 pub mod NarrowLemmas
+pub mod MaskLemmas
+pub mod GridLemmas
+pub mod FactLemmas
 pub mod WritingLemmas
 pub mod FittingLemmas

@@ -19,3 +19,12 @@ pub record CanHave (clue : List Block) (left : List ℕ) (i k : ℕ) : Type 0 wh
   pub fits : Fits clue left line
   pub within : i < length left
   pub has : slice_index line i ≡ k
+
+-- no list that fits has colour k in cell i: the line forces this exclusion
+abbrev pub Forces : List Block → List ℕ → ℕ → ℕ → Type 0
+Forces clue left i k = CanHave clue left i k → ⊥
+
+-- the same line with as many colours left, or fewer
+pub record IsTighter (left fewer : List ℕ) : Type 0 where
+  pub same_length : length fewer ≡ length left
+  pub leaves : (i k : ℕ) → IsBitSet (slice_index fewer i) k → IsBitSet (slice_index left i) k

@@ -1,4 +1,6 @@
 pub mod Engine
+pub mod FactSets
 pub mod Fitting
+pub mod Masks
 pub mod Narrowing
 pub mod Spelling
