@@ -12,5 +12,6 @@ pub mod NarrowLemmas
 pub mod MaskLemmas
 pub mod GridLemmas
 pub mod FactLemmas
+pub mod BaseLemmas
 pub mod WritingLemmas
 pub mod FittingLemmas

@@ -38,10 +38,20 @@ pub record IsFacts (facts : List (List ℕ)) : Type 0 where
   pub rectangular : (i : ℕ) → i < length facts → length (row_at facts i) ≡ width_of facts
   pub masks : (i j : ℕ) → cell_at facts i j < 2 ^ 16
 
+-- colour k is left in a cell by the givens alone: it is one of the sixteen, and in a given the picture's
+abbrev pub IsOpen : List ℕ → List (List ℕ) → ℕ → ℕ → ℕ → Type 0
+IsOpen givens picture row col k = (k < 16) × (HasCell givens row col → k ≡ cell_at picture row col)
+
 -- The facts that the givens alone say: in a given only the picture's colour is left, elsewhere all sixteen are.
 pub record IsBase (givens : List ℕ) (picture facts : List (List ℕ)) : Type 0 where
   pub same_shape : SameShape picture facts
-  pub left : (row col k : ℕ) → row < length picture → col < width_of picture → Leaves facts row col k ↔ ((k < 16) × (HasCell givens row col → k ≡ cell_at picture row col))
+  pub left : (row col k : ℕ) → row < length picture → col < width_of picture → Leaves facts row col k ↔ IsOpen givens picture row col k
+
+-- one row made what the givens say of it, and the other rows as they were
+pub record MakesBaseRow (givens : List ℕ) (picture old new : List (List ℕ)) (row : ℕ) : Type 0 where
+  pub same_shape : SameShape picture new
+  pub left : (col k : ℕ) → col < width_of picture → Leaves new row col k ↔ IsOpen givens picture row col k
+  pub elsewhere : (r col : ℕ) → (r ≡ row → ⊥) → cell_at new r col ≡ cell_at old r col
 
 -- A line forces an exclusion where no list that fits has the colour in that cell. Facts are closed for clues when they
 -- hold every exclusion that a line forces from them: each colour left on a line stands in some list that fits.

@@ -1,6 +1,7 @@
 //! One line compared with its clue: which colours each of its cells can still have.
 #![tactic(auto)]
 
+mod base;
 mod facts;
 mod line;
 mod line_engine;
