@@ -13,5 +13,6 @@ pub mod MaskLemmas
 pub mod GridLemmas
 pub mod FactLemmas
 pub mod BaseLemmas
+pub mod AlongLemmas
 pub mod WritingLemmas
 pub mod FittingLemmas

@@ -103,3 +103,9 @@ pub record ExcludesAt (old new : List (List ℕ)) (row col colours : ℕ) : Type
   pub same_shape : SameShape old new
   pub here : (k : ℕ) → Leaves new row col k ↔ (Leaves old row col k × (IsBitSet colours k → ⊥))
   pub elsewhere : (r c : ℕ) → ((r ≡ row) × (c ≡ col) → ⊥) → cell_at new r c ≡ cell_at old r c
+
+-- a line has these masks, and elsewhere all is as it was
+pub record HoldsLine (line : LineId) (old new : List (List ℕ)) (masks : List ℕ) : Type 0 where
+  pub same_shape : SameShape old new
+  pub line_is : line_of new line ≡ masks
+  pub elsewhere : (row col : ℕ) → (IsOn line row col → ⊥) → cell_at new row col ≡ cell_at old row col

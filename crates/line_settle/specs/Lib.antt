@@ -1,3 +1,4 @@
+pub mod Counting
 pub mod Engine
 pub mod FactSets
 pub mod Fitting

@@ -3,12 +3,16 @@
 
 mod base;
 mod facts;
+mod forcing;
 mod line;
 mod line_engine;
+mod meter;
 mod pattern;
 mod plain_engine;
 mod tables;
 
 pub use facts::Facts;
+pub use forcing::force;
 pub use line_engine::{LineEngine, Outcome};
+pub use meter::Meter;
 pub use plain_engine::PlainEngine;
