@@ -14,5 +14,6 @@ pub mod GridLemmas
 pub mod FactLemmas
 pub mod BaseLemmas
 pub mod AlongLemmas
+pub mod LawLemmas
 pub mod WritingLemmas
 pub mod FittingLemmas

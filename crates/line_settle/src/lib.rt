@@ -4,6 +4,7 @@
 mod base;
 mod facts;
 mod forcing;
+pub mod laws;
 mod line;
 mod line_engine;
 mod meter;
