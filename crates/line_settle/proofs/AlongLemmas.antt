@@ -104,11 +104,13 @@ written_more line old rows new masks i mask is h len l e w v =
     subst P (sym v) (record {
       same_shape = shape_trans w.same_shape (shape_with_cell rows (row_on line.axis line.at i) (col_on line.axis line.at i) mask);
       so_far = λ j m. elim (cases_eq j i) [
-          inl k ↦
+        | inl k ↦
             let Q : ℕ → Type 0 = λ n. get_or (line_of (with_place rows line i mask) line) n 0 ≡ get_or masks n 0 in
             subst Q (sym k) (written_here rows line i mask is has (omega arith) ∙ e)
-        | inr n ↦ written_apart rows line i j mask n ∙ w.so_far j (omega arith) ];
-      elsewhere = λ r c n. off_with_cell rows (row_on line.axis line.at i) (col_on line.axis line.at i) mask r c (λ p. n (i, p.0, p.1)) ∙ w.elsewhere r c n })
+        | inr n ↦ written_apart rows line i j mask n ∙ w.so_far j (omega arith)
+      ];
+      elsewhere = λ r c n. off_with_cell rows (row_on line.axis line.at i) (col_on line.axis line.at i) mask r c (λ p. n (i, p.0, p.1)) ∙ w.elsewhere r c n;
+    })
 
 -- two lists of numbers that agree below their length
 pub same_list : (a b : List ℕ) → length a ≡ length b → ((j : ℕ) → j < length b → get_or a j 0 ≡ get_or b j 0) → a ≡ b
@@ -118,7 +120,7 @@ pub written_all : (line : LineId) (old rows : List (List ℕ)) (masks : List ℕ
 written_all line old rows masks n len l w = record {
   same_shape = w.same_shape;
   line_is = same_list (line_of rows line) masks (same_line_length old rows line w.same_shape ∙ sym len) (λ j m. w.so_far j (omega arith));
-  elsewhere = w.elsewhere
+  elsewhere = w.elsewhere;
 }
 
 pub ruleset writing = (written_none)

@@ -30,8 +30,9 @@ allows_none k = allows_is 0 k ∙ ap (λ x. x == 1) (bit_at-zero k)
 
 pub allows_power : (colour k : ℕ) → allows (2 ^ colour) k ≡ (colour == k)
 allows_power colour k = elim (cases_eq colour k) [
-    inl e ↦ allows_is (2 ^ colour) k ∙ (ap (λ x. bit_at (2 ^ colour) x == 1) (sym e) ∙ (ap (λ x. x == 1) (bit_at-pow_same colour) ∙ sym (eq-eqb colour k e)))
-  | inr n ↦ allows_is (2 ^ colour) k ∙ (ap (λ x. x == 1) (bit_at-pow_other colour k (λ e. n (sym e))) ∙ sym (ne_eqb colour k n)) ]
+  | inl e ↦ allows_is (2 ^ colour) k ∙ (ap (λ x. bit_at (2 ^ colour) x == 1) (sym e) ∙ (ap (λ x. x == 1) (bit_at-pow_same colour) ∙ sym (eq-eqb colour k e)))
+  | inr n ↦ allows_is (2 ^ colour) k ∙ (ap (λ x. x == 1) (bit_at-pow_other colour k (λ e. n (sym e))) ∙ sym (ne_eqb colour k n))
+]
 
 pub allows_shifted : (colour k : ℕ) → colour < 16 → allows (1 * 2 ^ colour % 65536) k ≡ (colour == k)
 allows_shifted colour k h = ap (λ m. allows m k) (one_shifted colour 65535 refl h).0 ∙ allows_power colour k

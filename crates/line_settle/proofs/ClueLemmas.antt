@@ -47,9 +47,10 @@ first_len (b ∷ bs) = b.len
 pub first_block : (c : ℕ) (f : List ℕ) → c ≢ 0 → FirstBlock c (clue_of (c ∷ f))
 first_block c [] h = record { more = 0; rest = []; is = clue_apart c [] h tt }
 first_block c (x ∷ f) h = elim (cases_eq c x) [
-    inl e ↦ subst (λ y. FirstBlock c (clue_of (c ∷ y ∷ f))) e
-        (let b = first_block c f h in record { more = b.more + 1; rest = b.rest; is = clue_more c f h ∙ ap longer b.is })
-  | inr n ↦ record { more = 0; rest = clue_of (x ∷ f); is = clue_apart c (x ∷ f) h n } ]
+  | inl e ↦ subst (λ y. FirstBlock c (clue_of (c ∷ y ∷ f))) e
+      (let b = first_block c f h in record { more = b.more + 1; rest = b.rest; is = clue_more c f h ∙ ap longer b.is })
+  | inr n ↦ record { more = 0; rest = clue_of (x ∷ f); is = clue_apart c (x ∷ f) h n }
+]
 
 -- a clue is empty only where no cell has a colour
 pub no_block : (c : ℕ) (f : List ℕ) → c ≢ 0 → clue_of (c ∷ f) ≢ []

@@ -12,11 +12,12 @@ Agree n f g = (q : ℕ) → q < n → f q ≡ g q
 
 advances_same : (pattern : List ℕ) (mask : ℕ) (f g : ℕ → Bool) → Agree (length pattern) f g → (q : ℕ) → advances pattern mask f q ≡ advances pattern mask g q
 advances_same pattern mask f g h q = elim (cases_lt (q + 1) (length pattern)) [
-    inl l ↦ ap (λ x. nat_lt (q + 1) (length pattern) && (allows mask (get_or pattern (q + 1) 0) && x)) (h (q + 1) l)
+  | inl l ↦ ap (λ x. nat_lt (q + 1) (length pattern) && (allows mask (get_or pattern (q + 1) 0) && x)) (h (q + 1) l)
   | inr l ↦
       let e : nat_lt (q + 1) (length pattern) ≡ false = le-ltb (q + 1) (length pattern) l in
       let c : (x : Bool) → nat_lt (q + 1) (length pattern) && x ≡ false = λ x. ap (λ b. b && x) e in
-      c _ ∙ sym (c _) ]
+      c _ ∙ sym (c _)
+]
 
 rests_same : (pattern : List ℕ) (mask : ℕ) (f g : ℕ → Bool) (q : ℕ) → f q ≡ g q → rests pattern mask f q ≡ rests pattern mask g q
 rests_same pattern mask f g q h = ap (λ x. waits pattern q && (allows mask 0 && x)) h
@@ -44,8 +45,9 @@ passes_below_agree pattern mask f g t u h i (suc n) k l =
 
 same_test : (q m : ℕ) → 0 < m → (q == m - 1) ≡ (q + 1 == m)
 same_test q m h = elim (cases_eq q (m - 1)) [
-    inl e ↦ eq-eqb q (m - 1) e ∙ sym (eq-eqb (q + 1) m (omega arith))
-  | inr n ↦ ne_eqb q (m - 1) n ∙ sym (ne_eqb (q + 1) m (λ e. n (omega arith))) ]
+  | inl e ↦ eq-eqb q (m - 1) e ∙ sym (eq-eqb (q + 1) m (omega arith))
+  | inr n ↦ ne_eqb q (m - 1) n ∙ sym (ne_eqb (q + 1) m (λ e. n (omega arith)))
+]
 
 -- the row behind cell i gives the row before it
 finishing_before : (pattern left : List ℕ) (i : ℕ) (f : ℕ → Bool) → i < length left → Agree (length pattern) f (finishes pattern (drop (i + 1) left)) → (q : ℕ) → q < length pattern → finish_step pattern (get_or left i 0) f q ≡ finishes pattern (drop i left) q
@@ -78,10 +80,11 @@ finishing_behind pattern left i n f g e h a s q l =
 -- one more row stored
 pub stored_more : (pattern left : List ℕ) (table new row : List Bool) (w v i n : ℕ) → n ≡ i + 1 → v ≡ w → length pattern ≤ w → ((q : ℕ) → q < w → table_row new w i q ≡ truth_at row q) → ((j q : ℕ) → j ≢ i → q < w → table_row new w j q ≡ table_row table w j q) → ((q : ℕ) → q < length pattern → truth_at row q ≡ finishes pattern (drop i left) q) → ((j q : ℕ) → n ≤ j → j ≤ length left → q < length pattern → table_row table v j q ≡ finishes pattern (drop j left) q) → (j q : ℕ) → i ≤ j → j ≤ length left → q < length pattern → table_row new w j q ≡ finishes pattern (drop j left) q
 stored_more pattern left table new row w v i n e u l stored others is before j q a b c = elim (cases_eq j i) [
-    inl k ↦
+  | inl k ↦
       let P : ℕ → Type 0 = λ m. table_row new w m q ≡ finishes pattern (drop m left) q in
       subst P (sym k) (stored q (omega arith) ∙ is q c)
-  | inr k ↦ others j q k (omega arith) ∙ (ap (λ m. table_row table m j q) (sym u) ∙ before j q (omega arith) b c) ]
+  | inr k ↦ others j q k (omega arith) ∙ (ap (λ m. table_row table m j q) (sym u) ∙ before j q (omega arith) b c)
+]
 
 -- one row of the table, as a slice of it
 row_read : (table : List Bool) (w k i q : ℕ) → q < k → truth_at (take k (drop (i * w) table)) q ≡ table_row table w i q
@@ -94,7 +97,8 @@ later_row pattern left table w v k i e u h l marked q m =
 -- one more cell's colours written
 pub written_more : (pattern left out : List ℕ) (i v : ℕ) (f t : ℕ → Bool) → i < length out → ((k : ℕ) → allows v k ≡ passes_below pattern (get_or left i 0) f t (length pattern) k) → Agree (length pattern) f (reaches pattern left i) → Agree (length pattern) t (finishes pattern (drop (i + 1) left)) → ((j k : ℕ) → j < i → allows (get_or out j 0) k ≡ passes_below pattern (get_or left j 0) (reaches pattern left j) (finishes pattern (drop (j + 1) left)) (length pattern) k) → (j k : ℕ) → j < i + 1 → allows (get_or (set out i v) j 0) k ≡ passes_below pattern (get_or left j 0) (reaches pattern left j) (finishes pattern (drop (j + 1) left)) (length pattern) k
 written_more pattern left out i v f t h is a b before j k l = elim (cases_eq j i) [
-    inl e ↦
+  | inl e ↦
       let P : ℕ → Type 0 = λ n. allows (get_or (set out i v) n 0) k ≡ passes_below pattern (get_or left n 0) (reaches pattern left n) (finishes pattern (drop (n + 1) left)) (length pattern) k in
       subst P (sym e) (ap (λ m. allows m k) (get_or-set_same out i v 0 h) ∙ (is k ∙ passes_below_agree pattern (get_or left i 0) f (reaches pattern left i) t (finishes pattern (drop (i + 1) left)) a b (length pattern) k (omega arith)))
-  | inr d ↦ ap (λ m. allows m k) (get_or-set_other out i j v 0 d) ∙ before j k (omega arith) ]
+  | inr d ↦ ap (λ m. allows m k) (get_or-set_other out i j v 0 d) ∙ before j k (omega arith)
+]

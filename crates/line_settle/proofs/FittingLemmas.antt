@@ -40,9 +40,10 @@ keeps_from (m ∷ masks) (x ∷ line) e h =
 
 fits_from : (clue : List Block) (left line : List ℕ) → IsClue clue → Keeps left line → SpellsAt (pattern_of clue) 0 line → Fits clue left line
 fits_from clue left line b k s = record {
-    same_length = keeps_length left line k;
-    has_clue = clue_is_spelled clue line b s;
-    keeps = keeps_each left line k }
+  same_length = keeps_length left line k;
+  has_clue = clue_is_spelled clue line b s;
+  keeps = keeps_each left line k;
+}
 
 fits_keeps : {clue : List Block} {left line : List ℕ} → Fits clue left line → Keeps left line
 fits_keeps {clue = clue} {left = left} {line = line} f = keeps_from left line f.same_length f.keeps
@@ -62,14 +63,15 @@ finishes_fit clue left b h =
 -- a colour is in a cell of some list that fits exactly where the tables show it
 pub have_shown : (clue : List Block) (left : List ℕ) (i k : ℕ) → IsClue clue → CanHave clue left i k → Shown (pattern_of clue) left i k
 have_shown clue left i k b c = spelled_shown (pattern_of clue) left i k (record {
-    state = 0;
-    within = omega arith;
-    starts = refl;
-    line = c.line;
-    keeps = fits_keeps c.fits;
-    spells = fits_spells clue c.line b c.fits;
-    inside = c.within;
-    has = c.has })
+  state = 0;
+  within = omega arith;
+  starts = refl;
+  line = c.line;
+  keeps = fits_keeps c.fits;
+  spells = fits_spells clue c.line b c.fits;
+  inside = c.within;
+  has = c.has;
+})
 
 starts_at_first : (pattern masks : List ℕ) (q : ℕ) → reaches pattern masks 0 q ≡ true → q ≡ 0
 starts_at_first pattern masks q h = eqb-true _ _ h
@@ -82,7 +84,8 @@ shown_have clue left i k b h p =
       line = t.line;
       fits = fits_from clue left t.line b t.keeps (subst P (starts_at_first (pattern_of clue) left t.state t.starts) t.spells);
       within = h;
-      has = t.has }
+      has = t.has;
+    }
 
 -- a pattern longer than the line and its first cell leaves no list that fits
 pub too_long : (clue : List Block) (left : List ℕ) → IsClue clue → length left + 1 < length (pattern_of clue) → ¬ CanFit clue left

@@ -24,7 +24,7 @@ pub tighter_fits : (clue : List Block) (left fewer line : List ℕ) → IsTighte
 tighter_fits clue left fewer line t f = record {
   same_length = f.same_length ∙ t.same_length;
   has_clue = f.has_clue;
-  keeps = λ i l. t.leaves i (get_or line i 0) (f.keeps i (let n = t.same_length in omega arith))
+  keeps = λ i l. t.leaves i (get_or line i 0) (f.keeps i (let n = t.same_length in omega arith));
 }
 
 pub tighter_have : (clue : List Block) (left fewer : List ℕ) → IsTighter left fewer → (i k : ℕ) → CanHave clue fewer i k → CanHave clue left i k
@@ -32,22 +32,22 @@ tighter_have clue left fewer t i k h = record {
   line = h.line;
   fits = tighter_fits clue left fewer h.line t h.fits;
   within = (let n = t.same_length in let w = h.within in omega arith);
-  has = h.has
+  has = h.has;
 }
 
 pub within_tighter : (few many : List (List ℕ)) → IsWithin few many → (line : LineId) → IsTighter (line_of few line) (line_of many line)
 within_tighter few many w line = record {
   same_length = same_line_length few many line w.same_shape;
   leaves = λ i k s.
-    let P : ℕ → Type 0 = λ m. IsBitSet m k in
-    subst P (sym (cell_on few line i)) (w.leaves (row_on line.axis line.at i) (col_on line.axis line.at i) k (subst P (cell_on many line i) s))
+      let P : ℕ → Type 0 = λ m. IsBitSet m k in
+      subst P (sym (cell_on few line i)) (w.leaves (row_on line.axis line.at i) (col_on line.axis line.at i) k (subst P (cell_on many line i) s));
 }
 
 pub forcing_monotone : ForcingIsMonotone
 forcing_monotone = record {
   possible = tighter_have;
   forced = λ clue left fewer t i k f h. f (tighter_have clue left fewer t i k h);
-  lines = within_tighter
+  lines = within_tighter;
 }
 
 -- ---- narrowing
@@ -63,7 +63,7 @@ pub fits_narrowed : (clue : List Block) (left line out : List ℕ) (outcome : Ou
 fits_narrowed clue left line out outcome f n = record {
   same_length = f.same_length ∙ sym n.same_length;
   has_clue = f.has_clue;
-  keeps = λ i l. (n.exact i (get_or line i 0)).1 (record { line = line; fits = f; within = (let e = n.same_length in omega arith); has = refl })
+  keeps = λ i l. (n.exact i (get_or line i 0)).1 (record { line = line; fits = f; within = (let e = n.same_length in omega arith); has = refl });
 }
 
 pub have_narrowed : (clue : List Block) (left out : List ℕ) (outcome : Outcome) → Narrows clue left outcome out → (i k : ℕ) → CanHave clue left i k → CanHave clue out i k
@@ -71,7 +71,7 @@ have_narrowed clue left out outcome n i k h = record {
   line = h.line;
   fits = fits_narrowed clue left h.line out outcome h.fits n;
   within = (let e = n.same_length in let w = h.within in omega arith);
-  has = h.has
+  has = h.has;
 }
 
 pub own_list_stays : FittingListStays
@@ -87,19 +87,22 @@ same_masks a b e h = same_list a b e (λ i _. same_bits (get_or a i 0) (get_or b
 
 pub one_line : OneLineDecides
 one_line clue left out other first second n m = (
-    same_masks out other (n.same_length ∙ sym m.same_length) (λ i k. ((λ s. (m.exact i k).1 ((n.exact i k).0 s)), (λ s. (n.exact i k).1 ((m.exact i k).0 s)))),
-    same_outcome first second (λ e. m.fits.1 (n.fits.0 e)) (λ e. n.fits.1 (m.fits.0 e)))
+  same_masks out other (n.same_length ∙ sym m.same_length) (λ i k. ((λ s. (m.exact i k).1 ((n.exact i k).0 s)), (λ s. (n.exact i k).1 ((m.exact i k).0 s)))),
+  same_outcome first second (λ e. m.fits.1 (n.fits.0 e)) (λ e. n.fits.1 (m.fits.0 e)),
+)
 
 pub twice_is_once : NarrowingTwiceIsOnce
 twice_is_once clue left out again first second n m =
     let t = narrowed_tighter clue left out first n in (
-    same_masks again out m.same_length
-      (λ i k. (
-        (λ s. (n.exact i k).1 (tighter_have clue left out t i k ((m.exact i k).0 s))),
-        (λ s. (m.exact i k).1 (have_narrowed clue left out first n i k ((n.exact i k).0 s))))),
-    same_outcome second first
-      (λ e. let f = m.fits.0 e in n.fits.1 (f.0, tighter_fits clue left out f.0 t f.1))
-      (λ e. let f = n.fits.0 e in m.fits.1 (f.0, fits_narrowed clue left f.0 out first f.1 n)))
+      same_masks again out m.same_length
+          (λ i k. (
+            (λ s. (n.exact i k).1 (tighter_have clue left out t i k ((m.exact i k).0 s))),
+            (λ s. (m.exact i k).1 (have_narrowed clue left out first n i k ((n.exact i k).0 s))),
+          )),
+      same_outcome second first
+          (λ e. let f = m.fits.0 e in n.fits.1 (f.0, tighter_fits clue left out f.0 t f.1))
+          (λ e. let f = n.fits.0 e in m.fits.1 (f.0, fits_narrowed clue left f.0 out first f.1 n)),
+    )
 
 -- ---- the least facts
 
@@ -121,5 +124,5 @@ pub counting_adds : CountsAdd
 counting_adds e t f u start between end p q r a b = record {
   evaluations = b.evaluations ∙ (ap (λ n. counted n f) a.evaluations ∙ counted_twice start.evaluations e f);
   trials = b.trials ∙ (ap (λ n. counted n u) a.trials ∙ counted_twice start.trials t u);
-  calls = b.calls ∙ (ap (λ n. counted n (f + u)) a.calls ∙ (counted_twice p (e + t) (f + u) ∙ ap (counted p) (let s : e + t + (f + u) ≡ e + f + (t + u) = omega arith in s)))
+  calls = b.calls ∙ (ap (λ n. counted n (f + u)) a.calls ∙ (counted_twice p (e + t) (f + u) ∙ ap (counted p) (let s : e + t + (f + u) ≡ e + f + (t + u) = omega arith in s)));
 }

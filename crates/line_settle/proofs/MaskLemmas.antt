@@ -21,15 +21,18 @@ no_bit k h = let e = set_bit 0 k h in let z = bit_at-zero k in absurd (omega ari
 
 pub bit_below : (n w k : ℕ) → n < 2 ^ w → IsBitSet n k → k < w
 bit_below n w k h s = elim (cases_lt k w) [
-    inl l ↦ l
-  | inr g ↦ let e = set_bit n k s in let z = bit_at_above n w k h g in absurd (omega arith) ]
+  | inl l ↦ l
+  | inr g ↦ let e = set_bit n k s in let z = bit_at_above n w k h g in absurd (omega arith)
+]
 
 pub power_has : (k j : ℕ) → IsBitSet (2 ^ k) j ↔ (j ≡ k)
 power_has k j = (
-    (λ s. elim (cases_eq j k) [
-        inl e ↦ e
-      | inr n ↦ let e = set_bit (2 ^ k) j s in let z = bit_at-pow_other k j n in absurd (omega arith) ]),
-    (λ e. bit_is_set (2 ^ k) j (ap (bit_at (2 ^ k)) e ∙ bit_at-pow_same k)))
+  (λ s. elim (cases_eq j k) [
+    | inl e ↦ e
+    | inr n ↦ let e = set_bit (2 ^ k) j s in let z = bit_at-pow_other k j n in absurd (omega arith)
+  ]),
+  (λ e. bit_is_set (2 ^ k) j (ap (bit_at (2 ^ k)) e ∙ bit_at-pow_same k)),
+)
 
 -- numbers with the same bits
 pub same_bits : (a b : ℕ) → ((k : ℕ) → IsBitSet a k ↔ IsBitSet b k) → a ≡ b
@@ -37,10 +40,12 @@ same_bits a b h = same_from_bits a b (λ k.
     let u = bit_at-lt a k in
     let v = bit_at-lt b k in
     elim (cases_eq (bit_at a k) 1) [
-      inl e ↦ e ∙ sym (set_bit b k ((h k).0 (bit_is_set a k e)))
-    | inr n ↦ elim (cases_eq (bit_at b k) 1) [
-        inl f ↦ absurd (n (set_bit a k ((h k).1 (bit_is_set b k f))))
-      | inr m ↦ (let x : bit_at a k ≡ 0 = omega arith in x) ∙ sym (let y : bit_at b k ≡ 0 = omega arith in y) ] ])
+      | inl e ↦ e ∙ sym (set_bit b k ((h k).0 (bit_is_set a k e)))
+      | inr n ↦ elim (cases_eq (bit_at b k) 1) [
+        | inl f ↦ absurd (n (set_bit a k ((h k).1 (bit_is_set b k f))))
+        | inr m ↦ (let x : bit_at a k ≡ 0 = omega arith in x) ∙ sym (let y : bit_at b k ≡ 0 = omega arith in y)
+      ]
+    ])
 
 pub only_is_power : (mask k : ℕ) → IsOnly mask k → mask ≡ 2 ^ k
 only_is_power mask k h = same_bits mask (2 ^ k) (λ j. ((λ s. (power_has k j).1 ((h j).0 s)), (λ s. (h j).1 ((power_has k j).0 s))))
@@ -75,19 +80,19 @@ pub without_bit : (mask colours k : ℕ) → mask < 2 ^ 16 → colours < 2 ^ 16 
 without_bit mask colours k m c =
     let a = bit_at_and mask (bit_not w16 colours) k in
     let x = bit_at-lt mask k in
-    let y = bit_at-lt colours k in
-    (
+    let y = bit_at-lt colours k in (
       (λ s.
-        let e = set_bit _ _ s in
-        let l = bit_below mask 16 k m (bit_is_set mask k (let b = bit_at-lt (bit_not w16 colours) k in omega arith)) in
-        let n = bit_at_not w16 colours k c l in
-        (bit_is_set mask k (omega arith), λ t. let f = set_bit colours k t in absurd (omega arith))),
+          let e = set_bit _ _ s in
+          let l = bit_below mask 16 k m (bit_is_set mask k (let b = bit_at-lt (bit_not w16 colours) k in omega arith)) in
+          let n = bit_at_not w16 colours k c l in
+          (bit_is_set mask k (omega arith), λ t. let f = set_bit colours k t in absurd (omega arith))),
       (λ p.
-        let e = set_bit mask k p.0 in
-        let l = bit_below mask 16 k m p.0 in
-        let n = bit_at_not w16 colours k c l in
-        let z : bit_at colours k ≡ 0 = elim (cases_eq (bit_at colours k) 1) [ inl f ↦ absurd (p.1 (bit_is_set colours k f)) | inr g ↦ omega arith ] in
-        bit_is_set _ k (omega arith)))
+          let e = set_bit mask k p.0 in
+          let l = bit_below mask 16 k m p.0 in
+          let n = bit_at_not w16 colours k c l in
+          let z : bit_at colours k ≡ 0 = elim (cases_eq (bit_at colours k) 1) [ inl f ↦ absurd (p.1 (bit_is_set colours k f)) | inr g ↦ omega arith ] in
+          bit_is_set _ k (omega arith)),
+    )
 
 -- all sixteen colours
 pub full_has : (k : ℕ) → k < 16 → IsBitSet 65535 k

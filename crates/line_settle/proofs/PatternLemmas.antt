@@ -30,12 +30,13 @@ piece meets len colour bs = gap meets ++ (replicate len colour ++ spelled_after 
 tight_piece : (last len colour : ℕ) (bs : List Block) → 0 < len → colour ≢ 0 → Tight colour (spelled_after colour bs) → Tight last (piece (colour == last) len colour bs)
 tight_piece last zero colour bs l h t = absurd (omega arith)
 tight_piece last (suc n) colour bs l h t = elim (cases_eq colour last) [
-    inl e ↦
+  | inl e ↦
       let P : Bool → Type 0 = λ m. Tight last (piece m (suc n) colour bs) in
       subst P (sym (eq-eqb colour last e)) ((λ z. h (e ∙ z)), e, tight_run 0 n colour (spelled_after colour bs) h t)
   | inr d ↦
       let P : Bool → Type 0 = λ m. Tight last (piece m (suc n) colour bs) in
-      subst P (sym (ne_eqb colour last d)) (tight_run last n colour (spelled_after colour bs) h t) ]
+      subst P (sym (ne_eqb colour last d)) (tight_run last n colour (spelled_after colour bs) h t)
+]
 
 pub tight_spelled : (last : ℕ) (bs : List Block) → IsClue bs → Tight last (spelled_after last bs)
 tight_spelled last [] h = tt
@@ -47,8 +48,9 @@ tight_spelled last (b ∷ bs) h =
 apart_piece : (c len colour : ℕ) (bs : List Block) → c ≢ 0 → 0 < len → Apart c (piece (colour == c) len colour bs)
 apart_piece c zero colour bs n l = absurd (omega arith)
 apart_piece c (suc k) colour bs n l = elim (cases_eq colour c) [
-    inl e ↦ let P : Bool → Type 0 = λ m. Apart c (piece m (suc k) colour bs) in subst P (sym (eq-eqb colour c e)) n
-  | inr d ↦ let P : Bool → Type 0 = λ m. Apart c (piece m (suc k) colour bs) in subst P (sym (ne_eqb colour c d)) (λ e. d (sym e)) ]
+  | inl e ↦ let P : Bool → Type 0 = λ m. Apart c (piece m (suc k) colour bs) in subst P (sym (eq-eqb colour c e)) n
+  | inr d ↦ let P : Bool → Type 0 = λ m. Apart c (piece m (suc k) colour bs) in subst P (sym (ne_eqb colour c d)) (λ e. d (sym e))
+]
 
 apart_spelled : (c : ℕ) (bs : List Block) → c ≢ 0 → IsClue bs → Apart c (spelled_after c bs)
 apart_spelled c [] n h = tt
@@ -82,5 +84,6 @@ pub spells_length : (last : ℕ) (rest line : List ℕ) → Spells last rest lin
 spells_length last [] line s = omega arith
 spells_length last (y ∷ rest) [] s = absurd s
 spells_length last (y ∷ rest) (x ∷ line) s = elim s [
-    inl a ↦ let i = spells_length y rest line a.1 in omega arith
-  | inr b ↦ let i = spells_length last (y ∷ rest) line b.3 in omega arith ]
+  | inl a ↦ let i = spells_length y rest line a.1 in omega arith
+  | inr b ↦ let i = spells_length last (y ∷ rest) line b.3 in omega arith
+]

@@ -22,17 +22,19 @@ others row q r v h = get_or-set_other row q r v false h
 
 pub stepped_back : (pattern : List ℕ) (mask : ℕ) (start row : List Bool) (q : ℕ) (v : Bool) → q < length row → ((r : ℕ) → r < q → truth_at row r ≡ finish_step pattern mask (truth_at start) r) → ((r : ℕ) → q ≤ r → truth_at row r ≡ truth_at start r) → v ≡ finish_step pattern mask (truth_at row) q → (r : ℕ) → r < q + 1 → truth_at (set row q v) r ≡ finish_step pattern mask (truth_at start) r
 stepped_back pattern mask start row q v h stepped kept e r l = elim (cases_eq r q) [
-    inl i ↦
+  | inl i ↦
       let P : ℕ → Type 0 = λ n. truth_at (set row q v) n ≡ finish_step pattern mask (truth_at start) n in
       subst P (sym i) (written row q v h ∙ (e ∙ finish_step_same pattern mask (truth_at row) (truth_at start) q (kept (q + 1) (omega arith)) (kept q (omega arith))))
-  | inr n ↦ others row q r v n ∙ stepped r (omega arith) ]
+  | inr n ↦ others row q r v n ∙ stepped r (omega arith)
+]
 
 pub stepped_forward : (pattern : List ℕ) (mask : ℕ) (start row : List Bool) (q n : ℕ) (v : Bool) → q < length row → n ≡ q + 1 → ((r : ℕ) → n ≤ r → r < length pattern → truth_at row r ≡ reach_step pattern mask (truth_at start) r) → ((r : ℕ) → r < n → truth_at row r ≡ truth_at start r) → v ≡ reach_step pattern mask (truth_at row) q → (r : ℕ) → q ≤ r → r < length pattern → truth_at (set row q v) r ≡ reach_step pattern mask (truth_at start) r
 stepped_forward pattern mask start row q n v h m stepped kept e r l w = elim (cases_eq r q) [
-    inl i ↦
+  | inl i ↦
       let P : ℕ → Type 0 = λ n. truth_at (set row q v) n ≡ reach_step pattern mask (truth_at start) n in
       subst P (sym i) (written row q v h ∙ (e ∙ reach_step_same pattern mask (truth_at row) (truth_at start) q (kept (q - 1) (omega arith)) (kept q (omega arith))))
-  | inr d ↦ others row q r v d ∙ stepped r (omega arith) w ]
+  | inr d ↦ others row q r v d ∙ stepped r (omega arith) w
+]
 
 pub kept_apart : (start row : List Bool) (q r : ℕ) (v : Bool) → r ≢ q → truth_at row r ≡ truth_at start r → truth_at (set row q v) r ≡ truth_at start r
 kept_apart start row q r v n e = others row q r v n ∙ e

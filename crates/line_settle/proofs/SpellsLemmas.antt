@@ -41,8 +41,9 @@ clue_from_spells p (y ∷ e) [] t s = absurd s
 clue_from_spells p [] (x ∷ f) t s =
     ap (λ z. clue_of (p ∷ z ∷ f)) s.0 ∙ (clue_background p f (λ h. apart_from_end p f h s.1) ∙ clue_from_spells p [] f tt s.1)
 clue_from_spells p (y ∷ e) (x ∷ f) t s = elim s [
-    inl a ↦ ap (λ z. clue_of (p ∷ z ∷ f)) a.0 ∙ clue_behind p y f e (clue_from_spells y e f (tight_next p y e t) a.1)
-  | inr b ↦ ap (λ z. clue_of (p ∷ z ∷ f)) b.0 ∙ (clue_background p f (λ h. apart_from_waiting p y e f h b.2 b.3) ∙ clue_from_spells p (y ∷ e) f t b.3) ]
+  | inl a ↦ ap (λ z. clue_of (p ∷ z ∷ f)) a.0 ∙ clue_behind p y f e (clue_from_spells y e f (tight_next p y e t) a.1)
+  | inr b ↦ ap (λ z. clue_of (p ∷ z ∷ f)) b.0 ∙ (clue_background p f (λ h. apart_from_waiting p y e f h b.2 b.3) ∙ clue_from_spells p (y ∷ e) f t b.3)
+]
 
 -- what the first cell of a line says, where the line's clue is the pattern's
 abbrev Steps : ℕ → ℕ → List ℕ → ℕ → List ℕ → Type 0
@@ -58,26 +59,29 @@ begins_is c (x ∷ f) h = (f, ap (λ y. y ∷ f) h)
 -- the cell before is background
 steps_behind_background : (y : ℕ) (e : List ℕ) (x : ℕ) (f : List ℕ) → y ≢ 0 → clue_of (x ∷ f) ≡ clue_of (y ∷ e) → Steps 0 y e x f
 steps_behind_background y e x f n h = elim (cases_eq x 0) [
-    inl z ↦ inr (z, n, n, sym (ap (λ c. clue_of (c ∷ f)) z) ∙ h)
-  | inr c ↦ let i = same_colour x y f e c n h in inl (i, sym (ap (λ c. clue_of (c ∷ f)) i) ∙ h) ]
+  | inl z ↦ inr (z, n, n, sym (ap (λ c. clue_of (c ∷ f)) z) ∙ h)
+  | inr c ↦ let i = same_colour x y f e c n h in inl (i, sym (ap (λ c. clue_of (c ∷ f)) i) ∙ h)
+]
 
 -- the line goes on with the colour of the cell before
 steps_in_run : (p y : ℕ) (e : List ℕ) (x : ℕ) (f : List ℕ) → p ≢ 0 → p ≡ x → clue_of (p ∷ x ∷ f) ≡ clue_of (p ∷ y ∷ e) → Steps p y e x f
 steps_in_run p y e x f n i h = elim (cases_eq p y) [
-    inl k ↦
+  | inl k ↦
       let s = shorter_first p f e n (sym (clue_more_at p x f n i) ∙ (h ∙ clue_more_at p y e n k)) in
       inl (sym i ∙ k, let P : ℕ → Type 0 = λ c. clue_of (c ∷ f) ≡ clue_of (c ∷ e) in subst P k s)
-  | inr k ↦ absurd (longer_first p f (clue_of (y ∷ e)) n (sym (clue_more_at p x f n i) ∙ (h ∙ clue_apart p (y ∷ e) n k))) ]
+  | inr k ↦ absurd (longer_first p f (clue_of (y ∷ e)) n (sym (clue_more_at p x f n i) ∙ (h ∙ clue_apart p (y ∷ e) n k)))
+]
 
 -- the clue goes on after a run of the cell before has ended
 steps_after_run : (p y : ℕ) (e : List ℕ) (x : ℕ) (f : List ℕ) → p ≢ 0 → y ≢ p → p ≢ x → Tight p (y ∷ e) → clue_of (x ∷ f) ≡ clue_of (y ∷ e) → Steps p y e x f
 steps_after_run p zero e x f n k i t h = elim (cases_eq x 0) [
-    inl z ↦ inl (z, sym (ap (λ c. clue_of (c ∷ f)) z) ∙ h)
+  | inl z ↦ inl (z, sym (ap (λ c. clue_of (c ∷ f)) z) ∙ h)
   | inr c ↦
       let b = begins_is p e t.1 in
-      absurd (i (sym (same_colour x p f b.0 c n (h ∙ ap clue_of b.1)))) ]
+      absurd (i (sym (same_colour x p f b.0 c n (h ∙ ap clue_of b.1))))
+]
 steps_after_run p (suc y) e x f n k i t h = elim (cases_eq x 0) [
-    inl z ↦
+  | inl z ↦
       let m : suc y ≢ 0 = λ q. absurd (omega arith) in
       let g : clue_of f ≡ clue_of (suc y ∷ e) = sym (ap (λ c. clue_of (c ∷ f)) z) ∙ h in
       let b = first_block (suc y) e m in
@@ -87,14 +91,17 @@ steps_after_run p (suc y) e x f n k i t h = elim (cases_eq x 0) [
   | inr c ↦
       let m : suc y ≢ 0 = λ q. absurd (omega arith) in
       let j = same_colour x (suc y) f e c m h in
-      inl (j, sym (ap (λ c. clue_of (c ∷ f)) j) ∙ h) ]
+      inl (j, sym (ap (λ c. clue_of (c ∷ f)) j) ∙ h)
+]
 
 steps_behind_colour : (p y : ℕ) (e : List ℕ) (x : ℕ) (f : List ℕ) → p ≢ 0 → Tight p (y ∷ e) → clue_of (p ∷ x ∷ f) ≡ clue_of (p ∷ y ∷ e) → Steps p y e x f
 steps_behind_colour p y e x f n t h = elim (cases_eq p x) [
-    inl i ↦ steps_in_run p y e x f n i h
+  | inl i ↦ steps_in_run p y e x f n i h
   | inr i ↦ elim (cases_eq p y) [
-      inl k ↦ absurd (longer_first p e (clue_of (x ∷ f)) n (sym (clue_more_at p y e n k) ∙ (sym h ∙ clue_apart p (x ∷ f) n i)))
-    | inr k ↦ steps_after_run p y e x f n (λ q. k (sym q)) i t (tails (sym (clue_apart p (x ∷ f) n i) ∙ (h ∙ clue_apart p (y ∷ e) n k))) ] ]
+    | inl k ↦ absurd (longer_first p e (clue_of (x ∷ f)) n (sym (clue_more_at p y e n k) ∙ (sym h ∙ clue_apart p (x ∷ f) n i)))
+    | inr k ↦ steps_after_run p y e x f n (λ q. k (sym q)) i t (tails (sym (clue_apart p (x ∷ f) n i) ∙ (h ∙ clue_apart p (y ∷ e) n k)))
+  ]
+]
 
 steps_of : (p y : ℕ) (e : List ℕ) (x : ℕ) (f : List ℕ) → Tight p (y ∷ e) → clue_of (p ∷ x ∷ f) ≡ clue_of (p ∷ y ∷ e) → Steps p y e x f
 steps_of zero zero e x f t h = absurd (t.0 refl)
@@ -107,10 +114,12 @@ only_background zero x f h = elim (cases_eq x 0) [ inl z ↦ z | inr c ↦ absur
 only_background (suc p) x f h =
     let n : suc p ≢ 0 = λ q. absurd (omega arith) in
     elim (cases_eq x 0) [
-      inl z ↦ z
-    | inr c ↦ elim (cases_eq (suc p) x) [
-        inl i ↦ absurd (longer_first (suc p) f [] n (sym (clue_more_at (suc p) x f n i) ∙ (h ∙ clue_apart (suc p) [] n tt)))
-      | inr i ↦ absurd (no_block x f c (tails (sym (clue_apart (suc p) (x ∷ f) n i) ∙ (h ∙ clue_apart (suc p) [] n tt)))) ] ]
+      | inl z ↦ z
+      | inr c ↦ elim (cases_eq (suc p) x) [
+        | inl i ↦ absurd (longer_first (suc p) f [] n (sym (clue_more_at (suc p) x f n i) ∙ (h ∙ clue_apart (suc p) [] n tt)))
+        | inr i ↦ absurd (no_block x f c (tails (sym (clue_apart (suc p) (x ∷ f) n i) ∙ (h ∙ clue_apart (suc p) [] n tt))))
+      ]
+    ]
 
 after_background : (p : ℕ) (f : List ℕ) → clue_of (p ∷ 0 ∷ f) ≡ clue_of (p ∷ []) → clue_of (p ∷ f) ≡ clue_of (p ∷ [])
 after_background zero f h = h
@@ -139,5 +148,6 @@ spells_from_clue p [] (x ∷ f) t h =
     let z = only_background p x f h in
     (z, spells_from_clue p [] f tt (after_background p f (sym (ap (λ c. clue_of (p ∷ c ∷ f)) z) ∙ h)))
 spells_from_clue p (y ∷ e) (x ∷ f) t h = elim (steps_of p y e x f t h) [
-    inl a ↦ inl (a.0, spells_from_clue y e f (tight_next p y e t) a.1)
-  | inr b ↦ inr (b.0, b.1, b.2, spells_from_clue p (y ∷ e) f t b.3) ]
+  | inl a ↦ inl (a.0, spells_from_clue y e f (tight_next p y e t) a.1)
+  | inr b ↦ inr (b.0, b.1, b.2, spells_from_clue p (y ∷ e) f t b.3)
+]

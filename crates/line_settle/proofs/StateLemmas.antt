@@ -22,8 +22,9 @@ waits_before pattern q a b = or_right _ _ (and_from _ _ (not_from_false _ (ne_eq
 
 pub waiting : (pattern : List ℕ) (q : ℕ) → q + 1 < length pattern → waits pattern q ≡ true → (get_or pattern (q + 1) 0 ≢ 0) × (get_or pattern (q + 1) 0 ≢ get_or pattern q 0)
 waiting pattern q h w = elim (or_cases _ _ w) [
-    inl a ↦ let i : length pattern ≤ q + 1 = leb-true _ _ a in absurd (omega arith)
-  | inr b ↦ let p = and_parts _ _ b in (eqb-false _ _ (not-true _ p.0), eqb-false _ _ (not-true _ p.1)) ]
+  | inl a ↦ let i : length pattern ≤ q + 1 = leb-true _ _ a in absurd (omega arith)
+  | inr b ↦ let p = and_parts _ _ b in (eqb-false _ _ (not-true _ p.0), eqb-false _ _ (not-true _ p.1))
+]
 
 rest_at : (pattern : List ℕ) (q : ℕ) → q + 1 < length pattern → drop (suc q) pattern ≡ get_or pattern (q + 1) 0 ∷ drop (suc (q + 1)) pattern
 rest_at pattern q h = let i : suc q < length pattern = omega arith in rw add-one (drop-cons pattern (suc q) 0 i)
@@ -43,42 +44,47 @@ spells_onward pattern q x line h s =
     let P : List ℕ → Type 0 = λ e. Spells (get_or pattern q 0) e (x ∷ line) in
     let K : List ℕ → Type 0 = λ e. Spells (get_or pattern q 0) e line in
     elim (cases_lt (q + 1) (length pattern)) [
-      inl l ↦
-        let e = rest_at pattern q l in
-        elim (subst P e s) [
-          inl a ↦ record { next = q + 1; step = inl (l, a.0, refl); within = l; spells = a.1 }
-        | inr b ↦ record { next = q; step = inr (b.0, waits_before pattern q b.1 b.2, refl); within = h; spells = subst K (sym e) b.3 } ]
-    | inr l ↦
-        let e = rest_at_end pattern q l in
-        let t = subst P e s in
-        record { next = q; step = inr (t.0, waits_at_end pattern q l, refl); within = h; spells = subst K (sym e) t.1 } ]
+      | inl l ↦
+          let e = rest_at pattern q l in
+          elim (subst P e s) [
+            | inl a ↦ record { next = q + 1; step = inl (l, a.0, refl); within = l; spells = a.1 }
+            | inr b ↦ record { next = q; step = inr (b.0, waits_before pattern q b.1 b.2, refl); within = h; spells = subst K (sym e) b.3 }
+          ]
+      | inr l ↦
+          let e = rest_at_end pattern q l in
+          let t = subst P e s in
+          record { next = q; step = inr (t.0, waits_at_end pattern q l, refl); within = h; spells = subst K (sym e) t.1 }
+    ]
 
 spells_wait : (pattern : List ℕ) (q x : ℕ) (line : List ℕ) → x ≡ 0 → waits pattern q ≡ true → SpellsAt pattern q line → SpellsAt pattern q (x ∷ line)
 spells_wait pattern q x line z w s =
     let P : List ℕ → Type 0 = λ e. Spells (get_or pattern q 0) e (x ∷ line) in
     let K : List ℕ → Type 0 = λ e. Spells (get_or pattern q 0) e line in
     elim (cases_lt (q + 1) (length pattern)) [
-      inl l ↦
-        let e = rest_at pattern q l in
-        let d = waiting pattern q l w in
-        subst P (sym e) (inr (z, d.0, d.1, subst K e s))
-    | inr l ↦
-        let e = rest_at_end pattern q l in
-        subst P (sym e) (z, subst K e s) ]
+      | inl l ↦
+          let e = rest_at pattern q l in
+          let d = waiting pattern q l w in
+          subst P (sym e) (inr (z, d.0, d.1, subst K e s))
+      | inr l ↦
+          let e = rest_at_end pattern q l in
+          subst P (sym e) (z, subst K e s)
+    ]
 
 pub spells_from : (pattern : List ℕ) (q x r : ℕ) (line : List ℕ) → Step pattern q x r → SpellsAt pattern r line → SpellsAt pattern q (x ∷ line)
 spells_from pattern q x r line step s = elim step [
-    inl a ↦
+  | inl a ↦
       let P : List ℕ → Type 0 = λ e. Spells (get_or pattern q 0) e (x ∷ line) in
       let K : ℕ → Type 0 = λ n. SpellsAt pattern n line in
       subst P (sym (rest_at pattern q a.0)) (inl (a.1, subst K a.2 s))
-  | inr b ↦ let K : ℕ → Type 0 = λ n. SpellsAt pattern n line in spells_wait pattern q x line b.0 b.1 (subst K b.2 s) ]
+  | inr b ↦ let K : ℕ → Type 0 = λ n. SpellsAt pattern n line in spells_wait pattern q x line b.0 b.1 (subst K b.2 s)
+]
 
 -- only the last state is the pattern's end
 pub spells_end : (pattern : List ℕ) (q : ℕ) → q < length pattern → SpellsAt pattern q [] → q + 1 ≡ length pattern
 spells_end pattern q h s = elim (cases_lt (q + 1) (length pattern)) [
-    inl l ↦ let P : List ℕ → Type 0 = λ e. Spells (get_or pattern q 0) e [] in absurd (subst P (rest_at pattern q l) s)
-  | inr l ↦ omega arith ]
+  | inl l ↦ let P : List ℕ → Type 0 = λ e. Spells (get_or pattern q 0) e [] in absurd (subst P (rest_at pattern q l) s)
+  | inr l ↦ omega arith
+]
 
 pub end_spells : (pattern : List ℕ) (q : ℕ) → q + 1 ≡ length pattern → SpellsAt pattern q []
 end_spells pattern q h =

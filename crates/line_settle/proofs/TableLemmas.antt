@@ -23,7 +23,7 @@ finishes_from pattern (mask ∷ masks) [] q h k s = absurd k
 finishes_from pattern (mask ∷ masks) (x ∷ line) q h k s =
     let o = spells_onward pattern q x line h s in
     crosses_finish pattern mask (finishes pattern masks) q x
-      (record { next = o.next; step = o.step; allowed = k.0; reaches_good = finishes_from pattern masks line o.next o.within k.1 o.spells })
+    (record { next = o.next; step = o.step; allowed = k.0; reaches_good = finishes_from pattern masks line o.next o.within k.1 o.spells })
 
 -- a line of cells with these masks that spells the pattern on from state q
 pub record Ending (pattern masks : List ℕ) (q : ℕ) : Type 0 where
@@ -39,7 +39,8 @@ ending_of pattern (mask ∷ masks) q h e =
     record {
       line = c.0 ∷ n.line;
       keeps = (c.1.allowed, n.keeps);
-      spells = spells_from pattern q c.0 c.1.next n.line c.1.step n.spells }
+      spells = spells_from pattern q c.0 c.1.next n.line c.1.step n.spells;
+    }
 
 -- such a line from one of the states `start`, which has colour k in cell i
 pub record Through (pattern : List ℕ) (start : ℕ → Bool) (masks : List ℕ) (i k : ℕ) : Type 0 where
@@ -70,7 +71,8 @@ onward_rest pattern start mask masks i k q (x ∷ line) h st kp s n g =
       keeps = kp.1;
       spells = o.spells;
       inside = omega arith;
-      has = g }
+      has = g;
+    }
 
 pub through_rest : (pattern : List ℕ) (start : ℕ → Bool) (mask : ℕ) (masks : List ℕ) (i k : ℕ) → Through pattern start (mask ∷ masks) (suc i) k → Through pattern (reach_step pattern mask start) masks i k
 through_rest pattern start mask masks i k t =
@@ -87,7 +89,8 @@ rest_through pattern start mask masks i k t =
       keeps = (r.allowed, t.keeps);
       spells = spells_from pattern r.from r.colour t.state t.line r.step t.spells;
       inside = (let w = t.inside in omega arith);
-      has = t.has }
+      has = t.has;
+    }
 
 onward_first : (pattern : List ℕ) (start : ℕ → Bool) (mask : ℕ) (masks : List ℕ) (k q : ℕ) (line : List ℕ) → q < length pattern → start q ≡ true → Keeps (mask ∷ masks) line → SpellsAt pattern q line → get_or line 0 0 ≡ k → Passing pattern mask start (finishes pattern masks) k
 onward_first pattern start mask masks k q [] h st kp s g = absurd kp
@@ -98,7 +101,8 @@ onward_first pattern start mask masks k q (x ∷ line) h st kp s g =
       state = q;
       within = h;
       passes_there = subst P g (crosses_pass pattern mask start (finishes pattern masks) q x st
-        (record { next = o.next; step = o.step; allowed = kp.0; reaches_good = finishes_from pattern masks line o.next o.within kp.1 o.spells })) }
+          (record { next = o.next; step = o.step; allowed = kp.0; reaches_good = finishes_from pattern masks line o.next o.within kp.1 o.spells }));
+    }
 
 pub through_passing : (pattern : List ℕ) (start : ℕ → Bool) (mask : ℕ) (masks : List ℕ) (k : ℕ) → Through pattern start (mask ∷ masks) 0 k → Passing pattern mask start (finishes pattern masks) k
 through_passing pattern start mask masks k t = onward_first pattern start mask masks k t.state t.line t.within t.starts t.keeps t.spells t.has
@@ -115,7 +119,8 @@ passing_through pattern start mask masks k p =
       keeps = (c.1.allowed, n.keeps);
       spells = spells_from pattern p.state k c.1.next n.line c.1.step n.spells;
       inside = omega arith;
-      has = refl }
+      has = refl;
+    }
 
 rest_of_masks : (masks : List ℕ) (j : ℕ) → j < length masks → drop j masks ≡ get_or masks j 0 ∷ drop (suc j) masks
 rest_of_masks masks j h = drop-cons masks j 0 h
@@ -132,7 +137,7 @@ to_cell pattern masks (suc i) j n k e t =
     let h : j < length masks = (let w = inside_rest masks j (suc i) t in omega arith) in
     let P : List ℕ → Type 0 = λ ms. Through pattern (reaches pattern masks j) ms (suc i) k in
     to_cell pattern masks i (suc j) n k (omega arith)
-      (through_rest pattern (reaches pattern masks j) (get_or masks j 0) (drop (suc j) masks) i k (subst P (rest_of_masks masks j h) t))
+    (through_rest pattern (reaches pattern masks j) (get_or masks j 0) (drop (suc j) masks) i k (subst P (rest_of_masks masks j h) t))
 
 from_cell : (pattern masks : List ℕ) (i j n k : ℕ) → j + i ≡ n → Through pattern (reaches pattern masks n) (drop n masks) 0 k → Through pattern (reaches pattern masks j) (drop j masks) i k
 from_cell pattern masks zero j n k e t =
@@ -142,8 +147,8 @@ from_cell pattern masks (suc i) j n k e t =
     let h : j < length masks = (let w = inside_rest masks n 0 t in omega arith) in
     let P : List ℕ → Type 0 = λ ms. Through pattern (reaches pattern masks j) ms (suc i) k in
     subst P (sym (rest_of_masks masks j h))
-      (rest_through pattern (reaches pattern masks j) (get_or masks j 0) (drop (suc j) masks) i k
-        (from_cell pattern masks i (suc j) n k (omega arith) t))
+    (rest_through pattern (reaches pattern masks j) (get_or masks j 0) (drop (suc j) masks) i k
+    (from_cell pattern masks i (suc j) n k (omega arith) t))
 
 -- a line that spells the pattern from its first state
 abbrev pub Spelled : List ℕ → List ℕ → ℕ → ℕ → Type 0
@@ -157,10 +162,10 @@ pub shown_spelled : (pattern masks : List ℕ) (i k : ℕ) → i < length masks 
 shown_spelled pattern masks i k h p =
     let P : List ℕ → Type 0 = λ ms. Through pattern (reaches pattern masks i) ms 0 k in
     from_cell pattern masks i 0 i k (omega arith)
-      (subst P (sym (rest_of_masks masks i h)) (passing_through pattern (reaches pattern masks i) (get_or masks i 0) (drop (suc i) masks) k p))
+    (subst P (sym (rest_of_masks masks i h)) (passing_through pattern (reaches pattern masks i) (get_or masks i 0) (drop (suc i) masks) k p))
 
 pub spelled_shown : (pattern masks : List ℕ) (i k : ℕ) → Spelled pattern masks i k → Shown pattern masks i k
 spelled_shown pattern masks i k t =
     let P : List ℕ → Type 0 = λ ms. Through pattern (reaches pattern masks i) ms 0 k in
     through_passing pattern (reaches pattern masks i) (get_or masks i 0) (drop (suc i) masks) k
-      (subst P (rest_of_masks masks i t.inside) (to_cell pattern masks i 0 i k (omega arith) t))
+    (subst P (rest_of_masks masks i t.inside) (to_cell pattern masks i 0 i k (omega arith) t))

@@ -2,10 +2,9 @@ ghost use Rattle.std.specs.Prelude.{◌≡◌, ℕ, ◌<◌, ◌↔◌, length, 
 ghost use Rattle.picture.specs.Rows.{width_of};
 ghost use Rattle.line_settle.specs.FactSets.{IsBase, IsOpen, MakesBaseRow, SameShape};
 
+use crate::facts::Facts;
 use picture::Document;
 use std::alloc::{AllocError, Global};
-
-use crate::facts::Facts;
 
 impl Facts {
     /// The facts that a document's givens say: at each given every colour but the picture's is excluded.

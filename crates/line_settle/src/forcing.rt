@@ -3,11 +3,10 @@ ghost use Rattle.picture.specs.Rows.{line_of, with_cell, HasLine};
 ghost use Rattle.line_settle.specs.Counting.{counted};
 ghost use Rattle.line_settle.specs.FactSets.{Gains, HoldsLine, IsFacts, row_on, col_on};
 
-use clues::Clue;
-use picture::{Axis, LineId, MAX_SIDE};
-
 use crate::facts::Facts;
 use crate::line_engine::{LineEngine, Outcome};
+use clues::Clue;
+use picture::{Axis, LineId, MAX_SIDE};
 
 // No line has more cells.
 const MOST_CELLS: usize = 120;

@@ -17,3 +17,6 @@ pub use forcing::force;
 pub use line_engine::{LineEngine, Outcome};
 pub use meter::Meter;
 pub use plain_engine::PlainEngine;
+
+#[cfg(test)]
+mod tests;

@@ -2,11 +2,10 @@ ghost use Rattle.std.specs.Prelude.{◌≡◌, ◌+◌, ◌*◌, ◌<◌, ◌≤
 ghost use Rattle.clues.specs.Clue.{IsClue};
 ghost use Rattle.line_settle.specs.Narrowing.{Narrows};
 
-use clues::Block;
-
 use crate::line_engine::Outcome;
 use crate::pattern::spell;
 use crate::tables::{collect, mark_finishing};
+use clues::Block;
 
 /// Compares a line with its clue by tables over the clue's pattern, in the buffers that are lent.
 pub fn narrow_line(
@@ -36,5 +35,9 @@ pub fn narrow_line(
     mark_finishing(pattern, left, row, table);
     let fits = row[0];
     collect(pattern, left, row, table, out);
-    if fits { Outcome::Narrowed } else { Outcome::Dead }
+    if fits {
+        Outcome::Narrowed
+    } else {
+        Outcome::Dead
+    }
 }

@@ -34,7 +34,7 @@ fn write_block(block: Block, meets: bool, buffer: &mut [u8], start: usize) -> Op
         result
         (length buffer.old < start + length (gap meets ++ replicate block.len block.colour))
         (λ n. (n ≤ length buffer.new)
-            × (take n buffer.new ≡ take start buffer.old ++ (gap meets ++ replicate block.len block.colour))) }
+        × (take n buffer.new ≡ take start buffer.old ++ (gap meets ++ replicate block.len block.colour))) }
 {
     let first = if meets { start + 1 } else { start };
     let end = first + usize::from(block.len);

@@ -1,12 +1,11 @@
 ghost use Rattle.std.specs.Prelude.{◌≡◌, ◌+◌, ◌*◌, IfOk, vec_len};
 ghost use Rattle.line_settle.specs.Engine.{Engine, EngineRoom, engine};
 
+use crate::line::narrow_line;
+use crate::line_engine::{LineEngine, Outcome};
 use clues::Clue;
 use std::alloc::{AllocError, Global};
 use std::marker::Model;
-
-use crate::line::narrow_line;
-use crate::line_engine::{LineEngine, Outcome};
 
 /// A line engine that keeps tables of truths: which states of the clue's pattern the cells before can come to, and from
 /// which ones the cells behind can go to the end.

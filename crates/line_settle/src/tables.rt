@@ -1,7 +1,19 @@
 ghost use Rattle.std.specs.Prelude.{◌≡◌, ℕ, ◌+◌, ◌*◌, ◌<◌, ◌≤◌, ◌≢◌, ◌&&◌, ◌==◌, Bool, length, slice_index, drop};
 ghost use Rattle.std.specs.List.{All};
 ghost use Rattle.line_settle.specs.Spelling.{
-    allows, waits, advances, rests, finish_step, finishes, reach_step, reaches, passes, passes_below, truth_at, table_row};
+  allows,
+  waits,
+  advances,
+  rests,
+  finish_step,
+  finishes,
+  reach_step,
+  reaches,
+  passes,
+  passes_below,
+  truth_at,
+  table_row,
+};
 
 use crate::pattern::{allows, waits};
 
@@ -91,8 +103,13 @@ fn colours_from(pattern: &[u8], mask: u16, before: &[bool], later: &[bool], q: u
     if !before[q] {
         return 0;
     }
-    let next = if q + 1 < pattern.len() { pattern[q + 1] } else { 0 };
-    colour_bit(advances(pattern, mask, later, q), next) | colour_bit(rests(pattern, mask, later, q), 0)
+    let next = if q + 1 < pattern.len() {
+        pattern[q + 1]
+    } else {
+        0
+    };
+    colour_bit(advances(pattern, mask, later, q), next)
+        | colour_bit(rests(pattern, mask, later, q), 0)
 }
 
 #[tactic(auto, using(crate::proofs::BitLemmas::bits))]
@@ -162,12 +179,12 @@ pub fn collect(pattern: &[u8], left: &[u16], row: &mut [bool], table: &[bool], o
     ensures { (i k : ℕ) → i < length left.now
         → allows (slice_index out.new i) k
         ≡ passes_below
-            pattern.now
-            (slice_index left.now i)
-            (reaches pattern.now left.now i)
-            (finishes pattern.now (drop (i + 1) left.now))
-            (length pattern.now)
-            k }
+        pattern.now
+        (slice_index left.now i)
+        (reaches pattern.now left.now i)
+        (finishes pattern.now (drop (i + 1) left.now))
+        (length pattern.now)
+        k }
 {
     mark_state(row, 0);
     for i in 0..left.len() {

@@ -11,8 +11,9 @@ returns-in_default c =
     let left = c.args.left.now in
     let e : c.fill.new.self ≡ replicate (length left) 0 = c.fill.ensures.after (λ y h. h) ∙ ap (λ n. replicate n 0) (sym c.requires.same_length) in
     let l : length left + 1 < length (pattern_of blocks) = elim c.in_default.branch [
-        in_default-via-in-Some+else-cells-left w ↦ (let n = ap length w.in-Some.ensures.1 in omega (arith, w.in-Some.ensures.0, length-take w.in-Some.cells c.spell.new.buffer))
-      | in_default-via-in_default w ↦ (let n = w.in_default.ensures in omega arith) ] in
+      | in_default-via-in-Some+else-cells-left w ↦ (let n = ap length w.in-Some.ensures.1 in omega (arith, w.in-Some.ensures.0, length-take w.in-Some.cells c.spell.new.buffer))
+      | in_default-via-in_default w ↦ (let n = w.in_default.ensures in omega arith)
+    ] in
     narrows_long blocks left c.fill.new.self c.requires.blocks_of_clue e l
 
 pub mark_finishing-requires-clause-colours : goal.mark_finishing-requires-clause-colours

@@ -7,9 +7,8 @@ use Rattle.line_settle.proofs.pattern.spell.Goals as goal
 pub loop-block-init : goal.loop-block-init
 loop-block-init c = record {
   within = omega (arith, length-set c.args.buffer.now 0 0);
-  so_far = ap (λ x. x ++ spelled_after 0 c.args.blocks.now) (first_written c.args.buffer.now 0 c.requires.room)
+  so_far = ap (λ x. x ++ spelled_after 0 c.args.blocks.now) (first_written c.args.buffer.now 0 c.requires.room);
 }
-
 
 pub returns-in_err-end : goal.returns-in_err-end
 returns-in_err-end c =

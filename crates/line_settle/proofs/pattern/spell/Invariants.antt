@@ -5,5 +5,5 @@ use Rattle.line_settle.proofs.pattern.spell.Given as goal
 abbrev pub invariant-loop-block : goal.invariant-loop-block
 invariant-loop-block l = record {
   within : l.end ≤ length l.buffer;
-  so_far : take l.end l.buffer ++ spelled_after l.last (drop l.block-index l.blocks) ≡ pattern_of l.blocks
+  so_far : take l.end l.buffer ++ spelled_after l.last (drop l.block-index l.blocks) ≡ pattern_of l.blocks;
 }

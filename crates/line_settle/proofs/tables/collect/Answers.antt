@@ -13,6 +13,6 @@ loop-i-preserved c =
     record {
       row_is = λ q l. c.step_forward.ensures q l ∙ reached_behind pattern left i (truth_at c.loop-i.row) c.loop-i.invariant.row_is q l;
       written = written_more pattern left c.loop-i.out i c.colours_through.result (truth_at c.loop-i.row) (truth_at later) (omega arith) c.colours_through.ensures c.loop-i.invariant.row_is
-        (later_row pattern left c.args.table.now w (length c.args.row.now) ((i + 1) * w + w - (i + 1) * w) i (omega arith) (omega arith) c.requires.row (omega arith) c.requires.marked)
-        c.loop-i.invariant.written
+          (later_row pattern left c.args.table.now w (length c.args.row.now) ((i + 1) * w + w - (i + 1) * w) i (omega arith) (omega arith) c.requires.row (omega arith) c.requires.marked)
+          c.loop-i.invariant.written;
     }
