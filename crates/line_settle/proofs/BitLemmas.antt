@@ -1,0 +1,40 @@
+-- The colours of a mask, as its bits are tested.
+use Rattle.std.proofs.Common.{◌≡◌, ◌≢◌, ℕ, zero, suc, ◌+◌, ◌*◌, ◌/◌, ◌%◌, ◌^◌, ◌<◌, ◌≤◌, Bool, true, false, ◌==◌, ◌&&◌, ◌||◌, bit_and, bit_or, refl, sym, ap, subst, ◌∙◌, arith, ◌⊎◌, inl, inr, eq-eqb, ne_eqb, max}
+use Rattle.std.specs.Int.{bit_at}
+use Rattle.std.proofs.lemmas.Bool.{cases_eq}
+use Rattle.std.proofs.lemmas.Nat.Bits.{shr_and_one, bit_at_or, bit_at-lt, bit_at-zero, bit_at-pow_same, bit_at-pow_other}
+use Rattle.std.proofs.lemmas.Grind.{one_shifted}
+use Rattle.line_settle.specs.Spelling.{allows}
+
+pub allows_is : (mask k : ℕ) → allows mask k ≡ (bit_at mask k == 1)
+allows_is mask k = ap (λ b. b == 1) (shr_and_one mask k)
+
+max_is_one : (a b : ℕ) → a < 2 → b < 2 → (max a b == 1) ≡ ((a == 1) || (b == 1))
+max_is_one zero zero h i = refl
+max_is_one zero (suc zero) h i = refl
+max_is_one (suc zero) zero h i = refl
+max_is_one (suc zero) (suc zero) h i = refl
+max_is_one (suc (suc a)) b h i = absurd (omega arith)
+max_is_one zero (suc (suc b)) h i = absurd (omega arith)
+max_is_one (suc zero) (suc (suc b)) h i = absurd (omega arith)
+
+pub allows_or : (a b k : ℕ) → allows (bit_or a b) k ≡ (allows a k || allows b k)
+allows_or a b k =
+    let e = max_is_one (bit_at a k) (bit_at b k) (bit_at-lt a k) (bit_at-lt b k) in
+    let u = ap (λ x. x || (bit_at b k == 1)) (allows_is a k) in
+    let v = ap (λ x. allows a k || x) (allows_is b k) in
+    allows_is (bit_or a b) k ∙ (ap (λ x. x == 1) (bit_at_or a b k) ∙ (e ∙ (sym u ∙ sym v)))
+
+pub allows_none : (k : ℕ) → allows 0 k ≡ false
+allows_none k = allows_is 0 k ∙ ap (λ x. x == 1) (bit_at-zero k)
+
+pub allows_power : (colour k : ℕ) → allows (2 ^ colour) k ≡ (colour == k)
+allows_power colour k = elim (cases_eq colour k) [
+  | inl e ↦ allows_is (2 ^ colour) k ∙ (ap (λ x. bit_at (2 ^ colour) x == 1) (sym e) ∙ (ap (λ x. x == 1) (bit_at-pow_same colour) ∙ sym (eq-eqb colour k e)))
+  | inr n ↦ allows_is (2 ^ colour) k ∙ (ap (λ x. x == 1) (bit_at-pow_other colour k (λ e. n (sym e))) ∙ sym (ne_eqb colour k n))
+]
+
+pub allows_shifted : (colour k : ℕ) → colour < 16 → allows (1 * 2 ^ colour % 65536) k ≡ (colour == k)
+allows_shifted colour k h = ap (λ m. allows m k) (one_shifted colour 65535 refl h).0 ∙ allows_power colour k
+
+pub ruleset bits = (allows_or, allows_none, allows_shifted)

@@ -1,0 +1,140 @@
+-- From the tables to what narrowing a line promises.
+use Rattle.std.proofs.Common.{◌≡◌, ◌≢◌, ℕ, zero, suc, ◌+◌, ◌<◌, ◌≤◌, Bool, true, false, List, [], ◌∷◌, ◌++◌, replicate, ◌==◌, cond, ◌||◌, refl, sym, ap, subst, ◌∙◌, arith, ◌⊎◌, inl, inr, length, get_or, take, drop, ◌↔◌, eq-eqb}
+use Rattle.std.specs.Prelude.{IsBitSet}
+use Rattle.std.specs.List.{All}
+use Rattle.std.specs.Int.{bit_at}
+use Rattle.std.proofs.Math.ListN.{get_or-eq_default}
+use Rattle.std.proofs.lemmas.List.{length-replicate}
+use Rattle.std.proofs.lemmas.List.Elements.{All-append, All-cons, All-nil, All-replicate}
+use Rattle.std.proofs.lemmas.Bool.{or_cases, or_left, or_right, cases_lt, false≢true}
+use Rattle.std.proofs.lemmas.Nat.Bits.{bit_at-zero, same_from_bits, bit_at-lt}
+use Rattle.clues.specs.declared.block.Block.{Block}
+use Rattle.clues.specs.Clue.{IsBlock, IsClue}
+use Rattle.line_settle.specs.declared.line_engine.Outcome.{Outcome}
+use Rattle.line_settle.specs.declared.line_engine.Outcome.TheVariants.{Narrowed, Dead}
+use Rattle.line_settle.specs.Fitting.{CanFit, CanHave}
+use Rattle.line_settle.specs.Narrowing.{Narrows}
+use Rattle.line_settle.specs.Spelling.{gap, spelled_after, pattern_of, allows, finishes, reaches, passes, passes_below}
+use Rattle.line_settle.proofs.PatternLemmas.{first_is, rest_are}
+use Rattle.line_settle.proofs.BitLemmas.{allows_none, allows_is}
+use Rattle.line_settle.proofs.TableLemmas.{Passing, Shown}
+use Rattle.line_settle.proofs.FittingLemmas.{allows_bit, bit_allows, fit_finishes, finishes_fit, have_shown, shown_have, have_fits, too_long}
+
+gap_colours : (meets : Bool) → All (λ c. c < 16) (gap meets)
+gap_colours true = All-cons (λ c. c < 16) 0 [] (omega arith) (All-nil (λ c. c < 16))
+gap_colours false = All-nil (λ c. c < 16)
+
+spelled_colours : (last : ℕ) (blocks : List Block) → IsClue blocks → All (λ c. c < 16) (spelled_after last blocks)
+spelled_colours last [] h = All-nil (λ c. c < 16)
+spelled_colours last (b ∷ bs) h =
+    let f = first_is IsBlock b bs h in
+    let r = spelled_colours b.colour bs (rest_are IsBlock b bs h) in
+    let g = gap (b.colour == last) in
+    All-append (λ c. c < 16) g (replicate b.len b.colour ++ spelled_after b.colour bs) (gap_colours (b.colour == last))
+    (All-append (λ c. c < 16) (replicate b.len b.colour) (spelled_after b.colour bs) (All-replicate (λ c. c < 16) b.len b.colour f.in_palette) r)
+
+pub pattern_colours : (blocks : List Block) → IsClue blocks → All (λ c. c < 16) (pattern_of blocks)
+pattern_colours blocks h = All-cons (λ c. c < 16) 0 (spelled_after 0 blocks) (omega arith) (spelled_colours 0 blocks h)
+
+-- some state lets a line pass exactly where one below the pattern's length does
+below_passing : (pattern : List ℕ) (mask : ℕ) (f g : ℕ → Bool) (n k : ℕ) → n ≤ length pattern → passes_below pattern mask f g n k ≡ true → Passing pattern mask f g k
+below_passing pattern mask f g zero k h e = absurd (false≢true e)
+below_passing pattern mask f g (suc n) k h e = elim (or_cases _ _ e) [
+  | inl a ↦ below_passing pattern mask f g n k (omega arith) a
+  | inr b ↦ record { state = n; within = omega arith; passes_there = b }
+]
+
+passing_below : (pattern : List ℕ) (mask : ℕ) (f g : ℕ → Bool) (n q k : ℕ) → q < n → passes pattern mask f g q k ≡ true → passes_below pattern mask f g n k ≡ true
+passing_below pattern mask f g zero q k h e = absurd (omega arith)
+passing_below pattern mask f g (suc n) q k h e = elim (cases_lt q n) [
+  | inl l ↦ or_left _ _ (passing_below pattern mask f g n q k l e)
+  | inr l ↦
+      let i : q ≡ n = omega arith in
+      or_right _ _ (ap (λ m. passes pattern mask f g m k) (sym i) ∙ e)
+]
+
+-- the colours that the tables give for each cell
+abbrev pub Collected : List ℕ → List ℕ → List ℕ → Type 0
+Collected pattern left out = (i k : ℕ) → i < length left → allows (get_or out i 0) k ≡ passes_below pattern (get_or left i 0) (reaches pattern left i) (finishes pattern (drop (i + 1) left)) (length pattern) k
+
+past_end : (out : List ℕ) (i k : ℕ) → length out ≤ i → allows (get_or out i 0) k ≡ true → ⊥
+past_end out i k h e = false≢true (sym (ap (λ m. allows m k) (get_or-eq_default out 0 h) ∙ allows_none k) ∙ e)
+
+collected_have : (clue : List Block) (left out : List ℕ) → IsClue clue → length out ≡ length left → Collected (pattern_of clue) left out → (i k : ℕ) → allows (get_or out i 0) k ≡ true → CanHave clue left i k
+collected_have clue left out b n c i k e = elim (cases_lt i (length left)) [
+  | inl l ↦
+      let pattern = pattern_of clue in
+      let P : ℕ → Type 0 = λ m. Passing pattern (get_or left i 0) (reaches pattern left i) (finishes pattern (drop m left)) k in
+      let p = below_passing pattern (get_or left i 0) (reaches pattern left i) (finishes pattern (drop (i + 1) left)) (length pattern) k (omega arith) (sym (c i k l) ∙ e) in
+      let s : i + 1 ≡ suc i = omega arith in
+      shown_have clue left i k b l (subst P s p)
+  | inr l ↦ absurd (past_end out i k (omega arith) e)
+]
+
+have_collected : (clue : List Block) (left out : List ℕ) → IsClue clue → Collected (pattern_of clue) left out → (i k : ℕ) → CanHave clue left i k → allows (get_or out i 0) k ≡ true
+have_collected clue left out b c i k h =
+    let pattern = pattern_of clue in
+    let P : ℕ → Type 0 = λ m. Passing pattern (get_or left i 0) (reaches pattern left i) (finishes pattern (drop m left)) k in
+    let s : suc i ≡ i + 1 = omega arith in
+    let p = subst P s (have_shown clue left i k b h) in
+    c i k h.within ∙ passing_below pattern (get_or left i 0) (reaches pattern left i) (finishes pattern (drop (i + 1) left)) (length pattern) p.state k p.within p.passes_there
+
+-- a mask with no colour is 0
+no_colour : (mask : ℕ) → ((k : ℕ) → allows mask k ≡ true → ⊥) → mask ≡ 0
+no_colour mask h = same_from_bits mask 0 (λ k. elim (cases_lt (bit_at mask k) 1) [
+  | inl l ↦ (let z : bit_at mask k ≡ 0 = omega arith in z) ∙ sym (bit_at-zero k)
+  | inr g ↦
+      let u = bit_at-lt mask k in
+      let o : bit_at mask k ≡ 1 = omega arith in
+      absurd (h k (allows_is mask k ∙ eq-eqb _ _ o))
+])
+
+dead_empty : (clue : List Block) (left out : List ℕ) → ((i k : ℕ) → allows (get_or out i 0) k ≡ true → CanHave clue left i k) → (CanFit clue left → ⊥) → (i : ℕ) → get_or out i 0 ≡ 0
+dead_empty clue left out have none i = no_colour (get_or out i 0) (λ k e. none (have_fits (have i k e)))
+
+pub narrows_some : (clue : List Block) (left out : List ℕ) → IsClue clue → length out ≡ length left → finishes (pattern_of clue) left 0 ≡ true → Collected (pattern_of clue) left out → Narrows clue left Narrowed out
+narrows_some clue left out b n f c = record {
+  same_length = n;
+  fits = ((λ _. finishes_fit clue left b f), (λ _. refl));
+  exact = λ i k. ((λ s. collected_have clue left out b n c i k (bit_allows _ _ s)), (λ h. allows_bit _ _ (have_collected clue left out b c i k h)));
+  empty = λ e. absurd (let z : ⊥ = cc in z);
+}
+
+pub narrows_none : (clue : List Block) (left out : List ℕ) → IsClue clue → length out ≡ length left → finishes (pattern_of clue) left 0 ≡ false → Collected (pattern_of clue) left out → Narrows clue left Dead out
+narrows_none clue left out b n f c =
+    let none : CanFit clue left → ⊥ = λ h. false≢true (sym f ∙ fit_finishes clue left b h) in
+    record {
+      same_length = n;
+      fits = ((λ e. absurd (let z : ⊥ = cc in z)), (λ h. absurd (none h)));
+      exact = λ i k. ((λ s. collected_have clue left out b n c i k (bit_allows _ _ s)), (λ h. allows_bit _ _ (have_collected clue left out b c i k h)));
+      empty = λ e. dead_empty clue left out (collected_have clue left out b n c) none;
+    }
+
+zeros : (n i : ℕ) → get_or {A = ℕ} (replicate n 0) i 0 ≡ 0
+zeros zero i = refl
+zeros (suc n) zero = refl
+zeros (suc n) (suc i) = zeros n i
+
+-- a pattern that is longer than the line and one cell
+pub narrows_long : (clue : List Block) (left out : List ℕ) → IsClue clue → out ≡ replicate (length left) 0 → length left + 1 < length (pattern_of clue) → Narrows clue left Dead out
+narrows_long clue left out b n l =
+    let none = too_long clue left b l in
+    let z : (i : ℕ) → get_or out i 0 ≡ 0 = λ i. ap (λ xs. get_or xs i 0) n ∙ zeros (length left) i in
+    record {
+      same_length = ap length n ∙ length-replicate (length left) 0;
+      fits = ((λ e. absurd (let z : ⊥ = cc in z)), (λ h. absurd (none h)));
+      exact = λ i k. ((λ s. absurd (false≢true (sym (allows_none k) ∙ (ap (λ m. allows m k) (sym (z i)) ∙ bit_allows _ _ s)))), (λ h. absurd (none (have_fits h))));
+      empty = λ e. z;
+    }
+
+-- the same over what was written for the pattern
+pub narrows_some_at : (clue : List Block) (left out written : List ℕ) → IsClue clue → written ≡ pattern_of clue → length out ≡ length left → finishes written left 0 ≡ true → Collected written left out → Narrows clue left Narrowed out
+narrows_some_at clue left out written b e n f c =
+    narrows_some clue left out b n (let P : List ℕ → Type 0 = λ p. finishes p left 0 ≡ true in subst P e f) (let P : List ℕ → Type 0 = λ p. Collected p left out in subst P e c)
+
+pub narrows_none_at : (clue : List Block) (left out written : List ℕ) → IsClue clue → written ≡ pattern_of clue → length out ≡ length left → finishes written left 0 ≡ false → Collected written left out → Narrows clue left Dead out
+narrows_none_at clue left out written b e n f c =
+    narrows_none clue left out b n (let P : List ℕ → Type 0 = λ p. finishes p left 0 ≡ false in subst P e f) (let P : List ℕ → Type 0 = λ p. Collected p left out in subst P e c)
+
+pub written_colours : (clue : List Block) (written : List ℕ) → IsClue clue → written ≡ pattern_of clue → All (λ c. c < 16) written
+written_colours clue written b e = let P : List ℕ → Type 0 = λ p. All (λ c. c < 16) p in subst P (sym e) (pattern_colours clue b)

@@ -1,0 +1,16 @@
+-- What is seen of a line engine.
+use Rattle.std.specs.Prelude.{◌≡◌, ℕ, ◌+◌, ◌*◌, Bool, List, length}
+
+-- the longest line that it takes, and how often it has narrowed one
+pub record Engine : Type 0 where
+  pub longest : ℕ
+  pub calls : ℕ
+
+abbrev pub engine : ℕ → ℕ → Engine
+engine longest calls = record { longest = longest; calls = calls }
+
+-- the buffers of a plain engine: a pattern, a row of truths for its states, and a table of such rows
+pub record EngineRoom (longest : ℕ) (pattern : List ℕ) (row table : List Bool) : Type 0 where
+  pub pattern_room : length pattern ≡ longest + 1
+  pub row_room : length row ≡ longest + 1
+  pub table_room : length table ≡ (longest + 1) * (longest + 1)

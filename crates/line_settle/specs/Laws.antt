@@ -1,0 +1,39 @@
+-- Laws of fitting and forcing.
+use Rattle.std.specs.Prelude.{◌≡◌, ℕ, ◌+◌, List}
+use Rattle.picture.specs.declared.line_id.LineId.{LineId}
+use Rattle.picture.specs.Rows.{line_of}
+use Rattle.clues.specs.declared.block.Block.{Block}
+use Rattle.clues.specs.ClueBook.{Clues}
+use Rattle.line_settle.specs.declared.line_engine.Outcome.{Outcome}
+use Rattle.line_settle.specs.declared.line_engine.Outcome.TheVariants.{Narrowed}
+use Rattle.line_settle.specs.declared.meter.Meter.{Meter}
+use Rattle.line_settle.specs.Counting.{Counts}
+use Rattle.line_settle.specs.Fitting.{Fits, CanHave, Forces, IsTighter}
+use Rattle.line_settle.specs.FactSets.{IsWithin, IsLeast}
+use Rattle.line_settle.specs.Narrowing.{Narrows}
+
+-- with fewer colours left no more is possible, and so no less is forced
+pub record ForcingIsMonotone : Type 0 where
+  pub possible : (clue : List Block) (left fewer : List ℕ) → IsTighter left fewer → (i k : ℕ) → CanHave clue fewer i k → CanHave clue left i k
+  pub forced : (clue : List Block) (left fewer : List ℕ) → IsTighter left fewer → (i k : ℕ) → Forces clue left i k → Forces clue fewer i k
+  pub lines : (few many : List (List ℕ)) → IsWithin few many → (line : LineId) → IsTighter (line_of few line) (line_of many line)
+
+-- narrowing what was narrowed changes nothing
+abbrev pub NarrowingTwiceIsOnce : Type 0
+NarrowingTwiceIsOnce = (clue : List Block) (left out again : List ℕ) (first second : Outcome) → Narrows clue left first out → Narrows clue out second again → (again ≡ out) × (second ≡ first)
+
+-- a list that fits still fits when the line has been narrowed, so its colours are never excluded
+abbrev pub FittingListStays : Type 0
+FittingListStays = (clue : List Block) (left line out : List ℕ) (outcome : Outcome) → Fits clue left line → Narrows clue left outcome out → (outcome ≡ Narrowed) × Fits clue out line
+
+-- what a line forces depends on its own masks and its clue alone
+abbrev pub OneLineDecides : Type 0
+OneLineDecides = (clue : List Block) (left out other : List ℕ) (first second : Outcome) → Narrows clue left first out → Narrows clue left second other → (out ≡ other) × (first ≡ second)
+
+-- there is one least closed set of facts
+abbrev pub LeastIsUnique : Type 0
+LeastIsUnique = (clues : Clues) (base one other : List (List ℕ)) → IsLeast clues base one → IsLeast clues base other → one ≡ other
+
+-- work that is done in two parts is counted as one
+abbrev pub CountsAdd : Type 0
+CountsAdd = (e t f u : ℕ) (start between end : Meter) (p q r : ℕ) → Counts e t start between p q → Counts f u between end q r → Counts (e + f) (t + u) start end p r

@@ -1,0 +1,40 @@
+//! Laws of the definitions in `specs/`. Each function does nothing, and its contract is the law.
+
+ghost use Rattle.line_settle.specs.Laws.{
+  CountsAdd,
+  FittingListStays,
+  ForcingIsMonotone,
+  LeastIsUnique,
+  NarrowingTwiceIsOnce,
+  OneLineDecides,
+};
+
+/// With fewer colours left, a line forces no less.
+pub fn forcing_is_monotone()
+    ensures { ForcingIsMonotone }
+{}
+
+/// Narrowing what was narrowed changes nothing.
+pub fn narrowing_twice_is_once()
+    ensures { NarrowingTwiceIsOnce }
+{}
+
+/// A list of colours that fits a line is never excluded.
+pub fn fitting_list_stays()
+    ensures { FittingListStays }
+{}
+
+/// What a line forces depends on its own masks and its clue alone.
+pub fn one_line_decides()
+    ensures { OneLineDecides }
+{}
+
+/// There is one least closed set of facts that holds a base.
+pub fn least_is_unique()
+    ensures { LeastIsUnique }
+{}
+
+/// Work that is done in two parts is counted as one.
+pub fn counts_add()
+    ensures { CountsAdd }
+{}

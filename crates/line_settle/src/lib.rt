@@ -1,0 +1,22 @@
+//! One line compared with its clue: which colours each of its cells can still have.
+#![tactic(auto)]
+
+mod base;
+mod facts;
+mod forcing;
+pub mod laws;
+mod line;
+mod line_engine;
+mod meter;
+mod pattern;
+mod plain_engine;
+mod tables;
+
+pub use facts::Facts;
+pub use forcing::force;
+pub use line_engine::{LineEngine, Outcome};
+pub use meter::Meter;
+pub use plain_engine::PlainEngine;
+
+#[cfg(test)]
+mod tests;

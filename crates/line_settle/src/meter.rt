@@ -1,0 +1,7 @@
+/// How much work was done: evaluations of lines, and trials that look for premises that a step can do without. Each
+/// count stays at the largest `u64` once it is there.
+#[derive(Clone, Copy, Debug, PartialEq, Eq)]
+pub struct Meter {
+    pub evaluations: u64,
+    pub trials: u64,
+}

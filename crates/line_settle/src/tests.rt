@@ -1,0 +1,349 @@
+use crate::{Facts, LineEngine, Meter, Outcome, PlainEngine, force, laws};
+use clues::{Block, Clue, clue_of};
+use picture::{Axis, CellSet, Document, LineId, Palette, Picture, Rgb};
+use std::alloc::Global;
+use std::process::Abort;
+use std::test::Fail;
+
+const ALL: u16 = u16::MAX;
+
+const TOP: LineId = LineId {
+    axis: Axis::Across,
+    at: 0,
+};
+
+// The clue of a line of these cells.
+fn clue_from(rt: &impl Abort, alloc: Global, cells: &[u8]) -> Result<Clue, Fail> {
+    assert!(rt; !cells.is_empty() && cells.len() <= 120);
+    let mut picture = Picture::blank(alloc, 1, cells.len() as u8)?;
+    for (i, cell) in cells.iter().enumerate() {
+        assert!(rt; picture.height() > 0 && i < usize::from(picture.width()) && *cell < 16);
+        picture.set(0, i as u8, *cell);
+    }
+    assert!(rt; picture.height() > 0);
+    Ok(clue_of(alloc, picture.line(TOP))?)
+}
+
+// Narrows a line, and sees that one evaluation and one call were counted.
+fn narrow<E: LineEngine>(
+    rt: &impl Abort,
+    engine: &mut E,
+    clue: &Clue,
+    left: &[u16],
+    out: &mut [u16],
+) -> Outcome {
+    assert!(rt; left.len() == out.len() && left.len() <= usize::from(engine.longest()));
+    let mut count = 41;
+    let calls = engine.calls();
+    let outcome = engine.narrow(&mut count, clue, left, out);
+    assert_eq!(rt; count, 42);
+    assert_eq!(rt; engine.calls(), calls.saturating_add(1));
+    outcome
+}
+
+// Narrows a line in which every colour is left, and compares what is left then.
+fn shows<E: LineEngine>(
+    rt: &impl Abort,
+    engine: &mut E,
+    clue: &Clue,
+    outcome: Outcome,
+    want: &[u16],
+) {
+    let mut out = [7; 120];
+    assert!(rt; want.len() <= 120);
+    let len = want.len();
+    assert_eq!(rt;
+        narrow(rt, engine, clue, &[ALL; 120][..len], &mut out[..len]),
+        outcome
+    );
+    assert_eq!(rt; &out[..len], want);
+}
+
+// The worked rows on single clues.
+fn worked_rows<E: LineEngine>(rt: &impl Abort, alloc: Global, engine: &mut E) -> Result<(), Fail> {
+    let aab = clue_from(rt, alloc, &[1, 1, 2])?;
+    shows(
+        rt,
+        engine,
+        &aab,
+        Outcome::Narrowed,
+        &[0b011, 0b010, 0b111, 0b101],
+    );
+    let a_a = clue_from(rt, alloc, &[1, 0, 1])?;
+    shows(rt, engine, &a_a, Outcome::Narrowed, &[0b10, 0b01, 0b10]);
+    shows(rt, engine, &a_a, Outcome::Dead, &[0, 0]);
+    let one = Block { len: 1, colour: 1 };
+    let thirty = Clue::from_blocks(alloc, &[one; 30])?;
+    shows(rt, engine, &thirty, Outcome::Narrowed, &[0b11; 60]);
+    let sixty = Clue::from_blocks(alloc, &[one; 60])?;
+    shows(rt, engine, &sixty, Outcome::Narrowed, &[0b11; 120]);
+    Ok(())
+}
+
+// Two values in turn.
+fn in_turn<T: Copy, const N: usize>(first: T, second: T) -> [T; N] {
+    let mut values = [first; N];
+    for (i, value) in values.iter_mut().enumerate() {
+        if i % 2 == 1 {
+            *value = second;
+        }
+    }
+    values
+}
+
+// Blocks 1a and 1b in turn that fill a line.
+fn full_rows<E: LineEngine>(rt: &impl Abort, alloc: Global, engine: &mut E) -> Result<(), Fail> {
+    let short = clue_from(rt, alloc, &in_turn::<u8, 60>(1, 2))?;
+    shows(
+        rt,
+        engine,
+        &short,
+        Outcome::Narrowed,
+        &in_turn::<u16, 60>(0b010, 0b100),
+    );
+    let long = clue_from(rt, alloc, &in_turn::<u8, 120>(1, 2))?;
+    shows(
+        rt,
+        engine,
+        &long,
+        Outcome::Narrowed,
+        &in_turn::<u16, 120>(0b010, 0b100),
+    );
+    Ok(())
+}
+
+// Nine cells of background, `a` and `b`, by a number in base 3.
+fn cells_of(mut code: u32) -> [u8; 9] {
+    let mut cells = [0; 9];
+    for cell in cells.iter_mut() {
+        *cell = (code % 3) as u8;
+        code /= 3;
+    }
+    cells
+}
+
+// Four cells with any of the three colours left, by a number in base 8.
+fn left_of(mut code: u32) -> [u16; 4] {
+    let mut left = [0; 4];
+    for mask in left.iter_mut() {
+        *mask = (code % 8) as u16;
+        code /= 8;
+    }
+    left
+}
+
+// Whether cells are the shortest line of their clue, with background behind it.
+fn is_shortest(cells: &[u8; 9]) -> bool {
+    let mut ended = false;
+    for i in 0..9 {
+        let next = if i + 1 < 9 { cells[i + 1] } else { 0 };
+        if cells[i] != 0 {
+            if ended {
+                return false;
+            }
+        } else if i == 0 || cells[i - 1] == 0 || cells[i - 1] != next {
+            ended = true;
+        }
+    }
+    true
+}
+
+fn coloured(cells: &[u8; 9]) -> usize {
+    cells.iter().filter(|cell| **cell != 0).count()
+}
+
+// All lines of this length with the clue, each cell as the mask of its colour.
+fn lines_with(
+    rt: &impl Abort,
+    alloc: Global,
+    clue: &Clue,
+    len: usize,
+) -> Result<Vec<[u16; 4]>, Fail> {
+    assert!(rt; len <= 4);
+    let mut lines = Vec::new(alloc);
+    let count = [1, 3, 9, 27, 81][len];
+    for code in 0..count {
+        let cells = cells_of(code);
+        let fits = match len {
+            0 => clue.blocks().is_empty(),
+            _ => clue_from(rt, alloc, &cells[..len])?.same(clue),
+        };
+        if fits {
+            let mut line = [0; 4];
+            for i in 0..len {
+                line[i] = match cells[i] {
+                    0 => 1,
+                    1 => 2,
+                    _ => 4,
+                };
+            }
+            lines.push(line)?;
+        }
+    }
+    Ok(lines)
+}
+
+// Whether each of the first cells has a colour that is left.
+fn keeps(line: &[u16; 4], left: &[u16]) -> bool {
+    line.iter().zip(left).all(|(cell, mask)| *cell & *mask != 0)
+}
+
+// Compares an engine with a listing of all lines of a length that have a clue, at every choice of colours left.
+fn agrees<E: LineEngine>(
+    rt: &impl Abort,
+    alloc: Global,
+    engine: &mut E,
+    clue: &Clue,
+    len: usize,
+) -> Result<(), Fail> {
+    assert!(rt; len <= 4);
+    let lines = lines_with(rt, alloc, clue, len)?;
+    let choices = [1, 8, 64, 512, 4096][len];
+    for code in 0..choices {
+        let left = left_of(code);
+        let mut listed = [0; 4];
+        let mut outcome = Outcome::Dead;
+        for line in &lines {
+            if keeps(line, &left[..len]) {
+                outcome = Outcome::Narrowed;
+                for i in 0..4 {
+                    listed[i] |= line[i];
+                }
+            }
+        }
+        let mut out = [0; 4];
+        assert_eq!(rt;
+            narrow(rt, engine, clue, &left[..len], &mut out[..len]),
+            outcome
+        );
+        assert_eq!(rt; out, listed);
+    }
+    Ok(())
+}
+
+// Every clue of blocks of `a` and `b` that have at most five cells, on lines of up to four cells.
+fn listing<E: LineEngine>(rt: &impl Abort, alloc: Global, engine: &mut E) -> Result<(), Fail> {
+    let mut clues = 0u32;
+    for code in 0..19_683 {
+        let cells = cells_of(code);
+        if is_shortest(&cells) && coloured(&cells) <= 5 {
+            let clue = clue_from(rt, alloc, &cells)?;
+            clues = clues.saturating_add(1);
+            for len in 0..5 {
+                agrees(rt, alloc, engine, &clue, len)?;
+            }
+        }
+    }
+    assert_eq!(rt; clues, 243);
+    Ok(())
+}
+
+#[test]
+fn a_plain_engine_shows_the_worked_rows(rt: HostRuntime) -> Result<(), Fail> {
+    let mut engine = PlainEngine::make(rt.alloc(), 120)?;
+    assert_eq!(rt; engine.longest(), 120);
+    assert_eq!(rt; engine.calls(), 0);
+    worked_rows(&rt, rt.alloc(), &mut engine)?;
+    full_rows(&rt, rt.alloc(), &mut engine)
+}
+
+#[test]
+fn a_plain_engine_agrees_with_a_listing(rt: HostRuntime) -> Result<(), Fail> {
+    let mut engine = PlainEngine::make(rt.alloc(), 4)?;
+    listing(&rt, rt.alloc(), &mut engine)
+}
+
+#[test]
+fn an_engine_for_no_cells_takes_the_empty_line(rt: HostRuntime) -> Result<(), Fail> {
+    let mut engine = PlainEngine::make(rt.alloc(), 0)?;
+    let clue = Clue::from_blocks(rt.alloc(), &[])?;
+    shows(&rt, &mut engine, &clue, Outcome::Narrowed, &[]);
+    Ok(())
+}
+
+#[test]
+fn facts_are_a_set_of_exclusions(rt: HostRuntime) -> Result<(), Fail> {
+    let mut facts = Facts::none(rt.alloc(), 2, 3)?;
+    assert_eq!(rt; facts.height(), 2);
+    assert_eq!(rt; facts.width(), 3);
+    assert_eq!(rt; facts.left(1, 2), ALL);
+    assert!(rt; !facts.excluded(1, 2, 15));
+    facts.exclude(1, 2, !0b110);
+    assert_eq!(rt; facts.left(1, 2), 0b110);
+    assert_eq!(rt; facts.shown(1, 2), None);
+    assert!(rt; facts.excluded(1, 2, 0));
+    let copy = facts.copy()?;
+    facts.exclude(1, 2, 0b010);
+    assert_eq!(rt; facts.shown(1, 2), Some(2));
+    assert_eq!(rt; copy.left(1, 2), 0b110);
+    assert_eq!(rt; facts.left(0, 2), ALL);
+    Ok(())
+}
+
+#[test]
+fn a_given_leaves_the_colour_of_the_picture(rt: HostRuntime) -> Result<(), Fail> {
+    let white = Rgb {
+        r: 255,
+        g: 255,
+        b: 255,
+    };
+    let palette = Palette::start(rt.alloc(), 255, white)?;
+    let picture = Picture::blank(rt.alloc(), 2, 2)?;
+    let mut givens = CellSet::empty();
+    givens.put(0, 1);
+    let document = Document {
+        palette,
+        picture,
+        givens,
+    };
+    let facts = Facts::base(rt.alloc(), &document)?;
+    assert!(rt; facts.height() == 2 && facts.width() == 2);
+    assert_eq!(rt; facts.left(0, 1), 1);
+    assert_eq!(rt; facts.left(0, 0), ALL);
+    assert_eq!(rt; facts.left(1, 1), ALL);
+    Ok(())
+}
+
+#[test]
+fn a_line_forces_its_exclusions(rt: HostRuntime) -> Result<(), Fail> {
+    let mut engine = PlainEngine::make(rt.alloc(), 4)?;
+    let mut facts = Facts::none(rt.alloc(), 4, 2)?;
+    let mut meter = Meter {
+        evaluations: 0,
+        trials: 0,
+    };
+    let column = LineId {
+        axis: Axis::Down,
+        at: 1,
+    };
+    let clue = Clue::from_blocks(
+        rt.alloc(),
+        &[Block { len: 2, colour: 1 }, Block { len: 1, colour: 2 }],
+    )?;
+    let outcome = force(
+        &mut engine,
+        &mut facts,
+        &clue,
+        column,
+        &mut meter.evaluations,
+    );
+    assert_eq!(rt; outcome, Outcome::Narrowed);
+    assert_eq!(rt; meter.evaluations, 1);
+    assert!(rt; facts.height() == 4 && facts.width() == 2);
+    assert_eq!(rt; facts.left(0, 1), 0b011);
+    assert_eq!(rt; facts.left(1, 1), 0b010);
+    assert_eq!(rt; facts.left(2, 1), 0b111);
+    assert_eq!(rt; facts.left(3, 1), 0b101);
+    assert_eq!(rt; facts.left(3, 0), ALL);
+    Ok(())
+}
+
+#[test]
+fn the_laws_do_nothing() {
+    laws::forcing_is_monotone();
+    laws::narrowing_twice_is_once();
+    laws::fitting_list_stays();
+    laws::one_line_decides();
+    laws::least_is_unique();
+    laws::counts_add();
+}
