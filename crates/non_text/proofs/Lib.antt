@@ -1,0 +1,4 @@
+pub mod BytesLemmas
+pub mod LinesLemmas
+pub mod NumberLemmas
+pub mod ClueLineLemmas

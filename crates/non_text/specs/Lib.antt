@@ -1,0 +1,10 @@
+pub mod Bytes
+pub mod Capped
+pub mod ClueLine
+pub mod Goal
+pub mod Lines
+pub mod Puzzle
+pub mod Section
+pub mod Written
+pub mod Cut
+pub mod Examples
