@@ -2,3 +2,5 @@ pub mod BytesLemmas
 pub mod LinesLemmas
 pub mod NumberLemmas
 pub mod ClueLineLemmas
+pub mod SectionLemmas
+pub mod GoalLemmas

@@ -6,5 +6,6 @@ pub mod Lines
 pub mod Puzzle
 pub mod Section
 pub mod Written
+pub mod Counting
 pub mod Cut
 pub mod Examples

@@ -36,6 +36,11 @@ line_fault above line =
     if is_single_line line && list_any (has_keyword (keyword_of line)) above then Some Repeated
     else (if is_size_line line && is_none (size_in (value_of line)) then Some BadSize else None)
 
+-- the fault, or else the later one
+abbrev pub first_of_two : Option NonFault → Option NonFault → Option NonFault
+first_of_two None later = later
+first_of_two (Some e) later = Some e
+
 -- what is wrong with the first bad one of these keyword lines, which stand below those above, the nearest of them first
 unfoldable pub first_fault : List (List ℕ) → List (List ℕ) → Option NonFault
 first_fault above [] = None
@@ -53,15 +58,16 @@ abbrev pub or_fault : Option NonFault → Result (Unit {0}) NonFault
 or_fault None = Ok tt
 or_fault (Some e) = Err e
 
--- the goal, where there is one
+-- the goal on a goal line, where there is one
+abbrev pub found_goal : ℕ → ℕ → Option (List ℕ × List (List ℕ)) → Result (Option (List (List ℕ))) NonFault
+found_goal height width None = Ok None
+found_goal height width (Some found) = do
+  rows ← goal_in height width (value_of found.0)
+  Ok (Some rows)
+
+-- the first goal
 unfoldable pub goal_behind : ℕ → ℕ → List (List ℕ) → Result (Option (List (List ℕ))) NonFault
-goal_behind height width lines = behind (at_keyword (codes "goal") lines)
-  where
-    behind : Option (List ℕ × List (List ℕ)) → Result (Option (List (List ℕ))) NonFault
-    behind None = Ok None
-    behind (Some (line, lines)) = do
-      rows ← goal_in height width (value_of line)
-      Ok (Some rows)
+goal_behind height width lines = found_goal height width (at_keyword (codes "goal") lines)
 
 abbrev pub same_block : Block → Block → Bool
 same_block a b = (a.len == b.len) && (a.colour == b.colour)

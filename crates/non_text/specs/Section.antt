@@ -6,6 +6,7 @@ use Rattle.clues.specs.declared.block.Block.{Block}
 use Rattle.non_text.specs.declared.fault.NonFault.{NonFault}
 use Rattle.non_text.specs.declared.fault.NonFault.TheVariants.{BadCount}
 use Rattle.non_text.specs.Lines.{is_blank_line, at_keyword, section_of}
+use Rattle.non_text.specs.Cut.{section_lines}
 use Rattle.non_text.specs.ClueLine.{clues_in}
 
 abbrev pub is_full_line : List ℕ → Bool
@@ -29,10 +30,15 @@ section_clues n cells lines = do
   leaves ← leaves_blanks n lines
   clues_in cells (take n (kept_lines leaves lines))
 
--- the n clues behind a keyword: no clue where it is missing
+-- the n clues of the section behind a keyword line: there is none where the line is missing
+abbrev pub found_clues : ℕ → ℕ → Option (List ℕ × List (List ℕ)) → Result (List (List Block)) NonFault
+found_clues n cells None = Err BadCount
+found_clues n cells (Some found) = section_clues n cells (section_of found.1)
+
+-- the n clues behind a keyword
 unfoldable pub clues_behind : List ℕ → ℕ → ℕ → List (List ℕ) → Result (List (List Block)) NonFault
-clues_behind keyword n cells lines = behind (at_keyword keyword lines)
-  where
-    behind : Option (List ℕ × List (List ℕ)) → Result (List (List Block)) NonFault
-    behind None = Err BadCount
-    behind (Some (line, lines)) = section_clues n cells (section_of lines)
+clues_behind keyword n cells lines = found_clues n cells (at_keyword keyword lines)
+
+-- the lines that give clues, of the section that a text begins with
+abbrev pub kept_in : Bool → List ℕ → List (List ℕ)
+kept_in leaves text = kept_lines leaves (section_lines text)

@@ -2,9 +2,12 @@
 #![tactic(auto)]
 
 mod clue_line;
+mod counting;
 mod fault;
+mod goal;
 mod lines;
 mod non_puzzle;
+mod section;
 
 pub use fault::NonFault;
 pub use non_puzzle::NonPuzzle;
