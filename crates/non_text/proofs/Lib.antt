@@ -4,3 +4,5 @@ pub mod NumberLemmas
 pub mod ClueLineLemmas
 pub mod SectionLemmas
 pub mod GoalLemmas
+pub mod SeenLemmas
+pub mod PuzzleLemmas

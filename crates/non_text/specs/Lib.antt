@@ -5,6 +5,7 @@ pub mod Goal
 pub mod Lines
 pub mod Puzzle
 pub mod Section
+pub mod Seen
 pub mod Written
 pub mod Counting
 pub mod Cut

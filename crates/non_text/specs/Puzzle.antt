@@ -1,5 +1,5 @@
 -- The puzzle of a .non text.
-use Rattle.std.specs.Prelude.{ℕ, Bool, true, false, ◌&&◌, ◌||◌, List, [], ◌∷◌, Option, None, Some, is_none, Result, Ok, Err, filter, codes, nat_eq, nat_le, ◌==◌, if◌then◌else◌, option_and_then}
+use Rattle.std.specs.Prelude.{ℕ, Bool, true, false, ◌&&◌, ◌||◌, List, [], ◌∷◌, Option, None, Some, is_none, Result, Ok, Err, codes, nat_le, ◌==◌, if◌then◌else◌, option_and_then}
 use Rattle.std.specs.List.{list_any}
 use Rattle.std.specs.Option.{ok_or}
 use Rattle.std.specs.Cmp.Lexicographic.{pointwise}
@@ -11,7 +11,7 @@ use Rattle.non_text.specs.declared.non_puzzle.NonPuzzle.{NonPuzzle}
 use Rattle.non_text.specs.declared.fault.NonFault.{NonFault}
 use Rattle.non_text.specs.declared.fault.NonFault.TheVariants.{MissingSize, BadSize, Repeated, GoalDisagrees}
 use Rattle.non_text.specs.Bytes.{number_of}
-use Rattle.non_text.specs.Lines.{lines_of, is_keyword_line, has_keyword, keyword_of, value_of, at_keyword}
+use Rattle.non_text.specs.Lines.{lines_of, has_keyword, value_of, at_keyword}
 use Rattle.non_text.specs.Section.{clues_behind}
 use Rattle.non_text.specs.Goal.{goal_in}
 
@@ -26,14 +26,19 @@ size_in value = option_and_then size_within (number_of value)
 abbrev pub is_size_line : List ℕ → Bool
 is_size_line line = has_keyword (codes "width") line || has_keyword (codes "height") line
 
--- the keyword may stand on one line only
-abbrev pub is_single_line : List ℕ → Bool
-is_single_line line = is_size_line line || (has_keyword (codes "rows") line || has_keyword (codes "columns") line)
+-- a keyword that stands on a line above already
+abbrev pub repeats : List ℕ → List (List ℕ) → List ℕ → Bool
+repeats keyword above line = has_keyword keyword line && list_any (has_keyword keyword) above
 
--- what is wrong with a keyword line below those above it
+-- the line is a second `width`, `height`, `rows` or `columns`
+abbrev pub is_repeated : List (List ℕ) → List ℕ → Bool
+is_repeated above line =
+    (repeats (codes "width") above line || repeats (codes "height") above line) || (repeats (codes "rows") above line || repeats (codes "columns") above line)
+
+-- what is wrong with a line below those above it
 unfoldable pub line_fault : List (List ℕ) → List ℕ → Option NonFault
 line_fault above line =
-    if is_single_line line && list_any (has_keyword (keyword_of line)) above then Some Repeated
+    if is_repeated above line then Some Repeated
     else (if is_size_line line && is_none (size_in (value_of line)) then Some BadSize else None)
 
 -- the fault, or else the later one
@@ -41,7 +46,7 @@ abbrev pub first_of_two : Option NonFault → Option NonFault → Option NonFaul
 first_of_two None later = later
 first_of_two (Some e) later = Some e
 
--- what is wrong with the first bad one of these keyword lines, which stand below those above, the nearest of them first
+-- what is wrong with the first bad one of these lines, which stand below those above, the nearest of them first
 unfoldable pub first_fault : List (List ℕ) → List (List ℕ) → Option NonFault
 first_fault above [] = None
 first_fault above (line ∷ lines) = first_of_two (line_fault above line) (first_fault (line ∷ above) lines)
@@ -85,7 +90,7 @@ agreeing clues (Some rows) = if same_clues (clues_of rows) clues then Ok (record
 -- the puzzle of these lines
 unfoldable pub puzzle_of : List (List ℕ) → Result NonPuzzle NonFault
 puzzle_of lines = do
-  _ ← or_fault (first_fault [] (filter is_keyword_line lines))
+  _ ← or_fault (first_fault [] lines)
   width ← ok_or (size_behind (codes "width") lines) MissingSize
   height ← ok_or (size_behind (codes "height") lines) MissingSize
   rows ← clues_behind (codes "rows") height width lines
