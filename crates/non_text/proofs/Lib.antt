@@ -6,3 +6,4 @@ pub mod SectionLemmas
 pub mod GoalLemmas
 pub mod SeenLemmas
 pub mod PuzzleLemmas
+pub mod TextLemmas

@@ -32,5 +32,8 @@ written_lines rows =
 abbrev pub ended_line : List ℕ → List ℕ
 ended_line line = line ++ 10 ∷ []
 
+abbrev pub ended_clue : List Block → List ℕ
+ended_clue clue = ended_line (clue_text clue)
+
 unfoldable pub non_text_of : List (List ℕ) → List ℕ
 non_text_of rows = flat_map ended_line (written_lines rows)

@@ -1,8 +1,11 @@
 //! Why a .non text was not read, or not written.
 
-ghost use Rattle.std.specs.Prelude.{◌≡◌, codes};
-ghost use Rattle.non_text.specs.declared.fault.NonFault.TheVariants.{Memory};
+ghost use Rattle.std.specs.Prelude.{◌≡◌};
+ghost use Rattle.non_text.specs.Faults.{name_of};
+ghost use Rattle.non_text.specs.declared.fault.NonFault.TheVariants as reading;
+ghost use Rattle.non_text.specs.declared.fault.NonWriteFault.TheVariants as writing;
 
+use picture::WriteFault;
 use std::alloc::{AllocError, AllocFailed};
 use thiserror::Error;
 
@@ -38,8 +41,27 @@ pub enum NonFault {
     Memory,
 }
 
+impl NonFault {
+    /// The fault's name, as the variant is called.
+    pub fn name(&self) -> &'static str
+        ensures { result.now ≡ name_of self.now }
+    {
+        match self {
+            NonFault::MissingSize => "MissingSize",
+            NonFault::BadSize => "BadSize",
+            NonFault::Repeated => "Repeated",
+            NonFault::BadClue => "BadClue",
+            NonFault::BadCount => "BadCount",
+            NonFault::ClueTooLong => "ClueTooLong",
+            NonFault::BadGoal => "BadGoal",
+            NonFault::GoalDisagrees => "GoalDisagrees",
+            NonFault::Memory => "Memory",
+        }
+    }
+}
+
 impl From<AllocError> for NonFault {
-    ghost from_gives = { λ _ e. e ≡ Memory };
+    ghost from_gives = { λ _ e. e ≡ reading.Memory };
 
     fn from(_refused: AllocError) -> NonFault {
         NonFault::Memory
@@ -47,9 +69,39 @@ impl From<AllocError> for NonFault {
 }
 
 impl<T: Drop> From<AllocFailed<T>> for NonFault {
-    ghost from_gives = { λ _ e. e ≡ Memory };
+    ghost from_gives = { λ _ e. e ≡ reading.Memory };
 
     fn from(_refused: AllocFailed<T>) -> NonFault {
         NonFault::Memory
+    }
+}
+
+/// Why a picture was not written as a .non text.
+#[derive(Clone, Copy, Debug, PartialEq, Eq, Error)]
+pub enum NonWriteFault {
+    /// A cell has a colour above 1. Nothing was written.
+    #[error("the picture has more than two colours")]
+    TwoColoursOnly,
+    /// A write failed. A front of the text may have been written.
+    #[error("write failed")]
+    Write,
+    /// Memory ran out. Nothing was written.
+    #[error("out of memory")]
+    Memory,
+}
+
+impl From<AllocError> for NonWriteFault {
+    ghost from_gives = { λ _ e. e ≡ writing.Memory };
+
+    fn from(_refused: AllocError) -> NonWriteFault {
+        NonWriteFault::Memory
+    }
+}
+
+impl From<WriteFault> for NonWriteFault {
+    ghost from_gives = { λ _ e. e ≡ writing.Write };
+
+    fn from(_failed: WriteFault) -> NonWriteFault {
+        NonWriteFault::Write
     }
 }

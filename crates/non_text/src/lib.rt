@@ -10,7 +10,10 @@ mod non_puzzle;
 mod reading;
 mod section;
 mod seen;
+mod text;
+mod writing;
 
-pub use fault::NonFault;
+pub use fault::{NonFault, NonWriteFault};
 pub use non_puzzle::NonPuzzle;
 pub use reading::read_non;
+pub use writing::write_non;
