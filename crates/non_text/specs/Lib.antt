@@ -1,0 +1,14 @@
+pub mod Bytes
+pub mod Capped
+pub mod ClueLine
+pub mod Faults
+pub mod Goal
+pub mod Lines
+pub mod Puzzle
+pub mod Section
+pub mod Seen
+pub mod Writing
+pub mod Written
+pub mod Counting
+pub mod Cut
+pub mod Examples

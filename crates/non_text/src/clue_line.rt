@@ -1,0 +1,132 @@
+//! A clue as a line of numbers.
+
+ghost use Rattle.std.specs.Prelude.{◌≡◌, ◌≢◌, ◌+◌, ◌-◌, ◌*◌, ◌<◌, ◌≤◌, ◌==◌, length, map, min, option_map, IfOk, nat_le};
+ghost use Rattle.std.specs.List.{slice_split};
+ghost use Rattle.picture.specs.Reading.{Gives};
+ghost use Rattle.non_text.specs.Bytes.{number_of};
+ghost use Rattle.non_text.specs.ClueLine.{numbers_in, cells_needed, black, is_lone_zero, has_zero, clue_from, clue_in};
+ghost use Rattle.non_text.specs.Capped.{all_capped};
+
+use crate::fault::NonFault;
+use crate::lines::{is_blank_line, split_first, trim};
+use clues::{Block, Clue};
+use smallvec::SmallVec;
+use std::alloc::{AllocError, Global};
+
+#[tactic(auto, using(crate::proofs::NumberLemmas::numbers))]
+// The value of digits alone. A value above 255 counts as 255: no size and no length is as large.
+pub(crate) fn number(bytes: &[u8]) -> Option<u8>
+    ensures { result ≡ option_map (min 255) (number_of bytes.now) }
+{
+    if bytes.is_empty() {
+        return None;
+    }
+    let mut value = 0;
+    for byte in bytes {
+        if !byte.is_ascii_digit() {
+            return None;
+        }
+        value = with_digit(value, *byte);
+    }
+    Some(value)
+}
+
+// A value with one digit more.
+fn with_digit(value: u8, digit: u8) -> u8
+    requires low { 48 ≤ digit }
+    requires high { digit ≤ 57 }
+    ensures { result ≡ min 255 (value * 10 + (digit - 48)) }
+{
+    (u16::from(value) * 10 + u16::from(digit - b'0')).min(255) as u8
+}
+
+#[tactic(auto, using(crate::proofs::ClueLineLemmas::places))]
+// The numbers between the commas of a line.
+fn numbers(alloc: Global, line: &[u8]) -> Result<SmallVec<u8, 8>, NonFault>
+    ensures { Gives NonFault.Memory (λ v. v.items) result (all_capped (numbers_in (slice_split (λ b. b == 44) line.now))) }
+{
+    let mut numbers = SmallVec::new(alloc);
+    let mut rest = Some(line);
+    while let Some(places) = rest {
+        let (place, behind) = split_first(places, b',');
+        let Some(number) = number(trim(place)) else {
+            return Err(NonFault::BadClue);
+        };
+        numbers.push(number)?;
+        rest = behind;
+    }
+    Ok(numbers)
+}
+
+#[tactic(auto, using(crate::proofs::ClueLineLemmas::room))]
+// Whether blocks of these lengths have room in so many cells, with a cell between two of them.
+fn have_room(lens: &[u8], cells: u8) -> bool
+    ensures { result ≡ nat_le (cells_needed lens.now) cells }
+{
+    let mut room = u16::from(cells) + 1;
+    for len in lens {
+        let taken = u16::from(*len) + 1;
+        if room < taken {
+            return false;
+        }
+        room -= taken;
+    }
+    true
+}
+
+// Blocks of these lengths in the only colour.
+fn blocks(alloc: Global, lens: &[u8]) -> Result<Vec<Block>, AllocError>
+    ensures { IfOk result (λ v. v.items ≡ map black lens.now) }
+{
+    lens.iter()
+        .map(|len| Block {
+            len: *len,
+            colour: 1,
+        })
+        .collect(alloc)
+}
+
+// Whether the only number is 0.
+fn is_lone_zero(numbers: &[u8]) -> bool
+    ensures { result ≡ is_lone_zero numbers.now }
+{
+    matches!(numbers, [0])
+}
+
+// Whether a number is 0.
+fn has_zero(numbers: &[u8]) -> bool
+    ensures { result ≡ has_zero numbers.now }
+{
+    numbers.iter().any(|n| *n == 0)
+}
+
+#[tactic(auto, using(crate::proofs::ClueLineLemmas::black_clue), unfolding(crate::specs::ClueLine::clue_from))]
+// The clue that the numbers of a line stand for.
+fn clue_from(alloc: Global, numbers: &[u8], cells: u8) -> Result<Clue, NonFault>
+    ensures { Gives NonFault.Memory (λ clue. clue) result (clue_from cells numbers.now) }
+{
+    if is_lone_zero(numbers) {
+        return Ok(Clue::from_blocks(alloc, &[])?);
+    }
+    if has_zero(numbers) {
+        return Err(NonFault::BadClue);
+    }
+    if !have_room(numbers, cells) {
+        return Err(NonFault::ClueTooLong);
+    }
+    let blocks = blocks(alloc, numbers)?;
+    Ok(Clue::from_blocks(alloc, &blocks)?)
+}
+
+#[tactic(auto, using(crate::proofs::ClueLineLemmas::clue_lines))]
+// The clue that a line of text gives to a line of so many cells.
+pub(crate) fn clue_in(alloc: Global, line: &[u8], cells: u8) -> Result<Clue, NonFault>
+    requires { cells < 255 }
+    ensures { Gives NonFault.Memory (λ clue. clue) result (clue_in cells line.now) }
+{
+    if is_blank_line(line) {
+        return Ok(Clue::from_blocks(alloc, &[])?);
+    }
+    let numbers = numbers(alloc, line)?;
+    clue_from(alloc, numbers.as_slice(), cells)
+}

@@ -1,0 +1,64 @@
+//! Whether the lines of a section are as many as its clues.
+
+ghost use Rattle.std.specs.Prelude.{◌≡◌, ◌+◌, ◌<◌, ◌^◌};
+ghost use Rattle.non_text.specs.Counting.{with_line, count_of};
+ghost use Rattle.non_text.specs.Cut.{section_lines};
+ghost use Rattle.non_text.specs.Section.{leaves_blanks};
+
+use crate::fault::NonFault;
+use crate::lines::{is_blank_line, next_in_section};
+
+// How many lines there are, how many of them are not blank, and whether one of those stands behind the first n.
+#[derive(Clone, Copy)]
+struct Count {
+    lines: usize,
+    full: usize,
+    late: bool,
+}
+
+#[tactic(auto, using(crate::proofs::SectionLemmas::counting))]
+// Whether the blank lines of a section for n lines are left out.
+pub(crate) fn leaves_blanks(text: &[u8], n: u8) -> Result<bool, NonFault>
+    ensures { result ≡ leaves_blanks n (section_lines text.now) }
+{
+    let count = count_lines(text, usize::from(n));
+    if count.full == usize::from(n) {
+        Ok(true)
+    } else if count.lines >= usize::from(n) && !count.late {
+        Ok(false)
+    } else {
+        Err(NonFault::BadCount)
+    }
+}
+
+#[tactic(auto, using(crate::proofs::SectionLemmas::counting))]
+// The lines of the section that a text begins with.
+fn count_lines(text: &[u8], n: usize) -> Count
+    ensures { result ≡ count_of n (section_lines text.now) }
+{
+    let mut count = Count {
+        lines: 0,
+        full: 0,
+        late: false,
+    };
+    let mut rest = text;
+    while let Some((line, behind)) = next_in_section(rest) {
+        count = with_line(count, line, n);
+        rest = behind;
+    }
+    count
+}
+
+// The count with one line more.
+fn with_line(count: Count, line: &[u8], n: usize) -> Count
+    requires lines_fit { count.lines + 1 < 2 ^ 64 }
+    requires full_fit { count.full + 1 < 2 ^ 64 }
+    ensures { result ≡ with_line n count line.now }
+{
+    let full = !is_blank_line(line);
+    Count {
+        lines: count.lines + 1,
+        full: if full { count.full + 1 } else { count.full },
+        late: count.late || (full && count.lines >= n),
+    }
+}

@@ -1,0 +1,76 @@
+//! The goal of a puzzle.
+
+ghost use Rattle.std.specs.Prelude.{◌≡◌, ◌==◌, ◌<◌, ◌≤◌, map, IfOk};
+ghost use Rattle.std.specs.List.{list_all, slice_split};
+ghost use Rattle.std.specs.Option.{option_copied};
+ghost use Rattle.picture.specs.Reading.{Gives};
+ghost use Rattle.non_text.specs.Goal.{quoted, goal_digits, is_cell_digit, cell_of, goal_in};
+
+use crate::fault::NonFault;
+use crate::lines::{is_blank_line, split_first};
+use picture::{MAX_SIDE, Picture};
+use std::alloc::{AllocError, Global};
+
+#[tactic(auto, using(crate::proofs::GoalLemmas::values))]
+// The digits of a value: what stands between quotes, or all of it.
+fn goal_digits(value: &[u8]) -> Option<&[u8]>
+    ensures { option_copied result ≡ goal_digits value.now }
+{
+    if value.is_empty() || value[0] != b'"' {
+        return Some(value);
+    }
+    quoted(&value[1..])
+}
+
+#[tactic(auto, using(crate::proofs::GoalLemmas::quotes))]
+// What stands up to the next quote, where nothing but blanks stands behind it.
+fn quoted(bytes: &[u8]) -> Option<&[u8]>
+    ensures { option_copied result ≡ quoted (slice_split (λ b. b == 34) bytes.now) }
+{
+    let (digits, behind) = split_first(bytes, b'"');
+    let behind = behind?;
+    if is_blank_line(behind) {
+        Some(digits)
+    } else {
+        None
+    }
+}
+
+fn are_cell_digits(digits: &[u8]) -> bool
+    ensures { result ≡ list_all is_cell_digit digits.now }
+{
+    digits.iter().all(|d| *d == b'0' || *d == b'1')
+}
+
+fn cells_of(alloc: Global, digits: &[u8]) -> Result<Vec<u8>, AllocError>
+    ensures { IfOk result (λ cells. cells.items ≡ map cell_of digits.now) }
+{
+    digits
+        .iter()
+        .map(|d| if *d == b'1' { 1 } else { 0 })
+        .collect(alloc)
+}
+
+#[tactic(auto, using(crate::proofs::GoalLemmas::cells))]
+// The picture of a goal line's value.
+pub(crate) fn goal_in(
+    alloc: Global,
+    value: &[u8],
+    height: u8,
+    width: u8,
+) -> Result<Picture, NonFault>
+    requires has_row { 0 < height }
+    requires rows_fit { height ≤ MAX_SIDE }
+    requires has_column { 0 < width }
+    requires columns_fit { width ≤ MAX_SIDE }
+    ensures { Gives NonFault.Memory (λ picture. picture) result (goal_in height width value.now) }
+{
+    let Some(digits) = goal_digits(value) else {
+        return Err(NonFault::BadGoal);
+    };
+    if digits.len() != usize::from(height) * usize::from(width) || !are_cell_digits(digits) {
+        return Err(NonFault::BadGoal);
+    }
+    let cells = cells_of(alloc, digits)?;
+    Ok(Picture::from_cells(height, width, cells))
+}

@@ -1,0 +1,19 @@
+//! Two-colour puzzles as .non texts.
+#![tactic(auto)]
+
+mod clue_line;
+mod counting;
+mod fault;
+mod goal;
+mod lines;
+mod non_puzzle;
+mod reading;
+mod section;
+mod seen;
+mod text;
+mod writing;
+
+pub use fault::{NonFault, NonWriteFault};
+pub use non_puzzle::NonPuzzle;
+pub use reading::read_non;
+pub use writing::write_non;

@@ -1,0 +1,187 @@
+//! The lines of a text, cut off one by one. Nothing is copied.
+
+ghost use Rattle.std.specs.Prelude.{◌≡◌, ◌<◌, ◌==◌, length, IfSome, IfNone, ◌∷◌, option_map, position};
+ghost use Rattle.std.specs.List.{slice_split};
+ghost use Rattle.std.specs.Str.Lines.{strip_carriage_return};
+ghost use Rattle.non_text.specs.Bytes.{is_blank, past_blanks, before_blanks, trimmed, first_word, past_word};
+ghost use Rattle.non_text.specs.Lines.{all_lines, is_blank_line, is_comment, lines_of, keyword_of, value_of, is_keyword_line, at_keyword};
+ghost use Rattle.non_text.specs.Cut.{pieces_behind, IsFirstOf, section_lines, lines_found};
+
+#[tactic(auto, unfolding(crate::specs::Bytes::is_blank))]
+fn is_blank(byte: u8) -> bool
+    ensures { result ≡ is_blank byte }
+{
+    byte == b' ' || byte == b'\t'
+}
+
+#[tactic(auto, using(crate::proofs::BytesLemmas::blanks))]
+// The bytes without the blanks at the front.
+fn past_blanks(bytes: &[u8]) -> &[u8]
+    ensures { result.now ≡ past_blanks bytes.now }
+{
+    for (i, byte) in bytes.iter().enumerate() {
+        if !is_blank(*byte) {
+            return &bytes[i..];
+        }
+    }
+    &[]
+}
+
+#[tactic(auto, using(crate::proofs::BytesLemmas::blanks))]
+// The bytes without the blanks at the end.
+fn before_blanks(bytes: &[u8]) -> &[u8]
+    ensures { result.now ≡ before_blanks bytes.now }
+{
+    let mut rest = bytes;
+    while let [front @ .., last] = rest {
+        if !is_blank(*last) {
+            return rest;
+        }
+        rest = front;
+    }
+    &[]
+}
+
+// The bytes with the blanks taken off both ends.
+pub(crate) fn trim(bytes: &[u8]) -> &[u8]
+    ensures { result.now ≡ trimmed bytes.now }
+{
+    before_blanks(past_blanks(bytes))
+}
+
+#[tactic(auto, using(crate::proofs::BytesLemmas::words))]
+// The bytes up to the first blank, and what stands from there on.
+fn split_word(bytes: &[u8]) -> (&[u8], &[u8])
+    ensures word { result.0.now ≡ first_word bytes.now }
+    ensures rest { result.1.now ≡ past_word bytes.now }
+{
+    for (i, byte) in bytes.iter().enumerate() {
+        if is_blank(*byte) {
+            return bytes.split_at(i);
+        }
+    }
+    (bytes, &[])
+}
+
+// The place of the first separator.
+fn place_of(bytes: &[u8], separator: u8) -> Option<usize>
+    ensures { result ≡ position (λ b. b == separator) bytes.now }
+{
+    bytes.iter().position(|b| *b == separator)
+}
+
+#[tactic(auto, using(crate::proofs::LinesLemmas::splitting))]
+// The bytes up to the first separator, and what stands behind it, where there is one.
+pub(crate) fn split_first(bytes: &[u8], separator: u8) -> (&[u8], Option<&[u8]>)
+    ensures pieces { slice_split (λ b. b == separator) bytes.now ≡ result.0.now ∷ pieces_behind separator result.1 }
+    ensures shorter { IfSome result.1 (λ rest. length rest.now < length bytes.now) }
+    ensures all { IfNone result.1 (result.0.now ≡ bytes.now) }
+{
+    match place_of(bytes, separator) {
+        Some(end) => (&bytes[..end], Some(&bytes[end + 1..])),
+        None => (bytes, None),
+    }
+}
+
+// The piece without a carriage return at its end.
+fn without_return(piece: &[u8]) -> &[u8]
+    ensures { result.now ≡ strip_carriage_return piece.now }
+{
+    match piece {
+        [front @ .., b'\r'] => front,
+        _ => piece,
+    }
+}
+
+#[tactic(auto, using(crate::proofs::LinesLemmas::first_lines))]
+// The first line, and the text behind it.
+fn first_line(text: &[u8]) -> Option<(&[u8], &[u8])>
+    ensures { IsFirstOf all_lines text.now result }
+{
+    let (piece, behind) = split_first(text, b'\n');
+    let line = without_return(piece);
+    match behind {
+        Some(rest) => Some((line, rest)),
+        None if line.is_empty() => None,
+        None => Some((line, &[])),
+    }
+}
+
+#[tactic(auto, unfolding(crate::specs::Lines::is_blank_line))]
+// Whether a line has nothing but blanks.
+pub(crate) fn is_blank_line(line: &[u8]) -> bool
+    ensures { result ≡ is_blank_line line.now }
+{
+    past_blanks(line).is_empty()
+}
+
+#[tactic(auto, unfolding(crate::specs::Lines::is_comment))]
+// Whether the first byte past blanks is `#`.
+fn is_comment(line: &[u8]) -> bool
+    ensures { result ≡ is_comment line.now }
+{
+    matches!(past_blanks(line), [b'#', ..])
+}
+
+#[tactic(auto, using(crate::proofs::LinesLemmas::shown_lines))]
+// The first line that is no comment, and the text behind it.
+pub(crate) fn next_line(text: &[u8]) -> Option<(&[u8], &[u8])>
+    ensures { IsFirstOf lines_of text.now result }
+{
+    let mut rest = text;
+    while let Some((line, behind)) = first_line(rest) {
+        if !is_comment(line) {
+            return Some((line, behind));
+        }
+        rest = behind;
+    }
+    None
+}
+
+#[tactic(auto, unfolding(crate::specs::Lines::keyword_of))]
+// The keyword of a line, or nothing where it has none.
+pub(crate) fn keyword(line: &[u8]) -> &[u8]
+    ensures { result.now ≡ keyword_of line.now }
+{
+    let start = past_blanks(line);
+    match start {
+        [b'a'..=b'z', ..] => split_word(start).0,
+        _ => &[],
+    }
+}
+
+#[tactic(auto, unfolding(crate::specs::Lines::value_of))]
+// What stands behind the keyword of a line.
+pub(crate) fn value(line: &[u8]) -> &[u8]
+    ensures { result.now ≡ value_of line.now }
+{
+    trim(split_word(past_blanks(line)).1)
+}
+
+#[tactic(auto, using(crate::proofs::LinesLemmas::section_steps))]
+// The first line of the section that a text begins with, and the text behind it.
+pub(crate) fn next_in_section(text: &[u8]) -> Option<(&[u8], &[u8])>
+    ensures { IsFirstOf section_lines text.now result }
+{
+    let (line, rest) = next_line(text)?;
+    if keyword(line).is_empty() {
+        Some((line, rest))
+    } else {
+        None
+    }
+}
+
+#[tactic(auto, using(crate::proofs::LinesLemmas::finding))]
+// The first line with a keyword, and the text behind it.
+pub(crate) fn find<'a>(text: &'a [u8], word: &[u8]) -> Option<(&'a [u8], &'a [u8])>
+    ensures { option_map lines_found result ≡ at_keyword word.now (lines_of text.now) }
+{
+    let mut rest = text;
+    while let Some((line, behind)) = next_line(rest) {
+        if keyword(line) == word {
+            return Some((line, behind));
+        }
+        rest = behind;
+    }
+    None
+}

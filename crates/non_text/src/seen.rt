@@ -1,0 +1,113 @@
+//! The keywords of a text, checked from the top.
+
+ghost use Rattle.std.specs.Prelude.{◌≡◌, [], codes};
+ghost use Rattle.non_text.specs.Lines.{has_keyword, lines_of};
+ghost use Rattle.non_text.specs.Puzzle.{size_in, is_size_line, first_fault, size_behind};
+ghost use Rattle.non_text.specs.Seen.{is_seen, seen_with, fault_below};
+
+use crate::clue_line::number;
+use crate::fault::NonFault;
+use crate::lines::{find, keyword, next_line, value};
+use picture::MAX_SIDE;
+
+// Which keywords stand on the lines above.
+#[derive(Clone, Copy)]
+struct Seen {
+    width: bool,
+    height: bool,
+    rows: bool,
+    columns: bool,
+}
+
+// Whether a line has a keyword.
+fn has_keyword(line: &[u8], word: &[u8]) -> bool
+    ensures { result ≡ has_keyword word.now line.now }
+{
+    keyword(line) == word
+}
+
+// Whether a line has a keyword that stands above.
+fn is_seen(seen: Seen, line: &[u8]) -> bool
+    ensures { result ≡ is_seen seen line.now }
+{
+    let width = has_keyword(line, b"width");
+    let height = has_keyword(line, b"height");
+    let rows = has_keyword(line, b"rows");
+    let columns = has_keyword(line, b"columns");
+    (width & seen.width) | (height & seen.height) | ((rows & seen.rows) | (columns & seen.columns))
+}
+
+// The keywords with that of one line more.
+fn seen_with(seen: Seen, line: &[u8]) -> Seen
+    ensures { result ≡ seen_with seen line.now }
+{
+    Seen {
+        width: has_keyword(line, b"width") | seen.width,
+        height: has_keyword(line, b"height") | seen.height,
+        rows: has_keyword(line, b"rows") | seen.rows,
+        columns: has_keyword(line, b"columns") | seen.columns,
+    }
+}
+
+// Whether a line gives the width or the height.
+fn is_size_line(line: &[u8]) -> bool
+    ensures { result ≡ is_size_line line.now }
+{
+    has_keyword(line, b"width") | has_keyword(line, b"height")
+}
+
+#[tactic(auto, using(crate::proofs::SeenLemmas::sizes))]
+// The size that a value gives.
+fn size_in(value: &[u8]) -> Option<u8>
+    ensures { result ≡ size_in value.now }
+{
+    match number(value)? {
+        size @ 1..=MAX_SIDE => Some(size),
+        _ => None,
+    }
+}
+
+#[tactic(auto, unfolding(crate::specs::Seen::fault_below))]
+// What is wrong with a line.
+fn fault_below(seen: Seen, line: &[u8]) -> Option<NonFault>
+    ensures { result ≡ fault_below seen line.now }
+{
+    if is_seen(seen, line) {
+        Some(NonFault::Repeated)
+    } else if is_size_line(line) && size_in(value(line)).is_none() {
+        Some(NonFault::BadSize)
+    } else {
+        None
+    }
+}
+
+#[tactic(auto, using(crate::proofs::SeenLemmas::faults))]
+// What is wrong with the first bad line of a text.
+pub(crate) fn first_fault(text: &[u8]) -> Option<NonFault>
+    ensures { result ≡ first_fault [] (lines_of text.now) }
+{
+    let mut seen = Seen {
+        width: false,
+        height: false,
+        rows: false,
+        columns: false,
+    };
+    let mut rest = text;
+    while let Some((line, behind)) = next_line(rest) {
+        if let Some(fault) = fault_below(seen, line) {
+            return Some(fault);
+        }
+        seen = seen_with(seen, line);
+        rest = behind;
+    }
+    None
+}
+
+#[tactic(auto, unfolding(crate::specs::Puzzle::size_behind))]
+// The size behind a keyword.
+pub(crate) fn size_behind(text: &[u8], word: &[u8]) -> Option<u8>
+    ensures { result ≡ size_behind word.now (lines_of text.now) }
+{
+    let (line, _) = find(text, word)?;
+    size_in(value(line))
+}
