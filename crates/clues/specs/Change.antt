@@ -126,7 +126,7 @@ abbrev pub HasOldClue : Moves → Clues → List (List ℕ) → LineId → Type 
 HasOldClue moves clues picture line =
     (from : LineId) × HasClue clues from × (image_of moves from ≡ Some line) × (clue_of (line_of picture line) ≡ clue_at clues from)
 
--- the clue book is of the old size, the picture of the new one, and untouched lines have their old clues
+-- the picture has the sizes that the change gives, and untouched lines have the clues of the old lines that they are
 pub record CanRefresh (clues : Clues) (picture : List (List ℕ)) (change : Changes) : Type 0 where
   pub sizes : (axis : Axis) → lines_along axis picture ≡ lines_after axis change.moves
   pub untouched : (line : LineId) → HasLine picture line → (IsTouched change line → ⊥) → HasOldClue change.moves clues picture line
