@@ -1,4 +1,8 @@
+ghost use Rattle.std.specs.Prelude.{◌≡◌, ◌<◌, ◌≤◌};
+ghost use Rattle.picture.specs.Rows.{lines_along};
+
 use super::*;
+use std::alloc::{AllocError, Global};
 use std::io::{self, Write};
 use std::test::Fail;
 
@@ -11,6 +15,8 @@ const WHITE: Rgb = Rgb {
 const BLACK: Rgb = Rgb { r: 0, g: 0, b: 0 };
 
 const RED: Rgb = Rgb { r: 255, g: 0, b: 0 };
+
+const BLUE: Rgb = Rgb { r: 0, g: 0, b: 255 };
 
 #[test]
 fn a_palette_numbers_its_colours(rt: HostRuntime) -> Result<(), Fail> {
@@ -54,47 +60,53 @@ fn a_picture_has_rows_and_columns(rt: HostRuntime) -> Result<(), Fail> {
     assert_eq!(rt; picture.height(), 2);
     assert_eq!(rt; picture.width(), 3);
     picture.set(0, 1, 7);
-    picture.set(1, 2, 9);
     assert_eq!(rt; picture.cell(0, 1), 7);
     assert_eq!(rt; picture.cell(0, 2), 0);
+    assert!(rt; picture.same(&drawn(rt.alloc(), 2, 3, &[0, 7, 0, 0, 0, 0])?));
     let mut copy = picture.copy()?;
     assert!(rt; copy.same(&picture));
-    copy.set(0, 0, 1);
+    paint(&mut copy, 0, 0, 1);
     assert!(rt; !copy.same(&picture));
-    assert!(rt; !Picture::blank(rt.alloc(), 3, 2)?.same(&picture));
+    assert!(rt; !drawn(rt.alloc(), 3, 2, &[0, 7, 0, 0, 0, 0])?.same(&picture));
+    Ok(())
+}
+
+// The cells of a line, where the picture has it.
+fn cells_of(alloc: Global, picture: &Picture, axis: Axis, at: u8) -> Result<Vec<u8>, AllocError> {
+    if at < count_along(picture, axis) {
+        picture.line(LineId { axis, at }).iter().collect(alloc)
+    } else {
+        Ok(Vec::new(alloc))
+    }
+}
+
+#[test]
+fn a_picture_has_lines(rt: HostRuntime) -> Result<(), Fail> {
+    let picture = drawn(rt.alloc(), 3, 2, &[0, 5, 1, 0, 0, 6])?;
+    let column = cells_of(rt.alloc(), &picture, Axis::Down, 1)?;
+    assert_eq!(rt; column.as_slice(), [5, 0, 6].as_slice());
+    let row = cells_of(rt.alloc(), &picture, Axis::Across, 1)?;
+    assert_eq!(rt; row.as_slice(), [1, 0].as_slice());
     Ok(())
 }
 
 #[test]
 fn a_line_is_read_from_both_ends(rt: HostRuntime) -> Result<(), Fail> {
-    let mut picture = Picture::blank(rt.alloc(), 3, 2)?;
-    picture.set(0, 1, 5);
-    picture.set(2, 1, 6);
-    let column = picture.line(LineId {
-        axis: Axis::Down,
-        at: 1,
+    let picture = Picture::from_cells(1, 3, vec![in rt.alloc(); 5, 0, 6]?);
+    let line = picture.line(LineId {
+        axis: Axis::Across,
+        at: 0,
     });
-    assert_eq!(rt; column.len(), 3);
-    assert!(rt; !column.is_empty());
-    assert_eq!(rt; column.get(0), 5);
-    assert_eq!(rt; column.get(2), 6);
-    let mut cells = column.iter();
+    assert_eq!(rt; line.len(), 3);
+    assert!(rt; !line.is_empty());
+    assert_eq!(rt; line.get(0), 5);
+    assert_eq!(rt; line.get(2), 6);
+    let mut cells = line.iter();
     assert_eq!(rt; cells.next_back(), Some(6));
     assert_eq!(rt; cells.next(), Some(5));
     assert_eq!(rt; cells.next(), Some(0));
     assert_eq!(rt; cells.next(), None);
     assert_eq!(rt; cells.next_back(), None);
-    let row = picture.line(LineId {
-        axis: Axis::Across,
-        at: 2,
-    });
-    assert_eq!(rt;
-        row.iter()
-            .collect(rt.alloc())
-            .map(|cells: Vec<u8>| cells.len()),
-        Ok(2)
-    );
-    assert_eq!(rt; row.get(1), 6);
     Ok(())
 }
 
@@ -148,4 +160,219 @@ fn all_bytes_are_sent_or_a_front_of_them(rt: HostRuntime) -> Result<(), Fail> {
     assert_eq!(rt; send(b"abcde", &mut part), Err(WriteFault));
     assert_eq!(rt; part.taken, 3);
     Ok(())
+}
+
+// The picture of these cells, row after row.
+fn drawn(alloc: Global, height: u8, width: u8, cells: &[u8]) -> Result<Picture, AllocError>
+    requires has_row { 0 < height }
+    requires rows_fit { height ≤ MAX_SIDE }
+    requires has_column { 0 < width }
+    requires columns_fit { width ≤ MAX_SIDE }
+{
+    let mut picture = Picture::blank(alloc, height, width)?;
+    for row in 0..height {
+        for col in 0..width {
+            if let Some(cell) = cells.get(row as usize * width as usize + col as usize) {
+                paint(&mut picture, row, col, *cell);
+            }
+        }
+    }
+    Ok(picture)
+}
+
+fn paint(picture: &mut Picture, row: u8, col: u8, colour: u8) {
+    if row < picture.height() && col < picture.width() && colour < MAX_COLOURS {
+        picture.set(row, col, colour);
+    }
+}
+
+fn count_along(picture: &Picture, axis: Axis) -> u8
+    ensures { result ≡ lines_along axis picture.now }
+{
+    match axis {
+        Axis::Across => picture.height(),
+        Axis::Down => picture.width(),
+    }
+}
+
+fn insert(picture: &mut Picture, axis: Axis, at: u8) -> Result<(), AllocError> {
+    let count = count_along(picture, axis);
+    if at <= count && count < MAX_SIDE {
+        picture.insert_line(LineId { axis, at })?;
+    }
+    Ok(())
+}
+
+fn delete(picture: &mut Picture, axis: Axis, at: u8) {
+    let count = count_along(picture, axis);
+    if at < count && count > 1 {
+        picture.delete_line(LineId { axis, at });
+    }
+}
+
+fn exchange(picture: &mut Picture, axis: Axis, i: u8, j: u8) {
+    let count = count_along(picture, axis);
+    if i < count && j < count {
+        picture.swap_lines(axis, i, j);
+    }
+}
+
+fn recolour(palette: &mut Palette, number: u8, rgb: Rgb) -> Option<PaletteFault> {
+    if number < palette.len() {
+        palette.set(number, rgb).err()
+    } else {
+        None
+    }
+}
+
+#[test]
+fn a_number_gets_another_colour(rt: HostRuntime) -> Result<(), Fail> {
+    let mut palette = Palette::start(rt.alloc(), 255, WHITE)?;
+    palette.add(BLACK)?;
+    palette.add(RED)?;
+    let new = Rgb { r: 1, g: 2, b: 3 };
+    let over = Rgb { r: 256, g: 0, b: 0 };
+    for (number, rgb, fault) in [
+        (0, RED, Some(PaletteFault::Duplicate)),
+        (0, over, Some(PaletteFault::SampleOver)),
+        (0, new, Some(PaletteFault::Background)),
+        (0, WHITE, Some(PaletteFault::Background)),
+        (1, RED, Some(PaletteFault::Duplicate)),
+        (1, over, Some(PaletteFault::SampleOver)),
+        (1, BLACK, None),
+        (1, new, None),
+    ] {
+        assert_eq!(rt; recolour(&mut palette, number, rgb), fault);
+    }
+    assert_eq!(rt; palette.number_of(new), Some(1));
+    assert_eq!(rt; palette.number_of(BLACK), None);
+    assert_eq!(rt; palette.number_of(RED), Some(2));
+    assert_eq!(rt; palette.len(), 3);
+    Ok(())
+}
+
+#[test]
+fn the_last_colour_goes(rt: HostRuntime) -> Result<(), Fail> {
+    let mut palette = Palette::start(rt.alloc(), 255, WHITE)?;
+    palette.add(BLACK)?;
+    if palette.len() > 1 {
+        palette.pop_last();
+    }
+    assert_eq!(rt; palette.len(), 1);
+    assert_eq!(rt; palette.number_of(BLACK), None);
+    assert_eq!(rt; palette.number_of(WHITE), Some(0));
+    Ok(())
+}
+
+#[test]
+fn a_background_line_is_inserted(rt: HostRuntime) -> Result<(), Fail> {
+    let mut picture = drawn(rt.alloc(), 1, 2, &[1, 0])?;
+    insert(&mut picture, Axis::Across, 0)?;
+    assert!(rt; picture.same(&drawn(rt.alloc(), 2, 2, &[0, 0, 1, 0])?));
+    let mut picture = drawn(rt.alloc(), 2, 2, &[0, 3, 4, 0])?;
+    insert(&mut picture, Axis::Down, 1)?;
+    assert!(rt; picture.same(&drawn(rt.alloc(), 2, 3, &[0, 0, 3, 4, 0, 0])?));
+    Ok(())
+}
+
+#[test]
+fn a_line_is_deleted(rt: HostRuntime) -> Result<(), Fail> {
+    let mut picture = drawn(rt.alloc(), 2, 3, &[1, 5, 2, 3, 4, 6])?;
+    delete(&mut picture, Axis::Down, 1);
+    assert!(rt; picture.same(&drawn(rt.alloc(), 2, 2, &[1, 2, 3, 6])?));
+    delete(&mut picture, Axis::Across, 0);
+    assert!(rt; picture.same(&drawn(rt.alloc(), 1, 2, &[3, 6])?));
+    Ok(())
+}
+
+#[test]
+fn lines_change_places(rt: HostRuntime) -> Result<(), Fail> {
+    let mut picture = drawn(rt.alloc(), 2, 2, &[0, 1, 1, 0])?;
+    exchange(&mut picture, Axis::Across, 0, 1);
+    assert!(rt; picture.same(&drawn(rt.alloc(), 2, 2, &[1, 0, 0, 1])?));
+    exchange(&mut picture, Axis::Across, 0, 0);
+    assert!(rt; picture.same(&drawn(rt.alloc(), 2, 2, &[1, 0, 0, 1])?));
+    let mut picture = drawn(rt.alloc(), 2, 3, &[1, 2, 3, 4, 5, 6])?;
+    exchange(&mut picture, Axis::Down, 2, 0);
+    assert!(rt; picture.same(&drawn(rt.alloc(), 2, 3, &[3, 2, 1, 6, 5, 4])?));
+    Ok(())
+}
+
+#[test]
+fn cells_make_a_picture(rt: HostRuntime) -> Result<(), Fail> {
+    let picture = Picture::from_cells(1, 2, vec![in rt.alloc(); 1, 0]?);
+    assert!(rt; picture.same(&drawn(rt.alloc(), 1, 2, &[1, 0])?));
+    Ok(())
+}
+
+// Row 1 has the fourth colour and the background, row 2 the third and the fourth. No cell has the second. The first cell of row 2 is given.
+fn with_unused_colour(alloc: Global) -> Result<Document, PaletteFault> {
+    let mut palette = Palette::start(alloc, 255, WHITE)?;
+    palette.add(BLACK)?;
+    palette.add(RED)?;
+    palette.add(BLUE)?;
+    let mut givens = CellSet::empty();
+    givens.put(1, 0);
+    let cells = vec![in alloc; 3, 0, 2, 3]?;
+    Ok(Document {
+        palette,
+        picture: Picture::from_cells(2, 2, cells),
+        givens,
+    })
+}
+
+#[test]
+fn a_document_is_copied(rt: HostRuntime) -> Result<(), Fail> {
+    let copy = with_unused_colour(rt.alloc())?.copy()?;
+    assert_eq!(rt; copy.palette.len(), 4);
+    assert_eq!(rt; copy.palette.number_of(BLUE), Some(3));
+    assert!(rt; copy.picture.same(&drawn(rt.alloc(), 2, 2, &[3, 0, 2, 3])?));
+    assert!(rt; copy.givens.has(1, 0));
+    assert_eq!(rt; copy.givens.len(), 1);
+    Ok(())
+}
+
+#[test]
+fn an_unused_colour_goes(rt: HostRuntime) -> Result<(), Fail> {
+    let ordered = with_unused_colour(rt.alloc())?.ordered()?;
+    assert_eq!(rt; ordered.palette.len(), 3);
+    assert_eq!(rt; ordered.palette.maxval(), 255);
+    assert_eq!(rt; ordered.palette.number_of(WHITE), Some(0));
+    assert_eq!(rt; ordered.palette.number_of(BLUE), Some(1));
+    assert_eq!(rt; ordered.palette.number_of(RED), Some(2));
+    assert!(rt;
+        ordered
+            .picture
+            .same(&drawn(rt.alloc(), 2, 2, &[1, 0, 2, 1])?)
+    );
+    assert!(rt; ordered.givens.has(1, 0));
+    assert_eq!(rt; ordered.givens.len(), 1);
+    Ok(())
+}
+
+#[test]
+fn a_set_of_lines_keeps_what_was_put(rt: HostRuntime) {
+    let mut lines = LineSet::empty();
+    assert!(rt; lines.is_empty());
+    for (axis, at) in [
+        (Axis::Across, 0),
+        (Axis::Across, 119),
+        (Axis::Down, 7),
+        (Axis::Across, 0),
+    ] {
+        lines.put(LineId { axis, at });
+    }
+    assert_eq!(rt; lines.len(), 3);
+    for (axis, at) in [(Axis::Across, 0), (Axis::Down, 0)] {
+        lines.take_out(LineId { axis, at });
+    }
+    assert_eq!(rt; lines.len(), 2);
+    for (axis, at, has) in [
+        (Axis::Across, 119, true),
+        (Axis::Down, 7, true),
+        (Axis::Across, 7, false),
+        (Axis::Across, 0, false),
+    ] {
+        assert_eq!(rt; lines.has(LineId { axis, at }), has);
+    }
 }
