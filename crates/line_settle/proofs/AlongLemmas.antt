@@ -1,11 +1,11 @@
 -- The cells along a line of a grid.
-use Rattle.std.proofs.Common.{◌≡◌, ◌≢◌, ℕ, zero, suc, ◌+◌, ◌<◌, ◌≤◌, List, [], ◌∷◌, refl, sym, ap, subst, ◌∙◌, arith, ◌⊎◌, inl, inr, length, get_or, set, map}
-use Rattle.std.proofs.lemmas.Bool.{cases_eq, cases_lt}
+use Rattle.std.proofs.Common.{◌≡◌, ◌≢◌, ℕ, ◌+◌, ◌<◌, ◌≤◌, List, refl, sym, ap, subst, ◌∙◌, arith, inl, inr, length, get_or}
+use Rattle.std.proofs.lemmas.Bool.{cases_eq}
 use Rattle.std.proofs.lemmas.List.{length-map, ext_get_or}
 use Rattle.picture.specs.declared.line_id.Axis.{Axis}
 use Rattle.picture.specs.declared.line_id.Axis.TheVariants.{Across, Down}
 use Rattle.picture.specs.declared.line_id.LineId.{LineId}
-use Rattle.picture.specs.Rows.{width_of, row_at, cell_at, with_cell, line_along, line_of, lines_along, HasLine}
+use Rattle.picture.specs.Rows.{width_of, cell_at, with_cell, line_along, line_of, lines_along, HasLine}
 use Rattle.line_settle.specs.FactSets.{SameShape, IsFacts, HoldsLine, row_on, col_on, IsOn}
 use Rattle.line_settle.proofs.GridLemmas.{cell_on, shape_with_cell, at_with_cell, off_with_cell}
 

@@ -1,11 +1,11 @@
 -- What the givens alone say.
-use Rattle.std.proofs.Common.{◌≡◌, ◌≢◌, ℕ, zero, suc, ◌+◌, ◌*◌, ◌%◌, ◌^◌, ◌<◌, ◌≤◌, List, [], ◌∷◌, ◌↔◌, refl, sym, ap, subst, ◌∙◌, arith, ◌⊎◌, inl, inr, length, replicate}
+use Rattle.std.proofs.Common.{◌≡◌, ℕ, ◌+◌, ◌*◌, ◌%◌, ◌^◌, ◌<◌, List, ◌↔◌, sym, subst, ◌∙◌, arith, inl, inr, length}
 use Rattle.std.specs.Prelude.{IsBitSet}
 use Rattle.std.proofs.lemmas.Bool.{cases_eq}
-use Rattle.picture.specs.Rows.{width_of, row_at, cell_at, with_cell}
+use Rattle.picture.specs.Rows.{width_of, cell_at, with_cell}
 use Rattle.picture.specs.Picture.{IsPicture}
 use Rattle.picture.specs.CellSet.{HasCell}
-use Rattle.line_settle.specs.FactSets.{SameShape, IsOpen, Leaves, IsBase, MakesBaseRow}
+use Rattle.line_settle.specs.FactSets.{SameShape, IsOpen, Leaves, MakesBaseRow}
 use Rattle.line_settle.proofs.MaskLemmas.{shifted, power_has, full_has, bit_below}
 use Rattle.line_settle.proofs.GridLemmas.{shape_with_cell, at_with_cell, off_with_cell}
 

@@ -1,8 +1,8 @@
 -- Facts as rows of masks that lie in one flat list.
-use Rattle.std.proofs.Common.{◌≡◌, ◌≢◌, ℕ, zero, suc, ◌+◌, ◌-◌, ◌*◌, ◌^◌, ◌<◌, ◌≤◌, List, [], ◌∷◌, refl, sym, ap, subst, ◌∙◌, arith, ◌⊎◌, inl, inr, length, get_or, set, map, replicate, take, drop, get_or-set_same, get_or-set_other}
+use Rattle.std.proofs.Common.{◌≡◌, ℕ, zero, suc, ◌+◌, ◌-◌, ◌*◌, ◌^◌, ◌<◌, ◌≤◌, List, [], ◌∷◌, refl, sym, ap, subst, ◌∙◌, arith, inl, inr, length, get_or, set, replicate, get_or-set_same, get_or-set_other}
 use Rattle.std.proofs.lemmas.Bool.{cases_eq, cases_lt}
-use Rattle.std.proofs.lemmas.List.{get_or_past, length-set, length-replicate, take-replicate, drop-replicate}
-use Rattle.picture.specs.Rows.{rows_of, width_of, row_at, cell_at, with_cell}
+use Rattle.std.proofs.lemmas.List.{get_or_past, length-set, take-replicate, drop-replicate}
+use Rattle.picture.specs.Rows.{rows_of, width_of, row_at, cell_at}
 use Rattle.picture.proofs.FlatLemmas.{length-rows_of, length-row, cell_at-rows_of, place_inside}
 use Rattle.line_settle.specs.FactSets.{AreMasks, IsFacts}
 

@@ -1,17 +1,15 @@
 -- Fitting a line, told by the tables over the pattern of its clue.
-use Rattle.std.proofs.Common.{◌≡◌, ℕ, zero, suc, ◌+◌, ◌<◌, ◌≤◌, Bool, true, List, [], ◌∷◌, refl, sym, ap, subst, ◌∙◌, arith, length, get_or, drop, eq-eqb, ◌↔◌}
+use Rattle.std.proofs.Common.{◌≡◌, ℕ, zero, suc, ◌+◌, ◌<◌, true, List, [], ◌∷◌, refl, subst, arith, length, get_or, eq-eqb}
 use Rattle.std.specs.Prelude.{IsBitSet}
-use Rattle.std.specs.List.{All}
 use Rattle.std.proofs.lemmas.Bool.{eqb-true}
 use Rattle.std.proofs.lemmas.Nat.{bit_set_by_shift}
 use Rattle.clues.specs.declared.block.Block.{Block}
-use Rattle.clues.specs.Clue.{clue_of, IsClue}
+use Rattle.clues.specs.Clue.{IsClue}
 use Rattle.line_settle.specs.Fitting.{Fits, CanFit, CanHave}
 use Rattle.line_settle.specs.Spelling.{pattern_of, allows, finishes, reaches}
-use Rattle.line_settle.proofs.SpellsLemmas.{Spells}
 use Rattle.line_settle.proofs.PatternLemmas.{clue_is_spelled, spells_clue, spells_length}
 use Rattle.line_settle.proofs.StateLemmas.{SpellsAt}
-use Rattle.line_settle.proofs.TableLemmas.{Keeps, Through, Passing, Spelled, Shown, shown_spelled, spelled_shown, finishes_from, ending_of}
+use Rattle.line_settle.proofs.TableLemmas.{Keeps, Shown, shown_spelled, spelled_shown, finishes_from, ending_of}
 
 pub allows_bit : (mask k : ℕ) → allows mask k ≡ true → IsBitSet mask k
 allows_bit mask k h = (bit_set_by_shift mask k).0 (eqb-true _ _ h)

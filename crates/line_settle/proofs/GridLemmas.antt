@@ -1,15 +1,14 @@
 -- Grids of masks, their lines, and one cell changed.
-use Rattle.std.proofs.Common.{◌≡◌, ◌≢◌, ℕ, zero, suc, ◌+◌, ◌*◌, ◌<◌, ◌≤◌, List, [], ◌∷◌, refl, sym, ap, subst, ◌∙◌, arith, ◌⊎◌, inl, inr, length, get_or, set, map, replicate, bit_and, ◌^◌, ◌↔◌, get_or-set_same, get_or-set_other}
+use Rattle.std.proofs.Common.{◌≡◌, ℕ, ◌<◌, List, [], refl, sym, ap, subst, ◌∙◌, arith, inl, inr, length, get_or, set, map, replicate, bit_and, ◌^◌, ◌↔◌, get_or-set_same, get_or-set_other}
 use Rattle.std.proofs.lemmas.Bool.{cases_eq, cases_lt}
-use Rattle.std.proofs.lemmas.List.{get_or_past, length-set, length-map, get_or-map, ext_get_or, get_or-replicate}
+use Rattle.std.proofs.lemmas.List.{get_or_past, length-set, length-map, get_or-map, get_or-replicate}
 use Rattle.picture.specs.declared.line_id.Axis.{Axis}
 use Rattle.picture.specs.declared.line_id.Axis.TheVariants.{Across, Down}
 use Rattle.picture.specs.declared.line_id.LineId.{LineId}
-use Rattle.picture.specs.Rows.{rows_of, width_of, row_at, cell_at, with_cell, line_along, line_of, lines_along, HasLine}
-use Rattle.picture.proofs.FlatLemmas.{length-rows_of, row_at-rows_of, length-row, cell_at-rows_of, rows_of-set, place_inside}
+use Rattle.picture.specs.Rows.{width_of, row_at, cell_at, with_cell, line_along, line_of}
 use Rattle.std.specs.Prelude.{IsBitSet}
 use Rattle.std.specs.Int.{bit_not, w16}
-use Rattle.line_settle.specs.FactSets.{SameShape, IsFacts, ExcludesAt, row_on, col_on, IsOn}
+use Rattle.line_settle.specs.FactSets.{SameShape, IsFacts, ExcludesAt, row_on, col_on}
 use Rattle.line_settle.proofs.MaskLemmas.{full_has, without_bit}
 
 -- what a line has at a place

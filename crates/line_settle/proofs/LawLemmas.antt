@@ -1,19 +1,18 @@
 -- The laws of fitting and forcing.
-use Rattle.std.proofs.Common.{◌≡◌, ◌≢◌, ℕ, zero, suc, ◌+◌, ◌-◌, ◌^◌, ◌<◌, ◌≤◌, List, [], ◌∷◌, ◌↔◌, refl, sym, ap, subst, ◌∙◌, arith, ◌⊎◌, inl, inr, length, get_or, min}
+use Rattle.std.proofs.Common.{◌≡◌, ℕ, ◌+◌, List, [], ◌↔◌, refl, sym, ap, subst, ◌∙◌, arith, inl, inr, length, get_or}
 use Rattle.std.specs.Prelude.{IsBitSet}
 use Rattle.std.proofs.lemmas.List.{ext_get_or}
 use Rattle.picture.specs.declared.line_id.LineId.{LineId}
-use Rattle.picture.specs.Rows.{row_at, cell_at, line_of}
+use Rattle.picture.specs.Rows.{row_at, line_of}
 use Rattle.clues.specs.declared.block.Block.{Block}
-use Rattle.clues.specs.ClueBook.{Clues}
 use Rattle.line_settle.specs.declared.line_engine.Outcome.{Outcome}
 use Rattle.line_settle.specs.declared.line_engine.Outcome.TheVariants.{Narrowed, Dead}
-use Rattle.line_settle.specs.declared.meter.Meter.{Meter}
-use Rattle.line_settle.specs.Counting.{Counts, counted}
-use Rattle.line_settle.specs.Fitting.{Fits, CanFit, CanHave, Forces, IsTighter}
-use Rattle.line_settle.specs.FactSets.{IsWithin, IsLeast, SameShape, Leaves, row_on, col_on}
+use Rattle.line_settle.specs.Counting.{counted}
+use Rattle.line_settle.specs.Fitting.{Fits, CanHave, IsTighter}
+use Rattle.line_settle.specs.FactSets.{IsWithin, SameShape, Leaves, row_on, col_on}
 use Rattle.line_settle.specs.Narrowing.{Narrows}
-use Rattle.line_settle.specs.Laws.{CountsAdd, FittingListStays, ForcingIsMonotone, LeastIsUnique, NarrowingTwiceIsOnce, OneLineDecides}
+use Rattle.line_settle.specs.Laws.{ClosedLinesHoldWhatTheyForce, CountsAdd, FittingListStays, ForcingIsMonotone, LeastIsUnique, NarrowingTwiceIsOnce, OneLineDecides}
+use Rattle.line_settle.proofs.NarrowLemmas.{have_or_not}
 use Rattle.line_settle.proofs.MaskLemmas.{same_bits}
 use Rattle.line_settle.proofs.GridLemmas.{cell_on}
 use Rattle.line_settle.proofs.AlongLemmas.{same_list, same_line_length}
@@ -49,6 +48,14 @@ forcing_monotone = record {
   forced = λ clue left fewer t i k f h. f (tighter_have clue left fewer t i k h);
   lines = within_tighter;
 }
+
+-- ---- closed lines
+
+pub closed_lines : ClosedLinesHoldWhatTheyForce
+closed_lines clue left b = (
+  (λ closed i k f s. f (closed i k s)),
+  (λ holds i k s. elim (have_or_not clue left i k b) [ inl h ↦ h | inr n ↦ absurd (holds i k n s) ]),
+)
 
 -- ---- narrowing
 

@@ -1,11 +1,10 @@
 -- Bits of masks.
-use Rattle.std.proofs.Common.{◌≡◌, ◌≢◌, ℕ, zero, suc, ◌+◌, ◌-◌, ◌*◌, ◌%◌, ◌^◌, ◌<◌, ◌≤◌, Bool, true, false, ◌==◌, ◌↔◌, refl, sym, ap, subst, ◌∙◌, arith, ◌⊎◌, inl, inr, bit_and, min, eqb-true, eq-eqb}
+use Rattle.std.proofs.Common.{◌≡◌, ◌≢◌, ℕ, ◌*◌, ◌%◌, ◌^◌, ◌<◌, ◌↔◌, refl, sym, ap, subst, ◌∙◌, arith, inl, inr, bit_and, eqb-true, eq-eqb}
 use Rattle.std.specs.Prelude.{IsBitSet}
 use Rattle.std.specs.Int.{bit_at, bit_not, trailing_zeros, w16}
 use Rattle.std.proofs.lemmas.Bool.{cases_eq, cases_lt}
 use Rattle.std.proofs.lemmas.Nat.Bits.{bit_at_and, bit_at-lt, bit_at-zero, bit_at-pow_same, bit_at-pow_other, bit_at_not, bit_at_above, bit_at_ones, bit_at-trailing_zeros, same_from_bits}
 use Rattle.std.proofs.lemmas.Grind.{one_shifted}
-use Rattle.line_settle.specs.Spelling.{allows}
 use Rattle.line_settle.specs.Masks.{IsOnly}
 use Rattle.line_settle.proofs.BitLemmas.{allows_is}
 use Rattle.line_settle.proofs.FittingLemmas.{allows_bit, bit_allows}

@@ -1,23 +1,21 @@
 -- From the tables to what narrowing a line promises.
-use Rattle.std.proofs.Common.{◌≡◌, ◌≢◌, ℕ, zero, suc, ◌+◌, ◌<◌, ◌≤◌, Bool, true, false, List, [], ◌∷◌, ◌++◌, replicate, ◌==◌, cond, ◌||◌, refl, sym, ap, subst, ◌∙◌, arith, ◌⊎◌, inl, inr, length, get_or, take, drop, ◌↔◌, eq-eqb}
-use Rattle.std.specs.Prelude.{IsBitSet}
+use Rattle.std.proofs.Common.{◌≡◌, ℕ, zero, suc, ◌+◌, ◌<◌, ◌≤◌, Bool, true, false, List, [], ◌∷◌, ◌++◌, replicate, ◌==◌, refl, sym, ap, subst, ◌∙◌, arith, ◌⊎◌, inl, inr, length, get_or, drop, eq-eqb}
 use Rattle.std.specs.List.{All}
 use Rattle.std.specs.Int.{bit_at}
 use Rattle.std.proofs.Math.ListN.{get_or-eq_default}
 use Rattle.std.proofs.lemmas.List.{length-replicate}
 use Rattle.std.proofs.lemmas.List.Elements.{All-append, All-cons, All-nil, All-replicate}
-use Rattle.std.proofs.lemmas.Bool.{or_cases, or_left, or_right, cases_lt, false≢true}
+use Rattle.std.proofs.lemmas.Bool.{or_cases, or_left, or_right, cases_lt, cases_Bool, false≢true}
 use Rattle.std.proofs.lemmas.Nat.Bits.{bit_at-zero, same_from_bits, bit_at-lt}
 use Rattle.clues.specs.declared.block.Block.{Block}
 use Rattle.clues.specs.Clue.{IsBlock, IsClue}
-use Rattle.line_settle.specs.declared.line_engine.Outcome.{Outcome}
 use Rattle.line_settle.specs.declared.line_engine.Outcome.TheVariants.{Narrowed, Dead}
 use Rattle.line_settle.specs.Fitting.{CanFit, CanHave}
 use Rattle.line_settle.specs.Narrowing.{Narrows}
 use Rattle.line_settle.specs.Spelling.{gap, spelled_after, pattern_of, allows, finishes, reaches, passes, passes_below}
 use Rattle.line_settle.proofs.PatternLemmas.{first_is, rest_are}
 use Rattle.line_settle.proofs.BitLemmas.{allows_none, allows_is}
-use Rattle.line_settle.proofs.TableLemmas.{Passing, Shown}
+use Rattle.line_settle.proofs.TableLemmas.{Passing}
 use Rattle.line_settle.proofs.FittingLemmas.{allows_bit, bit_allows, fit_finishes, finishes_fit, have_shown, shown_have, have_fits, too_long}
 
 gap_colours : (meets : Bool) → All (λ c. c < 16) (gap meets)
@@ -37,14 +35,14 @@ pub pattern_colours : (blocks : List Block) → IsClue blocks → All (λ c. c <
 pattern_colours blocks h = All-cons (λ c. c < 16) 0 (spelled_after 0 blocks) (omega arith) (spelled_colours 0 blocks h)
 
 -- some state lets a line pass exactly where one below the pattern's length does
-below_passing : (pattern : List ℕ) (mask : ℕ) (f g : ℕ → Bool) (n k : ℕ) → n ≤ length pattern → passes_below pattern mask f g n k ≡ true → Passing pattern mask f g k
+pub below_passing : (pattern : List ℕ) (mask : ℕ) (f g : ℕ → Bool) (n k : ℕ) → n ≤ length pattern → passes_below pattern mask f g n k ≡ true → Passing pattern mask f g k
 below_passing pattern mask f g zero k h e = absurd (false≢true e)
 below_passing pattern mask f g (suc n) k h e = elim (or_cases _ _ e) [
   | inl a ↦ below_passing pattern mask f g n k (omega arith) a
   | inr b ↦ record { state = n; within = omega arith; passes_there = b }
 ]
 
-passing_below : (pattern : List ℕ) (mask : ℕ) (f g : ℕ → Bool) (n q k : ℕ) → q < n → passes pattern mask f g q k ≡ true → passes_below pattern mask f g n k ≡ true
+pub passing_below : (pattern : List ℕ) (mask : ℕ) (f g : ℕ → Bool) (n q k : ℕ) → q < n → passes pattern mask f g q k ≡ true → passes_below pattern mask f g n k ≡ true
 passing_below pattern mask f g zero q k h e = absurd (omega arith)
 passing_below pattern mask f g (suc n) q k h e = elim (cases_lt q n) [
   | inl l ↦ or_left _ _ (passing_below pattern mask f g n q k l e)
@@ -138,3 +136,19 @@ narrows_none_at clue left out written b e n f c =
 
 pub written_colours : (clue : List Block) (written : List ℕ) → IsClue clue → written ≡ pattern_of clue → All (λ c. c < 16) written
 written_colours clue written b e = let P : List ℕ → Type 0 = λ p. All (λ c. c < 16) p in subst P (sym e) (pattern_colours clue b)
+
+-- whether a colour is in a cell of some list that fits can be decided
+pub have_or_not : (clue : List Block) (left : List ℕ) (i k : ℕ) → IsClue clue → CanHave clue left i k ⊎ (CanHave clue left i k → ⊥)
+have_or_not clue left i k b =
+    let pattern = pattern_of clue in
+    let f = reaches pattern left i in
+    let g = finishes pattern (drop (suc i) left) in
+    elim (cases_lt i (length left)) [
+      | inr p ↦ inr (λ h. let w = h.within in absurd (omega arith))
+      | inl l ↦ elim (cases_Bool (passes_below pattern (get_or left i 0) f g (length pattern) k)) [
+        | inl t ↦ inl (shown_have clue left i k b l (below_passing pattern (get_or left i 0) f g (length pattern) k (omega arith) t))
+        | inr n ↦ inr (λ h.
+            let p = have_shown clue left i k b h in
+            false≢true (sym n ∙ passing_below pattern (get_or left i 0) f g (length pattern) p.state k p.within p.passes_there))
+      ]
+    ]

@@ -1,12 +1,12 @@
 -- A clue's pattern has that clue, and background only where two blocks of one colour meet.
-use Rattle.std.proofs.Common.{◌≡◌, ◌≢◌, ℕ, zero, suc, ◌+◌, ◌<◌, ◌≤◌, Bool, true, false, List, [], ◌∷◌, ◌++◌, cond, replicate, refl, sym, ap, subst, ◌∙◌, arith, ◌⊎◌, inl, inr, ◌==◌, eq-eqb, ne_eqb, length}
+use Rattle.std.proofs.Common.{◌≡◌, ◌≢◌, ℕ, zero, suc, ◌+◌, ◌<◌, ◌≤◌, Bool, true, false, List, [], ◌∷◌, ◌++◌, replicate, refl, sym, ap, subst, ◌∙◌, arith, inl, inr, ◌==◌, eq-eqb, ne_eqb, length}
 use Rattle.std.specs.List.{All}
-use Rattle.std.proofs.lemmas.Bool.{cases_eq, cond-true, cond-false}
+use Rattle.std.proofs.lemmas.Bool.{cases_eq}
 use Rattle.clues.specs.declared.block.Block.{Block}
-use Rattle.clues.specs.Clue.{block, longer, joined, clue_of, IsBlock, IsClue}
-use Rattle.line_settle.specs.Spelling.{gap, spelled_after, pattern_of}
+use Rattle.clues.specs.Clue.{block, longer, clue_of, IsBlock, IsClue}
+use Rattle.line_settle.specs.Spelling.{gap, spelled_after}
 use Rattle.line_settle.proofs.ClueLemmas.{Apart, clue_more, clue_apart}
-use Rattle.line_settle.proofs.SpellsLemmas.{Spells, Tight, BeginsWith, clue_from_spells, spells_from_clue}
+use Rattle.line_settle.proofs.SpellsLemmas.{Spells, Tight, clue_from_spells, spells_from_clue}
 
 pub first_is : {A : Type 0} (P : A → Type 0) (x : A) (xs : List A) → All P (x ∷ xs) → P x
 first_is P x xs h = h 0 x (omega arith)

@@ -1,8 +1,8 @@
 -- A list has a clue exactly when it spells the clue's pattern to its end.
-use Rattle.std.proofs.Common.{◌≡◌, ◌≢◌, ℕ, zero, suc, ◌+◌, List, [], ◌∷◌, refl, sym, ap, subst, ◌∙◌, arith, ◌⊎◌, inl, inr}
+use Rattle.std.proofs.Common.{◌≡◌, ◌≢◌, ℕ, zero, suc, List, [], ◌∷◌, refl, sym, ap, subst, ◌∙◌, arith, ◌⊎◌, inl, inr}
 use Rattle.std.proofs.lemmas.Bool.{cases_eq}
 use Rattle.clues.specs.declared.block.Block.{Block}
-use Rattle.clues.specs.Clue.{block, longer, joined, clue_of}
+use Rattle.clues.specs.Clue.{block, clue_of}
 use Rattle.line_settle.proofs.ClueLemmas.{Apart, clue_more_at, clue_apart, no_block, same_colour, longer_first, shorter_first, apart_from_clue, first_block, first_colour, clue_behind, clue_background}
 
 -- the line spells the rest of a pattern to its end, where `last` is the cell of the pattern that was spelled last

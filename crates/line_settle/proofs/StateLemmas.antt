@@ -1,7 +1,7 @@
 -- Spelling a pattern from a state: by one cell, and to the end.
-use Rattle.std.proofs.Common.{◌≡◌, ◌≢◌, ℕ, zero, suc, ◌+◌, ◌<◌, ◌≤◌, Bool, true, false, List, [], ◌∷◌, refl, sym, ap, subst, ◌∙◌, arith, ◌⊎◌, inl, inr, ◌==◌, ◌&&◌, ◌||◌, not, length, get_or, drop, drop-cons, add-one, rules}
-use Rattle.std.proofs.lemmas.Bool.{cases_lt, cases_eq, and_parts, and_from, or_cases, or_left, or_right, not-true, not_from_false, eqb-true, eqb-false, ltb-true, lt-ltb, leb-true, le-leb}
-use Rattle.std.proofs.Common.{eq-eqb, ne_eqb}
+use Rattle.std.proofs.Common.{◌≡◌, ◌≢◌, ℕ, suc, ◌+◌, ◌<◌, ◌≤◌, true, List, [], ◌∷◌, refl, sym, subst, arith, ◌⊎◌, inl, inr, length, get_or, drop, drop-cons, add-one}
+use Rattle.std.proofs.lemmas.Bool.{cases_lt, and_parts, and_from, or_cases, or_left, or_right, not-true, not_from_false, eqb-false, leb-true, le-leb}
+use Rattle.std.proofs.Common.{ne_eqb}
 use Rattle.std.proofs.Math.ListN.{drop_of_length-le}
 use Rattle.line_settle.specs.Spelling.{waits}
 use Rattle.line_settle.proofs.SpellsLemmas.{Spells}

@@ -1,5 +1,5 @@
 -- What one step of the tables says of one cell of a line.
-use Rattle.std.proofs.Common.{◌≡◌, ◌≢◌, ℕ, zero, suc, ◌+◌, ◌-◌, ◌<◌, ◌≤◌, Bool, true, false, List, [], ◌∷◌, refl, sym, ap, subst, ◌∙◌, arith, ◌⊎◌, inl, inr, ◌==◌, ◌&&◌, ◌||◌, not, length, get_or, nat_lt, eq-eqb}
+use Rattle.std.proofs.Common.{◌≡◌, ℕ, ◌+◌, ◌-◌, ◌<◌, Bool, true, List, refl, sym, ap, subst, ◌∙◌, arith, inl, inr, length, get_or, eq-eqb}
 use Rattle.std.proofs.lemmas.Bool.{and_parts, and_from, or_cases, or_left, or_right, eqb-true, ltb-true, lt-ltb}
 use Rattle.line_settle.specs.Spelling.{allows, waits, finish_step, reach_step, passes}
 use Rattle.line_settle.proofs.StateLemmas.{Step}

@@ -1,10 +1,10 @@
 -- The tables of reached and of finishing states say which colours a line that spells the pattern can have in a cell.
-use Rattle.std.proofs.Common.{◌≡◌, ◌≢◌, ℕ, zero, suc, ◌+◌, ◌-◌, ◌<◌, ◌≤◌, Bool, true, false, List, [], ◌∷◌, refl, sym, ap, subst, ◌∙◌, arith, ◌⊎◌, inl, inr, ◌==◌, length, get_or, drop, drop-cons, add-one, eq-eqb}
+use Rattle.std.proofs.Common.{◌≡◌, ℕ, zero, suc, ◌+◌, ◌<◌, Bool, true, List, [], ◌∷◌, refl, sym, subst, arith, inl, inr, length, get_or, drop, drop-cons, eq-eqb}
 use Rattle.std.proofs.lemmas.List.{length-drop}
 use Rattle.std.proofs.lemmas.Bool.{eqb-true}
-use Rattle.line_settle.specs.Spelling.{allows, waits, finish_step, finishes, reach_step, reaches, passes}
-use Rattle.line_settle.proofs.StateLemmas.{SpellsAt, Step, Onward, spells_onward, spells_from, spells_end, end_spells}
-use Rattle.line_settle.proofs.StepLemmas.{Crosses, crosses_finish, finish_crosses, crosses_pass, pass_crosses, Reached, step_reaches, reached_by_step}
+use Rattle.line_settle.specs.Spelling.{allows, finishes, reach_step, reaches, passes}
+use Rattle.line_settle.proofs.StateLemmas.{SpellsAt, Step, spells_onward, spells_from, spells_end, end_spells}
+use Rattle.line_settle.proofs.StepLemmas.{crosses_finish, finish_crosses, crosses_pass, pass_crosses, step_reaches, reached_by_step}
 
 -- each cell's colour is one of its mask
 abbrev pub Keeps : List ℕ → List ℕ → Type 0

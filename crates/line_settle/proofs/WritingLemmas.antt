@@ -1,6 +1,6 @@
 -- Writing a pattern block by block.
-use Rattle.std.proofs.Common.{◌≡◌, ℕ, zero, suc, ◌+◌, ◌<◌, ◌≤◌, Bool, true, false, List, [], ◌∷◌, ◌++◌, ◌==◌, replicate, refl, sym, ap, ◌∙◌, arith, length, get_or, take, drop, drop-cons, append_assoc, add-one}
-use Rattle.std.proofs.lemmas.List.{length-append, length-take, at_drop_more}
+use Rattle.std.proofs.Common.{◌≡◌, ℕ, suc, ◌+◌, ◌<◌, ◌≤◌, Bool, List, [], ◌∷◌, ◌++◌, ◌==◌, replicate, refl, sym, ap, ◌∙◌, arith, length, get_or, take, drop, drop-cons, append_assoc, add-one}
+use Rattle.std.proofs.lemmas.List.{length-append, length-take}
 use Rattle.std.proofs.Math.ListN.{set}
 use Rattle.clues.specs.declared.block.Block.{Block}
 use Rattle.line_settle.specs.Spelling.{gap, spelled_after, pattern_of}

@@ -9,7 +9,7 @@ use Rattle.picture.specs.CellSet.{HasCell}
 use Rattle.clues.specs.declared.block.Block.{Block}
 use Rattle.clues.specs.ClueBook.{Clues, clue_at}
 use Rattle.line_settle.specs.declared.line_engine.Outcome.{Outcome}
-use Rattle.line_settle.specs.Fitting.{CanFit, CanHave}
+use Rattle.line_settle.specs.Fitting.{CanHave}
 use Rattle.line_settle.specs.Narrowing.{Narrows}
 
 -- colour k is left in a cell, or excluded there
@@ -54,7 +54,8 @@ pub record MakesBaseRow (givens : List ℕ) (picture old new : List (List ℕ)) 
   pub elsewhere : (r col : ℕ) → (r ≡ row → ⊥) → cell_at new r col ≡ cell_at old r col
 
 -- A line forces an exclusion where no list that fits has the colour in that cell. Facts are closed for clues when they
--- hold every exclusion that a line forces from them: each colour left on a line stands in some list that fits.
+-- hold every exclusion that a line forces from them. Told of what is left: each colour left on a line is had there by
+-- some list that fits (`ClosedLinesHoldWhatTheyForce` joins the two).
 abbrev pub IsClosedLine : List Block → List ℕ → Type 0
 IsClosedLine clue left = (i k : ℕ) → IsBitSet (slice_index left i) k → CanHave clue left i k
 

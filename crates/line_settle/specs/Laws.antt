@@ -1,15 +1,16 @@
 -- Laws of fitting and forcing.
-use Rattle.std.specs.Prelude.{◌≡◌, ℕ, ◌+◌, List}
+use Rattle.std.specs.Prelude.{◌≡◌, ℕ, ◌+◌, ◌↔◌, List, IsBitSet, slice_index}
 use Rattle.picture.specs.declared.line_id.LineId.{LineId}
 use Rattle.picture.specs.Rows.{line_of}
 use Rattle.clues.specs.declared.block.Block.{Block}
+use Rattle.clues.specs.Clue.{IsClue}
 use Rattle.clues.specs.ClueBook.{Clues}
 use Rattle.line_settle.specs.declared.line_engine.Outcome.{Outcome}
 use Rattle.line_settle.specs.declared.line_engine.Outcome.TheVariants.{Narrowed}
 use Rattle.line_settle.specs.declared.meter.Meter.{Meter}
 use Rattle.line_settle.specs.Counting.{Counts}
 use Rattle.line_settle.specs.Fitting.{Fits, CanHave, Forces, IsTighter}
-use Rattle.line_settle.specs.FactSets.{IsWithin, IsLeast}
+use Rattle.line_settle.specs.FactSets.{IsClosedLine, IsWithin, IsLeast}
 use Rattle.line_settle.specs.Narrowing.{Narrows}
 
 -- with fewer colours left no more is possible, and so no less is forced
@@ -37,3 +38,7 @@ LeastIsUnique = (clues : Clues) (base one other : List (List ℕ)) → IsLeast c
 -- work that is done in two parts is counted as one
 abbrev pub CountsAdd : Type 0
 CountsAdd = (e t f u : ℕ) (start between end : Meter) (p q r : ℕ) → Counts e t start between p q → Counts f u between end q r → Counts (e + f) (t + u) start end p r
+
+-- a line is closed exactly where each exclusion that it forces is there
+abbrev pub ClosedLinesHoldWhatTheyForce : Type 0
+ClosedLinesHoldWhatTheyForce = (clue : List Block) (left : List ℕ) → IsClue clue → IsClosedLine clue left ↔ ((i k : ℕ) → Forces clue left i k → IsBitSet (slice_index left i) k → ⊥)

@@ -1,5 +1,5 @@
 -- Masks of colours.
-use Rattle.std.specs.Prelude.{◌≡◌, ℕ, ◌-◌, ◌^◌, IsBitSet, bit_and, ◌↔◌}
+use Rattle.std.specs.Prelude.{◌≡◌, ℕ, IsBitSet, bit_and, ◌↔◌}
 use Rattle.std.specs.Int.{bit_not, w16}
 
 -- the mask without the colours of another

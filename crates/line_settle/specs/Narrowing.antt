@@ -1,5 +1,5 @@
 -- What narrowing a line gives.
-use Rattle.std.specs.Prelude.{◌≡◌, ℕ, ◌<◌, List, length, slice_index, IsBitSet, ◌↔◌}
+use Rattle.std.specs.Prelude.{◌≡◌, ℕ, List, length, slice_index, IsBitSet, ◌↔◌}
 use Rattle.clues.specs.declared.block.Block.{Block}
 use Rattle.line_settle.specs.declared.line_engine.Outcome.{Outcome}
 use Rattle.line_settle.specs.declared.line_engine.Outcome.TheVariants.{Narrowed, Dead}

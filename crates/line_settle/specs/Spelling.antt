@@ -1,5 +1,5 @@
 -- A clue spelled cell by cell: its pattern, and the states that a line goes through as it is read along the pattern.
-use Rattle.std.specs.Prelude.{ℕ, zero, suc, ◌+◌, ◌-◌, ◌*◌, ◌/◌, ◌^◌, List, [], ◌∷◌, ◌++◌, Bool, true, false, cond, ◌&&◌, ◌||◌, not, ◌==◌, nat_le, nat_lt, length, slice_index, slice_index_or, bit_and, replicate}
+use Rattle.std.specs.Prelude.{ℕ, zero, suc, ◌+◌, ◌-◌, ◌*◌, ◌/◌, ◌^◌, List, [], ◌∷◌, ◌++◌, Bool, false, cond, ◌&&◌, ◌||◌, not, ◌==◌, nat_le, nat_lt, length, slice_index, slice_index_or, bit_and, replicate}
 use Rattle.clues.specs.declared.block.Block.{Block}
 
 -- one background cell where two blocks of one colour meet

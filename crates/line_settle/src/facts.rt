@@ -83,7 +83,8 @@ impl Facts {
         ensures value { result ≡ cell_at self.now row col }
         ensures facts { IsFacts self.now }
     {
-        self.masks[row as usize * self.width as usize + col as usize]
+        let place = row as usize * self.width as usize + col as usize;
+        self.masks[place]
     }
 
     /// Whether a colour is excluded in a cell.

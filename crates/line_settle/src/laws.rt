@@ -1,6 +1,7 @@
 //! Laws of the definitions in `specs/`. Each function does nothing, and its contract is the law.
 
 ghost use Rattle.line_settle.specs.Laws.{
+  ClosedLinesHoldWhatTheyForce,
   CountsAdd,
   FittingListStays,
   ForcingIsMonotone,
@@ -12,6 +13,11 @@ ghost use Rattle.line_settle.specs.Laws.{
 /// With fewer colours left, a line forces no less.
 pub fn forcing_is_monotone()
     ensures { ForcingIsMonotone }
+{}
+
+/// A line is closed exactly where the facts hold each exclusion that it forces.
+pub fn closed_lines_hold_what_they_force()
+    ensures { ClosedLinesHoldWhatTheyForce }
 {}
 
 /// Narrowing what was narrowed changes nothing.

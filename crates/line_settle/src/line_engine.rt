@@ -1,4 +1,5 @@
-ghost use Rattle.std.specs.Prelude.{◌≡◌, ℕ, ◌+◌, ◌-◌, ◌^◌, ◌≤◌, length, min};
+ghost use Rattle.std.specs.Prelude.{◌≡◌, ℕ, ◌≤◌, length};
+ghost use Rattle.line_settle.specs.Counting.{counted};
 ghost use Rattle.line_settle.specs.Narrowing.{Narrows};
 
 use clues::Clue;
@@ -34,7 +35,7 @@ pub trait LineEngine {
         requires same_length { length left.now ≡ length out.old }
         requires short { length left.now ≤ longest self.old }
         ensures narrows { Narrows clue.now left.now result out.new }
-        ensures counted { count.new ≡ min (count.old + 1) (2 ^ 64 - 1) }
-        ensures called { calls self.new ≡ min (calls self.old + 1) (2 ^ 64 - 1) }
+        ensures counted { count.new ≡ counted count.old 1 }
+        ensures called { calls self.new ≡ counted (calls self.old) 1 }
         ensures same_longest { longest self.new ≡ longest self.old };
 }

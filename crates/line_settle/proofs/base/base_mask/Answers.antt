@@ -1,4 +1,4 @@
-use Rattle.std.proofs.Common.{◌∙◌, ◌*◌, ◌%◌, ◌^◌, ap, sym, refl, arith}
+use Rattle.std.proofs.Common.{◌*◌, ◌%◌, ◌^◌, ap, refl}
 use Rattle.std.proofs.lemmas.Bool.{false≢true}
 use Rattle.line_settle.proofs.BaseLemmas.{given_open, free_open}
 use Rattle.line_settle.proofs.base.base_mask.Goals as goal

@@ -1,4 +1,4 @@
-use Rattle.std.proofs.Common.{arith, refl}
+use Rattle.std.proofs.Common.{refl}
 use Rattle.line_settle.proofs.AlongLemmas.{written_more, written_all}
 use Rattle.line_settle.proofs.forcing.write_line.Goals as goal
 

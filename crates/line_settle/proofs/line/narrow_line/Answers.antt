@@ -1,4 +1,4 @@
-use Rattle.std.proofs.Common.{◌∙◌, ◌+◌, ◌<◌, ◌≡◌, sym, ap, refl, arith, length, take, replicate}
+use Rattle.std.proofs.Common.{◌∙◌, ◌+◌, ◌<◌, ◌≡◌, sym, ap, arith, length, take, replicate}
 use Rattle.std.proofs.lemmas.List.{length-take}
 use Rattle.line_settle.specs.Spelling.{pattern_of}
 use Rattle.line_settle.proofs.NarrowLemmas.{narrows_some_at, narrows_none_at, narrows_long, written_colours}

@@ -1,4 +1,4 @@
-use Rattle.std.proofs.Common.{◌++◌, ap, refl, length, arith}
+use Rattle.std.proofs.Common.{◌++◌, ap, refl, arith}
 use Rattle.std.proofs.lemmas.List.{length-set}
 use Rattle.line_settle.specs.Spelling.{spelled_after}
 use Rattle.line_settle.proofs.WritingLemmas.{first_written, spelled_past}

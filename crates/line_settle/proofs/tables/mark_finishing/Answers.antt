@@ -1,4 +1,4 @@
-use Rattle.std.proofs.Common.{arith, ◌∙◌, ◌-◌, length}
+use Rattle.std.proofs.Common.{arith, ◌-◌, length}
 use Rattle.line_settle.specs.Spelling.{truth_at}
 use Rattle.line_settle.proofs.FillLemmas.{last_finishes, last_stored, stored_more, finishing_behind}
 use Rattle.line_settle.proofs.tables.mark_finishing.Goals as goal

@@ -1,4 +1,4 @@
-use Rattle.std.proofs.Common.{◌≡◌, ℕ, ◌<◌, ◌≤◌, ◌-◌, length}
+use Rattle.std.proofs.Common.{◌≡◌, ℕ, ◌<◌, ◌≤◌, length}
 use Rattle.line_settle.specs.Spelling.{reach_step, truth_at}
 use Rattle.line_settle.proofs.tables.step_forward.Given as goal
 

@@ -1,4 +1,4 @@
-use Rattle.std.proofs.Common.{◌≡◌, ◌<◌, ◌↔◌, ℕ}
+use Rattle.std.proofs.Common.{◌<◌, ◌↔◌, ℕ}
 use Rattle.picture.specs.Rows.{width_of}
 use Rattle.line_settle.specs.FactSets.{SameShape, IsOpen, Leaves}
 use Rattle.line_settle.proofs.facts.Facts.base.Given as goal
