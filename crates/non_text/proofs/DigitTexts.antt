@@ -1,14 +1,14 @@
 -- Numbers as they are written, read again.
-use Rattle.std.proofs.Common.{◌≡◌, ◌≢◌, ℕ, ◌+◌, ◌-◌, ◌*◌, ◌^◌, ◌<◌, ◌≤◌, Bool, true, false, cond, not, eqb, leb, List, [], ◌∷◌, ◌++◌, length, Option, Some, None, refl, sym, ap, ◌∙◌, arith, rules, inl, inr}
+use Rattle.std.proofs.Common.{◌≡◌, ℕ, ◌^◌, ◌<◌, ◌≤◌, true, false, cond, eqb, leb, List, [], ◌∷◌, length, Some, None, refl, ap, ◌∙◌, arith, rules}
 use Rattle.std.specs.Prelude.{◌&&◌, ◌||◌, decimal}
 use Rattle.std.specs.Char.{is_ascii_digit}
 use Rattle.std.specs.Str.{all_ascii_digits}
 use Rattle.std.specs.List.{list_all}
-use Rattle.std.proofs.lemmas.Bool.{leb-true, le-leb, ne_eqb, and_parts}
+use Rattle.std.proofs.lemmas.Bool.{leb-true, ne_eqb, and_parts}
 use Rattle.std.proofs.lemmas.Str.Parse.{IsNumeralModel, numerals_by_fold}
 use Rattle.std.proofs.lemmas.Fmt.{digits_decimal, digits_value-decimal, decimal_nonempty}
-use Rattle.non_text.specs.Bytes.{is_empty, is_blank, past_blanks, before_blanks, trimmed, value_after, number_of}
-use Rattle.non_text.proofs.BytesLemmas.{past_blanks_other, past_blanks_none, before_blanks_none}
+use Rattle.non_text.specs.Bytes.{is_blank, past_blanks, before_blanks, trimmed, value_after, number_of}
+use Rattle.non_text.proofs.BytesLemmas.{past_blanks_other, past_blanks_none}
 
 -- a digit is from 48 to 57
 pub digit_range : (d : ℕ) → is_ascii_digit d ≡ true → (48 ≤ d) × (d ≤ 57)

@@ -1,21 +1,20 @@
 -- The rows of a picture in two colours, and the clues of its lines.
-use Rattle.std.proofs.Common.{◌≡◌, ◌≢◌, ℕ, zero, suc, ◌+◌, ◌-◌, ◌*◌, ◌<◌, ◌≤◌, Bool, true, false, cond, eqb, leb, List, [], ◌∷◌, ◌++◌, length, get_or, take, drop, map, refl, sym, ap, subst, ◌∙◌, arith, inl, inr}
-use Rattle.std.specs.Prelude.{◌&&◌, ◌||◌}
+use Rattle.std.proofs.Common.{◌≡◌, ℕ, zero, suc, ◌+◌, ◌*◌, ◌<◌, ◌≤◌, Bool, true, false, cond, eqb, leb, List, [], ◌∷◌, ◌++◌, length, get_or, take, drop, map, refl, ap, subst, ◌∙◌, arith}
+use Rattle.std.specs.Prelude.{◌&&◌}
 use Rattle.std.specs.List.{flat_map, list_all, range_with_len, All}
-use Rattle.std.proofs.lemmas.Bool.{leb-true, ne_eqb, eq-eqb, and_parts}
-use Rattle.std.proofs.lemmas.List.{append_assoc, length-append, length-map, map-append, get_or_past, take_at, drop_at}
+use Rattle.std.proofs.lemmas.Bool.{leb-true, and_parts}
+use Rattle.std.proofs.lemmas.List.{length-append, length-map, map-append, get_or_past, take_at, drop_at}
 use Rattle.std.proofs.lemmas.List.Elements.{All-nil, All-cons, All-append}
 use Rattle.std.proofs.lemmas.List.FromFn.{length-map-range_with_len}
-use Rattle.picture.specs.Rows.{rows_of, width_of, row_at, line_along}
-use Rattle.picture.specs.Picture.{IsPicture}
+use Rattle.picture.specs.Rows.{rows_of, row_at, line_along}
 use Rattle.picture.specs.declared.line_id.Axis.TheVariants.{Across, Down}
 use Rattle.clues.specs.declared.block.Block.{Block}
 use Rattle.clues.specs.Clue.{clue_of}
-use Rattle.clues.specs.ClueBook.{clues_of, first_clues}
+use Rattle.clues.specs.ClueBook.{first_clues}
 use Rattle.non_text.specs.Goal.{is_cell_digit, cell_of}
 use Rattle.non_text.specs.Writing.{is_two_colour_row, is_two_colour}
 use Rattle.non_text.specs.Written.{digit_of}
-use Rattle.non_text.proofs.ClueTexts.{IsTwoColour, IsWritable, writable, two_colour_cells}
+use Rattle.non_text.proofs.ClueTexts.{IsTwoColour, IsWritable, writable}
 use Rattle.non_text.proofs.WrittenLines.{AreWritable}
 
 -- rows of so many cells, in two colours

@@ -1,29 +1,27 @@
 -- What is written of a picture is read again.
-use Rattle.std.proofs.Common.{◌≡◌, ◌≢◌, ℕ, zero, suc, ◌+◌, ◌-◌, ◌*◌, ◌^◌, ◌<◌, ◌≤◌, Bool, true, false, cond, eqb, leb, List, [], ◌∷◌, ◌++◌, length, map, sum, Option, Some, None, Result, Ok, Err, refl, sym, ap, ◌∙◌, arith, inl, inr}
+use Rattle.std.proofs.Common.{◌≡◌, ℕ, ◌^◌, ◌<◌, ◌≤◌, Bool, true, false, cond, eqb, leb, List, [], ◌∷◌, ◌++◌, length, map, sum, Some, None, Ok, refl, sym, ap, ◌∙◌, arith}
 use Rattle.std.proofs.lemmas.List.Sums.{sum_by-cons}
 use Rattle.std.specs.Prelude.{◌&&◌, codes, decimal, is_none, nat_eq}
-use Rattle.std.specs.Option.{option_and_then, ok_or}
+use Rattle.std.specs.Option.{option_and_then}
 use Rattle.std.specs.Cmp.Lexicographic.{pointwise}
 use Rattle.std.specs.Str.{all_ascii_digits}
 use Rattle.std.specs.Char.{is_ascii_digit}
-use Rattle.std.specs.List.{slice_split, flat_map, join_with_byte}
+use Rattle.std.specs.List.{flat_map}
 use Rattle.std.proofs.lemmas.Bool.{le-leb, and_parts}
 use Rattle.std.proofs.lemmas.List.Splits.{slice_split_at}
-use Rattle.picture.specs.declared.line_id.Axis.TheVariants.{Across, Down}
 use Rattle.picture.specs.Reading.{◌>>=◌}
 use Rattle.picture.specs.Rows.{width_of}
 use Rattle.picture.specs.Picture.{IsPicture}
 use Rattle.clues.specs.declared.block.Block.{Block}
-use Rattle.clues.specs.ClueBook.{Clues, clues_from, clues_of, first_clues}
+use Rattle.clues.specs.ClueBook.{clues_from, clues_of}
 use Rattle.non_text.specs.declared.seen.Seen.{Seen}
 use Rattle.non_text.specs.declared.non_puzzle.NonPuzzle.{NonPuzzle}
-use Rattle.non_text.specs.declared.fault.NonFault.{NonFault}
 use Rattle.non_text.specs.declared.fault.NonFault.TheVariants.{BadSize}
-use Rattle.non_text.specs.Bytes.{is_blank, past_blanks, before_blanks, trimmed, first_word, past_word, number_of}
-use Rattle.non_text.specs.Lines.{is_blank_line, is_comment, lines_of, keyword_of, value_of, at_keyword, section_of}
+use Rattle.non_text.specs.Bytes.{is_blank, past_blanks, first_word, past_word}
+use Rattle.non_text.specs.Lines.{is_blank_line, is_comment, lines_of, keyword_of, value_of, at_keyword}
 use Rattle.non_text.specs.Section.{section_clues, found_clues, clues_behind}
 use Rattle.non_text.specs.Goal.{quoted, goal_digits, goal_in}
-use Rattle.non_text.specs.Puzzle.{size_within, size_in, first_fault, size_behind, found_goal, goal_behind, agreeing, puzzle_of, non_of}
+use Rattle.non_text.specs.Puzzle.{size_within, size_in, first_fault, size_behind, found_goal, goal_behind, agreeing, puzzle_of}
 use Rattle.non_text.specs.RoundTrip.{IsReadAgain}
 use Rattle.non_text.specs.Writing.{is_two_colour}
 use Rattle.non_text.specs.Written.{clue_text, digit_of, goal_text, written_lines, non_text_of}
@@ -31,9 +29,9 @@ use Rattle.non_text.proofs.BytesLemmas.{before_blanks_other}
 use Rattle.non_text.proofs.DigitTexts.{digit_range, trimmed_digits, decimal_digits, number_of-decimal}
 use Rattle.non_text.proofs.LinesLemmas.{at_keyword_found, at_keyword_later}
 use Rattle.non_text.proofs.GoalLemmas.{goal_is}
-use Rattle.non_text.proofs.SeenLemmas.{faults_below, faults_first, faults_none}
+use Rattle.non_text.proofs.SeenLemmas.{faults_first, faults_none}
 use Rattle.non_text.proofs.PuzzleLemmas.{agreeing_same}
-use Rattle.non_text.proofs.ClueTexts.{BeginsDigit, lens_of, IsWritable, small_sum, clue_text_begins, no_comment}
+use Rattle.non_text.proofs.ClueTexts.{lens_of, small_sum, clue_text_begins, no_comment}
 use Rattle.non_text.proofs.WrittenLines.{is_printed, printed_append, IsShown, AreShown, lines_of-written, ArePlain, at_keyword-plain, section_of-plain, faults_step, faults-plain, AreWritable, plain_clues, section_clues-texts}
 use Rattle.non_text.proofs.PictureTexts.{AreRows, are_rows, cell_digits, digits_printed, no_quotes, length-digits, rows_again, rows_writable, columns_writable, length-rows_clues, length-columns_clues}
 

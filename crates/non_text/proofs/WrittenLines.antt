@@ -1,10 +1,10 @@
 -- The lines of a written text, found again.
-use Rattle.std.proofs.Common.{◌≡◌, ◌≢◌, ℕ, zero, suc, ◌+◌, ◌-◌, ◌*◌, ◌^◌, ◌<◌, ◌≤◌, Bool, true, false, cond, not, eqb, leb, List, [], ◌∷◌, ◌++◌, length, get_or, take, drop, map, Option, Some, None, Result, Ok, Err, refl, sym, ap, ◌∙◌, arith, inl, inr}
+use Rattle.std.proofs.Common.{◌≡◌, ◌≢◌, ℕ, zero, suc, ◌-◌, ◌<◌, ◌≤◌, Bool, true, false, cond, not, eqb, leb, List, [], ◌∷◌, ◌++◌, length, get_or, take, drop, map, Option, Some, None, Ok, Err, refl, ap, ◌∙◌, arith}
 use Rattle.std.specs.Prelude.{◌&&◌, ◌||◌, codes, filter, nat_eq, is_none}
 use Rattle.std.specs.Cmp.Lexicographic.{pointwise}
 use Rattle.std.specs.List.{slice_split, flat_map, list_all, list_any, All}
 use Rattle.std.specs.Str.Lines.{strip_carriage_return}
-use Rattle.std.proofs.lemmas.Bool.{leb-true, le-leb, lt-leb, ne_eqb, eq-eqb, and_parts}
+use Rattle.std.proofs.lemmas.Bool.{leb-true, ne_eqb, eq-eqb, and_parts}
 use Rattle.std.proofs.lemmas.List.{append_assoc, get_or_past, length-map, take_all}
 use Rattle.std.proofs.lemmas.List.Elements.{All-nil, All-cons}
 use Rattle.std.proofs.lemmas.List.Splits.{slice_split_at}
@@ -13,8 +13,8 @@ use Rattle.clues.specs.declared.block.Block.{Block}
 use Rattle.non_text.specs.declared.seen.Seen.{Seen}
 use Rattle.non_text.specs.declared.fault.NonFault.{NonFault}
 use Rattle.non_text.specs.declared.fault.NonFault.TheVariants.{Repeated, BadSize, BadCount}
-use Rattle.non_text.specs.Lines.{all_lines, is_blank_line, is_comment, lines_of, keyword_of, value_of, has_keyword, at_keyword, is_keyword_line, section_of}
-use Rattle.non_text.specs.ClueLine.{clue_in, clues_in}
+use Rattle.non_text.specs.Lines.{all_lines, is_comment, lines_of, keyword_of, value_of, has_keyword, at_keyword, section_of}
+use Rattle.non_text.specs.ClueLine.{clues_in}
 use Rattle.non_text.specs.Section.{is_full_line, leaves_blanks, kept_lines, section_clues}
 use Rattle.non_text.specs.Puzzle.{size_in, first_of_two}
 use Rattle.non_text.specs.Seen.{seen_with, fault_below}
