@@ -7,3 +7,8 @@ pub mod GoalLemmas
 pub mod SeenLemmas
 pub mod PuzzleLemmas
 pub mod TextLemmas
+pub mod DigitTexts
+pub mod ClueTexts
+pub mod WrittenLines
+pub mod PictureTexts
+pub mod RoundTrip

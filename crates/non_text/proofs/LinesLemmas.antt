@@ -1,6 +1,6 @@
 -- The pieces of a text and its lines.
-use Rattle.std.proofs.Common.{◌≡◌, ℕ, ◌+◌, ◌-◌, ◌<◌, ◌≤◌, Bool, true, false, cond, not, eqb, List, [], ◌∷◌, ◌++◌, length, get_or, take, drop, Option, Some, None, refl, sym, ap, ◌∙◌, add-one, arith}
-use Rattle.std.specs.List.{slice_split, onto_first, position, position_or_len, before_first, after_first}
+use Rattle.std.proofs.Common.{◌≡◌, ℕ, ◌+◌, ◌-◌, ◌<◌, ◌≤◌, Bool, true, false, cond, not, eqb, List, [], ◌∷◌, length, take, drop, Some, None, refl, sym, ap, ◌∙◌, arith}
+use Rattle.std.specs.List.{slice_split, onto_first, position, position_or_len}
 use Rattle.std.proofs.lemmas.Option.{cond_some}
 use Rattle.std.proofs.lemmas.Bool.{ltb-true, ltb-false}
 use Rattle.std.proofs.lemmas.List.{take_rest}
@@ -8,7 +8,7 @@ use Rattle.std.specs.Prelude.{filter}
 use Rattle.std.specs.Str.Lines.{strip_carriage_return}
 use Rattle.non_text.specs.Bytes.{is_empty}
 use Rattle.non_text.specs.Lines.{lines_of_pieces, all_lines, is_comment, lines_of, keyword_of, section_of, has_keyword, at_keyword}
-use Rattle.std.proofs.lemmas.List.Splits.{length-slice_split, slice_split_first, slice_split_none}
+use Rattle.std.proofs.lemmas.List.Splits.{length-slice_split, slice_split_first}
 
 -- the front up to the first separator
 pub split_found : (separator : ℕ) (bytes : List ℕ) (end : ℕ) → position (λ b. eqb b separator) bytes ≡ Some end → slice_split (λ b. eqb b separator) bytes ≡ take end bytes ∷ slice_split (λ b. eqb b separator) (take (length bytes - (end + 1)) (drop (end + 1) bytes))

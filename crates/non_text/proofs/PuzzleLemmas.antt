@@ -1,19 +1,17 @@
 -- The parts of a puzzle.
-use Rattle.std.proofs.Common.{◌≡◌, ◌≢◌, ℕ, ◌+◌, ◌<◌, ◌≤◌, Bool, true, false, cond, eqb, leb, List, [], ◌∷◌, length, Option, Some, None, Result, Ok, Err, Decides, refl, sym, ap, ◌∙◌, arith, inl, inr, ◌↔◌}
-use Rattle.std.specs.Prelude.{◌&&◌, IsTrue}
+use Rattle.std.proofs.Common.{◌≡◌, ℕ, ◌<◌, ◌≤◌, Bool, true, false, cond, eqb, leb, List, Option, Some, None, Result, Ok, Err, Decides, refl, ap, ◌∙◌, arith}
+use Rattle.std.specs.Prelude.{◌&&◌}
 use Rattle.std.specs.Option.{option_and_then}
 use Rattle.std.specs.Cmp.Lexicographic.{pointwise}
-use Rattle.std.proofs.lemmas.Bool.{leb-true, eqb-true, eq-eqb, and_parts, and_from, false≢true}
-use Rattle.std.proofs.lemmas.Bool.Decides.{Decides-eqb}
+use Rattle.std.proofs.lemmas.Bool.{leb-true, eqb-true, eq-eqb, and_parts, and_from}
 use Rattle.std.proofs.lemmas.Slice.Eq.{slice_eq-Decides}
 use Rattle.clues.specs.declared.block.Block.{Block}
-use Rattle.clues.specs.ClueBook.{Clues, clues_from, clues_of, IsBook}
+use Rattle.clues.specs.ClueBook.{Clues, clues_from, clues_of}
 use Rattle.non_text.specs.declared.non_puzzle.NonPuzzle.{NonPuzzle}
 use Rattle.non_text.specs.declared.fault.NonFault.{NonFault}
 use Rattle.non_text.specs.declared.fault.NonFault.TheVariants.{GoalDisagrees}
 use Rattle.non_text.specs.Bytes.{number_of}
 use Rattle.non_text.specs.Lines.{at_keyword, value_of}
-use Rattle.non_text.specs.Section.{clues_behind}
 use Rattle.non_text.specs.Puzzle.{size_within, size_in, size_behind, same_block, same_clues, agreeing}
 use Rattle.non_text.proofs.SectionLemmas.{clues_count}
 

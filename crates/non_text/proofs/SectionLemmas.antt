@@ -1,5 +1,5 @@
 -- The lines of a section, and the clues that they give.
-use Rattle.std.proofs.Common.{◌≡◌, ◌≢◌, ℕ, zero, suc, ◌+◌, ◌-◌, ◌<◌, ◌≤◌, Bool, true, false, cond, not, eqb, leb, List, [], ◌∷◌, ◌++◌, length, take, drop, Option, Some, None, ◌⊎◌, Result, Ok, Err, refl, sym, ap, ◌∙◌, arith, inl, inr}
+use Rattle.std.proofs.Common.{◌≡◌, ℕ, zero, suc, ◌+◌, ◌-◌, ◌<◌, ◌≤◌, Bool, true, false, cond, not, eqb, leb, List, [], ◌∷◌, ◌++◌, length, take, drop, Option, Some, None, ◌⊎◌, Result, Ok, Err, refl, sym, ap, ◌∙◌, arith, inl, inr}
 use Rattle.std.specs.Prelude.{◌&&◌, ◌||◌, filter}
 use Rattle.std.specs.List.{list_any}
 use Rattle.std.proofs.lemmas.List.{append_assoc, append-nil, drop_all, length-take-le}
@@ -11,7 +11,7 @@ use Rattle.non_text.specs.declared.fault.NonFault.{NonFault}
 use Rattle.non_text.specs.declared.fault.NonFault.TheVariants.{BadCount, Memory}
 use Rattle.non_text.specs.Lines.{is_blank_line, section_of, at_keyword}
 use Rattle.non_text.specs.ClueLine.{clue_in, clues_in}
-use Rattle.non_text.specs.Section.{is_full_line, leaves_blanks, kept_lines, section_clues, found_clues, clues_behind, kept_in}
+use Rattle.non_text.specs.Section.{is_full_line, leaves_blanks, kept_lines, section_clues, found_clues, clues_behind}
 use Rattle.non_text.specs.Counting.{with_line, count_after, count_of}
 
 -- ---- the lines that give clues

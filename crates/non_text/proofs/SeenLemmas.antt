@@ -1,13 +1,12 @@
 -- Sizes, and the first fault of the lines.
-use Rattle.std.proofs.Common.{◌≡◌, ◌≢◌, ℕ, ◌+◌, ◌<◌, ◌≤◌, Bool, true, false, cond, leb, List, [], ◌∷◌, length, Option, Some, None, ◌⊎◌, min, refl, sym, ap, ◌∙◌, arith, inl, inr}
+use Rattle.std.proofs.Common.{◌≡◌, ℕ, ◌<◌, ◌≤◌, Bool, true, false, cond, leb, List, [], ◌∷◌, Option, Some, None, ◌⊎◌, min, refl, sym, ap, ◌∙◌, arith, inl, inr}
 use Rattle.std.specs.Prelude.{◌&&◌, option_map}
 use Rattle.std.specs.Option.{option_and_then}
-use Rattle.std.proofs.lemmas.Bool.{le-leb, lt-leb, leb-true, cases_lt, and_parts}
+use Rattle.std.proofs.lemmas.Bool.{le-leb, lt-leb}
 use Rattle.non_text.specs.declared.seen.Seen.{Seen}
 use Rattle.non_text.specs.declared.fault.NonFault.{NonFault}
 use Rattle.non_text.specs.Bytes.{number_of}
-use Rattle.non_text.specs.Lines.{at_keyword, value_of}
-use Rattle.non_text.specs.Puzzle.{size_within, size_in, line_fault, first_of_two, first_fault, size_behind}
+use Rattle.non_text.specs.Puzzle.{size_within, size_in, line_fault, first_of_two, first_fault}
 use Rattle.non_text.specs.Seen.{seen_on, seen_with, fault_below}
 
 -- ---- sizes

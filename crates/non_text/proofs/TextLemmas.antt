@@ -1,13 +1,13 @@
 -- The text of a picture, part by part.
 use Rattle.std.proofs.Common.{◌≡◌, ℕ, ◌+◌, ◌-◌, ◌<◌, ◌≤◌, Bool, true, false, List, [], ◌∷◌, ◌++◌, length, get_or, take, drop, map, refl, sym, ap, ◌∙◌, arith}
 use Rattle.std.specs.Prelude.{◌&&◌, decimal, codes}
-use Rattle.std.specs.List.{flat_map, list_all, join_with_byte}
+use Rattle.std.specs.List.{flat_map}
 use Rattle.std.proofs.lemmas.List.{at_drop_more, at_drop_all, append_assoc, append-nil, take_all, take_more}
 use Rattle.picture.specs.Rows.{row_at, width_of}
 use Rattle.clues.specs.declared.block.Block.{Block}
 use Rattle.clues.specs.ClueBook.{clues_of}
 use Rattle.non_text.specs.Writing.{is_two_colour_row, is_two_colour}
-use Rattle.non_text.specs.Written.{clue_text, digit_of, goal_text, written_lines, ended_line, ended_clue, non_text_of}
+use Rattle.non_text.specs.Written.{clue_text, goal_text, ended_line, ended_clue, non_text_of}
 
 -- ---- rows one by one
 

@@ -1,5 +1,5 @@
 -- The goal of a puzzle: a string of digits, row by row.
-use Rattle.std.specs.Prelude.{ℕ, ◌*◌, Bool, ◌&&◌, ◌||◌, List, [], ◌∷◌, length, map, Option, None, Some, Result, Ok, Err, ◌==◌, if◌then◌else◌}
+use Rattle.std.specs.Prelude.{ℕ, ◌*◌, Bool, ◌&&◌, ◌||◌, List, [], ◌∷◌, length, map, Option, None, Some, Result, ◌==◌, if◌then◌else◌}
 use Rattle.std.specs.List.{slice_split, list_all}
 use Rattle.std.specs.Option.{ok_or, option_and_then}
 use Rattle.picture.specs.Rows.{rows_of}

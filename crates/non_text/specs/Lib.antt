@@ -5,6 +5,7 @@ pub mod Faults
 pub mod Goal
 pub mod Lines
 pub mod Puzzle
+pub mod RoundTrip
 pub mod Section
 pub mod Seen
 pub mod Writing

@@ -1,11 +1,11 @@
 -- Which keywords stand on the lines above, as the reader keeps them.
-use Rattle.std.specs.Prelude.{ℕ, Bool, ◌&&◌, ◌||◌, List, [], ◌∷◌, Option, None, Some, is_none, codes, if◌then◌else◌}
+use Rattle.std.specs.Prelude.{ℕ, Bool, ◌&&◌, ◌||◌, List, Option, None, Some, is_none, codes, if◌then◌else◌}
 use Rattle.std.specs.List.{list_any}
 use Rattle.non_text.specs.declared.seen.Seen.{Seen}
 use Rattle.non_text.specs.declared.fault.NonFault.{NonFault}
 use Rattle.non_text.specs.declared.fault.NonFault.TheVariants.{BadSize, Repeated}
 use Rattle.non_text.specs.Lines.{has_keyword, value_of}
-use Rattle.non_text.specs.Puzzle.{size_in, is_size_line, first_of_two}
+use Rattle.non_text.specs.Puzzle.{size_in, is_size_line}
 
 -- the keywords on these lines
 abbrev pub seen_on : List (List ℕ) → Seen

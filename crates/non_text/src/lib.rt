@@ -5,15 +5,19 @@ mod clue_line;
 mod counting;
 mod fault;
 mod goal;
+mod laws;
 mod lines;
 mod non_puzzle;
 mod reading;
 mod section;
 mod seen;
+#[cfg(test)]
+mod tests;
 mod text;
 mod writing;
 
 pub use fault::{NonFault, NonWriteFault};
+pub use laws::{round_trip, round_trip_of};
 pub use non_puzzle::NonPuzzle;
 pub use reading::read_non;
 pub use writing::write_non;

@@ -1,0 +1,157 @@
+-- The rows of a picture in two colours, and the clues of its lines.
+use Rattle.std.proofs.Common.{◌≡◌, ℕ, zero, suc, ◌+◌, ◌*◌, ◌<◌, ◌≤◌, Bool, true, false, cond, eqb, leb, List, [], ◌∷◌, ◌++◌, length, get_or, take, drop, map, refl, ap, subst, ◌∙◌, arith}
+use Rattle.std.specs.Prelude.{◌&&◌}
+use Rattle.std.specs.List.{flat_map, list_all, range_with_len, All}
+use Rattle.std.proofs.lemmas.Bool.{leb-true, and_parts}
+use Rattle.std.proofs.lemmas.List.{length-append, length-map, map-append, get_or_past, take_at, drop_at}
+use Rattle.std.proofs.lemmas.List.Elements.{All-nil, All-cons, All-append}
+use Rattle.std.proofs.lemmas.List.FromFn.{length-map-range_with_len}
+use Rattle.picture.specs.Rows.{rows_of, row_at, line_along}
+use Rattle.picture.specs.declared.line_id.Axis.TheVariants.{Across, Down}
+use Rattle.clues.specs.declared.block.Block.{Block}
+use Rattle.clues.specs.Clue.{clue_of}
+use Rattle.clues.specs.ClueBook.{first_clues}
+use Rattle.non_text.specs.Goal.{is_cell_digit, cell_of}
+use Rattle.non_text.specs.Writing.{is_two_colour_row, is_two_colour}
+use Rattle.non_text.specs.Written.{digit_of}
+use Rattle.non_text.proofs.ClueTexts.{IsTwoColour, IsWritable, writable}
+use Rattle.non_text.proofs.WrittenLines.{AreWritable}
+
+-- rows of so many cells, in two colours
+abbrev pub AreRows : ℕ → List (List ℕ) → Type 0
+AreRows width [] = Unit {0}
+AreRows width (row ∷ rows) = (length row ≡ width) × IsTwoColour row × AreRows width rows
+
+two_colour_row : (row : List ℕ) → is_two_colour_row row ≡ true → IsTwoColour row
+two_colour_row [] e = tt
+two_colour_row (cell ∷ row) e =
+    let parts = and_parts (leb cell 1) (is_two_colour_row row) e in
+    (leb-true cell 1 parts.0, two_colour_row row parts.1)
+
+pub are_rows : (width : ℕ) (rows : List (List ℕ)) → ((i : ℕ) → i < length rows → length (row_at rows i) ≡ width) → is_two_colour rows ≡ true → AreRows width rows
+are_rows width [] even e = tt
+are_rows width (row ∷ rows) even e =
+    let parts = and_parts (is_two_colour_row row) (is_two_colour rows) e in
+    (even 0 (omega arith), two_colour_row row parts.0, are_rows width rows (λ i lt. even (suc i) (omega (arith, lt))) parts.1)
+
+-- ---- digits
+
+digit_is_cell : (cell : ℕ) → is_cell_digit (digit_of cell) ≡ true
+digit_is_cell cell = by_test (eqb cell 0)
+  where
+    by_test : (t : Bool) → is_cell_digit (cond t 48 49) ≡ true
+    by_test true = refl
+    by_test false = refl
+
+all_append : (p : ℕ → Bool) (xs ys : List ℕ) → list_all p xs ≡ true → list_all p ys ≡ true → list_all p (xs ++ ys) ≡ true
+all_append p [] ys ex ey = ey
+all_append p (x ∷ xs) ys ex ey =
+    let parts = and_parts (p x) (list_all p xs) ex in
+    ap (λ t. t && list_all p (xs ++ ys)) parts.0 ∙ all_append p xs ys parts.1 ey
+
+row_digits : (p : ℕ → Bool) → ((cell : ℕ) → p (digit_of cell) ≡ true) → (row : List ℕ) → list_all p (map digit_of row) ≡ true
+row_digits p each [] = refl
+row_digits p each (cell ∷ row) = ap (λ t. t && list_all p (map digit_of row)) (each cell) ∙ row_digits p each row
+
+-- what holds of both digits holds of all
+pub all_digits : (p : ℕ → Bool) → ((cell : ℕ) → p (digit_of cell) ≡ true) → (rows : List (List ℕ)) → list_all p (flat_map (map digit_of) rows) ≡ true
+all_digits p each [] = refl
+all_digits p each (row ∷ rows) = all_append p (map digit_of row) (flat_map (map digit_of) rows) (row_digits p each row) (all_digits p each rows)
+
+pub cell_digits : (rows : List (List ℕ)) → list_all is_cell_digit (flat_map (map digit_of) rows) ≡ true
+cell_digits rows = all_digits is_cell_digit digit_is_cell rows
+
+digit_printed : (cell : ℕ) → leb 32 (digit_of cell) ≡ true
+digit_printed cell = by_test (eqb cell 0)
+  where
+    by_test : (t : Bool) → leb 32 (cond t 48 49) ≡ true
+    by_test true = refl
+    by_test false = refl
+
+pub digits_printed : (rows : List (List ℕ)) → list_all (λ b. leb 32 b) (flat_map (map digit_of) rows) ≡ true
+digits_printed rows = all_digits (λ b. leb 32 b) digit_printed rows
+
+digit_no_quote : (cell : ℕ) → eqb (digit_of cell) 34 ≡ false
+digit_no_quote cell = by_test (eqb cell 0)
+  where
+    by_test : (t : Bool) → eqb (cond t 48 49) 34 ≡ false
+    by_test true = refl
+    by_test false = refl
+
+row_no_quote : (row : List ℕ) → All (λ b. eqb b 34 ≡ false) (map digit_of row)
+row_no_quote [] = All-nil (λ b. eqb b 34 ≡ false)
+row_no_quote (cell ∷ row) = All-cons (λ b. eqb b 34 ≡ false) (digit_of cell) (map digit_of row) (digit_no_quote cell) (row_no_quote row)
+
+pub no_quotes : (rows : List (List ℕ)) → All (λ b. eqb b 34 ≡ false) (flat_map (map digit_of) rows)
+no_quotes [] = All-nil (λ b. eqb b 34 ≡ false)
+no_quotes (row ∷ rows) = All-append (λ b. eqb b 34 ≡ false) (map digit_of row) (flat_map (map digit_of) rows) (row_no_quote row) (no_quotes rows)
+
+pub length-digits : (width : ℕ) (rows : List (List ℕ)) → AreRows width rows → length (flat_map (map digit_of) rows) ≡ length rows * width
+length-digits width [] are = omega arith
+length-digits width (row ∷ rows) are =
+    let first = length-map row digit_of in
+    let later = length-digits width rows are.2 in
+    let both = length-append (map digit_of row) (flat_map (map digit_of) rows) in
+    let even = are.0 in
+    omega (arith, first, later, both, even)
+
+cell_again : (cell : ℕ) → cell ≤ 1 → cell_of (digit_of cell) ≡ cell
+cell_again zero low = refl
+cell_again (suc zero) low = refl
+cell_again (suc (suc cell)) low = absurd (omega (arith, low))
+
+cells_again : (row : List ℕ) → IsTwoColour row → map cell_of (map digit_of row) ≡ row
+cells_again [] two = refl
+cells_again (cell ∷ row) two = ap (λ x. x ∷ map cell_of (map digit_of row)) (cell_again cell two.0) ∙ ap (λ (rest : List ℕ). cell ∷ rest) (cells_again row two.1)
+
+-- the rows are cut from their digits again
+pub rows_again : (width : ℕ) (rows : List (List ℕ)) → AreRows width rows → rows_of (length rows) width (map cell_of (flat_map (map digit_of) rows)) ≡ rows
+rows_again width [] are = refl
+rows_again width (row ∷ rows) are =
+    let later = map cell_of (flat_map (map digit_of) rows) in
+    let cells : map cell_of (map digit_of row ++ flat_map (map digit_of) rows) ≡ row ++ later = map-append cell_of (map digit_of row) (flat_map (map digit_of) rows) ∙ ap (λ (first : List ℕ). first ++ later) (cells_again row are.1) in
+    ap (λ (all : List ℕ). take width all ∷ rows_of (length rows) width (drop width all)) cells
+    ∙ ap (λ (first : List ℕ). first ∷ rows_of (length rows) width (drop width (row ++ later))) (take_at row later width are.0)
+    ∙ ap (λ (rest : List ℕ). row ∷ rows_of (length rows) width rest) (drop_at row later width are.0)
+    ∙ ap (λ (rest : List (List ℕ)). row ∷ rest) (rows_again width rows are.2)
+
+-- ---- lines
+
+row_is : (width : ℕ) (rows : List (List ℕ)) (i : ℕ) → AreRows width rows → i < length rows → IsWritable width (clue_of (row_at rows i))
+row_is width [] i are lt = absurd (omega (arith, lt))
+row_is width (row ∷ rows) zero are lt = subst (λ n. IsWritable n (clue_of row)) are.0 (writable row are.1)
+row_is width (row ∷ rows) (suc i) are lt = row_is width rows i are.2 (omega (arith, lt))
+
+low_cell : (row : List ℕ) (j : ℕ) → IsTwoColour row → get_or row j 0 ≤ 1
+low_cell [] j two = omega (arith, get_or_past {X = ℕ} [] j 0 (omega arith))
+low_cell (cell ∷ row) zero two = two.0
+low_cell (cell ∷ row) (suc j) two = low_cell row j two.1
+
+column_two_colour : (width : ℕ) (rows : List (List ℕ)) (j : ℕ) → AreRows width rows → IsTwoColour (map (λ (row : List ℕ). get_or row j 0) rows)
+column_two_colour width [] j are = tt
+column_two_colour width (row ∷ rows) j are = (low_cell row j are.1, column_two_colour width rows j are.2)
+
+column_is : (width : ℕ) (rows : List (List ℕ)) (j : ℕ) → AreRows width rows → IsWritable (length rows) (clue_of (map (λ (row : List ℕ). get_or row j 0) rows))
+column_is width rows j are =
+    let column = map (λ (row : List ℕ). get_or row j 0) rows in
+    subst (λ n. IsWritable n (clue_of column)) (length-map rows (λ (row : List ℕ). get_or row j 0)) (writable column (column_two_colour width rows j are))
+
+range_writable : (clue : ℕ → List Block) (cells a n : ℕ) → ((i : ℕ) → i < a + n → IsWritable cells (clue i)) → AreWritable cells (map clue (range_with_len a n))
+range_writable clue cells a zero each = tt
+range_writable clue cells a (suc n) each = (each a (omega arith), range_writable clue cells (a + 1) n (λ i lt. each i (omega (arith, lt))))
+
+pub rows_writable : (width : ℕ) (rows : List (List ℕ)) → AreRows width rows → AreWritable width (first_clues Across rows (length rows))
+unfolding first_clues
+rows_writable width rows are = range_writable (λ i. clue_of (line_along Across i rows)) width 0 (length rows) (λ i lt. row_is width rows i are (omega (arith, lt)))
+
+pub columns_writable : (width n : ℕ) (rows : List (List ℕ)) → AreRows width rows → AreWritable (length rows) (first_clues Down rows n)
+unfolding first_clues
+columns_writable width n rows are = range_writable (λ j. clue_of (line_along Down j rows)) (length rows) 0 n (λ j lt. column_is width rows j are)
+
+pub length-rows_clues : (rows : List (List ℕ)) (n : ℕ) → length (first_clues Across rows n) ≡ n
+unfolding first_clues
+length-rows_clues rows n = length-map-range_with_len (λ i. clue_of (line_along Across i rows)) 0 n
+
+pub length-columns_clues : (rows : List (List ℕ)) (n : ℕ) → length (first_clues Down rows n) ≡ n
+unfolding first_clues
+length-columns_clues rows n = length-map-range_with_len (λ j. clue_of (line_along Down j rows)) 0 n

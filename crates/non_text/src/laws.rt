@@ -1,0 +1,23 @@
+//! What holds of the reader and the writer together.
+
+ghost use Rattle.std.specs.Prelude.{◌≡◌, ℕ, List, true};
+ghost use Rattle.picture.specs.Picture.{IsPicture};
+ghost use Rattle.non_text.specs.RoundTrip.{IsReadAgain};
+ghost use Rattle.non_text.specs.Writing.{is_two_colour};
+
+use picture::Picture;
+
+#[tactic(auto, using(crate::proofs::RoundTrip::again))]
+/// The law of the round trip: where no cell of a picture has a colour above 1, the text that `write_non` writes is read
+/// by `read_non` as the picture's clues, with the picture as the goal. Nothing is computed.
+pub fn round_trip()
+    ensures { (rows : List (List ℕ)) → IsPicture rows → is_two_colour rows ≡ true → IsReadAgain rows }
+{}
+
+/// The law of the round trip at one picture.
+pub fn round_trip_of(picture: &Picture)
+    ensures { is_two_colour picture.now ≡ true → IsReadAgain picture.now }
+{
+    round_trip();
+    let _ = picture.height();
+}
