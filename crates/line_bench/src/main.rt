@@ -22,8 +22,8 @@ fn main(rt: HostRuntime) -> Result<()> {
     ensure!(0 < blocks && blocks <= 60, "{blocks} blocks");
     let clue = clue_with(rt.alloc(), blocks)?;
     let mut engine = PlainEngine::make(rt.alloc(), CELLS as u8)?;
-    let (evaluations, possible) = evaluate(&mut engine, &clue, rounds);
-    println!(rt; "{blocks} blocks: {evaluations} evaluations, {possible} colours possible")?;
+    let (evaluations, open) = evaluate(&mut engine, &clue, rounds);
+    println!(rt; "{blocks} blocks: {evaluations} evaluations, {open} cells open")?;
     Ok(())
 }
 
@@ -34,8 +34,8 @@ fn clue_with(alloc: Global, blocks: u8) -> Result<Clue, AllocError> {
     Clue::from_blocks(alloc, &blocks)
 }
 
-// Evaluates the line with all colours left, and says how often, and how many colours are possible in the end.
-fn evaluate<E: LineEngine>(engine: &mut E, clue: &Clue, rounds: u32) -> (u64, u32)
+// Evaluates the line with all colours left, and says how often, and how many cells have more than one colour in the end.
+fn evaluate<E: LineEngine>(engine: &mut E, clue: &Clue, rounds: u32) -> (u64, usize)
     requires { 120 ≤ E.longest engine.old }
 {
     let left = [u16::MAX; CELLS];
@@ -46,5 +46,6 @@ fn evaluate<E: LineEngine>(engine: &mut E, clue: &Clue, rounds: u32) -> (u64, u3
             return (count, 0);
         }
     }
-    (count, out.iter().map(|mask| mask.count_ones()).sum())
+    let open = out.iter().filter(|mask| mask.count_ones() > 1).count();
+    (count, open)
 }
