@@ -59,7 +59,7 @@ closed_lines clue left b = (
 
 -- ---- narrowing
 
-have_left : {clue : List Block} {left : List ℕ} {i k : ℕ} → CanHave clue left i k → IsBitSet (get_or left i 0) k
+pub have_left : {clue : List Block} {left : List ℕ} {i k : ℕ} → CanHave clue left i k → IsBitSet (get_or left i 0) k
 have_left {left = left} {i = i} h = let P : ℕ → Type 0 = λ c. IsBitSet (get_or left i 0) c in subst P h.has (h.fits.keeps i h.within)
 
 pub narrowed_tighter : (clue : List Block) (left out : List ℕ) (outcome : Outcome) → Narrows clue left outcome out → IsTighter left out

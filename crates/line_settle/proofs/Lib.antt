@@ -15,5 +15,6 @@ pub mod FactLemmas
 pub mod BaseLemmas
 pub mod AlongLemmas
 pub mod LawLemmas
+pub mod ForceLemmas
 pub mod WritingLemmas
 pub mod FittingLemmas

@@ -10,7 +10,7 @@ use Rattle.line_settle.specs.declared.line_engine.Outcome.TheVariants.{Narrowed}
 use Rattle.line_settle.specs.declared.meter.Meter.{Meter}
 use Rattle.line_settle.specs.Counting.{Counts}
 use Rattle.line_settle.specs.Fitting.{Fits, CanHave, Forces, IsTighter}
-use Rattle.line_settle.specs.FactSets.{IsClosedLine, IsWithin, IsLeast}
+use Rattle.line_settle.specs.FactSets.{Gains, IsClosedLine, IsWithin, IsLeast}
 use Rattle.line_settle.specs.Narrowing.{Narrows}
 
 -- with fewer colours left no more is possible, and so no less is forced
@@ -42,3 +42,10 @@ CountsAdd = (e t f u : ℕ) (start between end : Meter) (p q r : ℕ) → Counts
 -- a line is closed exactly where each exclusion that it forces is there
 abbrev pub ClosedLinesHoldWhatTheyForce : Type 0
 ClosedLinesHoldWhatTheyForce = (clue : List Block) (left : List ℕ) → IsClue clue → IsClosedLine clue left ↔ ((i k : ℕ) → Forces clue left i k → IsBitSet (slice_index left i) k → ⊥)
+
+-- Forcing a line adds exclusions, stays inside all facts that hold the old ones and are closed on the line, and leaves
+-- the line closed.
+pub record ForcingClosesALine : Type 0 where
+  pub grows : (clue : List Block) (line : LineId) (old new : List (List ℕ)) (outcome : Outcome) → Gains clue line old new outcome → IsWithin old new
+  pub stays_inside : (clue : List Block) (line : LineId) (old new : List (List ℕ)) (outcome : Outcome) → Gains clue line old new outcome → (others : List (List ℕ)) → IsWithin old others → IsClosedLine clue (line_of others line) → IsWithin new others
+  pub closes : (clue : List Block) (line : LineId) (old new : List (List ℕ)) (outcome : Outcome) → Gains clue line old new outcome → IsClosedLine clue (line_of new line)

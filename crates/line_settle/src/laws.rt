@@ -4,6 +4,7 @@ ghost use Rattle.line_settle.specs.Laws.{
   ClosedLinesHoldWhatTheyForce,
   CountsAdd,
   FittingListStays,
+  ForcingClosesALine,
   ForcingIsMonotone,
   LeastIsUnique,
   NarrowingTwiceIsOnce,
@@ -18,6 +19,11 @@ pub fn forcing_is_monotone()
 /// A line is closed exactly where the facts hold each exclusion that it forces.
 pub fn closed_lines_hold_what_they_force()
     ensures { ClosedLinesHoldWhatTheyForce }
+{}
+
+/// Forcing a line adds exclusions, stays inside all closed facts that hold the old ones, and leaves the line closed.
+pub fn forcing_closes_a_line()
+    ensures { ForcingClosesALine }
 {}
 
 /// Narrowing what was narrowed changes nothing.

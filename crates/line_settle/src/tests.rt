@@ -342,6 +342,7 @@ fn a_line_forces_its_exclusions(rt: HostRuntime) -> Result<(), Fail> {
 fn the_laws_do_nothing() {
     laws::forcing_is_monotone();
     laws::closed_lines_hold_what_they_force();
+    laws::forcing_closes_a_line();
     laws::narrowing_twice_is_once();
     laws::fitting_list_stays();
     laws::one_line_decides();
