@@ -17,3 +17,7 @@ pub mod AlongLemmas
 pub mod LawLemmas
 pub mod WritingLemmas
 pub mod FittingLemmas
+pub mod PositionLemmas
+pub mod SetStepLemmas
+pub mod SetTableLemmas
+pub mod SetNarrowLemmas
