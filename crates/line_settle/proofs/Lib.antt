@@ -18,3 +18,7 @@ pub mod LawLemmas
 pub mod ForceLemmas
 pub mod WritingLemmas
 pub mod FittingLemmas
+pub mod PositionLemmas
+pub mod SetStepLemmas
+pub mod SetTableLemmas
+pub mod SetNarrowLemmas

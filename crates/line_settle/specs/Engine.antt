@@ -1,5 +1,5 @@
 -- What is seen of a line engine.
-use Rattle.std.specs.Prelude.{◌≡◌, ℕ, ◌+◌, ◌*◌, Bool, List, length}
+use Rattle.std.specs.Prelude.{◌≡◌, ℕ, ◌+◌, ◌*◌, ◌≤◌, Bool, List, length}
 
 -- the longest line that it takes, and how often it has narrowed one
 pub record Engine : Type 0 where
@@ -14,3 +14,9 @@ pub record EngineRoom (longest : ℕ) (pattern : List ℕ) (row table : List Boo
   pub pattern_room : length pattern ≡ longest + 1
   pub row_room : length row ≡ longest + 1
   pub table_room : length table ≡ (longest + 1) * (longest + 1)
+
+-- the buffers of a mask engine: a pattern, and a set of positions for each of its states
+pub record MaskRoom (longest : ℕ) (pattern back : List ℕ) : Type 0 where
+  pub pattern_room : length pattern ≡ longest + 1
+  pub back_room : length back ≡ longest + 1
+  pub short : longest ≤ 120

@@ -5,4 +5,5 @@ pub mod Fitting
 pub mod Laws
 pub mod Masks
 pub mod Narrowing
+pub mod Positions
 pub mod Spelling

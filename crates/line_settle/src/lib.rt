@@ -7,14 +7,19 @@ mod forcing;
 pub mod laws;
 mod line;
 mod line_engine;
+mod mask_engine;
+mod mask_line;
 mod meter;
 mod pattern;
+mod position_tables;
 mod plain_engine;
+mod positions;
 mod tables;
 
 pub use facts::Facts;
 pub use forcing::force;
 pub use line_engine::{LineEngine, Outcome};
+pub use mask_engine::MaskEngine;
 pub use meter::Meter;
 pub use plain_engine::PlainEngine;
 

@@ -1,4 +1,4 @@
-use crate::{Facts, LineEngine, Meter, Outcome, PlainEngine, force, laws};
+use crate::{Facts, LineEngine, MaskEngine, Meter, Outcome, PlainEngine, force, laws};
 use clues::{Block, Clue, clue_of};
 use picture::{Axis, CellSet, Document, LineId, Palette, Picture, Rgb};
 use std::alloc::Global;
@@ -254,10 +254,107 @@ fn a_plain_engine_agrees_with_a_listing(rt: HostRuntime) -> Result<(), Fail> {
 }
 
 #[test]
+fn a_mask_engine_shows_the_worked_rows(rt: HostRuntime) -> Result<(), Fail> {
+    let mut engine = MaskEngine::make(rt.alloc(), 120)?;
+    assert_eq!(rt; engine.longest(), 120);
+    assert_eq!(rt; engine.calls(), 0);
+    worked_rows(&rt, rt.alloc(), &mut engine)?;
+    full_rows(&rt, rt.alloc(), &mut engine)
+}
+
+#[test]
+fn a_mask_engine_agrees_with_a_listing(rt: HostRuntime) -> Result<(), Fail> {
+    let mut engine = MaskEngine::make(rt.alloc(), 4)?;
+    listing(&rt, rt.alloc(), &mut engine)
+}
+
+// The next number of a small generator.
+fn draw(state: &mut u64) -> u64 {
+    *state = state
+        .wrapping_mul(6_364_136_223_846_793_005)
+        .wrapping_add(1_442_695_040_888_963_407);
+    *state >> 33
+}
+
+// The colours left in a cell that has this colour: of four cells `open` keep every colour, some of the others keep a few
+// more than their own, and one cell in 400 may lose its own.
+fn draw_left(state: &mut u64, open: u64, colour: u8) -> u16 {
+    let own = match colour {
+        0 => 1,
+        1 => 2,
+        2 => 4,
+        _ => 8,
+    };
+    if draw(state) % 400 == 0 {
+        return (draw(state) % 16) as u16;
+    }
+    if draw(state) % 4 < open {
+        return ALL;
+    }
+    if draw(state) % 2 == 0 {
+        own
+    } else {
+        own | (draw(state) % 16) as u16
+    }
+}
+
+// Compares two engines on a random line.
+fn agree_on_a_line<E: LineEngine, F: LineEngine>(
+    rt: &impl Abort,
+    alloc: Global,
+    state: &mut u64,
+    one: &mut E,
+    other: &mut F,
+) -> Result<Outcome, Fail> {
+    let len = 1 + (draw(state) % 120) as usize;
+    let colours = 2 + draw(state) % 3;
+    let run = 1 + draw(state) % 6;
+    let open = draw(state) % 5;
+    let mut cells = [0; 120];
+    let mut left = [0; 120];
+    let mut colour = 0;
+    for i in 0..len {
+        if draw(state) % run == 0 {
+            colour = (draw(state) % colours) as u8;
+        }
+        cells[i] = colour;
+        left[i] = draw_left(state, open, colour);
+    }
+    let clue = clue_from(rt, alloc, &cells[..len])?;
+    let mut first = [0; 120];
+    let mut second = [0; 120];
+    let outcome = narrow(rt, one, &clue, &left[..len], &mut first[..len]);
+    assert_eq!(rt;
+        narrow(rt, other, &clue, &left[..len], &mut second[..len]),
+        outcome
+    );
+    assert_eq!(rt; first, second);
+    Ok(outcome)
+}
+
+#[test]
+fn both_engines_agree_on_random_lines(rt: HostRuntime) -> Result<(), Fail> {
+    let mut plain = PlainEngine::make(rt.alloc(), 120)?;
+    let mut masks = MaskEngine::make(rt.alloc(), 120)?;
+    let mut state = 20_070_311;
+    let mut dead = 0u32;
+    for _ in 0..5_000 {
+        let outcome = agree_on_a_line(&rt, rt.alloc(), &mut state, &mut plain, &mut masks)?;
+        if outcome == Outcome::Dead {
+            dead = dead.saturating_add(1);
+        }
+    }
+    assert!(rt; 100 < dead && dead < 4_900);
+    Ok(())
+}
+
+#[test]
 fn an_engine_for_no_cells_takes_the_empty_line(rt: HostRuntime) -> Result<(), Fail> {
-    let mut engine = PlainEngine::make(rt.alloc(), 0)?;
     let clue = Clue::from_blocks(rt.alloc(), &[])?;
-    shows(&rt, &mut engine, &clue, Outcome::Narrowed, &[]);
+    let mut plain = PlainEngine::make(rt.alloc(), 0)?;
+    shows(&rt, &mut plain, &clue, Outcome::Narrowed, &[]);
+    let mut masks = MaskEngine::make(rt.alloc(), 0)?;
+    shows(&rt, &mut masks, &clue, Outcome::Narrowed, &[]);
     Ok(())
 }
 

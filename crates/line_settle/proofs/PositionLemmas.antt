@@ -1,0 +1,371 @@
+-- Sets of positions as masks: what is in them after `&`, `|`, shifts and additions.
+use Rattle.std.proofs.Common.{◌≡◌, ◌≢◌, ℕ, zero, suc, ◌+◌, ◌-◌, ◌*◌, ◌/◌, ◌%◌, ◌^◌, ◌<◌, ◌≤◌, Bool, true, false, List, ◌==◌, ◌&&◌, ◌||◌, bit_and, bit_or, bit_xor, refl, sym, ap, subst, ◌∙◌, arith, ◌⊎◌, inl, inr, eq-eqb, ne_eqb, eqb-true, max, min, length, get_or, set}
+use Rattle.std.specs.Int.{bit_at}
+use Rattle.std.proofs.lemmas.Bool.{cases_eq, cases_lt}
+use Rattle.std.proofs.Math.Nat.{pow-succ', div-div-eq-div-mul}
+use Rattle.std.proofs.lemmas.List.{get_or_past, get_or-set_same, get_or-set_other}
+use Rattle.std.proofs.lemmas.Nat.Bits.{shr_and_one, bit_at_lowest, bit_at-suc, bit_at_and, bit_at_or, bit_at_xor, bit_at-lt, bit_at-zero, bit_at_above, bit_at-pow_same, bit_at-pow_other, bit_at_cat_low}
+use Rattle.std.proofs.lemmas.Grind.{one_shifted}
+use Rattle.line_settle.specs.Spelling.{allows}
+use Rattle.line_settle.specs.Positions.{has}
+use Rattle.line_settle.proofs.BitLemmas.{allows_is, allows_none, allows_or, allows_shifted}
+
+-- ---- numbers below 2 as tests
+
+min_is_one : (a b : ℕ) → a < 2 → b < 2 → (min a b == 1) ≡ ((a == 1) && (b == 1))
+min_is_one zero zero h i = refl
+min_is_one zero (suc zero) h i = refl
+min_is_one (suc zero) zero h i = refl
+min_is_one (suc zero) (suc zero) h i = refl
+min_is_one (suc (suc a)) b h i = absurd (omega arith)
+min_is_one zero (suc (suc b)) h i = absurd (omega arith)
+min_is_one (suc zero) (suc (suc b)) h i = absurd (omega arith)
+
+max_is_one : (a b : ℕ) → a < 2 → b < 2 → (max a b == 1) ≡ ((a == 1) || (b == 1))
+max_is_one zero zero h i = refl
+max_is_one zero (suc zero) h i = refl
+max_is_one (suc zero) zero h i = refl
+max_is_one (suc zero) (suc zero) h i = refl
+max_is_one (suc (suc a)) b h i = absurd (omega arith)
+max_is_one zero (suc (suc b)) h i = absurd (omega arith)
+max_is_one (suc zero) (suc (suc b)) h i = absurd (omega arith)
+
+-- ---- sets
+
+pub has_allows : (a i : ℕ) → has a i ≡ allows a i
+unfolding has
+has_allows a i = sym (allows_is a i)
+
+pub has_bit : (a b i j : ℕ) → bit_at a i ≡ bit_at b j → has a i ≡ has b j
+unfolding has
+has_bit a b i j e = ap (λ x. x == 1) e
+
+pub has_and : (a b i : ℕ) → has (bit_and a b) i ≡ (has a i && has b i)
+unfolding has
+has_and a b i = ap (λ x. x == 1) (bit_at_and a b i) ∙ min_is_one (bit_at a i) (bit_at b i) (bit_at-lt a i) (bit_at-lt b i)
+
+pub has_or : (a b i : ℕ) → has (bit_or a b) i ≡ (has a i || has b i)
+unfolding has
+has_or a b i = ap (λ x. x == 1) (bit_at_or a b i) ∙ max_is_one (bit_at a i) (bit_at b i) (bit_at-lt a i) (bit_at-lt b i)
+
+pub has_none : (i : ℕ) → has 0 i ≡ false
+unfolding has
+has_none i = ap (λ x. x == 1) (bit_at-zero i)
+
+pub has_power : (k i : ℕ) → has (2 ^ k) i ≡ (i == k)
+unfolding has
+has_power k i = elim (cases_eq i k) [
+  | inl e ↦ ap (λ x. bit_at (2 ^ k) x == 1) e ∙ (ap (λ x. x == 1) (bit_at-pow_same k) ∙ sym (eq-eqb i k e))
+  | inr n ↦ ap (λ x. x == 1) (bit_at-pow_other k i n) ∙ sym (ne_eqb i k n)
+]
+
+pub has_one : (i : ℕ) → has 1 i ≡ (i == 0)
+has_one i = has_power 0 i
+
+pub has_place : (k i : ℕ) → k < 128 → has (1 * 2 ^ k % 340282366920938463463374607431768211456) i ≡ (i == k)
+has_place k i h = ap (λ m. has m i) (one_shifted k 340282366920938463463374607431768211455 refl h).0 ∙ has_power k i
+
+pub has_above : (a i : ℕ) → a < 2 ^ 128 → 128 ≤ i → has a i ≡ false
+unfolding has
+has_above a i h l = ap (λ x. x == 1) (bit_at_above a 128 i h l)
+
+-- a shift to lower positions
+bit_shifted : (s a i : ℕ) → bit_at (a / 2 ^ s) i ≡ bit_at a (i + s)
+bit_shifted zero a i =
+    let e : a / 2 ^ 0 ≡ a = omega arith in
+    let z : i ≡ i + 0 = omega arith in
+    ap (λ x. bit_at x i) e ∙ ap (λ n. bit_at a n) z
+bit_shifted (suc s) a i =
+    let e : a / 2 ^ suc s ≡ (a / 2) / 2 ^ s = ap (λ n. a / n) (pow-succ' 2 s) ∙ sym (div-div-eq-div-mul a 2 (2 ^ s)) in
+    let z : suc (i + s) ≡ i + suc s = omega arith in
+    ap (λ x. bit_at x i) e ∙ (bit_shifted s (a / 2) i ∙ (sym (bit_at-suc a (i + s)) ∙ ap (λ n. bit_at a n) z))
+
+pub has_down : (s a i : ℕ) → has (a / 2 ^ s) i ≡ has a (i + s)
+has_down s a i = has_bit (a / 2 ^ s) a i (i + s) (bit_shifted s a i)
+
+-- the low 128 bits
+bit_low : (x i : ℕ) → i < 128 → bit_at (x % 340282366920938463463374607431768211456) i ≡ bit_at x i
+bit_low x i h =
+    let e : (x / 340282366920938463463374607431768211456) * 2 ^ 128 + x % 340282366920938463463374607431768211456 ≡ x = omega arith in
+    sym (bit_at_cat_low (x / 340282366920938463463374607431768211456) 128 (x % 340282366920938463463374607431768211456) i h) ∙ ap (λ y. bit_at y i) e
+
+-- a shift to the next position
+bit_doubled_first : (a : ℕ) → bit_at (a * 2) 0 ≡ 0
+bit_doubled_first a = bit_at_lowest (a * 2) ∙ (omega arith)
+
+bit_doubled : (a i : ℕ) → bit_at (a * 2) (suc i) ≡ bit_at a i
+bit_doubled a i = bit_at-suc (a * 2) i ∙ ap (λ x. bit_at x i) (let e : a * 2 / 2 ≡ a = omega arith in e)
+
+pub has_up_first : (a : ℕ) → has (a * 2 % 340282366920938463463374607431768211456) 0 ≡ false
+unfolding has
+has_up_first a = ap (λ x. x == 1) (bit_low (a * 2) 0 (omega arith) ∙ bit_doubled_first a)
+
+pub has_up : (a i : ℕ) → i < 127 → has (a * 2 % 340282366920938463463374607431768211456) (suc i) ≡ has a i
+has_up a i h = has_bit (a * 2 % 340282366920938463463374607431768211456) a (suc i) i (bit_low (a * 2) (suc i) (omega arith) ∙ bit_doubled a i)
+
+-- ---- the carries of an addition
+
+carried : ℕ → ℕ → ℕ → ℕ → ℕ
+carried c a b zero = c
+carried c a b (suc i) = carried ((a % 2 + b % 2 + c) / 2) (a / 2) (b / 2) i
+
+carried_below : (i c a b : ℕ) → c < 2 → carried c a b i < 2
+unfolding carried
+carried_below zero c a b h = h
+carried_below (suc i) c a b h = carried_below i ((a % 2 + b % 2 + c) / 2) (a / 2) (b / 2) (omega arith)
+
+sum_bit : (i c a b : ℕ) → bit_at (a + b + c) i ≡ (bit_at a i + bit_at b i + carried c a b i) % 2
+unfolding carried
+sum_bit zero c a b = bit_at_lowest (a + b + c) ∙ (let u = bit_at_lowest a in let v = bit_at_lowest b in omega arith)
+sum_bit (suc i) c a b =
+    let d = (a % 2 + b % 2 + c) / 2 in
+    let e : (a + b + c) / 2 ≡ a / 2 + b / 2 + d = omega arith in
+    bit_at-suc (a + b + c) i ∙ (ap (λ x. bit_at x i) e ∙ (sum_bit i d (a / 2) (b / 2)
+    ∙ (let u = bit_at-suc a i in let v = bit_at-suc b i in cc)))
+
+carried_more : (i c a b : ℕ) → carried c a b (suc i) ≡ (bit_at a i + bit_at b i + carried c a b i) / 2
+unfolding carried
+carried_more zero c a b = let u = bit_at_lowest a in let v = bit_at_lowest b in cc
+carried_more (suc i) c a b =
+    let u = bit_at-suc a i in
+    let v = bit_at-suc b i in
+    let w = carried_more i ((a % 2 + b % 2 + c) / 2) (a / 2) (b / 2) in
+    cc
+
+-- what the carries of `(from & run) + run` reach, besides the set itself
+abbrev pub risen : ℕ → ℕ → ℕ
+risen from run = bit_or from (bit_xor (bit_xor ((bit_and from run + run) % 340282366920938463463374607431768211456) (bit_and from run)) run)
+
+risen_bit : (from run i : ℕ) → i < 128 → bit_at (risen from run) i ≡ max (bit_at from i) (carried 0 (bit_and from run) run i)
+risen_bit from run i h =
+    let begun = bit_and from run in
+    let total = (begun + run) % 340282366920938463463374607431768211456 in
+    let a = bit_at_or from (bit_xor (bit_xor total begun) run) i in
+    let b = bit_at_xor (bit_xor total begun) run i in
+    let d = bit_at_xor total begun i in
+    let e = bit_low (begun + run) i h in
+    let z : begun + run + 0 ≡ begun + run = omega arith in
+    let s = ap (λ x. bit_at x i) (sym z) ∙ sum_bit i 0 begun run in
+    let l = carried_below i 0 begun run (omega arith) in
+    let f = bit_at-lt begun i in
+    let g = bit_at-lt run i in
+    let k : bit_at (bit_xor (bit_xor total begun) run) i ≡ carried 0 begun run i = omega arith in
+    a ∙ ap (λ x. max (bit_at from i) x) k
+
+first_carry : (from a b : ℕ) → max (bit_at from 0) (carried 0 a b 0) ≡ bit_at from 0
+unfolding carried
+first_carry from a b = omega arith
+
+pub risen_first : (from run : ℕ) → has (risen from run) 0 ≡ has from 0
+risen_first from run = has_bit (risen from run) from 0 0 (risen_bit from run 0 (omega arith) ∙ first_carry from (bit_and from run) run)
+
+carry_on : (s r c : ℕ) → s < 2 → r < 2 → c < 2 → (min s r + r + c) / 2 ≡ min r (max s c)
+carry_on s r c h i j = omega arith
+
+risen_suc : (from run i : ℕ) → i < 127 → has (risen from run) (suc i) ≡ (has from (suc i) || (has run i && has (risen from run) i))
+unfolding has
+risen_suc from run i h =
+    let begun = bit_and from run in
+    let c = carried 0 begun run i in
+    let l = carried_below i 0 begun run (omega arith) in
+    let x = bit_at (risen from run) i in
+    let here : x ≡ max (bit_at from i) c = risen_bit from run i (omega arith) in
+    let m = carried_more i 0 begun run in
+    let n = bit_at_and from run i in
+    let k = carry_on (bit_at from i) (bit_at run i) c (bit_at-lt from i) (bit_at-lt run i) l in
+    let up : carried 0 begun run (suc i) ≡ min (bit_at run i) x = omega arith in
+    let more : bit_at (risen from run) (suc i) ≡ max (bit_at from (suc i)) (min (bit_at run i) x) = risen_bit from run (suc i) (omega arith) ∙ ap (λ y. max (bit_at from (suc i)) y) up in
+    let p = bit_at-lt run i in
+    let q = bit_at-lt (risen from run) i in
+    ap (λ y. y == 1) more
+    ∙ (max_is_one (bit_at from (suc i)) (min (bit_at run i) x) (bit_at-lt from (suc i)) (omega arith)
+    ∙ ap (λ y. (bit_at from (suc i) == 1) || y) (min_is_one (bit_at run i) x p q))
+
+pub risen_on : (from run i : ℕ) → i < 127 → has (risen from run) (i + 1) ≡ (has from (i + 1) || (has run i && has (risen from run) i))
+risen_on from run i h =
+    let P : ℕ → Type 0 = λ n. has (risen from run) n ≡ (has from n || (has run i && has (risen from run) i)) in
+    subst P (let e : suc i ≡ i + 1 = omega arith in e) (risen_suc from run i h)
+
+pub ruleset rising = (risen_first, risen_on)
+
+-- ---- what reaches a set over fewer than n cells
+
+abbrev pub fills : (ℕ → Bool) → (ℕ → Bool) → ℕ → ℕ → Bool
+fills f r zero i = false
+fills f r (suc n) i = f i || (r i && fills f r n (i + 1))
+
+-- n cells in a row
+abbrev pub spans : (ℕ → Bool) → ℕ → ℕ → Bool
+spans r zero i = true
+spans r (suc n) i = r i && spans r n (i + 1)
+
+spread : (f r a l b : Bool) → (f || (r && (a || (l && b)))) ≡ ((f || (r && a)) || ((r && l) && b))
+spread true r a l b = refl
+spread false true a l b = refl
+spread false false a l b = refl
+
+joined : (f r a b : Bool) → ((r && a) && b) ≡ (r && (a && b))
+joined f true a b = refl
+joined f false a b = refl
+
+apart : (i n : ℕ) → i + 1 + n ≡ i + suc n
+apart i n = omega arith
+
+pub fills_more : (f r : ℕ → Bool) (a b i : ℕ) → fills f r (a + b) i ≡ (fills f r a i || (spans r a i && fills f r b (i + a)))
+fills_more f r zero b i = ap (λ n. fills f r n i) (let e : zero + b ≡ b = omega arith in e) ∙ ap (λ n. fills f r b n) (let e : i ≡ i + zero = omega arith in e)
+fills_more f r (suc a) b i =
+    let e : suc a + b ≡ suc (a + b) = omega arith in
+    ap (λ n. fills f r n i) e
+    ∙ (ap (λ x. f i || (r i && x)) (fills_more f r a b (i + 1))
+    ∙ (ap (λ n. f i || (r i && (fills f r a (i + 1) || (spans r a (i + 1) && fills f r b n)))) (apart i a)
+    ∙ spread (f i) (r i) (fills f r a (i + 1)) (spans r a (i + 1)) (fills f r b (i + suc a))))
+
+pub spans_more : (r : ℕ → Bool) (a b i : ℕ) → spans r (a + b) i ≡ (spans r a i && spans r b (i + a))
+spans_more r zero b i = ap (λ n. spans r n i) (let e : zero + b ≡ b = omega arith in e) ∙ ap (λ n. spans r b n) (let e : i ≡ i + zero = omega arith in e)
+spans_more r (suc a) b i =
+    let e : suc a + b ≡ suc (a + b) = omega arith in
+    ap (λ n. spans r n i) e
+    ∙ (ap (λ x. r i && x) (spans_more r a b (i + 1))
+    ∙ (ap (λ n. r i && (spans r a (i + 1) && spans r b n)) (apart i a)
+    ∙ sym (joined true (r i) (spans r a (i + 1)) (spans r b (i + suc a)))))
+
+no_more : (r : Bool) → (r && false) ≡ false
+no_more true = refl
+no_more false = refl
+
+-- where nothing lies from w on, w cells are enough
+fills_enough : (f r : ℕ → Bool) (w : ℕ) → ((j : ℕ) → w ≤ j → f j ≡ false) → (n i : ℕ) → w ≤ i + n → fills f r (suc n) i ≡ fills f r n i
+fills_enough f r w past zero i h = ap (λ x. x || (r i && false)) (past i (omega arith)) ∙ no_more (r i)
+fills_enough f r w past (suc n) i h = ap (λ x. f i || (r i && x)) (fills_enough f r w past n (i + 1) (omega arith))
+
+pub filled : (set run all n i : ℕ) → set < 340282366920938463463374607431768211456 → 128 ≤ n → ((j : ℕ) → has all j ≡ fills (has set) (has run) n j) → has all i ≡ (has set i || (has run i && has all (i + 1)))
+filled set run all n i h l is =
+    let past = λ (j : ℕ) (m : 128 ≤ j). has_above set j h m in
+    is i
+    ∙ (sym (fills_enough (has set) (has run) 128 past n i (omega arith))
+    ∙ ap (λ x. has set i || (has run i && x)) (sym (is (i + 1))))
+
+nothing_more : (f r : Bool) → f ≡ (f || (r && false))
+nothing_more true r = refl
+nothing_more false true = refl
+nothing_more false false = refl
+
+all_true : (r : Bool) → r ≡ (r && true)
+all_true true = refl
+all_true false = refl
+
+pub fills_one : (set run i : ℕ) → has set i ≡ fills (has set) (has run) 1 i
+fills_one set run i = nothing_more (has set i) (has run i)
+
+pub spans_one : (run i : ℕ) → has run i ≡ spans (has run) 1 i
+spans_one run i = all_true (has run i)
+
+pub fills_twice : (set run all runs s t i : ℕ) → t ≡ s + s → ((j : ℕ) → has all j ≡ fills (has set) (has run) s j) → ((j : ℕ) → has runs j ≡ spans (has run) s j) → has (bit_or all (bit_and (all / 2 ^ s) runs)) i ≡ fills (has set) (has run) t i
+fills_twice set run all runs s t i e f g =
+    has_or all (bit_and (all / 2 ^ s) runs) i
+    ∙ (ap (λ x. has all i || x) (has_and (all / 2 ^ s) runs i)
+    ∙ (ap (λ x. has all i || x) (swapped (has (all / 2 ^ s) i) (has runs i))
+    ∙ (ap (λ x. has all i || (has runs i && x)) (has_down s all i)
+    ∙ (ap (λ x. x || (has runs i && has all (i + s))) (f i)
+    ∙ (ap (λ x. fills (has set) (has run) s i || (x && has all (i + s))) (g i)
+    ∙ (ap (λ x. fills (has set) (has run) s i || (spans (has run) s i && x)) (f (i + s))
+    ∙ (sym (fills_more (has set) (has run) s s i) ∙ ap (λ n. fills (has set) (has run) n i) (sym e))))))))
+  where
+    swapped : (a b : Bool) → (a && b) ≡ (b && a)
+    swapped true true = refl
+    swapped true false = refl
+    swapped false true = refl
+    swapped false false = refl
+
+pub spans_twice : (run runs s t i : ℕ) → t ≡ s + s → ((j : ℕ) → has runs j ≡ spans (has run) s j) → has (bit_and runs (runs / 2 ^ s)) i ≡ spans (has run) t i
+spans_twice run runs s t i e g =
+    has_and runs (runs / 2 ^ s) i
+    ∙ (ap (λ x. has runs i && x) (has_down s runs i)
+    ∙ (ap (λ x. x && has runs (i + s)) (g i)
+    ∙ (ap (λ x. spans (has run) s i && x) (g (i + s))
+    ∙ (sym (spans_more (has run) s s i) ∙ ap (λ n. spans (has run) n i) (sym e)))))
+
+pub ruleset falling = (filled, fills_one, spans_one, fills_twice, spans_twice)
+
+
+-- ---- cells that are gathered one by one
+
+pub up_next : (a j : ℕ) → j < 127 → has (a * 2 % 340282366920938463463374607431768211456) (j + 1) ≡ has a j
+up_next a j h =
+    let P : ℕ → Type 0 = λ n. has (a * 2 % 340282366920938463463374607431768211456) n ≡ has a j in
+    subst P (let e : suc j ≡ j + 1 = omega arith in e) (has_up a j h)
+
+true_behind : (b : Bool) → (b || true) ≡ true
+true_behind true = refl
+true_behind false = refl
+
+false_behind : (b : Bool) → (b || false) ≡ b
+false_behind true = refl
+false_behind false = refl
+
+pub put_first : (a : ℕ) → has (bit_or a 1) 0 ≡ true
+put_first a = has_or a 1 0 ∙ (ap (λ x. has a 0 || x) (has_one 0) ∙ true_behind (has a 0))
+
+put_next : (a j : ℕ) → has (bit_or a 1) (j + 1) ≡ has a (j + 1)
+put_next a j =
+    let e : has 1 (j + 1) ≡ false = has_one (j + 1) ∙ ne_eqb (j + 1) 0 (λ z. absurd (omega arith)) in
+    has_or a 1 (j + 1) ∙ (ap (λ x. has a (j + 1) || x) e ∙ false_behind (has a (j + 1)))
+
+pub put_behind : (a j : ℕ) → j < 127 → has (bit_or (a * 2 % 340282366920938463463374607431768211456) 1) (j + 1) ≡ has a j
+put_behind a j h = put_next (a * 2 % 340282366920938463463374607431768211456) j ∙ up_next a j h
+
+pub ruleset pushing = (has_up_first, up_next, put_first, put_behind)
+
+pub none_gathered : (left : List ℕ) (colour j : ℕ) → has 0 j ≡ allows (get_or left (length left + j) 0) colour
+none_gathered left colour j =
+    has_none j ∙ sym (ap (λ m. allows m colour) (get_or_past left (length left + j) 0 (omega arith)) ∙ allows_none colour)
+
+pub gathered_more : (left : List ℕ) (cells new colour i n : ℕ) → n ≡ i + 1 → has new 0 ≡ allows (get_or left i 0) colour → ((j : ℕ) → j < 127 → has new (j + 1) ≡ has cells j) → ((j : ℕ) → j < 128 → has cells j ≡ allows (get_or left (n + j) 0) colour) → (j : ℕ) → j < 128 → has new j ≡ allows (get_or left (i + j) 0) colour
+gathered_more left cells new colour i n e first next before zero h = first ∙ ap (λ p. allows (get_or left p 0) colour) (let z : i ≡ i + 0 = omega arith in z)
+gathered_more left cells new colour i n e first next before (suc j) h =
+    let s : suc j ≡ j + 1 = omega arith in
+    ap (λ p. has new p) s ∙ (next j (omega arith) ∙ (before j (omega arith) ∙ ap (λ p. allows (get_or left p 0) colour) (let z : n + j ≡ i + suc j = omega arith in z)))
+
+pub ruleset gathering = (none_gathered, gathered_more)
+
+-- ---- a colour that is left in the cells of a set
+
+pub coloured : (mask colour k : ℕ) → colour < 16 → allows (bit_or mask (1 * 2 ^ colour % 65536)) k ≡ (allows mask k || colour == k)
+coloured mask colour k h = allows_or mask (1 * 2 ^ colour % 65536) k ∙ ap (λ x. allows mask k || x) (allows_shifted colour k h)
+
+pub same_colours : (mask k : ℕ) (b : Bool) → allows mask k ≡ (allows mask k || (false && b))
+same_colours mask k b = sym (false_behind (allows mask k))
+
+pub ruleset colouring = (coloured, same_colours)
+
+-- the first n cells of a line have got a colour where a set says so
+pub record Coloured (set colour : ℕ) (old out : List ℕ) (n : ℕ) : Type 0 where
+  pub written : (j k : ℕ) → j < n → allows (get_or out j 0) k ≡ (allows (get_or old j 0) k || (has set j && colour == k))
+  pub kept : (j : ℕ) → n ≤ j → get_or out j 0 ≡ get_or old j 0
+
+pub none_coloured : (set colour : ℕ) (old : List ℕ) → Coloured set colour old old 0
+none_coloured set colour old = record { written = λ j k l. absurd (omega arith); kept = λ j l. refl }
+
+pub coloured_more : (places colour : ℕ) (old out : List ℕ) (i v : ℕ) (b : Bool) → i < length out → b ≡ has places i → ((k : ℕ) → allows v k ≡ (allows (get_or out i 0) k || (b && colour == k))) → Coloured places colour old out i → Coloured places colour old (set out i v) (i + 1)
+coloured_more places colour old out i v b h e is before = record {
+  written = λ j k l. elim (cases_eq j i) [
+    | inl same ↦
+        let P : ℕ → Type 0 = λ n. allows (get_or (set out i v) n 0) k ≡ (allows (get_or old n 0) k || (has places n && colour == k)) in
+        subst P (sym same) (
+          ap (λ m. allows m k) (get_or-set_same out i v 0 h)
+          ∙ (is k
+          ∙ (ap (λ m. allows m k || (b && colour == k)) (before.kept i (omega arith))
+          ∙ ap (λ x. allows (get_or old i 0) k || (x && colour == k)) e)))
+    | inr other ↦ ap (λ m. allows m k) (get_or-set_other out i j v 0 other) ∙ before.written j k (omega arith)
+  ];
+  kept = λ j l. get_or-set_other out i j v 0 (λ e. absurd (omega arith)) ∙ before.kept j (omega arith);
+}
+
+-- the set without the positions before place i
+pub rest_more : (places rest i j : ℕ) → ((n : ℕ) → has rest n ≡ has places (n + i)) → has (rest / 2) j ≡ has places (j + (i + 1))
+rest_more places rest i j h = has_down 1 rest j ∙ (h (j + 1) ∙ ap (λ n. has places n) (let e : j + 1 + i ≡ j + (i + 1) = omega arith in e))
+
+-- the lowest bit as it is tested
+pub lowest : (a : ℕ) → (bit_and a 1 == 1) ≡ has a 0
+unfolding has
+lowest a = ap (λ x. x == 1) (let e : a ≡ a / 2 ^ 0 = omega arith in ap (λ x. bit_and x 1) e ∙ shr_and_one a 0)

@@ -1,0 +1,70 @@
+ghost use Rattle.std.specs.Prelude.{◌≡◌, ◌+◌, ◌≤◌, IfOk, vec_len};
+ghost use Rattle.line_settle.specs.Engine.{Engine, MaskRoom, engine};
+
+use crate::line_engine::{LineEngine, Outcome};
+use crate::mask_line::narrow_by_sets;
+use clues::Clue;
+use std::alloc::{AllocError, Global};
+use std::marker::Model;
+
+/// A line engine that keeps, for each state of the clue's pattern, the set of positions from which the line can go to
+/// its end, as the bits of one number. A position is counted before and after each cell, so a line has at most 120.
+#[derive(Drop)]
+pub struct MaskEngine {
+    longest: u8,
+    calls: u64,
+    pattern: Vec<u8>,
+    back: Vec<u128>,
+}
+
+impl Model for MaskEngine {
+    ghost Value = { Engine };
+
+    ghost view = { λ e. engine e.longest e.calls };
+
+    ghost invariant = { λ e. MaskRoom e.longest e.pattern.items e.back.items };
+}
+
+impl MaskEngine {
+    /// An engine for lines of up to `longest` cells, with all the memory that it will use.
+    pub fn make(alloc: Global, longest: u8) -> Result<MaskEngine, AllocError>
+        requires { longest ≤ 120 }
+        ensures { IfOk result (λ made. made ≡ engine longest 0) }
+    {
+        let side = usize::from(longest) + 1;
+        let pattern = vec![in alloc; 0u8; side]?;
+        let back = vec![in alloc; 0u128; side]?;
+        Ok(MaskEngine {
+            longest,
+            calls: 0,
+            pattern,
+            back,
+        })
+    }
+}
+
+impl LineEngine for MaskEngine {
+    ghost longest = { λ e. e.longest };
+
+    ghost calls = { λ e. e.calls };
+
+    fn longest(&self) -> u8 {
+        self.longest
+    }
+
+    fn calls(&self) -> u64 {
+        self.calls
+    }
+
+    fn narrow(&mut self, count: &mut u64, clue: &Clue, left: &[u16], out: &mut [u16]) -> Outcome {
+        self.calls = self.calls.saturating_add(1);
+        *count = count.saturating_add(1);
+        narrow_by_sets(
+            clue.blocks(),
+            left,
+            out,
+            &mut self.pattern,
+            &mut self.back,
+        )
+    }
+}

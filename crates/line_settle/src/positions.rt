@@ -1,0 +1,80 @@
+ghost use Rattle.std.specs.Prelude.{◌≡◌, ℕ, ◌+◌, ◌<◌, ◌≤◌, ◌&&◌, ◌||◌, ◌==◌, Bool, length, slice_index};
+ghost use Rattle.line_settle.specs.Spelling.{allows};
+ghost use Rattle.line_settle.specs.Positions.{has};
+
+use crate::pattern::allows;
+
+#[tactic(auto, using(crate::proofs::PositionLemmas::rising))]
+/// The positions that can be reached from a set, cell by cell upwards, over the cells of `run`.
+pub fn fill_up(set: u128, run: u128) -> u128
+    ensures first { has result 0 ≡ has set 0 }
+    ensures on { (i : ℕ) → i < 127 → has result (i + 1) ≡ (has set (i + 1) || (has run i && has result i)) }
+{
+    // Each cell of `run` hands a carry on, and takes a new one up where the set begins.
+    let begun = set & run;
+    let carried = begun.wrapping_add(run);
+    set | (carried ^ begun ^ run)
+}
+
+#[tactic(auto, using(crate::proofs::PositionLemmas::falling))]
+/// The positions from which a set can be reached, cell by cell upwards, over the cells of `run`.
+pub fn fill_down(set: u128, run: u128) -> u128
+    ensures { (i : ℕ) → has result i ≡ (has set i || (has run i && has result (i + 1))) }
+{
+    // After a round `all` has what reaches the set over fewer than `step` cells, and `runs` where `step` cells in a row
+    // are in `run`.
+    let mut all = set;
+    let mut runs = run;
+    let mut step: u32 = 1;
+    'doubling: while step < 128 {
+        all |= (all >> step) & runs;
+        runs &= runs >> step;
+        step += step;
+    }
+    all
+}
+
+#[tactic(auto, using(crate::proofs::PositionLemmas::pushing))]
+// The set one position on, with position 0 in it or not.
+fn pushed(set: u128, first: bool) -> u128
+    ensures first { has result 0 ≡ first }
+    ensures behind { (i : ℕ) → i < 127 → has result (i + 1) ≡ has set i }
+{
+    let moved = set << 1;
+    if first { moved | 1 } else { moved }
+}
+
+#[tactic(auto, using(crate::proofs::PositionLemmas::gathering))]
+/// The cells of a line in which a colour is left, as the positions before them.
+pub fn cells_with(left: &[u16], colour: u8) -> u128
+    requires colour { colour < 16 }
+    ensures { (i : ℕ) → i < 128 → has result i ≡ allows (slice_index left.now i) colour }
+{
+    let mut cells = 0;
+    for i in (0..left.len()).rev() {
+        cells = pushed(cells, allows(left[i], colour));
+    }
+    cells
+}
+
+#[tactic(auto, using(crate::proofs::PositionLemmas::colouring))]
+// The mask of a cell with one colour more, or not.
+fn with_colour(mask: u16, more: bool, colour: u8) -> u16
+    requires colour { colour < 16 }
+    ensures { (k : ℕ) → allows result k ≡ (allows mask k || (more && colour == k)) }
+{
+    if more { mask | (1 << colour) } else { mask }
+}
+
+/// Leaves a colour in the cells behind the positions of a set.
+pub fn add_colour(set: u128, colour: u8, out: &mut [u16])
+    requires colour { colour < 16 }
+    ensures { (i k : ℕ) → i < length out.old
+        → allows (slice_index out.new i) k ≡ (allows (slice_index out.old i) k || (has set i && colour == k)) }
+{
+    let mut rest = set;
+    for i in 0..out.len() {
+        out[i] = with_colour(out[i], rest & 1 == 1, colour);
+        rest >>= 1;
+    }
+}
