@@ -1,51 +1,155 @@
-//! Evaluates a line of 120 cells many times, so that the work of an evaluation can be measured from outside.
-//! The words are a number of blocks, from 1 to 60, and a number of rounds.
+//! Evaluates one line many times, so that the work of an evaluation can be measured from outside.
+//! The words are the engine (`plain` or `mask`), the number of cells up to 120, the number of blocks from 1 on, what is
+//! settled (`open`, `half` or `nearly`) and the number of rounds.
 #![tactic(auto)]
 
-ghost use Rattle.std.specs.Prelude.{◌≤◌};
+ghost use Rattle.std.specs.Prelude.{◌≡◌, ◌≤◌, length};
 
-use anyhow::{Context, Result, ensure};
+use anyhow::{Context, Result, bail, ensure};
 use clues::{Block, Clue};
-use line_settle::{LineEngine, Outcome, PlainEngine};
+use line_settle::{LineEngine, MaskEngine, Outcome, PlainEngine};
 use std::alloc::{AllocError, Global};
 use std::env;
 
-// How many cells the line has.
-const CELLS: usize = 120;
+// How many cells a line has at the most.
+const MOST: usize = 120;
+
+/// Which cells have one colour left before the evaluation.
+#[derive(Clone, Copy, Debug, PartialEq, Eq)]
+enum Settled {
+    Open,
+    Half,
+    Nearly,
+}
+
+impl Settled {
+    fn has(self, cell: usize) -> bool {
+        match self {
+            Settled::Open => false,
+            Settled::Half => cell % 2 == 0,
+            Settled::Nearly => cell % 15 != 7,
+        }
+    }
+}
+
+/// A line of blocks of one length with one cell between each two, and which of its cells are settled.
+#[derive(Debug, Drop)]
+struct Task {
+    cells: usize,
+    blocks: u8,
+    len: u8,
+    settled: Settled,
+    rounds: u32,
+    ghost short: { cells ≤ 120 },
+}
 
 fn main(rt: HostRuntime) -> Result<()> {
     let mut words = env::args(&rt)?.skip(1);
+    let engine = words.next().context("the engine is missing")?;
+    let cells = words.next().context("the number of cells is missing")?;
     let blocks = words.next().context("the number of blocks is missing")?;
+    let settled = words.next().context("what is settled is missing")?;
     let rounds = words.next().context("the number of rounds is missing")?;
-    let blocks: u8 = blocks.parse().context("the number of blocks")?;
-    let rounds: u32 = rounds.parse().context("the number of rounds")?;
-    ensure!(0 < blocks && blocks <= 60, "{blocks} blocks");
-    let clue = clue_with(rt.alloc(), blocks)?;
-    let mut engine = PlainEngine::make(rt.alloc(), CELLS as u8)?;
-    let (evaluations, open) = evaluate(&mut engine, &clue, rounds);
-    println!(rt; "{blocks} blocks: {evaluations} evaluations, {open} cells open")?;
+    let task = task_of(&cells, &blocks, &settled, &rounds)?;
+    let (evaluations, open) = match engine.as_str() {
+        "plain" => evaluate(
+            rt.alloc(),
+            &mut PlainEngine::make(rt.alloc(), MOST as u8)?,
+            &task,
+        )?,
+        "mask" => evaluate(
+            rt.alloc(),
+            &mut MaskEngine::make(rt.alloc(), MOST as u8)?,
+            &task,
+        )?,
+        _ => bail!("an engine is plain or mask"),
+    };
+    println!(rt; "{evaluations} evaluations, {open} cells open")?;
     Ok(())
 }
 
-// So many blocks of one colour, which together have about sixty cells.
-fn clue_with(alloc: Global, blocks: u8) -> Result<Clue, AllocError> {
-    let len = 60 / blocks.clamp(1, 60);
-    let blocks = vec![in alloc; Block { len, colour: 1 }; blocks as usize]?;
+// The task that the words name.
+fn task_of(cells: &str, blocks: &str, settled: &str, rounds: &str) -> Result<Task> {
+    let cells: usize = cells.parse().context("the number of cells")?;
+    let blocks: u8 = blocks.parse().context("the number of blocks")?;
+    let rounds: u32 = rounds.parse().context("the number of rounds")?;
+    let settled = match settled {
+        "open" => Settled::Open,
+        "half" => Settled::Half,
+        "nearly" => Settled::Nearly,
+        _ => bail!("open, half or nearly"),
+    };
+    ensure!(
+        0 < blocks && cells <= MOST,
+        "too few blocks or too many cells"
+    );
+    let len = (cells / 2 / usize::from(blocks.max(1))).clamp(1, 60) as u8;
+    Ok(Task {
+        cells,
+        blocks,
+        len,
+        settled,
+        rounds,
+    })
+}
+
+// The clue of the line.
+fn clue_of(alloc: Global, task: &Task) -> Result<Clue, AllocError> {
+    let len = task.len.max(1);
+    let blocks = vec![in alloc; Block { len, colour: 1 }; task.blocks as usize]?;
     Clue::from_blocks(alloc, &blocks)
 }
 
-// Evaluates the line with all colours left, and says how often, and how many cells have more than one colour in the end.
-fn evaluate<E: LineEngine>(engine: &mut E, clue: &Clue, rounds: u32) -> (u64, usize)
+// The colours left in a cell: its own where it is settled, and else all.
+fn left_in(task: &Task, cell: usize) -> u16 {
+    let period = usize::from(task.len) + 1;
+    let is_block = cell % period != period - 1 && cell / period < usize::from(task.blocks);
+    if !task.settled.has(cell) {
+        u16::MAX
+    } else if is_block {
+        2
+    } else {
+        1
+    }
+}
+
+// Evaluates the line, and says how often, and how many cells have more than one colour in the end.
+fn evaluate<E: LineEngine>(alloc: Global, engine: &mut E, task: &Task) -> Result<(u64, usize)>
     requires { 120 ≤ E.longest engine.old }
 {
-    let left = [u16::MAX; CELLS];
-    let mut out = [0; CELLS];
-    let mut count = 0;
-    for _ in 0..rounds {
-        if engine.narrow(&mut count, clue, &left, &mut out) == Outcome::Dead {
-            return (count, 0);
-        }
+    let clue = clue_of(alloc, task)?;
+    let mut left = [u16::MAX; MOST];
+    for cell in 0..MOST {
+        left[cell] = left_in(task, cell);
     }
+    let mut out = [0; MOST];
+    let (count, outcome) = narrow_often(
+        engine,
+        &clue,
+        task.rounds,
+        &left[..task.cells],
+        &mut out[..task.cells],
+    );
+    ensure!(outcome == Outcome::Narrowed, "no list of colours fits");
     let open = out.iter().filter(|mask| mask.count_ones() > 1).count();
-    (count, open)
+    Ok((count, open))
+}
+
+// Evaluates so many times.
+fn narrow_often<E: LineEngine>(
+    engine: &mut E,
+    clue: &Clue,
+    rounds: u32,
+    left: &[u16],
+    out: &mut [u16],
+) -> (u64, Outcome)
+    requires same_length { length left.now ≡ length out.old }
+    requires short { length left.now ≤ E.longest engine.old }
+{
+    let mut count = 0;
+    let mut outcome = Outcome::Narrowed;
+    for _ in 0..rounds {
+        outcome = engine.narrow(&mut count, clue, left, out);
+    }
+    (count, outcome)
 }
