@@ -1,7 +1,7 @@
 -- Sets of positions as masks: what is in them after `&`, `|`, shifts and additions.
-use Rattle.std.proofs.Common.{◌≡◌, ◌≢◌, ℕ, zero, suc, ◌+◌, ◌-◌, ◌*◌, ◌/◌, ◌%◌, ◌^◌, ◌<◌, ◌≤◌, Bool, true, false, List, ◌==◌, ◌&&◌, ◌||◌, bit_and, bit_or, bit_xor, refl, sym, ap, subst, ◌∙◌, arith, ◌⊎◌, inl, inr, eq-eqb, ne_eqb, eqb-true, max, min, length, get_or, set}
+use Rattle.std.proofs.Common.{◌≡◌, ℕ, zero, suc, ◌+◌, ◌*◌, ◌/◌, ◌%◌, ◌^◌, ◌<◌, ◌≤◌, Bool, true, false, List, ◌==◌, ◌&&◌, ◌||◌, bit_and, bit_or, bit_xor, refl, sym, ap, subst, ◌∙◌, arith, inl, inr, eq-eqb, ne_eqb, max, min, length, get_or, set}
 use Rattle.std.specs.Int.{bit_at}
-use Rattle.std.proofs.lemmas.Bool.{cases_eq, cases_lt}
+use Rattle.std.proofs.lemmas.Bool.{cases_eq}
 use Rattle.std.proofs.Math.Nat.{pow-succ', div-div-eq-div-mul}
 use Rattle.std.proofs.lemmas.List.{get_or_past, get_or-set_same, get_or-set_other}
 use Rattle.std.proofs.lemmas.Nat.Bits.{shr_and_one, bit_at_lowest, bit_at-suc, bit_at_and, bit_at_or, bit_at_xor, bit_at-lt, bit_at-zero, bit_at_above, bit_at-pow_same, bit_at-pow_other, bit_at_cat_low}
@@ -287,7 +287,6 @@ spans_twice run runs s t i e g =
 
 pub ruleset falling = (filled, fills_one, spans_one, fills_twice, spans_twice)
 
-
 -- ---- cells that are gathered one by one
 
 pub up_next : (a j : ℕ) → j < 127 → has (a * 2 % 340282366920938463463374607431768211456) (j + 1) ≡ has a j
@@ -352,10 +351,10 @@ coloured_more places colour old out i v b h e is before = record {
     | inl same ↦
         let P : ℕ → Type 0 = λ n. allows (get_or (set out i v) n 0) k ≡ (allows (get_or old n 0) k || (has places n && colour == k)) in
         subst P (sym same) (
-          ap (λ m. allows m k) (get_or-set_same out i v 0 h)
-          ∙ (is k
-          ∙ (ap (λ m. allows m k || (b && colour == k)) (before.kept i (omega arith))
-          ∙ ap (λ x. allows (get_or old i 0) k || (x && colour == k)) e)))
+        ap (λ m. allows m k) (get_or-set_same out i v 0 h)
+        ∙ (is k
+        ∙ (ap (λ m. allows m k || (b && colour == k)) (before.kept i (omega arith))
+        ∙ ap (λ x. allows (get_or old i 0) k || (x && colour == k)) e)))
     | inr other ↦ ap (λ m. allows m k) (get_or-set_other out i j v 0 other) ∙ before.written j k (omega arith)
   ];
   kept = λ j l. get_or-set_other out i j v 0 (λ e. absurd (omega arith)) ∙ before.kept j (omega arith);

@@ -1,11 +1,10 @@
 -- From the sets of positions to what narrowing a line promises.
-use Rattle.std.proofs.Common.{◌≡◌, ℕ, zero, suc, ◌+◌, ◌<◌, ◌≤◌, Bool, true, false, List, replicate, ◌==◌, bit_and, not, refl, sym, ap, subst, ◌∙◌, arith, length, get_or, drop, ◌↔◌}
+use Rattle.std.proofs.Common.{◌≡◌, ℕ, zero, suc, ◌<◌, ◌≤◌, false, List, replicate, ◌==◌, bit_and, refl, sym, ap, ◌∙◌, arith, length, get_or, drop}
 use Rattle.std.proofs.lemmas.List.{length-replicate}
 use Rattle.std.proofs.lemmas.Bool.{false≢true}
 use Rattle.clues.specs.declared.block.Block.{Block}
 use Rattle.clues.specs.Clue.{IsClue}
-use Rattle.line_settle.specs.declared.line_engine.Outcome.{Outcome}
-use Rattle.line_settle.specs.declared.line_engine.Outcome.TheVariants.{Narrowed, Dead}
+use Rattle.line_settle.specs.declared.line_engine.Outcome.TheVariants.{Dead}
 use Rattle.line_settle.specs.Fitting.{CanFit}
 use Rattle.line_settle.specs.Narrowing.{Narrows}
 use Rattle.line_settle.specs.Spelling.{pattern_of, allows, finishes}

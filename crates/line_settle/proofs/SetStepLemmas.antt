@@ -1,10 +1,10 @@
 -- One state's sets of positions, as the program computes them.
-use Rattle.std.proofs.Common.{◌≡◌, ◌≢◌, ℕ, zero, suc, ◌+◌, ◌-◌, ◌*◌, ◌/◌, ◌%◌, ◌^◌, ◌<◌, ◌≤◌, Bool, true, false, List, ◌==◌, ◌&&◌, ◌||◌, nat_lt, bit_and, bit_or, refl, sym, ap, subst, ◌∙◌, arith, ◌⊎◌, inl, inr, eq-eqb, ne_eqb, eqb-true, length, get_or}
+use Rattle.std.proofs.Common.{◌≡◌, ℕ, ◌+◌, ◌*◌, ◌/◌, ◌%◌, ◌^◌, ◌<◌, ◌≤◌, Bool, true, false, List, ◌==◌, ◌&&◌, ◌||◌, nat_lt, bit_and, bit_or, refl, sym, ap, subst, ◌∙◌, arith, inl, inr, eq-eqb, ne_eqb, eqb-true, length, get_or}
 use Rattle.std.proofs.Math.ListN.{set}
 use Rattle.std.proofs.lemmas.Bool.{cases_eq, cases_lt, lt-ltb, le-ltb, or_cases, or_left, or_right, false≢true}
 use Rattle.std.proofs.lemmas.List.{get_or_past, get_or-set_same, get_or-set_other}
 use Rattle.line_settle.specs.Spelling.{allows}
-use Rattle.line_settle.specs.Positions.{has, IsCellsWith, HasMade, IsAllowed}
+use Rattle.line_settle.specs.Positions.{has, IsCellsWith, HasMade}
 use Rattle.line_settle.proofs.BitLemmas.{allows_none, allows_or, allows_shifted}
 use Rattle.line_settle.proofs.PositionLemmas.{has_and, has_or, has_none, has_one, has_place, has_down, has_up_first, up_next}
 
@@ -96,9 +96,9 @@ seen_more seen colour v places i k h e = elim (cases_eq colour k) [
       let P : ℕ → Type 0 = λ c. has (get_or (set seen colour v) c 0) i ≡ (has (get_or seen c 0) i || (has places i && colour == c)) in
       let t = ap (λ b. has (get_or seen colour 0) i || (has places i && b)) (eq-eqb colour colour refl) in
       subst P same (
-        ap (λ s. has s i) (get_or-set_same seen colour v 0 h ∙ e)
-        ∙ (has_or (get_or seen colour 0) places i
-        ∙ (ap (λ b. has (get_or seen colour 0) i || b) (and_true (has places i)) ∙ sym t)))
+      ap (λ s. has s i) (get_or-set_same seen colour v 0 h ∙ e)
+      ∙ (has_or (get_or seen colour 0) places i
+      ∙ (ap (λ b. has (get_or seen colour 0) i || b) (and_true (has places i)) ∙ sym t)))
   | inr other ↦
       let t = ap (λ b. has (get_or seen k 0) i || (has places i && b)) (ne_eqb colour k other) in
       ap (λ s. has s i) (get_or-set_other seen colour k v 0 (λ f. other (sym f)))
@@ -140,7 +140,9 @@ pub seen_both : (o n m f a b : Bool) → n ≡ (o || (f && a)) → m ≡ (n || (
 seen_both o n m f a b h k = k ∙ (ap (λ x. x || (f && b)) h ∙ both o f a b)
 
 pub ruleset seeing = (seen_on, seen_off)
+
 pub ruleset seeing_both = (seen_both)
+
 pub ruleset writing = (has_none)
 
 -- a colour that is no colour of the sixteen was never seen

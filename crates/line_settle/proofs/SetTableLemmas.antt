@@ -1,10 +1,10 @@
 -- The sets of positions of each state are the tables of truths, one column each.
-use Rattle.std.proofs.Common.{◌≡◌, ◌≢◌, ℕ, zero, suc, ◌+◌, ◌-◌, ◌<◌, ◌≤◌, Bool, true, false, List, [], ◌∷◌, ◌==◌, ◌&&◌, ◌||◌, nat_lt, refl, sym, ap, subst, ◌∙◌, arith, ◌⊎◌, inl, inr, eq-eqb, ne_eqb, length, get_or, drop, drop-cons, add-one}
+use Rattle.std.proofs.Common.{◌≡◌, ℕ, zero, suc, ◌+◌, ◌-◌, ◌<◌, ◌≤◌, Bool, true, false, List, [], ◌∷◌, ◌==◌, ◌&&◌, ◌||◌, nat_lt, refl, sym, ap, subst, ◌∙◌, arith, inl, inr, eq-eqb, ne_eqb, length, get_or, drop, drop-cons, add-one}
 use Rattle.std.proofs.Math.Seq.{drop-length}
-use Rattle.std.proofs.lemmas.Bool.{cases_eq, cases_lt, lt-ltb, le-ltb}
+use Rattle.std.proofs.lemmas.Bool.{cases_eq, cases_lt, le-ltb}
 use Rattle.std.proofs.Math.ListN.{set}
 use Rattle.std.proofs.lemmas.List.{get_or_past, get_or-set_same, get_or-set_other}
-use Rattle.line_settle.specs.Spelling.{allows, waits, advances, rests, finish_step, finishes, reach_step, reaches, passes, passes_below}
+use Rattle.line_settle.specs.Spelling.{allows, waits, advances, rests, finishes, reaches, passes, passes_below}
 use Rattle.line_settle.specs.Positions.{has, IsCellsWith, IsAllowed, ends, goes_on, stays, comes, stayed, passing}
 use Rattle.line_settle.proofs.BitLemmas.{allows_none}
 

@@ -1,5 +1,5 @@
 -- Sets of positions of a line, counted before and after each cell: position i is bit i of a number.
-use Rattle.std.specs.Prelude.{◌≡◌, ℕ, ◌+◌, ◌<◌, ◌≤◌, List, Bool, true, ◌==◌, ◌&&◌, ◌||◌, nat_lt, length, slice_index}
+use Rattle.std.specs.Prelude.{◌≡◌, ℕ, ◌+◌, ◌<◌, List, Bool, true, ◌==◌, ◌&&◌, ◌||◌, nat_lt, length, slice_index}
 use Rattle.std.specs.Int.{bit_at}
 use Rattle.line_settle.specs.Spelling.{allows, waits}
 

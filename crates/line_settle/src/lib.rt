@@ -11,8 +11,8 @@ mod mask_engine;
 mod mask_line;
 mod meter;
 mod pattern;
-mod position_tables;
 mod plain_engine;
+mod position_tables;
 mod positions;
 mod tables;
 

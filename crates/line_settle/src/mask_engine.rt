@@ -59,12 +59,6 @@ impl LineEngine for MaskEngine {
     fn narrow(&mut self, count: &mut u64, clue: &Clue, left: &[u16], out: &mut [u16]) -> Outcome {
         self.calls = self.calls.saturating_add(1);
         *count = count.saturating_add(1);
-        narrow_by_sets(
-            clue.blocks(),
-            left,
-            out,
-            &mut self.pattern,
-            &mut self.back,
-        )
+        narrow_by_sets(clue.blocks(), left, out, &mut self.pattern, &mut self.back)
     }
 }

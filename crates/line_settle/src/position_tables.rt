@@ -142,7 +142,14 @@ fn see_colour(set: u128, colour: u8, seen: &mut [u128])
 
 #[tactic(auto, using(crate::proofs::SetStepLemmas::seeing))]
 // Sees the cells with which a line goes from state `q` to the next one.
-fn see_next(pattern: &[u8], allowed: &[u128], from: u128, back: &[u128], q: usize, seen: &mut [u128])
+fn see_next(
+    pattern: &[u8],
+    allowed: &[u128],
+    from: u128,
+    back: &[u128],
+    q: usize,
+    seen: &mut [u128],
+)
     requires colours { All (λ colour. colour < 16) pattern.now }
     requires sixteen { length allowed.now ≡ 16 }
     requires sets { length seen.old ≡ 16 }
@@ -155,13 +162,24 @@ fn see_next(pattern: &[u8], allowed: &[u128], from: u128, back: &[u128], q: usiz
 {
     if q + 1 < pattern.len() {
         let colour = pattern[q + 1];
-        see_colour(from & (allowed[usize::from(colour)] & (back[q + 1] >> 1)), colour, seen);
+        see_colour(
+            from & (allowed[usize::from(colour)] & (back[q + 1] >> 1)),
+            colour,
+            seen,
+        );
     }
 }
 
 #[tactic(auto, using(crate::proofs::SetStepLemmas::seeing))]
 // Sees the cells of background with which a line stays in state `q`.
-fn see_staying(pattern: &[u8], allowed: &[u128], from: u128, back: &[u128], q: usize, seen: &mut [u128])
+fn see_staying(
+    pattern: &[u8],
+    allowed: &[u128],
+    from: u128,
+    back: &[u128],
+    q: usize,
+    seen: &mut [u128],
+)
     requires sixteen { length allowed.now ≡ 16 }
     requires sets { length seen.old ≡ 16 }
     requires room { length pattern.now ≤ length back.now }

@@ -1,6 +1,5 @@
-use Rattle.std.proofs.Common.{◌∙◌, ◌+◌, ◌<◌, ◌≡◌, sym, ap, refl, arith, length, take, replicate, ℕ}
+use Rattle.std.proofs.Common.{◌∙◌, ◌≡◌, sym, ap, arith, length, take, replicate, ℕ}
 use Rattle.std.proofs.lemmas.List.{length-take}
-use Rattle.line_settle.specs.Spelling.{pattern_of}
 use Rattle.line_settle.proofs.NarrowLemmas.{narrows_some_at, narrows_long, written_colours}
 use Rattle.line_settle.proofs.SetNarrowLemmas.{narrows_empty}
 use Rattle.line_settle.proofs.mask_line.narrow_by_sets.Goals as goal

@@ -1,4 +1,4 @@
-use Rattle.std.proofs.Common.{◌∙◌, ◌+◌, ◌-◌, sym, arith, eq-eqb, ne_eqb}
+use Rattle.std.proofs.Common.{◌∙◌, ◌+◌, sym, arith, eq-eqb, ne_eqb}
 use Rattle.line_settle.proofs.SetTableLemmas.{front_is, front_more, seen_state}
 use Rattle.line_settle.proofs.SetNarrowLemmas.{first_fits, none_seen}
 use Rattle.line_settle.proofs.mask_line.narrow_sets.Goals as goal

@@ -1,4 +1,4 @@
-use Rattle.std.proofs.Common.{ℕ, ◌-◌, ◌<◌}
+use Rattle.std.proofs.Common.{◌-◌, ◌<◌}
 use Rattle.line_settle.proofs.SetTableLemmas.{IsFront, HasSeen}
 use Rattle.line_settle.proofs.mask_line.narrow_sets.Given as goal
 

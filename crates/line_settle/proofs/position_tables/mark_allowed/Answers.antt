@@ -1,4 +1,4 @@
-use Rattle.std.proofs.Common.{arith, below_more}
+use Rattle.std.proofs.Common.{below_more}
 use Rattle.line_settle.proofs.position_tables.mark_allowed.Goals as goal
 
 pub loop-colour-preserved : goal.loop-colour-preserved

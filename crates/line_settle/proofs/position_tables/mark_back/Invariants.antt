@@ -1,4 +1,4 @@
-use Rattle.std.proofs.Common.{◌≡◌, ℕ, ◌+◌, ◌<◌, ◌≤◌, length, get_or}
+use Rattle.std.proofs.Common.{ℕ, ◌<◌, ◌≤◌, length, get_or}
 use Rattle.line_settle.proofs.SetTableLemmas.{IsBack}
 use Rattle.line_settle.proofs.position_tables.mark_back.Given as goal
 

@@ -1,4 +1,4 @@
-use Rattle.std.proofs.Common.{arith, sym}
+use Rattle.std.proofs.Common.{arith}
 use Rattle.line_settle.proofs.SetStepLemmas.{seen_at}
 use Rattle.line_settle.proofs.position_tables.see_colour.Goals as goal
 

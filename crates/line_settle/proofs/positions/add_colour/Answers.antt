@@ -1,4 +1,4 @@
-use Rattle.std.proofs.Common.{arith, ◌∙◌, ap, refl, ◌==◌, ◌+◌, ◌≡◌, ℕ, bit_and}
+use Rattle.std.proofs.Common.{arith, ◌∙◌, ap, ◌==◌, ◌+◌, ◌≡◌, bit_and}
 use Rattle.line_settle.specs.Positions.{has}
 use Rattle.line_settle.proofs.PositionLemmas.{none_coloured, coloured_more, rest_more, lowest}
 use Rattle.line_settle.proofs.positions.add_colour.Goals as goal

@@ -1,4 +1,4 @@
-use Rattle.std.proofs.Common.{◌-◌, ap, ◌∙◌, arith}
+use Rattle.std.proofs.Common.{◌-◌, ◌∙◌, arith}
 use Rattle.line_settle.proofs.PositionLemmas.{gathered_more}
 use Rattle.line_settle.proofs.positions.cells_with.Goals as goal
 
