@@ -107,21 +107,24 @@ put_within old new line is l p = set_of_names new (λ other s. elim ((p other).0
 pub take_within : (old new : Lines) (line : LineId) → IsLineSet old → TakesOutName old new line → IsLineSet new
 take_within old new line is t = set_of_names new (λ other s. name_below old other is ((t other).0 s).0)
 
-pub no_name_is_empty : (lines : Lines) → IsLineSet lines → ((line : LineId) → line.at < 120 → HasName lines line → ⊥) → lines ≡ no_names
-no_name_is_empty lines is h = same_lines lines no_names (λ line. ((λ s. absurd (h line (name_below lines line is s) s)), (λ s. absurd (empty_has line s))))
+pub none_has : (line : LineId) → HasName no_names line → ⊥
+none_has line s = let P : ℕ → Type 0 = λ m. IsBitSet m line.at in no_bit line.at (subst P (empty_along line.axis) s)
   where
     empty_along : (axis : Axis) → mask_along axis no_names ≡ 0
     empty_along Across = refl
     empty_along Down = refl
 
-    empty_has : (line : LineId) → HasName no_names line → ⊥
-    empty_has line s = let P : ℕ → Type 0 = λ m. IsBitSet m line.at in no_bit line.at (subst P (empty_along line.axis) s)
+pub no_name_is_empty : (lines : Lines) → IsLineSet lines → ((line : LineId) → line.at < 120 → HasName lines line → ⊥) → lines ≡ no_names
+no_name_is_empty lines is h = same_lines lines no_names (λ line. ((λ s. absurd (h line (name_below lines line is s) s)), (λ s. absurd (none_has line s))))
 
 pub none_counted : (lines : Lines) → name_count lines ≡ 0 → lines ≡ no_names
 none_counted lines e =
     let r : lines.rows ≡ 0 = zero_from_ones lines.rows (omega arith) in
     let c : lines.columns ≡ 0 = zero_from_ones lines.columns (omega arith) in
     λ i. record { rows = r i; columns = c i }
+
+pub no_names_counted : name_count no_names ≡ 0
+no_names_counted = omega (arith, ones_le_self 0)
 
 pub few_names : (lines : Lines) → IsLineSet lines → name_count lines ≤ 240
 few_names lines is = omega (arith, ones-le 120 lines.rows is.rows_within, ones-le 120 lines.columns is.columns_within)
@@ -236,19 +239,12 @@ popped stack len old new is t =
 
 pub empty_stack : (stack : List LineId) → length stack ≡ 240 → IsStack stack 0 no_names
 empty_stack stack e = record {
-  within = set_of_names no_names none;
+  within = set_of_names no_names (λ line s. absurd (none_has line s));
   count = omega (arith, ones_le_self 0);
   room = e;
   members = λ i l. absurd (omega arith);
   apart = λ i j l m s. absurd (omega arith);
 }
-  where
-    empty_along : (axis : Axis) → mask_along axis no_names ≡ 0
-    empty_along Across = refl
-    empty_along Down = refl
-
-    none : (line : LineId) → HasName no_names line → line.at < 120
-    none line s = let P : ℕ → Type 0 = λ m. IsBitSet m line.at in absurd (no_bit line.at (subst P (empty_along line.axis) s))
 
 pub below_one : (n : ℕ) → (n ≡ 0 → ⊥) → n - 1 < n
 below_one n h = let d : n ≢ 0 = h in omega arith
