@@ -1,2 +1,3 @@
 pub mod Agenda
 pub mod Closing
+pub mod Settling
