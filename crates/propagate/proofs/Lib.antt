@@ -1,0 +1,4 @@
+pub mod NameLemmas
+pub mod CrossingLemmas
+pub mod ClosingLemmas
+pub mod WorkLemmas

@@ -1,0 +1,12 @@
+use Rattle.std.proofs.Common.{◌≡◌, ◌+◌, ◌-◌, ◌<◌, sym, ap, subst, ◌∙◌, arith, ℕ}
+use Rattle.picture.specs.LineSet.{Lines, HasName}
+use Rattle.propagate.proofs.NameLemmas.{take_within, no_name_is_empty}
+use Rattle.propagate.proofs.in_order.InOrderAgenda.take.Goals as goal
+
+pub returns-in-None : goal.returns-in-None
+returns-in-None c =
+    let e = no_name_is_empty c.self.inside.lines c.self.invariant.0 c.in-None.ensures in
+    (sym c.self.view_is ∙ e, sym c.self.view_is ∙ e)
+
+pub invariant_of-self : goal.invariant_of-self
+invariant_of-self c = (take_within _ _ _ c.self.invariant.0 c.take_out.ensures, (let l = c.in-Some.ensures.0 in omega arith))

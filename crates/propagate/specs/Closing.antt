@@ -1,0 +1,117 @@
+-- Facts closed line by line.
+use Rattle.std.specs.Prelude.{◌≡◌, ◌≢◌, ℕ, zero, suc, ◌+◌, ◌<◌, ◌≤◌, ◌⊎◌, ◌↔◌, ◌==◌, cond, List, length, slice_index}
+use Rattle.picture.specs.declared.line_id.Axis.{Axis}
+use Rattle.picture.specs.declared.line_id.Axis.TheVariants.{Across, Down}
+use Rattle.picture.specs.declared.line_id.LineId.{LineId}
+use Rattle.picture.specs.LineSet.{Lines, HasName, name_count}
+use Rattle.picture.specs.Rows.{width_of, line_of, HasLine}
+use Rattle.clues.specs.declared.block.Block.{Block}
+use Rattle.clues.specs.ClueBook.{Clues, clue_at}
+use Rattle.line_settle.specs.declared.line_engine.Outcome.{Outcome}
+use Rattle.line_settle.specs.declared.line_engine.Outcome.TheVariants.{Narrowed, Dead}
+use Rattle.line_settle.specs.declared.meter.Meter.{Meter}
+use Rattle.line_settle.specs.Counting.{Counts}
+use Rattle.line_settle.specs.Fitting.{CanFit}
+use Rattle.line_settle.specs.FactSets.{IsClosedLine, IsClosed, IsLeast, IsWithin, Gains}
+
+-- the facts have the sizes of the clues, and no line of theirs is longer than an engine takes
+pub record AreClosable (clues : Clues) (longest : ℕ) (facts : List (List ℕ)) : Type 0 where
+  pub rows : length facts ≡ length clues.rows
+  pub columns : width_of facts ≡ length clues.columns
+  pub wide : width_of facts ≤ longest
+  pub tall : length facts ≤ longest
+
+-- the names in a set are names of the facts' lines
+abbrev pub AreLinesOf : List (List ℕ) → Lines → Type 0
+AreLinesOf facts lines = (line : LineId) → HasName lines line → HasLine facts line
+
+-- a line forces nothing new, and some list fits it
+pub record IsSettledLine (clue : List Block) (left : List ℕ) : Type 0 where
+  pub closed : IsClosedLine clue left
+  pub fits : CanFit clue left
+
+-- each line but those of a set is settled
+abbrev pub SettledOutside : Clues → List (List ℕ) → Lines → Type 0
+SettledOutside clues facts lines =
+    (line : LineId) → HasLine facts line → (HasName lines line → ⊥) → IsSettledLine (clue_at clues line) (line_of facts line)
+
+-- some list fits each line
+abbrev pub EachFits : Clues → List (List ℕ) → Type 0
+EachFits clues facts = (line : LineId) → HasLine facts line → CanFit (clue_at clues line) (line_of facts line)
+
+-- a line that no list fits, whichever closed facts hold the base
+pub record HasDeadLine (clues : Clues) (base : List (List ℕ)) : Type 0 where
+  pub line : LineId
+  pub has : HasLine base line
+  pub dead : (others : List (List ℕ)) → IsClosed clues others → IsWithin base others → CanFit (clue_at clues line) (line_of others line) → ⊥
+
+-- Narrowed leaves the least closed facts, and some list fits each line under them; Dead says that under them some line has
+-- no list that fits. Either way what then stands lies inside all closed facts that hold the base.
+pub record Closes (clues : Clues) (base facts : List (List ℕ)) (outcome : Outcome) : Type 0 where
+  pub holds : IsWithin base facts
+  pub inside : (others : List (List ℕ)) → IsClosed clues others → IsWithin base others → IsWithin facts others
+  pub least : outcome ≡ Narrowed → IsLeast clues base facts
+  pub fits : outcome ≡ Narrowed → EachFits clues facts
+  pub dead : outcome ≡ Dead → HasDeadLine clues base
+
+-- ---- what changes on a line
+
+abbrev pub change : ℕ → ℕ → ℕ
+change before after = cond (before == after) 0 1
+
+-- how many of the first n cells of a line differ
+abbrev pub changes : List ℕ → List ℕ → ℕ → ℕ
+changes before after zero = 0
+changes before after (suc n) = changes before after n + change (slice_index before n) (slice_index after n)
+
+abbrev pub other_axis : Axis → Axis
+other_axis Across = Down
+other_axis Down = Across
+
+-- the line that crosses a line at place i
+abbrev pub crossing_at : LineId → ℕ → LineId
+crossing_at line i = record { axis = other_axis line.axis; at = i }
+
+-- one of the lines that cross the first n cells, where the cell differs
+pub record CrossesChange (line : LineId) (before after : List ℕ) (n : ℕ) (other : LineId) : Type 0 where
+  pub is_crossing : other ≡ crossing_at line other.at
+  pub within : other.at < n
+  pub differs : slice_index before other.at ≢ slice_index after other.at
+
+-- the lines that cross a line where one of its first n cells differs are put into a set
+pub record PutsCrossing (line : LineId) (before after : List ℕ) (n : ℕ) (old new : Lines) : Type 0 where
+  pub names : (other : LineId) → HasName new other ↔ (HasName old other ⊎ CrossesChange line before after n other)
+  pub at_least : name_count old ≤ name_count new
+  pub at_most : name_count new ≤ name_count old + changes before after n
+
+-- one line is put into a set where a cell differs
+pub record PutsChanged (line : LineId) (before after : ℕ) (old new : Lines) : Type 0 where
+  pub names : (other : LineId) → HasName new other ↔ (HasName old other ⊎ ((other ≡ line) × (before ≢ after)))
+  pub at_least : name_count old ≤ name_count new
+  pub at_most : name_count new ≤ name_count old + change before after
+
+-- ---- the work
+
+-- one line evaluated, which draws on so many cells
+pub record Evaluates (clues : Clues) (old new : List (List ℕ)) (cells : ℕ) : Type 0 where
+  pub line : LineId
+  pub has : HasLine old line
+  pub outcome : Outcome
+  pub gains : Gains (clue_at clues line) line old new outcome
+  pub draws : cells ≡ changes (line_of old line) (line_of new line) (length (line_of old line))
+
+-- the facts come about by so many evaluations, which draw on so many cells, each counted once for every line that draws on it
+abbrev pub Draws : Clues → List (List ℕ) → List (List ℕ) → ℕ → ℕ → Type 0
+Draws clues old new zero cells = (old ≡ new) × (cells ≡ 0)
+Draws clues old new (suc n) cells =
+    (between : List (List ℕ)) × ((before : ℕ) × ((last : ℕ) × (Draws clues old between n before × (Evaluates clues between new last × (cells ≡ before + last)))))
+
+-- The work of closing: at most the lines of the set and the cells drawn on along the way, and at least the lines of the set
+-- where the outcome is Narrowed.
+pub record Works (clues : Clues) (dirty : Lines) (base facts : List (List ℕ)) (outcome : Outcome) (old new : Meter) (before after : ℕ) : Type 0 where
+  pub evaluations : ℕ
+  pub cells : ℕ
+  pub counts : Counts evaluations 0 old new before after
+  pub draws : Draws clues base facts evaluations cells
+  pub at_most : evaluations ≤ name_count dirty + cells
+  pub at_least : outcome ≡ Narrowed → name_count dirty ≤ evaluations

@@ -1,0 +1,17 @@
+//! Line logic carried to its end: the least closed facts that hold a base.
+#![tactic(auto)]
+
+mod agenda;
+mod closing;
+mod crossing;
+mod fault;
+mod in_order;
+mod newest_first;
+mod settling;
+
+pub use agenda::Agenda;
+pub use closing::close_facts;
+pub use fault::CloseFault;
+pub use in_order::InOrder;
+pub use newest_first::NewestFirst;
+pub use settling::settle_afresh;
