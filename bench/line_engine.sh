@@ -1,17 +1,23 @@
 #!/usr/bin/env bash
-# How much work an evaluation of a line takes: instructions by callgrind for lines of 120 cells with all colours left.
+# How much work an evaluation of a line takes: instructions by callgrind, for both engines on the same lines.
 # Usage: bench/line_engine.sh [rounds]   (builds the proved driver first where it is not there: that takes some minutes)
 set -euo pipefail
 root=$(cd "$(dirname "$0")/.." && pwd)
-rounds=${1:-2000}
+rounds=${1:-500}
 program=$root/crates/line_bench/out/line_bench
-[ -x "$program" ] || (cd "$root/crates/line_bench" && rt run -- 15 3 >/dev/null)
+[ -x "$program" ] || (cd "$root/crates/line_bench" && rt run -- mask 120 15 open 3 >/dev/null)
 instructions() {
     valgrind --tool=callgrind --callgrind-out-file=/dev/null "$program" "$@" 2>&1 >/dev/null | sed -n 's/.*Collected : //p'
 }
-printf '%-8s %24s %16s\n' blocks 'instructions/evaluation' 'a cell'
-for blocks in 1 15 30 60; do
-    none=$(instructions "$blocks" 0)
-    all=$(instructions "$blocks" "$rounds")
-    awk "BEGIN { e = ($all - $none) / $rounds; printf \"%-8s %24.0f %16.1f\n\", $blocks, e, e / 120 }"
+printf '%-6s %-7s %-8s %14s %14s %8s %12s\n' cells blocks settled plain mask ratio 'mask a cell'
+for cells in 120 60 30 15; do
+    for blocks in 1 15 30 60; do
+        [ $((2 * blocks)) -le $((cells + 1)) ] || continue
+        for settled in open half nearly; do
+            plain=$(($(instructions plain $cells $blocks $settled "$rounds") - $(instructions plain $cells $blocks $settled 1)))
+            mask=$(($(instructions mask $cells $blocks $settled "$rounds") - $(instructions mask $cells $blocks $settled 1)))
+            awk "BEGIN { p = $plain / ($rounds - 1); m = $mask / ($rounds - 1)
+                printf \"%-6s %-7s %-8s %14.0f %14.0f %8.1f %12.1f\n\", $cells, $blocks, \"$settled\", p, m, p / m, m / $cells }"
+        done
+    done
 done
