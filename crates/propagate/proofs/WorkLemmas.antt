@@ -85,9 +85,9 @@ weight_drops : (height width : ℕ) (old new : List (List ℕ)) → IsWithin old
 unfolding weight differing
 weight_drops height width old new w =
     let row : (i : ℕ) → sum_to (λ j. cell_at new i j) width + sum_to (λ j. change (cell_at old i j) (cell_at new i j)) width ≤ sum_to (λ j. cell_at old i j) width = λ i.
-        let all = sum_le (λ j. cell_at new i j + change (cell_at old i j) (cell_at new i j)) (λ j. cell_at old i j) width (λ j _. mask_drops (cell_at old i j) (cell_at new i j) (w.leaves i j)) in
-        let add = sum_add (λ j. cell_at new i j) (λ j. change (cell_at old i j) (cell_at new i j)) width in
-        omega arith
+    let all = sum_le (λ j. cell_at new i j + change (cell_at old i j) (cell_at new i j)) (λ j. cell_at old i j) width (λ j _. mask_drops (cell_at old i j) (cell_at new i j) (w.leaves i j)) in
+    let add = sum_add (λ j. cell_at new i j) (λ j. change (cell_at old i j) (cell_at new i j)) width in
+    omega arith
     in
     let rows = sum_le (λ i. sum_to (λ j. cell_at new i j) width + sum_to (λ j. change (cell_at old i j) (cell_at new i j)) width) (λ i. sum_to (λ j. cell_at old i j) width) height (λ i _. row i) in
     let add = sum_add (λ i. sum_to (λ j. cell_at new i j) width) (λ i. sum_to (λ j. change (cell_at old i j) (cell_at new i j)) width) height in
@@ -106,10 +106,10 @@ changes_along Down at old new is h =
     let e = ap (changes column other) (length-map old (λ (row : List ℕ). get_or row at 0)) in
     let s = changes_sum column other (length old) in
     let one : (i : ℕ) → change (get_or column i 0) (get_or other i 0) ≤ sum_to (λ j. change (cell_at old i j) (cell_at new i j)) (width_of old) = λ i.
-        let t = sum_term (λ j. change (cell_at old i j) (cell_at new i j)) (width_of old) at h in
-        let x = ap (λ m. change m (get_or other i 0)) (cell_along Down at old i) in
-        let y = ap (change (cell_at old i at)) (cell_along Down at new i) in
-        omega arith
+    let t = sum_term (λ j. change (cell_at old i j) (cell_at new i j)) (width_of old) at h in
+    let x = ap (λ m. change m (get_or other i 0)) (cell_along Down at old i) in
+    let y = ap (change (cell_at old i at)) (cell_along Down at new i) in
+    omega arith
     in
     let all = sum_le (λ i. change (get_or column i 0) (get_or other i 0)) (λ i. sum_to (λ j. change (cell_at old i j) (cell_at new i j)) (width_of old)) (length old) (λ i _. one i) in
     omega arith

@@ -1,3 +1,4 @@
 pub mod Agenda
 pub mod Closing
 pub mod Settling
+pub mod Laws

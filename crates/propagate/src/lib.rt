@@ -6,6 +6,7 @@ mod closing;
 mod crossing;
 mod fault;
 mod in_order;
+pub mod laws;
 mod newest_first;
 mod settling;
 
@@ -15,3 +16,6 @@ pub use fault::CloseFault;
 pub use in_order::InOrder;
 pub use newest_first::NewestFirst;
 pub use settling::settle_afresh;
+
+#[cfg(test)]
+mod tests;

@@ -1,0 +1,214 @@
+use crate::{Agenda, CloseFault, InOrder, NewestFirst, settle_afresh};
+use clues::{Block, Clue, ClueBook};
+use line_settle::{Facts, LineEngine, Meter, PlainEngine};
+use picture::Picture;
+use std::alloc::Global;
+use std::process::Abort;
+use std::test::Fail;
+
+// A picture of these cells, row after row.
+fn picture_of(
+    rt: &impl Abort,
+    alloc: Global,
+    height: u8,
+    width: u8,
+    cells: &[u8],
+) -> Result<Picture, Fail> {
+    assert!(rt; height > 0 && height <= 4 && width > 0 && width <= 4);
+    assert!(rt; cells.len() == usize::from(height) * usize::from(width));
+    let mut picture = Picture::blank(alloc, height, width)?;
+    for (i, cell) in cells.iter().enumerate() {
+        let row = i as u8 / width;
+        let col = i as u8 % width;
+        assert!(rt; row < picture.height() && col < picture.width() && *cell < 16);
+        picture.set(row, col, *cell);
+    }
+    Ok(picture)
+}
+
+// Settles the clues of a book from facts that exclude nothing.
+fn settle<A: Agenda>(
+    rt: &impl Abort,
+    alloc: Global,
+    agenda: &mut A,
+    book: &ClueBook,
+    base: &Facts,
+) -> Result<Result<Facts, CloseFault>, Fail> {
+    let mut engine = PlainEngine::make(alloc, 120)?;
+    let mut meter = Meter {
+        evaluations: 0,
+        trials: 0,
+    };
+    assert!(rt; base.height() == book.height() && base.width() == book.width());
+    assert!(rt; base.height() <= engine.longest() && base.width() <= engine.longest());
+    let answer = settle_afresh(&mut engine, agenda, book, &mut meter, base);
+    if answer.is_ok() {
+        assert!(rt; meter.evaluations >= u64::from(book.height()) + u64::from(book.width()));
+    }
+    assert_eq!(rt; meter.evaluations, engine.calls());
+    assert_eq!(rt; meter.trials, 0);
+    Ok(answer)
+}
+
+// Compares the colours left in each cell.
+fn shows(rt: &impl Abort, facts: &Facts, want: &[u16]) {
+    let width = usize::from(facts.width());
+    for (i, mask) in want.iter().enumerate() {
+        assert!(rt; width > 0 && i / width < usize::from(facts.height()));
+        assert_eq!(rt; facts.left((i / width) as u8, (i % width) as u8), *mask);
+    }
+}
+
+// Settles the clues of a picture with both agendas, and compares the colours left in each cell.
+fn row(
+    rt: &impl Abort,
+    alloc: Global,
+    height: u8,
+    width: u8,
+    cells: &[u8],
+    want: &[u16],
+) -> Result<(), Fail> {
+    let picture = picture_of(rt, alloc, height, width, cells)?;
+    let book = ClueBook::of(alloc, &picture)?;
+    assert!(rt; height > 0 && height <= 120 && width > 0 && width <= 120);
+    let base = Facts::none(alloc, height, width)?;
+    let in_order = settle(rt, alloc, &mut InOrder::make(), &book, &base)??;
+    let newest_first = settle(rt, alloc, &mut NewestFirst::make(), &book, &base)??;
+    shows(rt, &in_order, want);
+    shows(rt, &newest_first, want);
+    Ok(())
+}
+
+#[test]
+fn pictures_settle_with_both_agendas(rt: HostRuntime) -> Result<(), Fail> {
+    let alloc = rt.alloc();
+    row(&rt, alloc, 2, 2, &[1, 0, 0, 1], &[3, 3, 3, 3])?;
+    row(&rt, alloc, 2, 2, &[1, 0, 0, 2], &[2, 1, 1, 4])?;
+    row(&rt, alloc, 2, 2, &[1, 1, 1, 0], &[2, 2, 2, 1])?;
+    Ok(())
+}
+
+#[test]
+fn two_parts_settle_apart(rt: HostRuntime) -> Result<(), Fail> {
+    row(
+        &rt,
+        rt.alloc(),
+        4,
+        4,
+        &[1, 0, 0, 0, 0, 1, 0, 0, 0, 0, 2, 0, 0, 0, 0, 2],
+        &[3, 3, 1, 1, 3, 3, 1, 1, 1, 1, 5, 5, 1, 1, 5, 5],
+    )
+}
+
+#[test]
+fn a_base_is_held(rt: HostRuntime) -> Result<(), Fail> {
+    let alloc = rt.alloc();
+    let picture = picture_of(&rt, alloc, 2, 2, &[1, 0, 0, 1])?;
+    let book = ClueBook::of(alloc, &picture)?;
+    let mut base = Facts::none(alloc, 2, 2)?;
+    base.exclude(0, 0, !0b10);
+    let settled = settle(&rt, alloc, &mut InOrder::make(), &book, &base)??;
+    shows(&rt, &settled, &[2, 1, 1, 2]);
+    shows(&rt, &base, &[2, 0xffff, 0xffff, 0xffff]);
+    Ok(())
+}
+
+// Two rows full of a colour, and two columns without one.
+fn impossible(rt: &impl Abort, alloc: Global) -> Result<ClueBook, Fail> {
+    let full = [Block { len: 2, colour: 1 }];
+    let mut rows = Vec::new(alloc);
+    let mut columns = Vec::new(alloc);
+    for _ in 0..2 {
+        rows.push(Clue::from_blocks(alloc, &full)?)?;
+        columns.push(Clue::from_blocks(alloc, &[])?)?;
+    }
+    assert!(rt; rows.len() == 2 && columns.len() == 2);
+    Ok(ClueBook::from_parts(rows, columns))
+}
+
+#[test]
+fn clues_that_no_picture_has_are_dead(rt: HostRuntime) -> Result<(), Fail> {
+    let alloc = rt.alloc();
+    let book = impossible(&rt, alloc)?;
+    let base = Facts::none(alloc, 2, 2)?;
+    let in_order = settle(&rt, alloc, &mut InOrder::make(), &book, &base)?;
+    let newest_first = settle(&rt, alloc, &mut NewestFirst::make(), &book, &base)?;
+    assert!(&rt; matches!(in_order, Err(CloseFault::Dead)));
+    assert!(&rt; matches!(newest_first, Err(CloseFault::Dead)));
+    Ok(())
+}
+
+// The lengths of the runs of set bits among three, as digits in base 4.
+fn runs(bits: u16) -> u16 {
+    let mut digits = 0u16;
+    let mut open = 0u16;
+    for i in 0..4 {
+        if bits >> i & 1 == 1 && i < 3 {
+            open = open.wrapping_add(1);
+        } else if open > 0 {
+            digits = digits.wrapping_mul(4).wrapping_add(open);
+            open = 0;
+        }
+    }
+    digits
+}
+
+// The cell at a place of one of three rows and three columns.
+fn place(line: usize, i: usize) -> usize {
+    if line < 3 {
+        (line.wrapping_mul(3).wrapping_add(i)) % 9
+    } else {
+        (i.wrapping_mul(3).wrapping_add(line).wrapping_sub(3)) % 9
+    }
+}
+
+// The three cells of a line, as bits.
+fn bits_of(cells: &[u8; 9], line: usize) -> u16 {
+    let mut bits = 0;
+    for i in 0..3 {
+        if cells[place(line, i)] == 1 {
+            bits |= 1u16 << i;
+        }
+    }
+    bits
+}
+
+// The colours that the lists of three cells with these runs have, where the masks leave each of their colours.
+fn listed(masks: &[u16; 9], line: usize, wanted: u16) -> [u16; 3] {
+    let mut out = [0; 3];
+    for bits in 0..8u16 {
+        let fits = (0..3).all(|i| masks[place(line, i)] >> (bits >> i & 1) & 1 == 1);
+        if fits && runs(bits) == wanted {
+            for (i, mask) in out.iter_mut().enumerate() {
+                *mask |= 1 << (bits >> i & 1);
+            }
+        }
+    }
+    out
+}
+
+// What lines leave of two colours, by going over all six lines until nothing changes.
+fn listed_facts(cells: &[u8; 9]) -> [u16; 9] {
+    let mut masks = [3; 9];
+    for _ in 0..18 {
+        for line in 0..6 {
+            let out = listed(&masks, line, runs(bits_of(cells, line)));
+            for (i, mask) in out.iter().enumerate() {
+                masks[place(line, i)] = *mask;
+            }
+        }
+    }
+    masks
+}
+
+#[test]
+fn small_pictures_agree_with_a_listing(rt: HostRuntime) -> Result<(), Fail> {
+    for code in 0..512u16 {
+        let mut cells = [0u8; 9];
+        for (i, cell) in cells.iter_mut().enumerate() {
+            *cell = (code >> i & 1) as u8;
+        }
+        row(&rt, rt.alloc(), 3, 3, &cells, &listed_facts(&cells))?;
+    }
+    Ok(())
+}
