@@ -1,8 +1,7 @@
 -- How much is left to do, and how much was done.
-use Rattle.std.proofs.Common.{◌≡◌, ◌≢◌, ℕ, zero, suc, ◌+◌, ◌-◌, ◌^◌, ◌<◌, ◌≤◌, List, length, get_or, map, refl, sym, ap, subst, ◌∙◌, arith, ◌⊎◌, inl, inr, min, bit_and}
+use Rattle.std.proofs.Common.{◌≡◌, ℕ, zero, suc, ◌+◌, ◌^◌, ◌<◌, ◌≤◌, List, length, get_or, refl, sym, ap, subst, ◌∙◌, arith, inl, inr, bit_and}
 use Rattle.std.specs.Prelude.{IsBitSet}
-use Rattle.std.specs.Int.{bit_at}
-use Rattle.std.proofs.lemmas.Bool.{cases_eq, cases_lt}
+use Rattle.std.proofs.lemmas.Bool.{cases_eq}
 use Rattle.std.proofs.lemmas.List.{length-map}
 use Rattle.std.proofs.lemmas.Nat.{and_le_r}
 use Rattle.std.proofs.lemmas.Nat.Bits.{bit_at_and, bit_at-lt}
@@ -16,7 +15,7 @@ use Rattle.line_settle.specs.declared.line_engine.Outcome.{Outcome}
 use Rattle.line_settle.specs.declared.line_engine.Outcome.TheVariants.{Narrowed, Dead}
 use Rattle.line_settle.specs.declared.meter.Meter.{Meter}
 use Rattle.line_settle.specs.Counting.{Counts, counted}
-use Rattle.line_settle.specs.FactSets.{IsFacts, IsWithin, SameShape, Gains}
+use Rattle.line_settle.specs.FactSets.{IsFacts, IsWithin, Gains}
 use Rattle.line_settle.proofs.MaskLemmas.{bit_is_set, set_bit, same_bits}
 use Rattle.line_settle.proofs.GridLemmas.{cell_along}
 use Rattle.line_settle.proofs.LawLemmas.{counting_adds}
@@ -85,9 +84,9 @@ weight_drops : (height width : ℕ) (old new : List (List ℕ)) → IsWithin old
 unfolding weight differing
 weight_drops height width old new w =
     let row : (i : ℕ) → sum_to (λ j. cell_at new i j) width + sum_to (λ j. change (cell_at old i j) (cell_at new i j)) width ≤ sum_to (λ j. cell_at old i j) width = λ i.
-        let all = sum_le (λ j. cell_at new i j + change (cell_at old i j) (cell_at new i j)) (λ j. cell_at old i j) width (λ j _. mask_drops (cell_at old i j) (cell_at new i j) (w.leaves i j)) in
-        let add = sum_add (λ j. cell_at new i j) (λ j. change (cell_at old i j) (cell_at new i j)) width in
-        omega arith
+    let all = sum_le (λ j. cell_at new i j + change (cell_at old i j) (cell_at new i j)) (λ j. cell_at old i j) width (λ j _. mask_drops (cell_at old i j) (cell_at new i j) (w.leaves i j)) in
+    let add = sum_add (λ j. cell_at new i j) (λ j. change (cell_at old i j) (cell_at new i j)) width in
+    omega arith
     in
     let rows = sum_le (λ i. sum_to (λ j. cell_at new i j) width + sum_to (λ j. change (cell_at old i j) (cell_at new i j)) width) (λ i. sum_to (λ j. cell_at old i j) width) height (λ i _. row i) in
     let add = sum_add (λ i. sum_to (λ j. cell_at new i j) width) (λ i. sum_to (λ j. change (cell_at old i j) (cell_at new i j)) width) height in
@@ -106,10 +105,10 @@ changes_along Down at old new is h =
     let e = ap (changes column other) (length-map old (λ (row : List ℕ). get_or row at 0)) in
     let s = changes_sum column other (length old) in
     let one : (i : ℕ) → change (get_or column i 0) (get_or other i 0) ≤ sum_to (λ j. change (cell_at old i j) (cell_at new i j)) (width_of old) = λ i.
-        let t = sum_term (λ j. change (cell_at old i j) (cell_at new i j)) (width_of old) at h in
-        let x = ap (λ m. change m (get_or other i 0)) (cell_along Down at old i) in
-        let y = ap (change (cell_at old i at)) (cell_along Down at new i) in
-        omega arith
+    let t = sum_term (λ j. change (cell_at old i j) (cell_at new i j)) (width_of old) at h in
+    let x = ap (λ m. change m (get_or other i 0)) (cell_along Down at old i) in
+    let y = ap (change (cell_at old i at)) (cell_along Down at new i) in
+    omega arith
     in
     let all = sum_le (λ i. change (get_or column i 0) (get_or other i 0)) (λ i. sum_to (λ j. change (cell_at old i j) (cell_at new i j)) (width_of old)) (length old) (λ i _. one i) in
     omega arith
