@@ -1,24 +1,23 @@
 -- One line after another evaluated: what stays true, and what it comes to.
-use Rattle.std.proofs.Common.{◌≡◌, ◌≢◌, ℕ, zero, suc, ◌+◌, ◌<◌, ◌≤◌, ◌↔◌, List, length, get_or, refl, sym, ap, subst, ◌∙◌, arith, ◌⊎◌, inl, inr}
+use Rattle.std.proofs.Common.{◌≡◌, ◌≢◌, ℕ, ◌<◌, List, length, get_or, refl, sym, ap, subst, ◌∙◌, arith, ◌⊎◌, inl, inr}
 use Rattle.std.specs.Prelude.{IsBitSet}
 use Rattle.std.proofs.lemmas.Bool.{cases_eq, cases_lt}
 use Rattle.std.proofs.lemmas.List.{get_or_past}
 use Rattle.picture.specs.declared.line_id.Axis.{Axis}
 use Rattle.picture.specs.declared.line_id.Axis.TheVariants.{Across, Down}
 use Rattle.picture.specs.declared.line_id.LineId.{LineId}
-use Rattle.picture.specs.LineSet.{Lines, HasName, TakesOutName, name_count, no_names}
-use Rattle.picture.specs.Rows.{width_of, row_at, cell_at, line_along, line_of, lines_along, HasLine}
+use Rattle.picture.specs.LineSet.{Lines, HasName, TakesOutName, no_names}
+use Rattle.picture.specs.Rows.{width_of, cell_at, line_of, lines_along, HasLine}
 use Rattle.picture.proofs.LineSetLemmas.{same_name}
-use Rattle.clues.specs.declared.block.Block.{Block}
 use Rattle.clues.specs.ClueBook.{Clues, clue_at}
 use Rattle.line_settle.specs.declared.line_engine.Outcome.{Outcome}
 use Rattle.line_settle.specs.declared.line_engine.Outcome.TheVariants.{Narrowed, Dead}
-use Rattle.line_settle.specs.Fitting.{CanFit, CanHave}
-use Rattle.line_settle.specs.FactSets.{IsFacts, IsClosed, IsLeast, IsWithin, SameShape, Leaves, Gains, IsOn, row_on, col_on}
+use Rattle.line_settle.specs.Fitting.{CanFit}
+use Rattle.line_settle.specs.FactSets.{IsFacts, IsClosed, IsWithin, SameShape, Gains, IsOn, row_on, col_on}
 use Rattle.line_settle.proofs.GridLemmas.{cell_on}
 use Rattle.line_settle.proofs.AlongLemmas.{place_on, same_line_length, same_has_line, shape_refl, shape_trans, shape_sym, same_list}
 use Rattle.line_settle.proofs.LawLemmas.{tighter_fits, tighter_have, within_tighter, narrowed_tighter, fits_narrowed, have_narrowed}
-use Rattle.propagate.specs.Closing.{AreClosable, AreLinesOf, IsSettledLine, SettledOutside, EachFits, HasDeadLine, Closes, other_axis, crossing_at, CrossesChange, PutsCrossing, changes}
+use Rattle.propagate.specs.Closing.{AreClosable, AreLinesOf, IsSettledLine, SettledOutside, Closes, other_axis, crossing_at, CrossesChange, PutsCrossing}
 use Rattle.propagate.proofs.NameLemmas.{cases_line, none_has}
 
 -- ---- cells on a line

@@ -1,13 +1,12 @@
 -- The lines that cross a line where it changes, and the lines of a set, put on an agenda one by one.
-use Rattle.std.proofs.Common.{◌≡◌, ◌≢◌, ℕ, zero, suc, ◌+◌, ◌<◌, ◌≤◌, ◌↔◌, ◌==◌, cond, List, length, get_or, refl, sym, ap, subst, ◌∙◌, arith, ◌⊎◌, inl, inr, true, false, eq-eqb, eqb-true, Bool}
+use Rattle.std.proofs.Common.{◌≡◌, ℕ, suc, ◌+◌, ◌<◌, ◌↔◌, ◌==◌, cond, List, get_or, refl, sym, ap, subst, ◌∙◌, arith, ◌⊎◌, inl, inr, true, false, eq-eqb, eqb-true, Bool}
 use Rattle.std.proofs.lemmas.Bool.{cases_eq}
 use Rattle.picture.specs.declared.line_id.Axis.{Axis}
 use Rattle.picture.specs.declared.line_id.Axis.TheVariants.{Across, Down}
 use Rattle.picture.specs.declared.line_id.LineId.{LineId}
-use Rattle.picture.specs.LineSet.{Lines, HasName, PutsName, name_count, no_names}
-use Rattle.picture.proofs.LineSetLemmas.{same_name}
+use Rattle.picture.specs.LineSet.{Lines, HasName, PutsName, no_names}
 use Rattle.line_settle.proofs.AlongLemmas.{across_in, down_in, across_cell, down_cell, same_list, across_length, down_length}
-use Rattle.propagate.specs.Closing.{change, changes, crossing_at, CrossesChange, PutsCrossing, PutsChanged}
+use Rattle.propagate.specs.Closing.{change, changes, crossing_at, PutsCrossing, PutsChanged}
 use Rattle.propagate.proofs.NameLemmas.{put_counts, same_lines, none_has}
 
 pub change_none : (before after : ℕ) → before ≡ after → change before after ≡ 0

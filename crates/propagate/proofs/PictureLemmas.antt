@@ -1,21 +1,19 @@
 -- A picture as facts: in each cell its own colour alone is left.
-use Rattle.std.proofs.Common.{◌≡◌, ◌≢◌, ℕ, zero, suc, ◌+◌, ◌^◌, ◌<◌, ◌≤◌, List, [], ◌∷◌, length, get_or, map, refl, sym, ap, subst, ◌∙◌, arith, ◌⊎◌, inl, inr}
+use Rattle.std.proofs.Common.{◌≡◌, ℕ, ◌^◌, ◌<◌, ◌≤◌, List, [], length, get_or, map, refl, sym, ap, subst, ◌∙◌, arith, inl, inr}
 use Rattle.std.specs.Prelude.{IsBitSet}
 use Rattle.std.proofs.lemmas.Bool.{cases_lt}
 use Rattle.std.proofs.lemmas.List.{get_or_past, length-map, get_or-map}
 use Rattle.picture.specs.declared.line_id.Axis.{Axis}
 use Rattle.picture.specs.declared.line_id.Axis.TheVariants.{Across, Down}
-use Rattle.picture.specs.declared.line_id.LineId.{LineId}
 use Rattle.picture.specs.Picture.{IsPicture}
-use Rattle.picture.specs.Rows.{width_of, row_at, cell_at, line_along, line_of, lines_along, HasLine}
-use Rattle.clues.specs.ClueBook.{Clues, clue_at, clues_of}
+use Rattle.picture.specs.Rows.{row_at, cell_at, line_along, line_of, lines_along}
+use Rattle.clues.specs.ClueBook.{clues_of}
 use Rattle.clues.proofs.LineClues.{clue_at-clues_of}
-use Rattle.line_settle.specs.Fitting.{CanHave, Fits}
-use Rattle.line_settle.specs.FactSets.{IsClosed, IsLeast, IsWithin, SameShape, Leaves, row_on, col_on}
+use Rattle.line_settle.specs.FactSets.{IsClosed, IsWithin, SameShape, Leaves, row_on, col_on}
 use Rattle.line_settle.proofs.MaskLemmas.{no_bit, power_has}
 use Rattle.line_settle.proofs.GridLemmas.{cell_on}
 use Rattle.line_settle.proofs.AlongLemmas.{same_line_length, same_has_line, shape_sym, shape_trans}
-use Rattle.propagate.specs.Laws.{LeavesPicture, PictureStays}
+use Rattle.propagate.specs.Laws.{PictureStays}
 
 abbrev powers : List ℕ → List ℕ
 powers row = map (λ (x : ℕ). 2 ^ x) row

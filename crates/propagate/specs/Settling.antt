@@ -6,7 +6,6 @@ use Rattle.picture.specs.Rows.{HasLine}
 use Rattle.clues.specs.ClueBook.{Clues}
 use Rattle.line_settle.specs.declared.line_engine.Outcome.TheVariants.{Narrowed, Dead}
 use Rattle.line_settle.specs.declared.meter.Meter.{Meter}
-use Rattle.line_settle.specs.Counting.{Counts}
 use Rattle.line_settle.specs.FactSets.{IsLeast}
 use Rattle.propagate.specs.declared.fault.CloseFault.{CloseFault}
 use Rattle.propagate.specs.declared.fault.CloseFault.TheVariants as fault

@@ -1,3 +1,5 @@
+ghost use Rattle.std.specs.Prelude.{◌<◌};
+
 use crate::{Agenda, CloseFault, InOrder, NewestFirst, settle_afresh};
 use clues::{Block, Clue, ClueBook};
 use line_settle::{Facts, LineEngine, Meter, PlainEngine};
@@ -142,7 +144,7 @@ fn clues_that_no_picture_has_are_dead(rt: HostRuntime) -> Result<(), Fail> {
 fn runs(bits: u16) -> u16 {
     let mut digits = 0u16;
     let mut open = 0u16;
-    for i in 0..4 {
+    for i in 0..4u16 {
         if bits >> i & 1 == 1 && i < 3 {
             open = open.wrapping_add(1);
         } else if open > 0 {
@@ -154,7 +156,9 @@ fn runs(bits: u16) -> u16 {
 }
 
 // The cell at a place of one of three rows and three columns.
-fn place(line: usize, i: usize) -> usize {
+fn place(line: usize, i: usize) -> usize
+    ensures { result < 9 }
+{
     if line < 3 {
         (line.wrapping_mul(3).wrapping_add(i)) % 9
     } else {
@@ -173,14 +177,26 @@ fn bits_of(cells: &[u8; 9], line: usize) -> u16 {
     bits
 }
 
+// Whether the masks of a line leave each of three colours.
+fn leaves(masks: &[u16; 9], line: usize, bits: u16) -> bool {
+    for i in 0..3 {
+        let colour = bits >> i & 1;
+        if colour == 0 && masks[place(line, i)] & 1 == 0
+            || colour == 1 && masks[place(line, i)] & 2 == 0
+        {
+            return false;
+        }
+    }
+    true
+}
+
 // The colours that the lists of three cells with these runs have, where the masks leave each of their colours.
 fn listed(masks: &[u16; 9], line: usize, wanted: u16) -> [u16; 3] {
     let mut out = [0; 3];
     for bits in 0..8u16 {
-        let fits = (0..3).all(|i| masks[place(line, i)] >> (bits >> i & 1) & 1 == 1);
-        if fits && runs(bits) == wanted {
+        if leaves(masks, line, bits) && runs(bits) == wanted {
             for (i, mask) in out.iter_mut().enumerate() {
-                *mask |= 1 << (bits >> i & 1);
+                *mask |= if bits >> i & 1 == 1 { 2 } else { 1 };
             }
         }
     }

@@ -1,7 +1,6 @@
-use Rattle.std.proofs.Common.{◌≡◌, ℕ, refl, sym, ◌∙◌, subst, rules}
-use Rattle.picture.specs.LineSet.{Lines}
+use Rattle.std.proofs.Common.{ℕ, refl, sym, ◌∙◌, subst}
 use Rattle.propagate.proofs.ClosingLemmas.{Closing, closing_dies, closing_ends, closing_goes_on, gains_within}
-use Rattle.propagate.proofs.WorkLemmas.{Working, working_dies, working_goes_on, less_to_do}
+use Rattle.propagate.proofs.WorkLemmas.{working_dies, working_goes_on, less_to_do}
 use Rattle.propagate.proofs.closing.close_facts.Goals as goal
 
 pub returns-in-Dead-clause-closes : goal.returns-in-Dead-clause-closes

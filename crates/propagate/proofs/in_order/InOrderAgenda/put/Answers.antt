@@ -1,5 +1,3 @@
-use Rattle.std.proofs.Common.{◌≡◌, ◌+◌, ◌-◌, ◌<◌, sym, ap, subst, ◌∙◌, arith, ℕ}
-use Rattle.picture.specs.LineSet.{Lines, HasName}
 use Rattle.propagate.proofs.NameLemmas.{put_within}
 use Rattle.propagate.proofs.in_order.InOrderAgenda.put.Goals as goal
 

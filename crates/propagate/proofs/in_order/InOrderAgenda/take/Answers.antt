@@ -1,5 +1,4 @@
-use Rattle.std.proofs.Common.{◌≡◌, ◌+◌, ◌-◌, ◌<◌, sym, ap, subst, ◌∙◌, arith, ℕ}
-use Rattle.picture.specs.LineSet.{Lines, HasName}
+use Rattle.std.proofs.Common.{sym, ◌∙◌, arith}
 use Rattle.propagate.proofs.NameLemmas.{take_within, no_name_is_empty}
 use Rattle.propagate.proofs.in_order.InOrderAgenda.take.Goals as goal
 

@@ -1,5 +1,3 @@
-use Rattle.std.proofs.Common.{◌≡◌, ◌+◌, ◌-◌, ◌<◌, sym, ap, subst, ◌∙◌, arith, ℕ}
-use Rattle.picture.specs.LineSet.{Lines, HasName}
 use Rattle.propagate.proofs.NameLemmas.{stack_room, pushed}
 use Rattle.propagate.proofs.newest_first.NewestFirstAgenda.put.Goals as goal
 

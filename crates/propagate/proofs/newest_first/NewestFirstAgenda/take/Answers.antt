@@ -1,7 +1,5 @@
-use Rattle.std.proofs.Common.{◌≡◌, ◌+◌, ◌-◌, ◌<◌, sym, ap, subst, ◌∙◌, arith, ℕ}
-use Rattle.picture.specs.LineSet.{Lines, HasName}
+use Rattle.std.proofs.Common.{◌-◌, ◌<◌, sym, ◌∙◌, arith}
 use Rattle.propagate.proofs.NameLemmas.{none_counted, few_names, name_below, below_one, popped_one}
-use Rattle.propagate.specs.Agenda.{IsStack, name_at}
 use Rattle.propagate.proofs.newest_first.NewestFirstAgenda.take.Goals as goal
 
 pub returns-then-self-eq0 : goal.returns-then-self-eq0
