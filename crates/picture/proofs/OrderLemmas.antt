@@ -9,9 +9,10 @@ use Rattle.std.proofs.lemmas.List.{append-nil, append_assoc, map-append, map_mor
 use Rattle.std.proofs.lemmas.Option.{get_or_from_slice_get}
 use Rattle.picture.specs.declared.rgb.Rgb.{Rgb}
 use Rattle.picture.specs.Palette.{Colours, rgb_eq, place_of, IsPalette}
-use Rattle.picture.specs.Document.{seen_after, with_seen, number_among, triples_of, first_of, renumbered_rows}
+use Rattle.picture.specs.Document.{seen_after, with_seen, rows_shown, number_among, triples_of, first_of, renumbered_rows}
 use Rattle.picture.specs.Picture.{AreCells}
 use Rattle.picture.specs.Rows.{rows_of, cell_at}
+use Rattle.picture.proofs.PaletteLemmas.{same_rgb}
 use Rattle.picture.proofs.FlatLemmas.{cell_at_small}
 use Rattle.picture.proofs.GridLemmas.{every_append, every_map, every_at_all, all_of_each, concat-rows_of}
 
@@ -204,3 +205,40 @@ module _ (height width : ℕ) (cells : List ℕ) (now : List (List ℕ)) (reads 
 
     pub numbers_coloured : (result : List (List ℕ)) → result ≡ rows_of height width numbers → (i j : ℕ) → cell_at result i j < length new.triples
     numbers_coloured result is_result i j = rw is_result (cell_at_small height width numbers (length new.triples) as_many palette.has_background below i j)
+
+-- ---- no cell's colour changes
+
+number_finds : (t d : Rgb) (xs : List Rgb) → list_any (rgb_eq t) xs ≡ true → get_or xs (number_among xs t) d ≡ t
+number_finds t d [] has = absurd (cc)
+number_finds t d (x ∷ xs) has = elim (cases_Bool (rgb_eq t x)) [
+  | inl e ↦ rw e (sym (same_rgb t x e))
+  | inr e ↦ rw e (further (place_of t xs) refl (rw e at has) (number_finds t d xs (rw e at has)))
+]
+  where
+    further : (place : Option ℕ) → place_of t xs ≡ place → list_any (rgb_eq t) xs ≡ true → get_or xs (unwrap_or place 0) d ≡ t → get_or (x ∷ xs) (unwrap_or (option_map (λ k. k + 1) place) 0) d ≡ t
+    further (Some k) at there found = let next : k + 1 ≡ suc k = omega arith in rw next found
+    further None at there found = absurd (false≢true (sym (absent t xs (sym at)) ∙ there))
+
+shown_back : (among ts : List Rgb) → AllByRecursion (λ t. list_any (rgb_eq t) among ≡ true) ts → triples_of among (map (number_among among) ts) ≡ ts
+shown_back among [] all = refl
+shown_back among (t ∷ ts) all = rw (number_finds t (first_of among) among all.0, shown_back among ts all.1) refl
+
+every_left : (P : Rgb → Type 0) (xs ys : List Rgb) → AllByRecursion P (xs ++ ys) → AllByRecursion P xs
+every_left P [] ys all = tt
+every_left P (x ∷ xs) ys all = (all.0, every_left P xs ys all.1)
+
+every_right : (P : Rgb → Type 0) (xs ys : List Rgb) → AllByRecursion P (xs ++ ys) → AllByRecursion P ys
+every_right P [] ys all = all
+every_right P (x ∷ xs) ys all = every_right P xs ys all.1
+
+rows_shown_back : (among triples : List Rgb) (rows : List (List ℕ)) → AllByRecursion (λ t. list_any (rgb_eq t) among ≡ true) (flat_map (triples_of triples) rows) → rows_shown among (renumbered_rows among triples rows) ≡ rows_shown triples rows
+rows_shown_back among triples [] all = refl
+rows_shown_back among triples (row ∷ rows) all =
+    rw (shown_back among (triples_of triples row) (every_left (λ t. list_any (rgb_eq t) among ≡ true) (triples_of triples row) (flat_map (triples_of triples) rows) all))
+    (ap (λ rest. triples_of triples row ∷ rest) (rows_shown_back among triples rows (every_right (λ t. list_any (rgb_eq t) among ≡ true) (triples_of triples row) (flat_map (triples_of triples) rows) all)))
+
+-- what the renumbered picture shows is what the picture showed
+pub same_shown : (old new : Colours) (triples : List Rgb) (rows : List (List ℕ)) → new ≡ with_seen old (flat_map (triples_of triples) rows) → rows_shown new.triples (renumbered_rows new.triples triples rows) ≡ rows_shown triples rows
+same_shown old new triples rows seen =
+    rows_shown_back new.triples triples rows
+    (subst (λ colours. AllByRecursion (λ t. list_any (rgb_eq t) colours.triples ≡ true) (flat_map (triples_of triples) rows)) (sym seen) (seen-all old.triples (flat_map (triples_of triples) rows)))

@@ -41,7 +41,7 @@ is_over colours rgb room there over = rw (not_full (length colours.triples) room
 
 -- ---- a colour in place of another
 
-same_rgb : (a b : Rgb) → rgb_eq a b ≡ true → a ≡ b
+pub same_rgb : (a b : Rgb) → rgb_eq a b ≡ true → a ≡ b
 same_rgb a b e = by (eqb a.r b.r) refl (eqb a.g b.g) refl (eqb a.b b.b) refl e
   where
     by : (x : Bool) → eqb a.r b.r ≡ x → (y : Bool) → eqb a.g b.g ≡ y → (z : Bool) → eqb a.b b.b ≡ z → (x && (y && z)) ≡ true → a ≡ b

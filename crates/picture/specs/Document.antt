@@ -28,6 +28,10 @@ first_of triples = slice_index_or triples 0 (record { r = 0; g = 0; b = 0 })
 abbrev pub triples_of : List Rgb → List ℕ → List Rgb
 triples_of triples cells = map (λ k. slice_index_or triples k (first_of triples)) cells
 
+-- what a picture shows: the triple of each cell
+abbrev pub rows_shown : List Rgb → List (List ℕ) → List (List Rgb)
+rows_shown triples rows = map (triples_of triples) rows
+
 -- the colours known, and then those of a list of cells that are not yet among them, by first appearance
 abbrev pub seen_after : List Rgb → List Rgb → List Rgb
 seen_after known [] = known

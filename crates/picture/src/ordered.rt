@@ -2,15 +2,16 @@
 
 ghost use Rattle.std.specs.Prelude.{◌≡◌, IfOk};
 ghost use Rattle.picture.specs.Content.{content_of};
-ghost use Rattle.picture.specs.Document.{ordered_of};
+ghost use Rattle.picture.specs.Document.{ordered_of, rows_shown};
 
 use crate::document::Document;
 use std::alloc::AllocError;
 
 impl Document {
-    /// The same picture with its colours numbered by first appearance, row after row from the top and behind the background, and with no colour that no cell has.
+    /// The same picture with its colours numbered by first appearance, row after row from the top and behind the background, and with no colour that no cell has. Each cell keeps its colour, and the givens stay.
     pub fn ordered(&self) -> Result<Document, AllocError>
-        ensures { IfOk result (λ d. content_of d ≡ ordered_of (content_of self.now)) }
+        ensures content { IfOk result (λ d. content_of d ≡ ordered_of (content_of self.now)) }
+        ensures shown { IfOk result (λ d. rows_shown d.palette.triples d.picture ≡ rows_shown self.now.palette.triples self.now.picture) }
     {
         let mut palette = self.palette.background_alone()?;
         let picture = self.picture.renumbered(&self.palette, &mut palette)?;
