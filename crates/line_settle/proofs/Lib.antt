@@ -20,5 +20,8 @@ pub mod WritingLemmas
 pub mod FittingLemmas
 pub mod PositionLemmas
 pub mod SetStepLemmas
-pub mod SetTableLemmas
 pub mod SetNarrowLemmas
+pub mod LayingLemmas
+pub mod BlockLemmas
+pub mod MarkLemmas
+pub mod PassLemmas

@@ -1,5 +1,5 @@
 -- From the sets of positions to what narrowing a line promises.
-use Rattle.std.proofs.Common.{◌≡◌, ℕ, zero, suc, ◌<◌, ◌≤◌, false, List, replicate, ◌==◌, bit_and, refl, sym, ap, ◌∙◌, arith, length, get_or, drop}
+use Rattle.std.proofs.Common.{◌≡◌, ℕ, zero, suc, false, List, replicate, refl, sym, ap, ◌∙◌, length, get_or}
 use Rattle.std.proofs.lemmas.List.{length-replicate}
 use Rattle.std.proofs.lemmas.Bool.{false≢true}
 use Rattle.clues.specs.declared.block.Block.{Block}
@@ -11,7 +11,7 @@ use Rattle.line_settle.specs.Spelling.{pattern_of, allows, finishes}
 use Rattle.line_settle.specs.Positions.{has}
 use Rattle.line_settle.proofs.BitLemmas.{allows_none}
 use Rattle.line_settle.proofs.FittingLemmas.{bit_allows, fit_finishes, have_fits}
-use Rattle.line_settle.proofs.PositionLemmas.{has_none, lowest}
+use Rattle.line_settle.proofs.PositionLemmas.{has_none}
 
 pub no_sets : (n i : ℕ) → get_or {A = ℕ} (replicate n 0) i 0 ≡ 0
 no_sets zero i = refl
@@ -20,10 +20,6 @@ no_sets (suc n) (suc i) = no_sets n i
 
 pub none_seen : (n k i : ℕ) → has (get_or {A = ℕ} (replicate n 0) k 0) i ≡ false
 none_seen n k i = ap (λ s. has s i) (no_sets n k) ∙ has_none i
-
--- the lowest bit of the first state's set says whether a line fits
-pub first_fits : (pattern left back : List ℕ) → 0 < length pattern → ((q i : ℕ) → q < length pattern → i ≤ length left → has (get_or back q 0) i ≡ finishes pattern (drop i left) q) → (bit_and (get_or back 0 0) 1 == 1) ≡ finishes pattern left 0
-first_fits pattern left back h marked = lowest (get_or back 0 0) ∙ marked 0 0 h (omega arith)
 
 pub narrows_empty : (clue : List Block) (left out written : List ℕ) → IsClue clue → written ≡ pattern_of clue → out ≡ replicate (length left) 0 → finishes written left 0 ≡ false → Narrows clue left Dead out
 narrows_empty clue left out written b e n f =

@@ -15,8 +15,8 @@ pub record EngineRoom (longest : ℕ) (pattern : List ℕ) (row table : List Boo
   pub row_room : length row ≡ longest + 1
   pub table_room : length table ≡ (longest + 1) * (longest + 1)
 
--- the buffers of a mask engine: a pattern, and a set of positions for each of its states
-pub record MaskRoom (longest : ℕ) (pattern back : List ℕ) : Type 0 where
-  pub pattern_room : length pattern ≡ longest + 1
-  pub back_room : length back ≡ longest + 1
+-- the buffers of a mask engine: two sets of positions for each block, and for what lies behind the last
+pub record MaskRoom (longest : ℕ) (starting waiting : List ℕ) : Type 0 where
+  pub starting_room : length starting ≡ longest + 1
+  pub waiting_room : length waiting ≡ longest + 1
   pub short : longest ≤ 120

@@ -3,6 +3,7 @@ pub mod Engine
 pub mod FactSets
 pub mod Fitting
 pub mod Laws
+pub mod Laying
 pub mod Masks
 pub mod Narrowing
 pub mod Positions

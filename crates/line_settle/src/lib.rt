@@ -2,6 +2,7 @@
 #![tactic(auto)]
 
 mod base;
+mod block_steps;
 mod facts;
 mod forcing;
 pub mod laws;

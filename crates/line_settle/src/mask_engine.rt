@@ -7,14 +7,15 @@ use clues::Clue;
 use std::alloc::{AllocError, Global};
 use std::marker::Model;
 
-/// A line engine that keeps, for each state of the clue's pattern, the set of positions from which the line can go to
-/// its end, as the bits of one number. A position is counted before and after each cell, so a line has at most 120.
+/// A line engine that keeps, for each block of the clue, the sets of positions from which the line can go to its end, by
+/// laying the block and by waiting for it, as the bits of numbers. A position is counted before and after each cell, so
+/// a line has at most 120 cells.
 #[derive(Drop)]
 pub struct MaskEngine {
     longest: u8,
     calls: u64,
-    pattern: Vec<u8>,
-    back: Vec<u128>,
+    starting: Vec<u128>,
+    waiting: Vec<u128>,
 }
 
 impl Model for MaskEngine {
@@ -22,7 +23,7 @@ impl Model for MaskEngine {
 
     ghost view = { λ e. engine e.longest e.calls };
 
-    ghost invariant = { λ e. MaskRoom e.longest e.pattern.items e.back.items };
+    ghost invariant = { λ e. MaskRoom e.longest e.starting.items e.waiting.items };
 }
 
 impl MaskEngine {
@@ -32,13 +33,13 @@ impl MaskEngine {
         ensures { IfOk result (λ made. made ≡ engine longest 0) }
     {
         let side = usize::from(longest) + 1;
-        let pattern = vec![in alloc; 0u8; side]?;
-        let back = vec![in alloc; 0u128; side]?;
+        let starting = vec![in alloc; 0u128; side]?;
+        let waiting = vec![in alloc; 0u128; side]?;
         Ok(MaskEngine {
             longest,
             calls: 0,
-            pattern,
-            back,
+            starting,
+            waiting,
         })
     }
 }
@@ -59,6 +60,12 @@ impl LineEngine for MaskEngine {
     fn narrow(&mut self, count: &mut u64, clue: &Clue, left: &[u16], out: &mut [u16]) -> Outcome {
         self.calls = self.calls.saturating_add(1);
         *count = count.saturating_add(1);
-        narrow_by_sets(clue.blocks(), left, out, &mut self.pattern, &mut self.back)
+        narrow_by_sets(
+            clue.blocks(),
+            left,
+            out,
+            &mut self.starting,
+            &mut self.waiting,
+        )
     }
 }

@@ -1,74 +1,98 @@
-ghost use Rattle.std.specs.Prelude.{◌≡◌, ℕ, ◌+◌, ◌<◌, ◌≤◌, Bool, true, false, length, slice_index, drop, replicate};
-ghost use Rattle.std.specs.List.{All};
+ghost use Rattle.std.specs.Prelude.{◌≡◌, ℕ, ◌+◌, ◌<◌, ◌≤◌, ◌++◌, ◌==◌, ◌↔◌, true, false, IsTrue, length, slice_index, drop, replicate};
 ghost use Rattle.clues.specs.Clue.{IsClue};
 ghost use Rattle.line_settle.specs.Narrowing.{Narrows};
-ghost use Rattle.line_settle.specs.Spelling.{allows, finishes, reaches, passes_below};
+ghost use Rattle.line_settle.specs.Spelling.{gap, pattern_of, allows, finishes, reaches, passes_below};
 
 use crate::line_engine::Outcome;
-use crate::pattern::spell;
-use crate::position_tables::{mark_allowed, mark_back, reached, see, write_colours};
+use crate::position_tables::{mark_allowed, mark_back, see_blocks, write_colours};
 use clues::Block;
 
-// Says whether a line that spells the pattern keeps to the colours left, and writes the colours that such lines have in
-// each cell.
-fn narrow_sets(pattern: &[u8], left: &[u16], back: &mut [u128], out: &mut [u16]) -> bool
-    requires colours { All (λ colour. colour < 16) pattern.now }
-    requires begun { 0 < length pattern.now }
+// How many cells a block takes behind a block of colour `last`, with the background that must lie between them.
+fn cells_for(block: Block, last: u8) -> usize
+    ensures value { result ≡ length (gap (block.colour == last) ++ replicate block.len block.colour) }
+    ensures small { result ≤ 256 }
+{
+    let len = usize::from(block.len);
+    if block.colour == last { len + 1 } else { len }
+}
+
+// Whether a line of so many cells has room for a clue's blocks and for background between blocks of one colour.
+fn has_room(blocks: &[Block], cells: usize) -> bool
+    requires short { cells ≤ 120 }
+    ensures { IsTrue result ↔ length (pattern_of blocks.now) ≤ cells + 1 }
+{
+    let mut needed = 0;
+    let mut last = 0;
+    for block in blocks {
+        needed += cells_for(*block, last);
+        if needed > cells {
+            return false;
+        }
+        last = block.colour;
+    }
+    true
+}
+
+// Says whether some line of the blocks keeps to the colours left, and writes the colours that such lines have in each
+// cell.
+fn narrow_sets(
+    blocks: &[Block],
+    left: &[u16],
+    starting: &mut [u128],
+    waiting: &mut [u128],
+    out: &mut [u16],
+) -> bool
+    requires blocks_of_clue { IsClue blocks.now }
     requires short { length left.now ≤ 120 }
-    requires room { length pattern.now ≤ length back.old }
+    requires starting_room { length blocks.now < length starting.old }
+    requires waiting_room { length blocks.now < length waiting.old }
     requires same_length { length left.now ≡ length out.old }
-    ensures fits { result ≡ finishes pattern.now left.now 0 }
+    ensures fits { result ≡ finishes (pattern_of blocks.now) left.now 0 }
     ensures empty { result ≡ false → out.new ≡ replicate (length left.now) 0 }
     ensures collected { result ≡ true → (i k : ℕ) → i < length left.now
         → allows (slice_index out.new i) k
         ≡ passes_below
-        pattern.now
+        (pattern_of blocks.now)
         (slice_index left.now i)
-        (reaches pattern.now left.now i)
-        (finishes pattern.now (drop (i + 1) left.now))
-        (length pattern.now)
+        (reaches (pattern_of blocks.now) left.now i)
+        (finishes (pattern_of blocks.now) (drop (i + 1) left.now))
+        (length (pattern_of blocks.now))
         k }
 {
     let mut allowed = [0u128; 16];
-    mark_allowed(pattern, left, &mut allowed);
-    mark_back(pattern, left, &allowed, back);
-    let fits = back[0] & 1 == 1;
+    mark_allowed(blocks, left, &mut allowed);
+    let fits = mark_back(blocks, left, &allowed, starting, waiting);
     if !fits {
         out.fill(0);
         return false;
     }
     let mut seen = [0u128; 16];
-    let mut from = 0;
-    for q in 0..pattern.len() {
-        from = reached(pattern, &allowed, from, q);
-        see(pattern, &allowed, from, back, q, &mut seen);
-    }
+    see_blocks(blocks, left, &allowed, starting, waiting, &mut seen);
     write_colours(&seen, out);
     true
 }
 
-/// Compares a line with its clue by sets of positions for each state of the clue's pattern, in the buffers that are
-/// lent. A pattern that is longer than the line is not spelled to its end.
+/// Compares a line with its clue by sets of positions for each block, in the buffers that are lent. A clue that needs
+/// more cells than the line has is not laid at all.
 pub fn narrow_by_sets(
     blocks: &[Block],
     left: &[u16],
     out: &mut [u16],
-    pattern: &mut [u8],
-    back: &mut [u128],
+    starting: &mut [u128],
+    waiting: &mut [u128],
 ) -> Outcome
     requires blocks_of_clue { IsClue blocks.now }
     requires same_length { length left.now ≡ length out.old }
     requires short { length left.now ≤ 120 }
-    requires pattern_room { length left.now < length pattern.old }
-    requires back_room { length left.now < length back.old }
+    requires starting_room { length left.now < length starting.old }
+    requires waiting_room { length left.now < length waiting.old }
     ensures { Narrows blocks.now left.now result out.new }
 {
-    let buffer = &mut pattern[..left.len() + 1];
-    let Some(cells) = spell(blocks, buffer) else {
+    if !has_room(blocks, left.len()) {
         out.fill(0);
         return Outcome::Dead;
-    };
-    if narrow_sets(&buffer[..cells], left, back, out) {
+    }
+    if narrow_sets(blocks, left, starting, waiting, out) {
         Outcome::Narrowed
     } else {
         Outcome::Dead

@@ -1,9 +1,11 @@
 use Rattle.std.proofs.Common.{ℕ, ◌<◌, ◌≤◌, length, get_or}
-use Rattle.line_settle.proofs.SetTableLemmas.{IsBack}
+use Rattle.line_settle.specs.Spelling.{pattern_of}
+use Rattle.line_settle.specs.Laying.{IsBack, IsStart, state_behind, state_before}
 use Rattle.line_settle.proofs.position_tables.mark_back.Given as goal
 
-abbrev pub invariant-loop-q : goal.invariant-loop-q
-invariant-loop-q l = record {
-  later_is : l.q < length l.pattern → IsBack l.pattern l.left l.q l.later;
-  stored : (r : ℕ) → l.q ≤ r → r < length l.pattern → IsBack l.pattern l.left r (get_or l.back r 0);
+abbrev pub invariant-loop-j : goal.invariant-loop-j
+invariant-loop-j l = record {
+  later_is : IsBack (pattern_of l.blocks) l.left (state_behind 0 l.blocks l.j) l.later;
+  starts : (r : ℕ) → l.j ≤ r → r < length l.blocks → IsStart (pattern_of l.blocks) l.left (state_before l.blocks r) (get_or l.starting r 0);
+  waits : (r : ℕ) → l.j ≤ r → r ≤ length l.blocks → IsBack (pattern_of l.blocks) l.left (state_before l.blocks r) (get_or l.waiting r 0);
 }
