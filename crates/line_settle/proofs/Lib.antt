@@ -22,3 +22,4 @@ pub mod PositionLemmas
 pub mod SetStepLemmas
 pub mod SetTableLemmas
 pub mod SetNarrowLemmas
+pub mod SettledLemmas

@@ -6,4 +6,5 @@ pub mod Laws
 pub mod Masks
 pub mod Narrowing
 pub mod Positions
+pub mod Settled
 pub mod Spelling

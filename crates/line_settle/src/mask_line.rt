@@ -7,6 +7,7 @@ ghost use Rattle.line_settle.specs.Spelling.{allows, finishes, reaches, passes_b
 use crate::line_engine::Outcome;
 use crate::pattern::spell;
 use crate::position_tables::{mark_allowed, mark_back, reached, see, write_colours};
+use crate::settled_line::{is_settled, narrow_settled, narrow_without_blocks};
 use clues::Block;
 
 // Says whether a line that spells the pattern keeps to the colours left, and writes the colours that such lines have in
@@ -48,7 +49,8 @@ fn narrow_sets(pattern: &[u8], left: &[u16], back: &mut [u128], out: &mut [u16])
 }
 
 /// Compares a line with its clue by sets of positions for each state of the clue's pattern, in the buffers that are
-/// lent. A pattern that is longer than the line is not spelled to its end.
+/// lent. A line without blocks or open cells needs only a pass over its cells. A pattern that is longer than the line is
+/// not spelled to its end.
 pub fn narrow_by_sets(
     blocks: &[Block],
     left: &[u16],
@@ -63,6 +65,12 @@ pub fn narrow_by_sets(
     requires back_room { length left.now < length back.old }
     ensures { Narrows blocks.now left.now result out.new }
 {
+    if blocks.is_empty() {
+        return narrow_without_blocks(left, out);
+    }
+    if is_settled(left) {
+        return narrow_settled(blocks, left, out);
+    }
     let buffer = &mut pattern[..left.len() + 1];
     let Some(cells) = spell(blocks, buffer) else {
         out.fill(0);
