@@ -1,4 +1,5 @@
-//! The lines that need no tables: those whose cells are all settled, and those without blocks.
+//! The lines that need no tables: those whose cells are all settled, and those without blocks. What narrows them is kept
+//! out of the caller's body, which is slower on open lines with it.
 
 ghost use Rattle.std.specs.Prelude.{◌≡◌, ◌↔◌, ◌≤◌, length, [], IsTrue};
 ghost use Rattle.std.specs.List.{All};
@@ -12,6 +13,7 @@ use crate::pattern::allows;
 use clues::{Block, without_run};
 
 /// Narrows a line whose clue is empty: it can only be background.
+#[inline(never)]
 pub fn narrow_without_blocks(left: &[u16], out: &mut [u16]) -> Outcome
     requires { length left.now ≡ length out.old }
     ensures { Narrows [] left.now result out.new }
@@ -48,6 +50,7 @@ fn has_one_colour(mask: u16) -> bool
 }
 
 /// Narrows a line of settled cells: it stays as it is where the clue is that of its colours.
+#[inline(never)]
 pub fn narrow_settled(blocks: &[Block], left: &[u16], out: &mut [u16]) -> Outcome
     requires settled { AreSettled left.now }
     requires short { length left.now ≤ 120 }
