@@ -13,7 +13,7 @@ printf '%-6s %-7s %-8s %14s %14s %8s %12s\n' cells blocks settled plain mask rat
 for cells in 120 60 30 15; do
     for blocks in 1 15 30 60; do
         [ $((2 * blocks)) -le $((cells + 1)) ] || continue
-        for settled in open half nearly; do
+        for settled in open half nearly settled; do
             plain=$(($(instructions plain $cells $blocks $settled "$rounds") - $(instructions plain $cells $blocks $settled 1)))
             mask=$(($(instructions mask $cells $blocks $settled "$rounds") - $(instructions mask $cells $blocks $settled 1)))
             awk "BEGIN { p = $plain / ($rounds - 1); m = $mask / ($rounds - 1)

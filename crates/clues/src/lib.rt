@@ -16,3 +16,4 @@ pub use change::Change;
 pub use clue::Clue;
 pub use clue_book::ClueBook;
 pub use counting::clue_of;
+pub use matching::without_run;

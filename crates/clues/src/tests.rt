@@ -1,6 +1,6 @@
 ghost use Rattle.std.specs.Prelude.{◌≡◌};
 
-use crate::{Block, Change, Clue, ClueBook, clue_of};
+use crate::{Block, Change, Clue, ClueBook, clue_of, without_run};
 use picture::{Axis, LineId, Picture};
 use std::alloc::{AllocError, Global};
 use std::test::Fail;
@@ -61,6 +61,19 @@ fn neighbours_in_two_colours_are_two_blocks(rt: HostRuntime) -> Result<(), Fail>
     let blocks = [Block { len: 2, colour: 1 }, Block { len: 1, colour: 2 }];
     assert_eq!(rt; clue.blocks(), blocks.as_slice());
     Ok(())
+}
+
+// `aa`, `b`
+#[test]
+fn a_run_is_taken_off_the_blocks(rt: HostRuntime) {
+    let blocks = [Block { len: 2, colour: 1 }, Block { len: 1, colour: 2 }];
+    let rest = without_run(&blocks, Block { len: 2, colour: 1 });
+    assert_eq!(rt; rest, Some(&blocks[1..]));
+    assert_eq!(rt; without_run(&blocks, Block { len: 1, colour: 1 }), None);
+    assert_eq!(rt; without_run(&blocks, Block { len: 2, colour: 2 }), None);
+    assert_eq!(rt; without_run(&[], Block { len: 2, colour: 1 }), None);
+    let background = without_run(&blocks, Block { len: 7, colour: 0 });
+    assert_eq!(rt; background, Some(blocks.as_slice()));
 }
 
 #[test]

@@ -1,6 +1,6 @@
 //! Evaluates one line many times, so that the work of an evaluation can be measured from outside.
 //! The words are the engine (`plain` or `mask`), the number of cells up to 120, the number of blocks from 1 on, what is
-//! settled (`open`, `half` or `nearly`) and the number of rounds.
+//! settled (`open`, `half`, `nearly` or `settled`) and the number of rounds.
 #![tactic(auto)]
 
 ghost use Rattle.std.specs.Prelude.{◌≡◌, ◌≤◌, length};
@@ -20,6 +20,7 @@ enum Settled {
     Open,
     Half,
     Nearly,
+    All,
 }
 
 impl Settled {
@@ -28,6 +29,7 @@ impl Settled {
             Settled::Open => false,
             Settled::Half => cell % 2 == 0,
             Settled::Nearly => cell % 15 != 7,
+            Settled::All => true,
         }
     }
 }
@@ -77,7 +79,8 @@ fn task_of(cells: &str, blocks: &str, settled: &str, rounds: &str) -> Result<Tas
         "open" => Settled::Open,
         "half" => Settled::Half,
         "nearly" => Settled::Nearly,
-        _ => bail!("open, half or nearly"),
+        "settled" => Settled::All,
+        _ => bail!("open, half, nearly or settled"),
     };
     ensure!(
         0 < blocks && cells <= MOST,

@@ -108,15 +108,14 @@ narrows_none clue left out b n f c =
       empty = λ e. dead_empty clue left out (collected_have clue left out b n c) none;
     }
 
-zeros : (n i : ℕ) → get_or {A = ℕ} (replicate n 0) i 0 ≡ 0
+pub zeros : (n i : ℕ) → get_or {A = ℕ} (replicate n 0) i 0 ≡ 0
 zeros zero i = refl
 zeros (suc n) zero = refl
 zeros (suc n) (suc i) = zeros n i
 
--- a pattern that is longer than the line and one cell
-pub narrows_long : (clue : List Block) (left out : List ℕ) → IsClue clue → out ≡ replicate (length left) 0 → length left + 1 < length (pattern_of clue) → Narrows clue left Dead out
-narrows_long clue left out b n l =
-    let none = too_long clue left b l in
+-- a line that no list fits
+pub narrows_dead : (clue : List Block) (left out : List ℕ) → out ≡ replicate (length left) 0 → (CanFit clue left → ⊥) → Narrows clue left Dead out
+narrows_dead clue left out n none =
     let z : (i : ℕ) → get_or out i 0 ≡ 0 = λ i. ap (λ xs. get_or xs i 0) n ∙ zeros (length left) i in
     record {
       same_length = ap length n ∙ length-replicate (length left) 0;
@@ -124,6 +123,10 @@ narrows_long clue left out b n l =
       exact = λ i k. ((λ s. absurd (false≢true (sym (allows_none k) ∙ (ap (λ m. allows m k) (sym (z i)) ∙ bit_allows _ _ s)))), (λ h. absurd (none (have_fits h))));
       empty = λ e. z;
     }
+
+-- a pattern that is longer than the line and one cell
+pub narrows_long : (clue : List Block) (left out : List ℕ) → IsClue clue → out ≡ replicate (length left) 0 → length left + 1 < length (pattern_of clue) → Narrows clue left Dead out
+narrows_long clue left out b n l = narrows_dead clue left out n (too_long clue left b l)
 
 -- the same over what was written for the pattern
 pub narrows_some_at : (clue : List Block) (left out written : List ℕ) → IsClue clue → written ≡ pattern_of clue → length out ≡ length left → finishes written left 0 ≡ true → Collected written left out → Narrows clue left Narrowed out

@@ -7,4 +7,5 @@ pub mod Laying
 pub mod Masks
 pub mod Narrowing
 pub mod Positions
+pub mod Settled
 pub mod Spelling

@@ -15,6 +15,7 @@ mod pattern;
 mod plain_engine;
 mod position_tables;
 mod positions;
+mod settled_line;
 mod tables;
 
 pub use facts::Facts;

@@ -5,6 +5,7 @@ ghost use Rattle.line_settle.specs.Spelling.{gap, pattern_of, allows, finishes, 
 
 use crate::line_engine::Outcome;
 use crate::position_tables::{mark_allowed, mark_back, see_blocks, write_colours};
+use crate::settled_line::{is_settled, narrow_settled, narrow_without_blocks};
 use clues::Block;
 
 // How many cells a block takes behind a block of colour `last`, with the background that must lie between them.
@@ -35,6 +36,7 @@ fn has_room(blocks: &[Block], cells: usize) -> bool
 
 // Says whether some line of the blocks keeps to the colours left, and writes the colours that such lines have in each
 // cell.
+#[inline(never)]
 fn narrow_sets(
     blocks: &[Block],
     left: &[u16],
@@ -72,8 +74,8 @@ fn narrow_sets(
     true
 }
 
-/// Compares a line with its clue by sets of positions for each block, in the buffers that are lent. A clue that needs
-/// more cells than the line has is not laid at all.
+/// Compares a line with its clue by sets of positions for each block, in the buffers that are lent. A line without
+/// blocks or open cells needs only a pass over its cells. A clue that needs more cells than the line has is not laid.
 pub fn narrow_by_sets(
     blocks: &[Block],
     left: &[u16],
@@ -88,6 +90,12 @@ pub fn narrow_by_sets(
     requires waiting_room { length left.now < length waiting.old }
     ensures { Narrows blocks.now left.now result out.new }
 {
+    if blocks.is_empty() {
+        return narrow_without_blocks(left, out);
+    }
+    if is_settled(left) {
+        return narrow_settled(blocks, left, out);
+    }
     if !has_room(blocks, left.len()) {
         out.fill(0);
         return Outcome::Dead;

@@ -268,6 +268,102 @@ fn a_mask_engine_agrees_with_a_listing(rt: HostRuntime) -> Result<(), Fail> {
     listing(&rt, rt.alloc(), &mut engine)
 }
 
+// Narrows a line with these colours left, and compares what is left then.
+fn narrows<E: LineEngine>(
+    rt: &impl Abort,
+    engine: &mut E,
+    clue: &Clue,
+    left: &[u16],
+    outcome: Outcome,
+    want: &[u16],
+) {
+    let mut out = [7; 120];
+    assert!(rt; left.len() <= 120);
+    let len = left.len();
+    assert_eq!(rt; narrow(rt, engine, clue, left, &mut out[..len]), outcome);
+    assert_eq!(rt; &out[..len], want);
+}
+
+// Lines that stay as they are.
+fn stay<E: LineEngine>(rt: &impl Abort, engine: &mut E, clue: &Clue, lines: &[[u16; 4]]) {
+    for line in lines {
+        narrows(rt, engine, clue, line, Outcome::Narrowed, line);
+    }
+}
+
+// Lines that no list of colours fits.
+fn are_dead<E: LineEngine>(rt: &impl Abort, engine: &mut E, clue: &Clue, lines: &[[u16; 4]]) {
+    for line in lines {
+        narrows(rt, engine, clue, line, Outcome::Dead, &[0; 4]);
+    }
+}
+
+// Lines whose cells are settled, with 1 for background, 2 for `a` and 4 for `b`.
+fn settled_rows<E: LineEngine>(rt: &impl Abort, alloc: Global, engine: &mut E) -> Result<(), Fail> {
+    let aab = clue_from(rt, alloc, &[1, 1, 2])?;
+    stay(
+        rt,
+        engine,
+        &aab,
+        &[[2, 2, 4, 1], [1, 2, 2, 4], [2, 2, 1, 4]],
+    );
+    // too short, too long, another colour, too few blocks, too many, and in another order
+    are_dead(
+        rt,
+        engine,
+        &aab,
+        &[
+            [2, 4, 1, 1],
+            [2, 2, 2, 4],
+            [2, 2, 8, 1],
+            [1, 1, 2, 2],
+            [2, 2, 4, 2],
+            [4, 2, 2, 1],
+        ],
+    );
+    // a cell with no colour
+    are_dead(rt, engine, &aab, &[[2, 2, 4, 0], [0, 2, 2, 4]]);
+    // two cells of one colour that touch are one block
+    let a_a = clue_from(rt, alloc, &[1, 0, 1])?;
+    stay(rt, engine, &a_a, &[[2, 1, 2, 1], [2, 1, 1, 2]]);
+    are_dead(rt, engine, &a_a, &[[2, 2, 1, 1], [1, 1, 1, 2]]);
+    let last = clue_from(rt, alloc, &[15])?;
+    stay(rt, engine, &last, &[[1 << 15, 1, 1, 1], [1, 1, 1, 1 << 15]]);
+    let sixty = Clue::from_blocks(alloc, &[Block { len: 1, colour: 1 }; 60])?;
+    let line = in_turn::<u16, 120>(1, 2);
+    narrows(rt, engine, &sixty, &line, Outcome::Narrowed, &line);
+    Ok(())
+}
+
+// Lines without blocks, of open and of settled cells.
+fn blank_rows<E: LineEngine>(rt: &impl Abort, alloc: Global, engine: &mut E) -> Result<(), Fail> {
+    let none = Clue::from_blocks(alloc, &[])?;
+    let one = clue_from(rt, alloc, &[1])?;
+    for left in [[ALL; 4], [ALL, 0b11, 1, 0b1001], [1; 4]] {
+        narrows(rt, engine, &none, &left, Outcome::Narrowed, &[1; 4]);
+    }
+    are_dead(
+        rt,
+        engine,
+        &none,
+        &[[ALL, ALL, 0b110, ALL], [1, 1, 1, 2], [0, 1, 1, 1]],
+    );
+    are_dead(rt, engine, &one, &[[1; 4]]);
+    narrows(rt, engine, &none, &[], Outcome::Narrowed, &[]);
+    narrows(rt, engine, &one, &[], Outcome::Dead, &[]);
+    Ok(())
+}
+
+#[test]
+fn both_engines_show_settled_and_blank_rows(rt: HostRuntime) -> Result<(), Fail> {
+    let mut plain = PlainEngine::make(rt.alloc(), 120)?;
+    settled_rows(&rt, rt.alloc(), &mut plain)?;
+    blank_rows(&rt, rt.alloc(), &mut plain)?;
+    let mut masks = MaskEngine::make(rt.alloc(), 120)?;
+    settled_rows(&rt, rt.alloc(), &mut masks)?;
+    blank_rows(&rt, rt.alloc(), &mut masks)
+}
+
 // The next number of a small generator.
 fn draw(state: &mut u64) -> u64 {
     *state = state
@@ -276,9 +372,9 @@ fn draw(state: &mut u64) -> u64 {
     *state >> 33
 }
 
-// The colours left in a cell that has this colour: of four cells `open` keep every colour, some of the others keep a few
-// more than their own, and one cell in 400 may lose its own.
-fn draw_left(state: &mut u64, open: u64, colour: u8) -> u16 {
+// The colours left in a cell that has this colour: of four cells `open` keep every colour, and some of the others keep a
+// few more than their own. With no `open` each keeps its own alone. One cell in 400 may lose its own.
+fn draw_left(state: &mut u64, open: Option<u64>, colour: u8) -> u16 {
     let own = match colour {
         0 => 1,
         1 => 2,
@@ -288,6 +384,9 @@ fn draw_left(state: &mut u64, open: u64, colour: u8) -> u16 {
     if draw(state) % 400 == 0 {
         return (draw(state) % 16) as u16;
     }
+    let Some(open) = open else {
+        return own;
+    };
     if draw(state) % 4 < open {
         return ALL;
     }
@@ -309,7 +408,10 @@ fn agree_on_a_line<E: LineEngine, F: LineEngine>(
     let len = 1 + (draw(state) % 120) as usize;
     let colours = 2 + draw(state) % 3;
     let run = 1 + draw(state) % 6;
-    let open = draw(state) % 5;
+    let open = match draw(state) % 6 {
+        5 => None,
+        open => Some(open),
+    };
     let mut cells = [0; 120];
     let mut left = [0; 120];
     let mut colour = 0;
