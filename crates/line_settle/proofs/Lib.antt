@@ -19,6 +19,7 @@ pub mod ForceLemmas
 pub mod WritingLemmas
 pub mod FittingLemmas
 pub mod PositionLemmas
+pub mod ColouringLemmas
 pub mod SetStepLemmas
 pub mod SetTableLemmas
 pub mod SetNarrowLemmas

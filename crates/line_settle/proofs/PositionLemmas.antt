@@ -3,12 +3,12 @@ use Rattle.std.proofs.Common.{◌≡◌, ℕ, zero, suc, ◌+◌, ◌*◌, ◌/�
 use Rattle.std.specs.Int.{bit_at}
 use Rattle.std.proofs.lemmas.Bool.{cases_eq}
 use Rattle.std.proofs.Math.Nat.{pow-succ', div-div-eq-div-mul}
-use Rattle.std.proofs.lemmas.List.{get_or_past, get_or-set_same, get_or-set_other}
+use Rattle.std.proofs.lemmas.List.{get_or_past}
 use Rattle.std.proofs.lemmas.Nat.Bits.{shr_and_one, bit_at_lowest, bit_at-suc, bit_at_and, bit_at_or, bit_at_xor, bit_at-lt, bit_at-zero, bit_at_above, bit_at-pow_same, bit_at-pow_other, bit_at_cat_low}
 use Rattle.std.proofs.lemmas.Grind.{one_shifted}
 use Rattle.line_settle.specs.Spelling.{allows}
 use Rattle.line_settle.specs.Positions.{has}
-use Rattle.line_settle.proofs.BitLemmas.{allows_is, allows_none, allows_or, allows_shifted}
+use Rattle.line_settle.proofs.BitLemmas.{allows_is, allows_none, max_is_one}
 
 -- ---- numbers below 2 as tests
 
@@ -20,15 +20,6 @@ min_is_one (suc zero) (suc zero) h i = refl
 min_is_one (suc (suc a)) b h i = absurd (omega arith)
 min_is_one zero (suc (suc b)) h i = absurd (omega arith)
 min_is_one (suc zero) (suc (suc b)) h i = absurd (omega arith)
-
-max_is_one : (a b : ℕ) → a < 2 → b < 2 → (max a b == 1) ≡ ((a == 1) || (b == 1))
-max_is_one zero zero h i = refl
-max_is_one zero (suc zero) h i = refl
-max_is_one (suc zero) zero h i = refl
-max_is_one (suc zero) (suc zero) h i = refl
-max_is_one (suc (suc a)) b h i = absurd (omega arith)
-max_is_one zero (suc (suc b)) h i = absurd (omega arith)
-max_is_one (suc zero) (suc (suc b)) h i = absurd (omega arith)
 
 -- ---- sets
 
@@ -294,11 +285,11 @@ up_next a j h =
     let P : ℕ → Type 0 = λ n. has (a * 2 % 340282366920938463463374607431768211456) n ≡ has a j in
     subst P (let e : suc j ≡ j + 1 = omega arith in e) (has_up a j h)
 
-true_behind : (b : Bool) → (b || true) ≡ true
+pub true_behind : (b : Bool) → (b || true) ≡ true
 true_behind true = refl
 true_behind false = refl
 
-false_behind : (b : Bool) → (b || false) ≡ b
+pub false_behind : (b : Bool) → (b || false) ≡ b
 false_behind true = refl
 false_behind false = refl
 
@@ -326,43 +317,6 @@ gathered_more left cells new colour i n e first next before (suc j) h =
     ap (λ p. has new p) s ∙ (next j (omega arith) ∙ (before j (omega arith) ∙ ap (λ p. allows (get_or left p 0) colour) (let z : n + j ≡ i + suc j = omega arith in z)))
 
 pub ruleset gathering = (none_gathered, gathered_more)
-
--- ---- a colour that is left in the cells of a set
-
-pub coloured : (mask colour k : ℕ) → colour < 16 → allows (bit_or mask (1 * 2 ^ colour % 65536)) k ≡ (allows mask k || colour == k)
-coloured mask colour k h = allows_or mask (1 * 2 ^ colour % 65536) k ∙ ap (λ x. allows mask k || x) (allows_shifted colour k h)
-
-pub same_colours : (mask k : ℕ) (b : Bool) → allows mask k ≡ (allows mask k || (false && b))
-same_colours mask k b = sym (false_behind (allows mask k))
-
-pub ruleset colouring = (coloured, same_colours)
-
--- the first n cells of a line have got a colour where a set says so
-pub record Coloured (set colour : ℕ) (old out : List ℕ) (n : ℕ) : Type 0 where
-  pub written : (j k : ℕ) → j < n → allows (get_or out j 0) k ≡ (allows (get_or old j 0) k || (has set j && colour == k))
-  pub kept : (j : ℕ) → n ≤ j → get_or out j 0 ≡ get_or old j 0
-
-pub none_coloured : (set colour : ℕ) (old : List ℕ) → Coloured set colour old old 0
-none_coloured set colour old = record { written = λ j k l. absurd (omega arith); kept = λ j l. refl }
-
-pub coloured_more : (places colour : ℕ) (old out : List ℕ) (i v : ℕ) (b : Bool) → i < length out → b ≡ has places i → ((k : ℕ) → allows v k ≡ (allows (get_or out i 0) k || (b && colour == k))) → Coloured places colour old out i → Coloured places colour old (set out i v) (i + 1)
-coloured_more places colour old out i v b h e is before = record {
-  written = λ j k l. elim (cases_eq j i) [
-    | inl same ↦
-        let P : ℕ → Type 0 = λ n. allows (get_or (set out i v) n 0) k ≡ (allows (get_or old n 0) k || (has places n && colour == k)) in
-        subst P (sym same) (
-        ap (λ m. allows m k) (get_or-set_same out i v 0 h)
-        ∙ (is k
-        ∙ (ap (λ m. allows m k || (b && colour == k)) (before.kept i (omega arith))
-        ∙ ap (λ x. allows (get_or old i 0) k || (x && colour == k)) e)))
-    | inr other ↦ ap (λ m. allows m k) (get_or-set_other out i j v 0 other) ∙ before.written j k (omega arith)
-  ];
-  kept = λ j l. get_or-set_other out i j v 0 (λ e. absurd (omega arith)) ∙ before.kept j (omega arith);
-}
-
--- the set without the positions before place i
-pub rest_more : (places rest i j : ℕ) → ((n : ℕ) → has rest n ≡ has places (n + i)) → has (rest / 2) j ≡ has places (j + (i + 1))
-rest_more places rest i j h = has_down 1 rest j ∙ (h (j + 1) ∙ ap (λ n. has places n) (let e : j + 1 + i ≡ j + (i + 1) = omega arith in e))
 
 -- the lowest bit as it is tested
 pub lowest : (a : ℕ) → (bit_and a 1 == 1) ≡ has a 0

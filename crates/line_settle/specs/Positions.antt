@@ -1,5 +1,5 @@
 -- Sets of positions of a line, counted before and after each cell: position i is bit i of a number.
-use Rattle.std.specs.Prelude.{◌≡◌, ℕ, ◌+◌, ◌<◌, List, Bool, true, ◌==◌, ◌&&◌, ◌||◌, nat_lt, length, slice_index}
+use Rattle.std.specs.Prelude.{◌≡◌, ℕ, ◌+◌, ◌<◌, ◌≤◌, List, Bool, true, ◌==◌, ◌&&◌, ◌||◌, nat_lt, length, slice_index}
 use Rattle.std.specs.Int.{bit_at}
 use Rattle.line_settle.specs.Spelling.{allows, waits}
 
@@ -43,3 +43,10 @@ stayed pattern allowed before q i = waits pattern q && (has (slice_index allowed
 abbrev pub passing : List ℕ → List ℕ → ℕ → List ℕ → ℕ → ℕ → ℕ → Bool
 passing pattern allowed from back q i k =
     has from i && ((goes_on pattern allowed (slice_index back (q + 1)) q i && slice_index pattern (q + 1) == k) || (stays pattern allowed (slice_index back q) q i && 0 == k))
+
+-- The cells from `first` up to `end` have got a colour behind the positions of a set that is counted from `first`, and
+-- the other cells are as they were.
+pub record IsColoured (set colour first end : ℕ) (old new : List ℕ) : Type 0 where
+  pub inside : (i j k : ℕ) → i ≡ first + j → i < end → allows (slice_index new i) k ≡ (allows (slice_index old i) k || (has set j && colour == k))
+  pub before : (i : ℕ) → i < first → slice_index new i ≡ slice_index old i
+  pub behind : (i : ℕ) → end ≤ i → slice_index new i ≡ slice_index old i

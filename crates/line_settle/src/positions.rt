@@ -1,6 +1,6 @@
 ghost use Rattle.std.specs.Prelude.{◌≡◌, ℕ, ◌+◌, ◌<◌, ◌≤◌, ◌&&◌, ◌||◌, ◌==◌, Bool, length, slice_index};
 ghost use Rattle.line_settle.specs.Spelling.{allows};
-ghost use Rattle.line_settle.specs.Positions.{has};
+ghost use Rattle.line_settle.specs.Positions.{has, IsColoured};
 
 use crate::pattern::allows;
 
@@ -57,7 +57,7 @@ pub fn cells_with(left: &[u16], colour: u8) -> u128
     cells
 }
 
-#[tactic(auto, using(crate::proofs::PositionLemmas::colouring))]
+#[tactic(auto, using(crate::proofs::ColouringLemmas::colouring))]
 // The mask of a cell with one colour more, or not.
 fn with_colour(mask: u16, more: bool, colour: u8) -> u16
     requires colour { colour < 16 }
@@ -66,15 +66,32 @@ fn with_colour(mask: u16, more: bool, colour: u8) -> u16
     if more { mask | (1 << colour) } else { mask }
 }
 
+#[inline]
+#[tactic(auto, using(crate::proofs::ColouringLemmas::colouring))]
+// Leaves a colour in so many cells from `first` on, behind the positions of a set that is counted from there.
+fn colour_cells(set: u8, colour: u8, first: usize, count: usize, out: &mut [u16])
+    requires colour { colour < 16 }
+    requires few { count ≤ 8 }
+    requires room { first + count ≤ length out.old }
+    ensures { IsColoured set colour first (first + count) out.old out.new }
+{
+    for j in 0..count {
+        out[first + j] = with_colour(out[first + j], (set >> j) & 1 == 1, colour);
+    }
+}
+
 /// Leaves a colour in the cells behind the positions of a set.
 pub fn add_colour(set: u128, colour: u8, out: &mut [u16])
     requires colour { colour < 16 }
     ensures { (i k : ℕ) → i < length out.old
         → allows (slice_index out.new i) k ≡ (allows (slice_index out.old i) k || (has set i && colour == k)) }
 {
+    let cells = out.len();
     let mut rest = set;
-    for i in 0..out.len() {
-        out[i] = with_colour(out[i], rest & 1 == 1, colour);
-        rest >>= 1;
+    for chunk in 0..cells / 8 {
+        // Always eight cells, so that they are coloured together as one vector.
+        colour_cells((rest & 0xff) as u8, colour, 8 * chunk, 8, out);
+        rest >>= 8;
     }
+    colour_cells((rest & 0xff) as u8, colour, 8 * (cells / 8), cells % 8, out);
 }
