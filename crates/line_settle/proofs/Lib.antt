@@ -20,6 +20,7 @@ pub mod WritingLemmas
 pub mod FittingLemmas
 pub mod PositionLemmas
 pub mod ColouringLemmas
+pub mod GatheringLemmas
 pub mod SetStepLemmas
 pub mod SetTableLemmas
 pub mod SetNarrowLemmas

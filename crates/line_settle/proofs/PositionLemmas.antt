@@ -1,14 +1,13 @@
 -- Sets of positions as masks: what is in them after `&`, `|`, shifts and additions.
-use Rattle.std.proofs.Common.{◌≡◌, ℕ, zero, suc, ◌+◌, ◌*◌, ◌/◌, ◌%◌, ◌^◌, ◌<◌, ◌≤◌, Bool, true, false, List, ◌==◌, ◌&&◌, ◌||◌, bit_and, bit_or, bit_xor, refl, sym, ap, subst, ◌∙◌, arith, inl, inr, eq-eqb, ne_eqb, max, min, length, get_or, set}
+use Rattle.std.proofs.Common.{◌≡◌, ℕ, zero, suc, ◌+◌, ◌*◌, ◌/◌, ◌%◌, ◌^◌, ◌<◌, ◌≤◌, Bool, true, false, ◌==◌, ◌&&◌, ◌||◌, bit_and, bit_or, bit_xor, refl, sym, ap, subst, ◌∙◌, arith, inl, inr, eq-eqb, ne_eqb, max, min, set}
 use Rattle.std.specs.Int.{bit_at}
 use Rattle.std.proofs.lemmas.Bool.{cases_eq}
 use Rattle.std.proofs.Math.Nat.{pow-succ', div-div-eq-div-mul}
-use Rattle.std.proofs.lemmas.List.{get_or_past}
 use Rattle.std.proofs.lemmas.Nat.Bits.{shr_and_one, bit_at_lowest, bit_at-suc, bit_at_and, bit_at_or, bit_at_xor, bit_at-lt, bit_at-zero, bit_at_above, bit_at-pow_same, bit_at-pow_other, bit_at_cat_low}
 use Rattle.std.proofs.lemmas.Grind.{one_shifted}
 use Rattle.line_settle.specs.Spelling.{allows}
 use Rattle.line_settle.specs.Positions.{has}
-use Rattle.line_settle.proofs.BitLemmas.{allows_is, allows_none, max_is_one}
+use Rattle.line_settle.proofs.BitLemmas.{allows_is, max_is_one}
 
 -- ---- numbers below 2 as tests
 
@@ -278,45 +277,16 @@ spans_twice run runs s t i e g =
 
 pub ruleset falling = (filled, fills_one, spans_one, fills_twice, spans_twice)
 
--- ---- cells that are gathered one by one
+-- ---- the next position
 
 pub up_next : (a j : ℕ) → j < 127 → has (a * 2 % 340282366920938463463374607431768211456) (j + 1) ≡ has a j
 up_next a j h =
     let P : ℕ → Type 0 = λ n. has (a * 2 % 340282366920938463463374607431768211456) n ≡ has a j in
     subst P (let e : suc j ≡ j + 1 = omega arith in e) (has_up a j h)
 
-pub true_behind : (b : Bool) → (b || true) ≡ true
-true_behind true = refl
-true_behind false = refl
-
 pub false_behind : (b : Bool) → (b || false) ≡ b
 false_behind true = refl
 false_behind false = refl
-
-pub put_first : (a : ℕ) → has (bit_or a 1) 0 ≡ true
-put_first a = has_or a 1 0 ∙ (ap (λ x. has a 0 || x) (has_one 0) ∙ true_behind (has a 0))
-
-put_next : (a j : ℕ) → has (bit_or a 1) (j + 1) ≡ has a (j + 1)
-put_next a j =
-    let e : has 1 (j + 1) ≡ false = has_one (j + 1) ∙ ne_eqb (j + 1) 0 (λ z. absurd (omega arith)) in
-    has_or a 1 (j + 1) ∙ (ap (λ x. has a (j + 1) || x) e ∙ false_behind (has a (j + 1)))
-
-pub put_behind : (a j : ℕ) → j < 127 → has (bit_or (a * 2 % 340282366920938463463374607431768211456) 1) (j + 1) ≡ has a j
-put_behind a j h = put_next (a * 2 % 340282366920938463463374607431768211456) j ∙ up_next a j h
-
-pub ruleset pushing = (has_up_first, up_next, put_first, put_behind)
-
-pub none_gathered : (left : List ℕ) (colour j : ℕ) → has 0 j ≡ allows (get_or left (length left + j) 0) colour
-none_gathered left colour j =
-    has_none j ∙ sym (ap (λ m. allows m colour) (get_or_past left (length left + j) 0 (omega arith)) ∙ allows_none colour)
-
-pub gathered_more : (left : List ℕ) (cells new colour i n : ℕ) → n ≡ i + 1 → has new 0 ≡ allows (get_or left i 0) colour → ((j : ℕ) → j < 127 → has new (j + 1) ≡ has cells j) → ((j : ℕ) → j < 128 → has cells j ≡ allows (get_or left (n + j) 0) colour) → (j : ℕ) → j < 128 → has new j ≡ allows (get_or left (i + j) 0) colour
-gathered_more left cells new colour i n e first next before zero h = first ∙ ap (λ p. allows (get_or left p 0) colour) (let z : i ≡ i + 0 = omega arith in z)
-gathered_more left cells new colour i n e first next before (suc j) h =
-    let s : suc j ≡ j + 1 = omega arith in
-    ap (λ p. has new p) s ∙ (next j (omega arith) ∙ (before j (omega arith) ∙ ap (λ p. allows (get_or left p 0) colour) (let z : n + j ≡ i + suc j = omega arith in z)))
-
-pub ruleset gathering = (none_gathered, gathered_more)
 
 -- the lowest bit as it is tested
 pub lowest : (a : ℕ) → (bit_and a 1 == 1) ≡ has a 0

@@ -3,6 +3,7 @@ ghost use Rattle.line_settle.specs.Spelling.{allows};
 ghost use Rattle.line_settle.specs.Positions.{has, IsColoured};
 
 use crate::pattern::allows;
+use std::simd::prelude::*;
 
 #[tactic(auto, using(crate::proofs::PositionLemmas::rising))]
 /// The positions that can be reached from a set, cell by cell upwards, over the cells of `run`.
@@ -34,25 +35,41 @@ pub fn fill_down(set: u128, run: u128) -> u128
     all
 }
 
-#[tactic(auto, using(crate::proofs::PositionLemmas::pushing))]
-// The set one position on, with position 0 in it or not.
-fn pushed(set: u128, first: bool) -> u128
-    ensures first { has result 0 ≡ first }
-    ensures behind { (i : ℕ) → i < 127 → has result (i + 1) ≡ has set i }
+// The cells from `first` on in which a colour is left, one by one, as the positions before them counted from there.
+fn few_with(left: &[u16], first: usize, colour: u8) -> u64
+    requires colour { colour < 16 }
+    requires begun { first ≤ length left.now }
+    ensures { (i : ℕ) → i < 64 → has result i ≡ allows (slice_index left.now (first + i)) colour }
 {
-    let moved = set << 1;
-    if first { moved | 1 } else { moved }
+    let mut cells = 0;
+    for i in (first..left.len()).rev() {
+        cells = (cells << 1) | u64::from(allows(left[i], colour));
+    }
+    cells
 }
 
-#[tactic(auto, using(crate::proofs::PositionLemmas::gathering))]
+#[inline]
+// The same for eight cells, which are compared with the colour together.
+fn eight_with(left: &[u16], first: usize, colour: u8) -> u64
+    requires colour { colour < 16 }
+    requires room { first + 8 ≤ length left.now }
+    ensures each { (i : ℕ) → i < 8 → has result i ≡ allows (slice_index left.now (first + i)) colour }
+    ensures no_more { result < 256 }
+{
+    let bit = u16x8::splat(1 << colour);
+    let cells = u16x8::from_slice(&left[first..]);
+    (cells & bit).simd_eq(bit).to_bitmask()
+}
+
 /// The cells of a line in which a colour is left, as the positions before them.
 pub fn cells_with(left: &[u16], colour: u8) -> u128
     requires colour { colour < 16 }
     ensures { (i : ℕ) → i < 128 → has result i ≡ allows (slice_index left.now i) colour }
 {
-    let mut cells = 0;
-    for i in (0..left.len()).rev() {
-        cells = pushed(cells, allows(left[i], colour));
+    let chunks = left.len() / 8;
+    let mut cells = u128::from(few_with(left, 8 * chunks, colour));
+    for chunk in (0..chunks).rev() {
+        cells = (cells << 8) | u128::from(eight_with(left, 8 * chunk, colour));
     }
     cells
 }
@@ -68,8 +85,9 @@ fn with_colour(mask: u16, more: bool, colour: u8) -> u16
 
 #[inline]
 #[tactic(auto, using(crate::proofs::ColouringLemmas::colouring))]
-// Leaves a colour in so many cells from `first` on, behind the positions of a set that is counted from there.
-fn colour_cells(set: u8, colour: u8, first: usize, count: usize, out: &mut [u16])
+// Leaves a colour in so many cells from `first` on, behind the positions of a set that is counted from there. The set is
+// as wide as a cell, so that where the count is known both are lanes of one vector.
+fn colour_cells(set: u16, colour: u8, first: usize, count: usize, out: &mut [u16])
     requires colour { colour < 16 }
     requires few { count ≤ 8 }
     requires room { first + count ≤ length out.old }
@@ -87,11 +105,12 @@ pub fn add_colour(set: u128, colour: u8, out: &mut [u16])
         → allows (slice_index out.new i) k ≡ (allows (slice_index out.old i) k || (has set i && colour == k)) }
 {
     let cells = out.len();
+    let whole = 8 * (cells / 8);
     let mut rest = set;
     for chunk in 0..cells / 8 {
-        // Always eight cells, so that they are coloured together as one vector.
-        colour_cells((rest & 0xff) as u8, colour, 8 * chunk, 8, out);
+        // Always eight cells, so that they are coloured together.
+        colour_cells((rest & 0xff) as u16, colour, 8 * chunk, 8, out);
         rest >>= 8;
     }
-    colour_cells((rest & 0xff) as u8, colour, 8 * (cells / 8), cells % 8, out);
+    colour_cells((rest & 0xff) as u16, colour, whole, cells % 8, out);
 }
