@@ -1,12 +1,12 @@
 -- A colour that is left in the cells of a set, some cells at a time.
-use Rattle.std.proofs.Common.{◌≡◌, ℕ, ◌+◌, ◌-◌, ◌*◌, ◌/◌, ◌%◌, ◌^◌, ◌<◌, ◌≤◌, Bool, true, false, List, ◌==◌, ◌&&◌, ◌||◌, bit_and, bit_or, refl, sym, ap, subst, ◌∙◌, arith, inl, inr, length, get_or, set}
+use Rattle.std.proofs.Common.{◌≡◌, ℕ, ◌+◌, ◌-◌, ◌*◌, ◌/◌, ◌%◌, ◌^◌, ◌<◌, ◌≤◌, Bool, false, List, ◌==◌, ◌&&◌, ◌||◌, bit_and, bit_or, refl, sym, ap, subst, ◌∙◌, arith, inl, inr, length, get_or, set}
 use Rattle.std.proofs.lemmas.Bool.{cases_eq, cases_lt}
 use Rattle.std.proofs.lemmas.List.{get_or-set_same, get_or-set_other}
 use Rattle.std.proofs.lemmas.Nat.Bits.{shr_and_one, bit_at_ones}
 use Rattle.line_settle.specs.Spelling.{allows}
 use Rattle.line_settle.specs.Positions.{has, IsColoured}
 use Rattle.line_settle.proofs.BitLemmas.{allows_or, allows_shifted}
-use Rattle.line_settle.proofs.PositionLemmas.{has_and, has_down, false_behind}
+use Rattle.line_settle.proofs.PositionLemmas.{has_and, has_down, all_true, false_behind}
 
 pub coloured : (mask colour k : ℕ) → colour < 16 → allows (bit_or mask (1 * 2 ^ colour % 65536)) k ≡ (allows mask k || colour == k)
 coloured mask colour k h = allows_or mask (1 * 2 ^ colour % 65536) k ∙ ap (λ x. allows mask k || x) (allows_shifted colour k h)
@@ -57,11 +57,7 @@ coloured_on places rest colour done first end n old out new f e d same earlier m
 -- the eight lowest positions
 pub low_eight : (a j : ℕ) → j < 8 → has (bit_and a 255) j ≡ has a j
 unfolding has
-low_eight a j h = has_and a 255 j ∙ (ap (λ x. has a j && (x == 1)) (bit_at_ones 8 j h) ∙ alone (has a j))
-  where
-    alone : (b : Bool) → (b && true) ≡ b
-    alone true = refl
-    alone false = refl
+low_eight a j h = has_and a 255 j ∙ (ap (λ x. has a j && (x == 1)) (bit_at_ones 8 j h) ∙ sym (all_true (has a j)))
 
 -- the set without eight more positions
 pub rest_more : (places rest chunk j : ℕ) → ((n : ℕ) → has rest n ≡ has places (8 * chunk + n)) → has (rest / 2 ^ 8) j ≡ has places (8 * (chunk + 1) + j)

@@ -1,42 +1,32 @@
 -- The cells in which a colour is left, gathered as a set of positions, some cells at a time.
-use Rattle.std.proofs.Common.{◌≡◌, ℕ, zero, suc, ◌+◌, ◌-◌, ◌*◌, ◌/◌, ◌%◌, ◌^◌, ◌<◌, ◌≤◌, Bool, true, false, cond, List, map, eqb, ◌==◌, ◌||◌, bit_and, bit_or, refl, sym, ap, subst, ◌∙◌, arith, inl, inr, eq-eqb, ne_eqb, length, get_or, replicate, w16}
+use Rattle.std.proofs.Common.{◌≡◌, ℕ, zero, suc, ◌+◌, ◌-◌, ◌*◌, ◌%◌, ◌^◌, ◌<◌, ◌≤◌, Bool, true, false, cond, List, map, eqb, ◌==◌, ◌||◌, bit_and, bit_or, refl, sym, ap, subst, ◌∙◌, arith, inl, inr, eq-eqb, ne_eqb, length, get_or, replicate, w16}
 use Rattle.std.specs.Int.{bit_at}
 use Rattle.std.specs.Simd.Lanes.{zip2, chunk, top, mask_l}
 use Rattle.std.proofs.lemmas.Bool.{cases_lt}
 use Rattle.std.proofs.lemmas.List.{get_or_past, get_or-map, length-map}
 use Rattle.std.proofs.lemmas.Nat.{pow_pos}
-use Rattle.std.proofs.lemmas.Nat.Bits.{bit_at_above, bit_at_cat_low, bit_at_cat_high, bit_at-lt, and_pow}
+use Rattle.std.proofs.lemmas.Nat.Bits.{bit_at_cat_low, bit_at_cat_high, bit_at-lt, and_pow}
 use Rattle.std.proofs.lemmas.Simd.{length-chunk, get_or-chunk, length-zip2, zip2_splat, map-map, bitmask_splat, bit_mask_l, mask_l-lt}
 use Rattle.std.proofs.lemmas.Grind.{one_shifted}
-use Rattle.std.proofs.Math.Nat.{div-add-mod, mul_comm}
 use mir.Val.{bool_byte}
 use Rattle.line_settle.specs.Spelling.{allows}
 use Rattle.line_settle.specs.Positions.{has}
 use Rattle.line_settle.proofs.BitLemmas.{allows_is, allows_none}
-use Rattle.line_settle.proofs.PositionLemmas.{has_or, has_none, has_one, has_bit, false_behind}
+use Rattle.line_settle.proofs.PositionLemmas.{bit_low, has_above, has_or, has_none, has_one, has_bit, false_behind}
 
 -- ---- a shift by s places to higher positions, in w bits
-
-low_bits : (w x i : ℕ) → i < w → bit_at (x % 2 ^ w) i ≡ bit_at x i
-low_bits w x i h =
-    let e : (x / 2 ^ w) * 2 ^ w + x % 2 ^ w ≡ x = ap (λ n. n + x % 2 ^ w) (mul_comm (x / 2 ^ w) (2 ^ w)) ∙ div-add-mod x (2 ^ w) in
-    sym (bit_at_cat_low (x / 2 ^ w) w (x % 2 ^ w) i h) ∙ ap (λ y. bit_at y i) e
 
 nothing_added : (n : ℕ) → n ≡ n + 0
 nothing_added n = omega arith
 
 below_shifted : (w s a i : ℕ) → i < s → i < w → has (a * 2 ^ s % 2 ^ w) i ≡ false
 below_shifted w s a i h l =
-    has_bit (a * 2 ^ s % 2 ^ w) 0 i i (low_bits w (a * 2 ^ s) i l ∙ (ap (λ y. bit_at y i) (nothing_added (a * 2 ^ s)) ∙ bit_at_cat_low a s 0 i h))
+    has_bit (a * 2 ^ s % 2 ^ w) 0 i i (bit_low w (a * 2 ^ s) i l ∙ (ap (λ y. bit_at y i) (nothing_added (a * 2 ^ s)) ∙ bit_at_cat_low a s 0 i h))
     ∙ has_none i
 
 shifted : (w s a i : ℕ) → 0 < 2 ^ s → s ≤ i → i < w → has (a * 2 ^ s % 2 ^ w) i ≡ has a (i - s)
 shifted w s a i p h l =
-    has_bit (a * 2 ^ s % 2 ^ w) a i (i - s) (low_bits w (a * 2 ^ s) i l ∙ (ap (λ y. bit_at y i) (nothing_added (a * 2 ^ s)) ∙ bit_at_cat_high a s 0 i p h))
-
-pub has_past : (a w i : ℕ) → a < 2 ^ w → w ≤ i → has a i ≡ false
-unfolding has
-has_past a w i h l = ap (λ x. x == 1) (bit_at_above a w i h l)
+    has_bit (a * 2 ^ s % 2 ^ w) a i (i - s) (bit_low w (a * 2 ^ s) i l ∙ (ap (λ y. bit_at y i) (nothing_added (a * 2 ^ s)) ∙ bit_at_cat_high a s 0 i p h))
 
 -- ---- s cells more in front of those that are gathered already
 
@@ -45,7 +35,7 @@ gathered_more w s left cells low colour here next e small new before j h = has_o
   | inl l ↦ ap (λ x. x || has low j) (below_shifted w s cells j l h) ∙ new j l
   | inr m ↦
       let q : next + (j - s) ≡ here + j = omega arith in
-      ap (λ x. has (cells * 2 ^ s % 2 ^ w) j || x) (has_past low s j small m)
+      ap (λ x. has (cells * 2 ^ s % 2 ^ w) j || x) (has_above s low j small m)
       ∙ (false_behind (has (cells * 2 ^ s % 2 ^ w) j)
       ∙ (shifted w s cells j (omega arith) m h
       ∙ (before (j - s) (omega arith) ∙ ap (λ n. allows (get_or left n 0) colour) q)))
@@ -78,7 +68,7 @@ none_gathered left colour j = has_none j ∙ sym (none_past left colour (length 
 pub gathered_all : (w : ℕ) (left : List ℕ) (cells colour n : ℕ) → cells < 2 ^ w → length left ≤ n + w → ((j : ℕ) → j < w → has cells j ≡ allows (get_or left (n + j) 0) colour) → (j : ℕ) → has cells j ≡ allows (get_or left (n + j) 0) colour
 gathered_all w left cells colour n small short is j = elim (cases_lt j w) [
   | inl l ↦ is j l
-  | inr m ↦ has_past cells w j small m ∙ sym (none_past left colour (n + j) (omega arith))
+  | inr m ↦ has_above w cells j small m ∙ sym (none_past left colour (n + j) (omega arith))
 ]
 
 -- ---- eight cells that are compared together

@@ -2,7 +2,7 @@
 use Rattle.std.proofs.Common.{◌≡◌, ℕ, zero, suc, ◌+◌, ◌*◌, ◌/◌, ◌%◌, ◌^◌, ◌<◌, ◌≤◌, Bool, true, false, ◌==◌, ◌&&◌, ◌||◌, bit_and, bit_or, bit_xor, refl, sym, ap, subst, ◌∙◌, arith, inl, inr, eq-eqb, ne_eqb, max, min, set}
 use Rattle.std.specs.Int.{bit_at}
 use Rattle.std.proofs.lemmas.Bool.{cases_eq}
-use Rattle.std.proofs.Math.Nat.{pow-succ', div-div-eq-div-mul}
+use Rattle.std.proofs.Math.Nat.{pow-succ', div-div-eq-div-mul, div-add-mod, mul_comm}
 use Rattle.std.proofs.lemmas.Nat.Bits.{shr_and_one, bit_at_lowest, bit_at-suc, bit_at_and, bit_at_or, bit_at_xor, bit_at-lt, bit_at-zero, bit_at_above, bit_at-pow_same, bit_at-pow_other, bit_at_cat_low}
 use Rattle.std.proofs.lemmas.Grind.{one_shifted}
 use Rattle.line_settle.specs.Spelling.{allows}
@@ -55,9 +55,9 @@ has_one i = has_power 0 i
 pub has_place : (k i : ℕ) → k < 128 → has (1 * 2 ^ k % 340282366920938463463374607431768211456) i ≡ (i == k)
 has_place k i h = ap (λ m. has m i) (one_shifted k 340282366920938463463374607431768211455 refl h).0 ∙ has_power k i
 
-pub has_above : (a i : ℕ) → a < 2 ^ 128 → 128 ≤ i → has a i ≡ false
+pub has_above : (w a i : ℕ) → a < 2 ^ w → w ≤ i → has a i ≡ false
 unfolding has
-has_above a i h l = ap (λ x. x == 1) (bit_at_above a 128 i h l)
+has_above w a i h l = ap (λ x. x == 1) (bit_at_above a w i h l)
 
 -- a shift to lower positions
 bit_shifted : (s a i : ℕ) → bit_at (a / 2 ^ s) i ≡ bit_at a (i + s)
@@ -73,11 +73,11 @@ bit_shifted (suc s) a i =
 pub has_down : (s a i : ℕ) → has (a / 2 ^ s) i ≡ has a (i + s)
 has_down s a i = has_bit (a / 2 ^ s) a i (i + s) (bit_shifted s a i)
 
--- the low 128 bits
-bit_low : (x i : ℕ) → i < 128 → bit_at (x % 340282366920938463463374607431768211456) i ≡ bit_at x i
-bit_low x i h =
-    let e : (x / 340282366920938463463374607431768211456) * 2 ^ 128 + x % 340282366920938463463374607431768211456 ≡ x = omega arith in
-    sym (bit_at_cat_low (x / 340282366920938463463374607431768211456) 128 (x % 340282366920938463463374607431768211456) i h) ∙ ap (λ y. bit_at y i) e
+-- the low w bits
+pub bit_low : (w x i : ℕ) → i < w → bit_at (x % 2 ^ w) i ≡ bit_at x i
+bit_low w x i h =
+    let e : (x / 2 ^ w) * 2 ^ w + x % 2 ^ w ≡ x = ap (λ n. n + x % 2 ^ w) (mul_comm (x / 2 ^ w) (2 ^ w)) ∙ div-add-mod x (2 ^ w) in
+    sym (bit_at_cat_low (x / 2 ^ w) w (x % 2 ^ w) i h) ∙ ap (λ y. bit_at y i) e
 
 -- a shift to the next position
 bit_doubled_first : (a : ℕ) → bit_at (a * 2) 0 ≡ 0
@@ -88,10 +88,10 @@ bit_doubled a i = bit_at-suc (a * 2) i ∙ ap (λ x. bit_at x i) (let e : a * 2 
 
 pub has_up_first : (a : ℕ) → has (a * 2 % 340282366920938463463374607431768211456) 0 ≡ false
 unfolding has
-has_up_first a = ap (λ x. x == 1) (bit_low (a * 2) 0 (omega arith) ∙ bit_doubled_first a)
+has_up_first a = ap (λ x. x == 1) (bit_low 128 (a * 2) 0 (omega arith) ∙ bit_doubled_first a)
 
 pub has_up : (a i : ℕ) → i < 127 → has (a * 2 % 340282366920938463463374607431768211456) (suc i) ≡ has a i
-has_up a i h = has_bit (a * 2 % 340282366920938463463374607431768211456) a (suc i) i (bit_low (a * 2) (suc i) (omega arith) ∙ bit_doubled a i)
+has_up a i h = has_bit (a * 2 % 340282366920938463463374607431768211456) a (suc i) i (bit_low 128 (a * 2) (suc i) (omega arith) ∙ bit_doubled a i)
 
 -- ---- the carries of an addition
 
@@ -133,7 +133,7 @@ risen_bit from run i h =
     let a = bit_at_or from (bit_xor (bit_xor total begun) run) i in
     let b = bit_at_xor (bit_xor total begun) run i in
     let d = bit_at_xor total begun i in
-    let e = bit_low (begun + run) i h in
+    let e = bit_low 128 (begun + run) i h in
     let z : begun + run + 0 ≡ begun + run = omega arith in
     let s = ap (λ x. bit_at x i) (sym z) ∙ sum_bit i 0 begun run in
     let l = carried_below i 0 begun run (omega arith) in
@@ -230,7 +230,7 @@ fills_enough f r w past (suc n) i h = ap (λ x. f i || (r i && x)) (fills_enough
 
 pub filled : (set run all n i : ℕ) → set < 340282366920938463463374607431768211456 → 128 ≤ n → ((j : ℕ) → has all j ≡ fills (has set) (has run) n j) → has all i ≡ (has set i || (has run i && has all (i + 1)))
 filled set run all n i h l is =
-    let past = λ (j : ℕ) (m : 128 ≤ j). has_above set j h m in
+    let past = λ (j : ℕ) (m : 128 ≤ j). has_above 128 set j h m in
     is i
     ∙ (sym (fills_enough (has set) (has run) 128 past n i (omega arith))
     ∙ ap (λ x. has set i || (has run i && x)) (sym (is (i + 1))))
@@ -240,7 +240,7 @@ nothing_more true r = refl
 nothing_more false true = refl
 nothing_more false false = refl
 
-all_true : (r : Bool) → r ≡ (r && true)
+pub all_true : (r : Bool) → r ≡ (r && true)
 all_true true = refl
 all_true false = refl
 
