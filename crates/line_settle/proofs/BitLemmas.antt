@@ -9,7 +9,8 @@ use Rattle.line_settle.specs.Spelling.{allows}
 pub allows_is : (mask k : ℕ) → allows mask k ≡ (bit_at mask k == 1)
 allows_is mask k = ap (λ b. b == 1) (shr_and_one mask k)
 
-max_is_one : (a b : ℕ) → a < 2 → b < 2 → (max a b == 1) ≡ ((a == 1) || (b == 1))
+-- a number below 2 as a test
+pub max_is_one : (a b : ℕ) → a < 2 → b < 2 → (max a b == 1) ≡ ((a == 1) || (b == 1))
 max_is_one zero zero h i = refl
 max_is_one zero (suc zero) h i = refl
 max_is_one (suc zero) zero h i = refl

@@ -19,6 +19,8 @@ pub mod ForceLemmas
 pub mod WritingLemmas
 pub mod FittingLemmas
 pub mod PositionLemmas
+pub mod ColouringLemmas
+pub mod GatheringLemmas
 pub mod SetStepLemmas
 pub mod SetNarrowLemmas
 pub mod LayingLemmas

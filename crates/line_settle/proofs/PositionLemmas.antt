@@ -1,14 +1,13 @@
 -- Sets of positions as masks: what is in them after `&`, `|`, shifts and additions.
-use Rattle.std.proofs.Common.{◌≡◌, ℕ, zero, suc, ◌+◌, ◌*◌, ◌/◌, ◌%◌, ◌^◌, ◌<◌, ◌≤◌, Bool, true, false, List, ◌==◌, ◌&&◌, ◌||◌, bit_and, bit_or, bit_xor, refl, sym, ap, subst, ◌∙◌, arith, inl, inr, eq-eqb, ne_eqb, max, min, length, get_or, set}
+use Rattle.std.proofs.Common.{◌≡◌, ℕ, zero, suc, ◌+◌, ◌*◌, ◌/◌, ◌%◌, ◌^◌, ◌<◌, ◌≤◌, Bool, true, false, ◌==◌, ◌&&◌, ◌||◌, bit_and, bit_or, bit_xor, refl, sym, ap, subst, ◌∙◌, arith, inl, inr, eq-eqb, ne_eqb, max, min, set}
 use Rattle.std.specs.Int.{bit_at}
 use Rattle.std.proofs.lemmas.Bool.{cases_eq}
-use Rattle.std.proofs.Math.Nat.{pow-succ', div-div-eq-div-mul}
-use Rattle.std.proofs.lemmas.List.{get_or_past, get_or-set_same, get_or-set_other}
+use Rattle.std.proofs.Math.Nat.{pow-succ', div-div-eq-div-mul, div-add-mod, mul_comm}
 use Rattle.std.proofs.lemmas.Nat.Bits.{shr_and_one, bit_at_lowest, bit_at-suc, bit_at_and, bit_at_or, bit_at_xor, bit_at-lt, bit_at-zero, bit_at_above, bit_at-pow_same, bit_at-pow_other, bit_at_cat_low}
 use Rattle.std.proofs.lemmas.Grind.{one_shifted}
 use Rattle.line_settle.specs.Spelling.{allows}
 use Rattle.line_settle.specs.Positions.{has}
-use Rattle.line_settle.proofs.BitLemmas.{allows_is, allows_none, allows_or, allows_shifted}
+use Rattle.line_settle.proofs.BitLemmas.{allows_is, max_is_one}
 
 -- ---- numbers below 2 as tests
 
@@ -20,15 +19,6 @@ min_is_one (suc zero) (suc zero) h i = refl
 min_is_one (suc (suc a)) b h i = absurd (omega arith)
 min_is_one zero (suc (suc b)) h i = absurd (omega arith)
 min_is_one (suc zero) (suc (suc b)) h i = absurd (omega arith)
-
-max_is_one : (a b : ℕ) → a < 2 → b < 2 → (max a b == 1) ≡ ((a == 1) || (b == 1))
-max_is_one zero zero h i = refl
-max_is_one zero (suc zero) h i = refl
-max_is_one (suc zero) zero h i = refl
-max_is_one (suc zero) (suc zero) h i = refl
-max_is_one (suc (suc a)) b h i = absurd (omega arith)
-max_is_one zero (suc (suc b)) h i = absurd (omega arith)
-max_is_one (suc zero) (suc (suc b)) h i = absurd (omega arith)
 
 -- ---- sets
 
@@ -65,9 +55,9 @@ has_one i = has_power 0 i
 pub has_place : (k i : ℕ) → k < 128 → has (1 * 2 ^ k % 340282366920938463463374607431768211456) i ≡ (i == k)
 has_place k i h = ap (λ m. has m i) (one_shifted k 340282366920938463463374607431768211455 refl h).0 ∙ has_power k i
 
-pub has_above : (a i : ℕ) → a < 2 ^ 128 → 128 ≤ i → has a i ≡ false
+pub has_above : (w a i : ℕ) → a < 2 ^ w → w ≤ i → has a i ≡ false
 unfolding has
-has_above a i h l = ap (λ x. x == 1) (bit_at_above a 128 i h l)
+has_above w a i h l = ap (λ x. x == 1) (bit_at_above a w i h l)
 
 -- a shift to lower positions
 bit_shifted : (s a i : ℕ) → bit_at (a / 2 ^ s) i ≡ bit_at a (i + s)
@@ -83,11 +73,11 @@ bit_shifted (suc s) a i =
 pub has_down : (s a i : ℕ) → has (a / 2 ^ s) i ≡ has a (i + s)
 has_down s a i = has_bit (a / 2 ^ s) a i (i + s) (bit_shifted s a i)
 
--- the low 128 bits
-bit_low : (x i : ℕ) → i < 128 → bit_at (x % 340282366920938463463374607431768211456) i ≡ bit_at x i
-bit_low x i h =
-    let e : (x / 340282366920938463463374607431768211456) * 2 ^ 128 + x % 340282366920938463463374607431768211456 ≡ x = omega arith in
-    sym (bit_at_cat_low (x / 340282366920938463463374607431768211456) 128 (x % 340282366920938463463374607431768211456) i h) ∙ ap (λ y. bit_at y i) e
+-- the low w bits
+pub bit_low : (w x i : ℕ) → i < w → bit_at (x % 2 ^ w) i ≡ bit_at x i
+bit_low w x i h =
+    let e : (x / 2 ^ w) * 2 ^ w + x % 2 ^ w ≡ x = ap (λ n. n + x % 2 ^ w) (mul_comm (x / 2 ^ w) (2 ^ w)) ∙ div-add-mod x (2 ^ w) in
+    sym (bit_at_cat_low (x / 2 ^ w) w (x % 2 ^ w) i h) ∙ ap (λ y. bit_at y i) e
 
 -- a shift to the next position
 bit_doubled_first : (a : ℕ) → bit_at (a * 2) 0 ≡ 0
@@ -98,10 +88,10 @@ bit_doubled a i = bit_at-suc (a * 2) i ∙ ap (λ x. bit_at x i) (let e : a * 2 
 
 pub has_up_first : (a : ℕ) → has (a * 2 % 340282366920938463463374607431768211456) 0 ≡ false
 unfolding has
-has_up_first a = ap (λ x. x == 1) (bit_low (a * 2) 0 (omega arith) ∙ bit_doubled_first a)
+has_up_first a = ap (λ x. x == 1) (bit_low 128 (a * 2) 0 (omega arith) ∙ bit_doubled_first a)
 
 pub has_up : (a i : ℕ) → i < 127 → has (a * 2 % 340282366920938463463374607431768211456) (suc i) ≡ has a i
-has_up a i h = has_bit (a * 2 % 340282366920938463463374607431768211456) a (suc i) i (bit_low (a * 2) (suc i) (omega arith) ∙ bit_doubled a i)
+has_up a i h = has_bit (a * 2 % 340282366920938463463374607431768211456) a (suc i) i (bit_low 128 (a * 2) (suc i) (omega arith) ∙ bit_doubled a i)
 
 -- ---- the carries of an addition
 
@@ -143,7 +133,7 @@ risen_bit from run i h =
     let a = bit_at_or from (bit_xor (bit_xor total begun) run) i in
     let b = bit_at_xor (bit_xor total begun) run i in
     let d = bit_at_xor total begun i in
-    let e = bit_low (begun + run) i h in
+    let e = bit_low 128 (begun + run) i h in
     let z : begun + run + 0 ≡ begun + run = omega arith in
     let s = ap (λ x. bit_at x i) (sym z) ∙ sum_bit i 0 begun run in
     let l = carried_below i 0 begun run (omega arith) in
@@ -240,7 +230,7 @@ fills_enough f r w past (suc n) i h = ap (λ x. f i || (r i && x)) (fills_enough
 
 pub filled : (set run all n i : ℕ) → set < 340282366920938463463374607431768211456 → 128 ≤ n → ((j : ℕ) → has all j ≡ fills (has set) (has run) n j) → has all i ≡ (has set i || (has run i && has all (i + 1)))
 filled set run all n i h l is =
-    let past = λ (j : ℕ) (m : 128 ≤ j). has_above set j h m in
+    let past = λ (j : ℕ) (m : 128 ≤ j). has_above 128 set j h m in
     is i
     ∙ (sym (fills_enough (has set) (has run) 128 past n i (omega arith))
     ∙ ap (λ x. has set i || (has run i && x)) (sym (is (i + 1))))
@@ -250,7 +240,7 @@ nothing_more true r = refl
 nothing_more false true = refl
 nothing_more false false = refl
 
-all_true : (r : Bool) → r ≡ (r && true)
+pub all_true : (r : Bool) → r ≡ (r && true)
 all_true true = refl
 all_true false = refl
 
@@ -287,82 +277,16 @@ spans_twice run runs s t i e g =
 
 pub ruleset falling = (filled, fills_one, spans_one, fills_twice, spans_twice)
 
--- ---- cells that are gathered one by one
+-- ---- the next position
 
 pub up_next : (a j : ℕ) → j < 127 → has (a * 2 % 340282366920938463463374607431768211456) (j + 1) ≡ has a j
 up_next a j h =
     let P : ℕ → Type 0 = λ n. has (a * 2 % 340282366920938463463374607431768211456) n ≡ has a j in
     subst P (let e : suc j ≡ j + 1 = omega arith in e) (has_up a j h)
 
-true_behind : (b : Bool) → (b || true) ≡ true
-true_behind true = refl
-true_behind false = refl
-
-false_behind : (b : Bool) → (b || false) ≡ b
+pub false_behind : (b : Bool) → (b || false) ≡ b
 false_behind true = refl
 false_behind false = refl
-
-pub put_first : (a : ℕ) → has (bit_or a 1) 0 ≡ true
-put_first a = has_or a 1 0 ∙ (ap (λ x. has a 0 || x) (has_one 0) ∙ true_behind (has a 0))
-
-put_next : (a j : ℕ) → has (bit_or a 1) (j + 1) ≡ has a (j + 1)
-put_next a j =
-    let e : has 1 (j + 1) ≡ false = has_one (j + 1) ∙ ne_eqb (j + 1) 0 (λ z. absurd (omega arith)) in
-    has_or a 1 (j + 1) ∙ (ap (λ x. has a (j + 1) || x) e ∙ false_behind (has a (j + 1)))
-
-pub put_behind : (a j : ℕ) → j < 127 → has (bit_or (a * 2 % 340282366920938463463374607431768211456) 1) (j + 1) ≡ has a j
-put_behind a j h = put_next (a * 2 % 340282366920938463463374607431768211456) j ∙ up_next a j h
-
-pub ruleset pushing = (has_up_first, up_next, put_first, put_behind)
-
-pub none_gathered : (left : List ℕ) (colour j : ℕ) → has 0 j ≡ allows (get_or left (length left + j) 0) colour
-none_gathered left colour j =
-    has_none j ∙ sym (ap (λ m. allows m colour) (get_or_past left (length left + j) 0 (omega arith)) ∙ allows_none colour)
-
-pub gathered_more : (left : List ℕ) (cells new colour i n : ℕ) → n ≡ i + 1 → has new 0 ≡ allows (get_or left i 0) colour → ((j : ℕ) → j < 127 → has new (j + 1) ≡ has cells j) → ((j : ℕ) → j < 128 → has cells j ≡ allows (get_or left (n + j) 0) colour) → (j : ℕ) → j < 128 → has new j ≡ allows (get_or left (i + j) 0) colour
-gathered_more left cells new colour i n e first next before zero h = first ∙ ap (λ p. allows (get_or left p 0) colour) (let z : i ≡ i + 0 = omega arith in z)
-gathered_more left cells new colour i n e first next before (suc j) h =
-    let s : suc j ≡ j + 1 = omega arith in
-    ap (λ p. has new p) s ∙ (next j (omega arith) ∙ (before j (omega arith) ∙ ap (λ p. allows (get_or left p 0) colour) (let z : n + j ≡ i + suc j = omega arith in z)))
-
-pub ruleset gathering = (none_gathered, gathered_more)
-
--- ---- a colour that is left in the cells of a set
-
-pub coloured : (mask colour k : ℕ) → colour < 16 → allows (bit_or mask (1 * 2 ^ colour % 65536)) k ≡ (allows mask k || colour == k)
-coloured mask colour k h = allows_or mask (1 * 2 ^ colour % 65536) k ∙ ap (λ x. allows mask k || x) (allows_shifted colour k h)
-
-pub same_colours : (mask k : ℕ) (b : Bool) → allows mask k ≡ (allows mask k || (false && b))
-same_colours mask k b = sym (false_behind (allows mask k))
-
-pub ruleset colouring = (coloured, same_colours)
-
--- the first n cells of a line have got a colour where a set says so
-pub record Coloured (set colour : ℕ) (old out : List ℕ) (n : ℕ) : Type 0 where
-  pub written : (j k : ℕ) → j < n → allows (get_or out j 0) k ≡ (allows (get_or old j 0) k || (has set j && colour == k))
-  pub kept : (j : ℕ) → n ≤ j → get_or out j 0 ≡ get_or old j 0
-
-pub none_coloured : (set colour : ℕ) (old : List ℕ) → Coloured set colour old old 0
-none_coloured set colour old = record { written = λ j k l. absurd (omega arith); kept = λ j l. refl }
-
-pub coloured_more : (places colour : ℕ) (old out : List ℕ) (i v : ℕ) (b : Bool) → i < length out → b ≡ has places i → ((k : ℕ) → allows v k ≡ (allows (get_or out i 0) k || (b && colour == k))) → Coloured places colour old out i → Coloured places colour old (set out i v) (i + 1)
-coloured_more places colour old out i v b h e is before = record {
-  written = λ j k l. elim (cases_eq j i) [
-    | inl same ↦
-        let P : ℕ → Type 0 = λ n. allows (get_or (set out i v) n 0) k ≡ (allows (get_or old n 0) k || (has places n && colour == k)) in
-        subst P (sym same) (
-        ap (λ m. allows m k) (get_or-set_same out i v 0 h)
-        ∙ (is k
-        ∙ (ap (λ m. allows m k || (b && colour == k)) (before.kept i (omega arith))
-        ∙ ap (λ x. allows (get_or old i 0) k || (x && colour == k)) e)))
-    | inr other ↦ ap (λ m. allows m k) (get_or-set_other out i j v 0 other) ∙ before.written j k (omega arith)
-  ];
-  kept = λ j l. get_or-set_other out i j v 0 (λ e. absurd (omega arith)) ∙ before.kept j (omega arith);
-}
-
--- the set without the positions before place i
-pub rest_more : (places rest i j : ℕ) → ((n : ℕ) → has rest n ≡ has places (n + i)) → has (rest / 2) j ≡ has places (j + (i + 1))
-rest_more places rest i j h = has_down 1 rest j ∙ (h (j + 1) ∙ ap (λ n. has places n) (let e : j + 1 + i ≡ j + (i + 1) = omega arith in e))
 
 -- the lowest bit as it is tested
 pub lowest : (a : ℕ) → (bit_and a 1 == 1) ≡ has a 0

@@ -1,5 +1,5 @@
 -- Sets of positions of a line, counted before and after each cell: position i is bit i of a number.
-use Rattle.std.specs.Prelude.{◌≡◌, ℕ, ◌<◌, List, Bool, true, ◌==◌, slice_index}
+use Rattle.std.specs.Prelude.{◌≡◌, ℕ, ◌+◌, ◌<◌, ◌≤◌, List, Bool, true, ◌==◌, ◌&&◌, ◌||◌, slice_index}
 use Rattle.std.specs.Int.{bit_at}
 use Rattle.line_settle.specs.Spelling.{allows}
 
@@ -14,3 +14,10 @@ IsCellsWith left k set = (i : ℕ) → i < 128 → has set i ≡ allows (slice_i
 -- such sets for the colours of a mask, by colour
 abbrev pub HasMade : List ℕ → ℕ → List ℕ → Type 0
 HasMade left made allowed = (k : ℕ) → allows made k ≡ true → IsCellsWith left k (slice_index allowed k)
+
+-- The cells from `first` up to `end` have got a colour behind the positions of a set that is counted from `first`, and
+-- the other cells are as they were.
+pub record IsColoured (set colour first end : ℕ) (old new : List ℕ) : Type 0 where
+  pub inside : (i j k : ℕ) → i ≡ first + j → i < end → allows (slice_index new i) k ≡ (allows (slice_index old i) k || (has set j && colour == k))
+  pub before : (i : ℕ) → i < first → slice_index new i ≡ slice_index old i
+  pub behind : (i : ℕ) → end ≤ i → slice_index new i ≡ slice_index old i

@@ -1,8 +1,9 @@
 ghost use Rattle.std.specs.Prelude.{◌≡◌, ℕ, ◌+◌, ◌<◌, ◌≤◌, ◌&&◌, ◌||◌, ◌==◌, Bool, length, slice_index};
 ghost use Rattle.line_settle.specs.Spelling.{allows};
-ghost use Rattle.line_settle.specs.Positions.{has};
+ghost use Rattle.line_settle.specs.Positions.{has, IsColoured};
 
 use crate::pattern::allows;
+use std::simd::prelude::*;
 
 #[tactic(auto, using(crate::proofs::PositionLemmas::rising))]
 /// The positions that can be reached from a set, cell by cell upwards, over the cells of `run`.
@@ -34,30 +35,46 @@ pub fn fill_down(set: u128, run: u128) -> u128
     all
 }
 
-#[tactic(auto, using(crate::proofs::PositionLemmas::pushing))]
-// The set one position on, with position 0 in it or not.
-fn pushed(set: u128, first: bool) -> u128
-    ensures first { has result 0 ≡ first }
-    ensures behind { (i : ℕ) → i < 127 → has result (i + 1) ≡ has set i }
+// The cells from `first` on in which a colour is left, one by one, as the positions before them counted from there.
+fn few_with(left: &[u16], first: usize, colour: u8) -> u64
+    requires colour { colour < 16 }
+    requires begun { first ≤ length left.now }
+    ensures { (i : ℕ) → i < 64 → has result i ≡ allows (slice_index left.now (first + i)) colour }
 {
-    let moved = set << 1;
-    if first { moved | 1 } else { moved }
+    let mut cells = 0;
+    for i in (first..left.len()).rev() {
+        cells = (cells << 1) | u64::from(allows(left[i], colour));
+    }
+    cells
 }
 
-#[tactic(auto, using(crate::proofs::PositionLemmas::gathering))]
+#[inline]
+// The same for eight cells, which are compared with the colour together.
+fn eight_with(left: &[u16], first: usize, colour: u8) -> u64
+    requires colour { colour < 16 }
+    requires room { first + 8 ≤ length left.now }
+    ensures each { (i : ℕ) → i < 8 → has result i ≡ allows (slice_index left.now (first + i)) colour }
+    ensures no_more { result < 256 }
+{
+    let bit = u16x8::splat(1 << colour);
+    let cells = u16x8::from_slice(&left[first..]);
+    (cells & bit).simd_eq(bit).to_bitmask()
+}
+
 /// The cells of a line in which a colour is left, as the positions before them.
 pub fn cells_with(left: &[u16], colour: u8) -> u128
     requires colour { colour < 16 }
     ensures { (i : ℕ) → i < 128 → has result i ≡ allows (slice_index left.now i) colour }
 {
-    let mut cells = 0;
-    for i in (0..left.len()).rev() {
-        cells = pushed(cells, allows(left[i], colour));
+    let chunks = left.len() / 8;
+    let mut cells = u128::from(few_with(left, 8 * chunks, colour));
+    for chunk in (0..chunks).rev() {
+        cells = (cells << 8) | u128::from(eight_with(left, 8 * chunk, colour));
     }
     cells
 }
 
-#[tactic(auto, using(crate::proofs::PositionLemmas::colouring))]
+#[tactic(auto, using(crate::proofs::ColouringLemmas::colouring))]
 // The mask of a cell with one colour more, or not.
 fn with_colour(mask: u16, more: bool, colour: u8) -> u16
     requires colour { colour < 16 }
@@ -66,15 +83,34 @@ fn with_colour(mask: u16, more: bool, colour: u8) -> u16
     if more { mask | (1 << colour) } else { mask }
 }
 
+#[inline]
+#[tactic(auto, using(crate::proofs::ColouringLemmas::colouring))]
+// Leaves a colour in so many cells from `first` on, behind the positions of a set that is counted from there. The set is
+// as wide as a cell, so that where the count is known both are lanes of one vector.
+fn colour_cells(set: u16, colour: u8, first: usize, count: usize, out: &mut [u16])
+    requires colour { colour < 16 }
+    requires few { count ≤ 8 }
+    requires room { first + count ≤ length out.old }
+    ensures { IsColoured set colour first (first + count) out.old out.new }
+{
+    for j in 0..count {
+        out[first + j] = with_colour(out[first + j], (set >> j) & 1 == 1, colour);
+    }
+}
+
 /// Leaves a colour in the cells behind the positions of a set.
 pub fn add_colour(set: u128, colour: u8, out: &mut [u16])
     requires colour { colour < 16 }
     ensures { (i k : ℕ) → i < length out.old
         → allows (slice_index out.new i) k ≡ (allows (slice_index out.old i) k || (has set i && colour == k)) }
 {
+    let cells = out.len();
+    let whole = 8 * (cells / 8);
     let mut rest = set;
-    for i in 0..out.len() {
-        out[i] = with_colour(out[i], rest & 1 == 1, colour);
-        rest >>= 1;
+    for chunk in 0..cells / 8 {
+        // Always eight cells, so that they are coloured together.
+        colour_cells((rest & 0xff) as u16, colour, 8 * chunk, 8, out);
+        rest >>= 8;
     }
+    colour_cells((rest & 0xff) as u16, colour, whole, cells % 8, out);
 }

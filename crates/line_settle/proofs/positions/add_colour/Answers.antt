@@ -1,18 +1,20 @@
-use Rattle.std.proofs.Common.{arith, ◌∙◌, ap, ◌==◌, ◌+◌, ◌≡◌, bit_and}
-use Rattle.line_settle.specs.Positions.{has}
-use Rattle.line_settle.proofs.PositionLemmas.{none_coloured, coloured_more, rest_more, lowest}
+use Rattle.std.proofs.Common.{◌+◌, ◌*◌, ◌/◌, ◌%◌, ◌∙◌, arith, refl, bit_and, length}
+use Rattle.line_settle.specs.Positions.{IsColoured}
+use Rattle.line_settle.proofs.ColouringLemmas.{coloured_on, low_eight, rest_more}
 use Rattle.line_settle.proofs.positions.add_colour.Goals as goal
 
-pub loop-i-init : goal.loop-i-init
-loop-i-init c = record {
-  left = λ j. ap (λ n. has c.args.set n) (let e : j ≡ j + 0 = omega arith in e);
-  coloured = none_coloured c.args.set c.args.colour c.args.out.now;
+pub loop-chunk-preserved : goal.loop-chunk-preserved
+loop-chunk-preserved c = record {
+  left = λ j. rest_more c.args.set c.loop-chunk.rest c.loop-chunk.chunk j c.loop-chunk.invariant.left;
+  coloured = coloured_on c.args.set (bit_and c.loop-chunk.rest 255) c.args.colour (8 * c.loop-chunk.chunk) (8 * c.loop-chunk.chunk) (8 * c.loop-chunk.chunk + 8) (8 * (c.loop-chunk.chunk + 1)) c.args.out.now c.loop-chunk.out c.colour_cells.new.out refl (omega arith) (omega arith)
+      (λ j h. low_eight c.loop-chunk.rest j (omega arith) ∙ c.loop-chunk.invariant.left j)
+      c.loop-chunk.invariant.coloured c.colour_cells.ensures;
 }
 
-pub loop-i-preserved : goal.loop-i-preserved
-loop-i-preserved c = record {
-  left = λ j. rest_more c.args.set c.loop-i.rest c.loop-i.i j c.loop-i.invariant.left;
-  coloured = coloured_more c.args.set c.args.colour c.args.out.now c.loop-i.out c.loop-i.i c.with_colour.result (bit_and c.loop-i.rest 1 == 1) (omega arith)
-      (lowest c.loop-i.rest ∙ (c.loop-i.invariant.left 0 ∙ ap (λ n. has c.args.set n) (let e : 0 + c.loop-i.i ≡ c.loop-i.i = omega arith in e)))
-      c.with_colour.ensures c.loop-i.invariant.coloured;
-}
+pub returns : goal.returns
+returns c =
+    let n = length c.args.out.now in
+    let whole : IsColoured c.args.set c.args.colour 0 n c.args.out.now c.colour_cells-2.new.out = coloured_on c.args.set (bit_and c.loop-chunk.rest 255) c.args.colour (8 * c.loop-chunk.chunk) (8 * (n / 8)) (8 * (n / 8) + n % 8) n c.args.out.now c.loop-chunk.out c.colour_cells-2.new.out (omega arith) (omega arith) (omega arith)
+    (λ j h. low_eight c.loop-chunk.rest j (omega arith) ∙ c.loop-chunk.invariant.left j)
+    c.loop-chunk.invariant.coloured c.colour_cells-2.ensures in
+    λ i k h. whole.inside i i k (omega arith) h

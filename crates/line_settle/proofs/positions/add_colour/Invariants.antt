@@ -1,10 +1,9 @@
-use Rattle.std.proofs.Common.{◌≡◌, ℕ, ◌+◌}
-use Rattle.line_settle.specs.Positions.{has}
-use Rattle.line_settle.proofs.PositionLemmas.{Coloured}
+use Rattle.std.proofs.Common.{◌≡◌, ℕ, ◌+◌, ◌*◌}
+use Rattle.line_settle.specs.Positions.{has, IsColoured}
 use Rattle.line_settle.proofs.positions.add_colour.Given as goal
 
-abbrev pub invariant-loop-i : goal.invariant-loop-i
-invariant-loop-i l = record {
-  left : (j : ℕ) → has l.rest j ≡ has l.set (j + l.i);
-  coloured : Coloured l.set l.colour l.initial.out l.out l.i;
+abbrev pub invariant-loop-chunk : goal.invariant-loop-chunk
+invariant-loop-chunk l = record {
+  left : (j : ℕ) → has l.rest j ≡ has l.set (8 * l.chunk + j);
+  coloured : IsColoured l.set l.colour 0 (8 * l.chunk) l.initial.out l.out;
 }

@@ -1,0 +1,123 @@
+-- The cells in which a colour is left, gathered as a set of positions, some cells at a time.
+use Rattle.std.proofs.Common.{◌≡◌, ℕ, zero, suc, ◌+◌, ◌-◌, ◌*◌, ◌%◌, ◌^◌, ◌<◌, ◌≤◌, Bool, true, false, cond, List, map, eqb, ◌==◌, ◌||◌, bit_and, bit_or, refl, sym, ap, subst, ◌∙◌, arith, inl, inr, eq-eqb, ne_eqb, length, get_or, replicate, w16}
+use Rattle.std.specs.Int.{bit_at}
+use Rattle.std.specs.Simd.Lanes.{zip2, chunk, top, mask_l}
+use Rattle.std.proofs.lemmas.Bool.{cases_lt}
+use Rattle.std.proofs.lemmas.List.{get_or_past, get_or-map, length-map}
+use Rattle.std.proofs.lemmas.Nat.{pow_pos}
+use Rattle.std.proofs.lemmas.Nat.Bits.{bit_at_cat_low, bit_at_cat_high, bit_at-lt, and_pow}
+use Rattle.std.proofs.lemmas.Simd.{length-chunk, get_or-chunk, length-zip2, zip2_splat, map-map, bitmask_splat, bit_mask_l, mask_l-lt}
+use Rattle.std.proofs.lemmas.Grind.{one_shifted}
+use mir.Val.{bool_byte}
+use Rattle.line_settle.specs.Spelling.{allows}
+use Rattle.line_settle.specs.Positions.{has}
+use Rattle.line_settle.proofs.BitLemmas.{allows_is, allows_none}
+use Rattle.line_settle.proofs.PositionLemmas.{bit_low, has_above, has_or, has_none, has_one, has_bit, false_behind}
+
+-- ---- a shift by s places to higher positions, in w bits
+
+nothing_added : (n : ℕ) → n ≡ n + 0
+nothing_added n = omega arith
+
+below_shifted : (w s a i : ℕ) → i < s → i < w → has (a * 2 ^ s % 2 ^ w) i ≡ false
+below_shifted w s a i h l =
+    has_bit (a * 2 ^ s % 2 ^ w) 0 i i (bit_low w (a * 2 ^ s) i l ∙ (ap (λ y. bit_at y i) (nothing_added (a * 2 ^ s)) ∙ bit_at_cat_low a s 0 i h))
+    ∙ has_none i
+
+shifted : (w s a i : ℕ) → 0 < 2 ^ s → s ≤ i → i < w → has (a * 2 ^ s % 2 ^ w) i ≡ has a (i - s)
+shifted w s a i p h l =
+    has_bit (a * 2 ^ s % 2 ^ w) a i (i - s) (bit_low w (a * 2 ^ s) i l ∙ (ap (λ y. bit_at y i) (nothing_added (a * 2 ^ s)) ∙ bit_at_cat_high a s 0 i p h))
+
+-- ---- s cells more in front of those that are gathered already
+
+pub gathered_more : (w s : ℕ) (left : List ℕ) (cells low colour here next : ℕ) → next ≡ here + s → low < 2 ^ s → ((j : ℕ) → j < s → has low j ≡ allows (get_or left (here + j) 0) colour) → ((j : ℕ) → j < w → has cells j ≡ allows (get_or left (next + j) 0) colour) → (j : ℕ) → j < w → has (bit_or (cells * 2 ^ s % 2 ^ w) low) j ≡ allows (get_or left (here + j) 0) colour
+gathered_more w s left cells low colour here next e small new before j h = has_or (cells * 2 ^ s % 2 ^ w) low j ∙ elim (cases_lt j s) [
+  | inl l ↦ ap (λ x. x || has low j) (below_shifted w s cells j l h) ∙ new j l
+  | inr m ↦
+      let q : next + (j - s) ≡ here + j = omega arith in
+      ap (λ x. has (cells * 2 ^ s % 2 ^ w) j || x) (has_above s low j small m)
+      ∙ (false_behind (has (cells * 2 ^ s % 2 ^ w) j)
+      ∙ (shifted w s cells j (omega arith) m h
+      ∙ (before (j - s) (omega arith) ∙ ap (λ n. allows (get_or left n 0) colour) q)))
+]
+
+-- one cell more
+pub gathered_one : (w : ℕ) (left : List ℕ) (cells low colour here next : ℕ) (b : Bool) → next ≡ here + 1 → low ≡ bool_byte b → b ≡ allows (get_or left here 0) colour → ((j : ℕ) → j < w → has cells j ≡ allows (get_or left (next + j) 0) colour) → (j : ℕ) → j < w → has (bit_or (cells * 2 ^ 1 % 2 ^ w) low) j ≡ allows (get_or left (here + j) 0) colour
+gathered_one w left cells low colour here next b e is new before =
+    let P : ℕ → Type 0 = λ n. n < 2 in
+    gathered_more w 1 left cells low colour here next e (subst P (sym is) (small b)) (λ j h.
+    let first : 0 ≡ j = omega arith in
+    let place : here ≡ here + j = omega arith in
+    ap (λ n. has n j) is ∙ (ap (λ n. has (bool_byte b) n) (sym first) ∙ (told b ∙ (new ∙ ap (λ n. allows (get_or left n 0) colour) place)))) before
+  where
+    small : (b : Bool) → bool_byte b < 2
+    small true = omega arith
+    small false = omega arith
+
+    told : (b : Bool) → has (bool_byte b) 0 ≡ b
+    told true = has_one 0
+    told false = has_none 0
+
+none_past : (left : List ℕ) (colour i : ℕ) → length left ≤ i → allows (get_or left i 0) colour ≡ false
+none_past left colour i h = ap (λ m. allows m colour) (get_or_past left i 0 h) ∙ allows_none colour
+
+pub none_gathered : (left : List ℕ) (colour j : ℕ) → has 0 j ≡ allows (get_or left (length left + j) 0) colour
+none_gathered left colour j = has_none j ∙ sym (none_past left colour (length left + j) (omega arith))
+
+-- all cells from n on, where the line ends among the next w ones
+pub gathered_all : (w : ℕ) (left : List ℕ) (cells colour n : ℕ) → cells < 2 ^ w → length left ≤ n + w → ((j : ℕ) → j < w → has cells j ≡ allows (get_or left (n + j) 0) colour) → (j : ℕ) → has cells j ≡ allows (get_or left (n + j) 0) colour
+gathered_all w left cells colour n small short is j = elim (cases_lt j w) [
+  | inl l ↦ is j l
+  | inr m ↦ has_above w cells j small m ∙ sym (none_past left colour (n + j) (omega arith))
+]
+
+-- ---- eight cells that are compared together
+
+-- a cell has all bits of a mask
+abbrev covers : ℕ → ℕ → Bool
+covers bit cell = eqb (bit_and cell bit) bit
+
+covers_is : (cell colour : ℕ) → covers (2 ^ colour) cell ≡ allows cell colour
+covers_is cell colour = ap (λ n. eqb n (2 ^ colour)) (and_pow cell colour) ∙ (once (bit_at cell colour) (2 ^ colour) (bit_at-lt cell colour) (pow_pos colour) ∙ sym (allows_is cell colour))
+  where
+    once : (b p : ℕ) → b < 2 → 0 < p → eqb (b * p) p ≡ (b == 1)
+    once zero p h i = ne_eqb (zero * p) p (λ e. absurd (omega arith))
+    once (suc zero) p h i = eq-eqb (suc zero * p) p (omega arith)
+    once (suc (suc b)) p h i = absurd (omega arith)
+
+-- what the comparison of eight cells gives
+abbrev pub compared : ℕ → List ℕ → ℕ
+compared bit cells = mask_l (map (top 15) (zip2 (λ (a b : ℕ). cond (eqb a b) 65535 0) (zip2 bit_and cells (replicate 8 bit)) (replicate 8 bit))) % 2 ^ 64
+
+compared_is : (bit : ℕ) (cells : List ℕ) → length cells ≡ 8 → compared bit cells ≡ mask_l (map (covers bit) cells)
+compared_is bit cells h =
+    let n : length (zip2 bit_and cells (replicate 8 bit)) ≡ 8 = length-zip2 bit_and cells (replicate 8 bit) h ∙ h in
+    bitmask_splat w16 eqb (zip2 bit_and cells (replicate 8 bit)) 8 bit n (omega arith)
+    ∙ (ap (λ xs. mask_l (map (λ x. eqb x bit) xs)) (zip2_splat bit_and cells 8 bit h)
+    ∙ ap mask_l (map-map (λ x. eqb x bit) (λ x. bit_and x bit) cells))
+
+pub compared-lt : (bit : ℕ) (cells : List ℕ) → length cells ≡ 8 → compared bit cells < 256
+compared-lt bit cells h =
+    let P : ℕ → Type 0 = λ n. n < 256 in
+    let Q : ℕ → Type 0 = λ n. mask_l (map (covers bit) cells) < 2 ^ n in
+    subst P (sym (compared_is bit cells h)) (subst Q (length-map cells (covers bit) ∙ h) (mask_l-lt (map (covers bit) cells)))
+
+has_mask : (ms : List Bool) (i : ℕ) → has (mask_l ms) i ≡ get_or ms i false
+unfolding has
+has_mask ms i = ap (λ n. n == 1) (bit_mask_l ms i) ∙ told (get_or ms i false)
+  where
+    told : (b : Bool) → (cond b 1 0 == 1) ≡ b
+    told true = refl
+    told false = refl
+
+pub compared_each : (left : List ℕ) (first colour i : ℕ) → colour < 16 → first + 8 ≤ length left → i < 8 → has (compared (1 * 2 ^ colour % 65536) (chunk first 8 left)) i ≡ allows (get_or left (first + i) 0) colour
+compared_each left first colour i h room l =
+    let bit = 1 * 2 ^ colour % 65536 in
+    let cells = chunk first 8 left in
+    let n : length cells ≡ 8 = length-chunk first 8 left room in
+    ap (λ m. has m i) (compared_is bit cells n)
+    ∙ (has_mask (map (covers bit) cells) i
+    ∙ (get_or-map (covers bit) cells i 0 false (omega arith)
+    ∙ (ap (λ m. covers bit m) (get_or-chunk first 8 left i 0 l)
+    ∙ (ap (λ b. covers b (get_or left (first + i) 0)) (one_shifted colour 65535 refl h).0
+    ∙ covers_is (get_or left (first + i) 0) colour))))
