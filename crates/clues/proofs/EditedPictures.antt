@@ -130,7 +130,7 @@ moved_line Down places picture from to is among within e =
     picture is.rectangular
 
 -- a place is new or had an item before
-new_or_old : (places : Places) (at : ℕ) → IsNewAt places at ⊎ (IsNewAt places at → ⊥)
+pub new_or_old : (places : Places) (at : ℕ) → IsNewAt places at ⊎ (IsNewAt places at → ⊥)
 new_or_old Kept at = inr (λ h. h)
 new_or_old (Inserted place) at = cases_eq at place
 new_or_old (Deleted place) at = inr (λ h. h)

@@ -1,6 +1,6 @@
 //! What an edit changes: which lines it moves, and which lines have other cells afterwards.
 
-ghost use Rattle.std.specs.Prelude.{◌≡◌, ℕ, ◌<◌, ◌≤◌, ◌⊎◌, ◌↔◌, List, Some, IfSome, OnSome, IsTrue};
+ghost use Rattle.std.specs.Prelude.{◌≡◌, ℕ, ◌<◌, ◌≤◌, ◌⊎◌, ◌↔◌, List, Some, IfNone, IfSome, OnSome, IsTrue};
 ghost use Rattle.picture.specs.declared.line_id.LineId.{LineId};
 ghost use Rattle.picture.specs.LineSet.{no_names};
 ghost use Rattle.picture.specs.Rows.{line_deleted, line_inserted, lines_swapped};
@@ -165,6 +165,7 @@ impl Change {
         requires { line.at < lines_after line.axis self.now.moves }
         ensures origin { IfSome result (λ old. origin_of self.now.moves line ≡ Some old) }
         ensures untouched { OnSome result (IsTouched self.now line → ⊥) }
+        ensures touched { IfNone result (IsTouched self.now line) }
     {
         if self.touched(line) {
             return None;
