@@ -33,7 +33,7 @@ impl Model for Change {
     ghost invariant = { λ c. AreMoves (moves_from c.height c.width c.rows c.columns) };
 }
 
-#[tactic(auto, using(crate::proofs::MovedLines::moving))]
+#[tactic(auto, using(crate::proofs::MovedLines::moving, crate::proofs::EditedPictures::following))]
 impl Change {
     /// The change of cells alone, in a picture of 1 to 120 rows and columns. Each line stays, and none is touched yet.
     pub fn cells(height: u8, width: u8) -> Change
