@@ -7,14 +7,13 @@ use Rattle.std.proofs.lemmas.List.{length-map, length-replicate, get_or-map, map
 use Rattle.std.proofs.lemmas.List.Edits.{length-insert, get_or-insert_below, get_or-insert_at, get_or-insert_above, length-remove, get_or-remove_below, get_or-remove_above, swap_is, length-swap, swapped_from_swap}
 use Rattle.picture.specs.declared.line_id.Axis.{Axis}
 use Rattle.picture.specs.declared.line_id.Axis.TheVariants.{Across, Down}
-use Rattle.picture.specs.declared.line_id.LineId.{LineId}
 use Rattle.picture.specs.Picture.{IsPicture}
-use Rattle.picture.specs.Rows.{width_of, line_along, lines_along, line_inserted, line_deleted, lines_swapped, with_line, without_line}
+use Rattle.picture.specs.Rows.{width_of, line_along, lines_along, lines_swapped, with_line, without_line}
 use Rattle.clues.specs.declared.places.Places.{Places}
 use Rattle.clues.specs.declared.places.Places.TheVariants.{Kept, Inserted, Deleted, Swapped}
 use Rattle.clues.specs.Places.{exchanged, new_place, count_after, AreAmong, IsNewAt, ChangesLength}
-use Rattle.picture.specs.LineSet.{Lines}
-use Rattle.clues.specs.Change.{AreMoves, FollowsSwap, HasSize, IsTouched, IsOldLine, Follows, crossing, line_at, lines_before, lines_after, image_of, moved_along, still}
+use Rattle.picture.specs.LineSet.{Lines, no_names}
+use Rattle.clues.specs.Change.{AreMoves, Changes, FollowsSwap, HasSize, IsTouched, IsOldLine, Follows, crossing, line_at, lines_before, lines_after, image_of, moved_along, still}
 
 -- a list whose items have moved, with an item at a new place
 abbrev edited : {X : Type 0} → Places → X → List X → List X
@@ -130,7 +129,7 @@ moved_line Down places picture from to is among within e =
     picture is.rectangular
 
 -- a place is new or had an item before
-new_or_old : (places : Places) (at : ℕ) → IsNewAt places at ⊎ (IsNewAt places at → ⊥)
+pub new_or_old : (places : Places) (at : ℕ) → IsNewAt places at ⊎ (IsNewAt places at → ⊥)
 new_or_old Kept at = inr (λ h. h)
 new_or_old (Inserted place) at = cases_eq at place
 new_or_old (Deleted place) at = inr (λ h. h)
@@ -227,19 +226,13 @@ follows axis places height width marked picture changes has moves among =
       untouched = λ line within untouched. untouched_line axis line.axis places height width marked picture line.at changes has among (rw sizes at within) untouched;
     }
 
-follows_insert_along : (axis : Axis) (at height width : ℕ) (marked : Lines) (picture : List (List ℕ)) → HasSize height width picture → AreMoves (moved_along axis (Inserted at) height width) → Follows (record { moves = moved_along axis (Inserted at) height width; marked = marked }) picture (with_line axis at picture)
-follows_insert_along Across at height width marked picture has moves = follows Across (Inserted at) height width marked picture tt has moves (moves.among Across)
-follows_insert_along Down at height width marked picture has moves = follows Down (Inserted at) height width marked picture tt has moves (moves.among Down)
+follows_insert : (axis : Axis) (at height width : ℕ) (marked : Lines) (picture : List (List ℕ)) → HasSize height width picture → AreMoves (moved_along axis (Inserted at) height width) → Follows (record { moves = moved_along axis (Inserted at) height width; marked = marked }) picture (with_line axis at picture)
+follows_insert Across at height width marked picture has moves = follows Across (Inserted at) height width marked picture tt has moves (moves.among Across)
+follows_insert Down at height width marked picture has moves = follows Down (Inserted at) height width marked picture tt has moves (moves.among Down)
 
-pub follows_insert : (line : LineId) (height width : ℕ) (marked : Lines) (picture : List (List ℕ)) → HasSize height width picture → AreMoves (moved_along line.axis (Inserted line.at) height width) → Follows (record { moves = moved_along line.axis (Inserted line.at) height width; marked = marked }) picture (line_inserted picture line)
-follows_insert line height width marked picture has moves = follows_insert_along line.axis line.at height width marked picture has moves
-
-follows_delete_along : (axis : Axis) (at height width : ℕ) (marked : Lines) (picture : List (List ℕ)) → HasSize height width picture → AreMoves (moved_along axis (Deleted at) height width) → Follows (record { moves = moved_along axis (Deleted at) height width; marked = marked }) picture (without_line axis at picture)
-follows_delete_along Across at height width marked picture has moves = follows Across (Deleted at) height width marked picture tt has moves (moves.among Across)
-follows_delete_along Down at height width marked picture has moves = follows Down (Deleted at) height width marked picture tt has moves (moves.among Down)
-
-pub follows_delete : (line : LineId) (height width : ℕ) (marked : Lines) (picture : List (List ℕ)) → HasSize height width picture → AreMoves (moved_along line.axis (Deleted line.at) height width) → Follows (record { moves = moved_along line.axis (Deleted line.at) height width; marked = marked }) picture (line_deleted picture line)
-follows_delete line height width marked picture has moves = follows_delete_along line.axis line.at height width marked picture has moves
+follows_delete : (axis : Axis) (at height width : ℕ) (marked : Lines) (picture : List (List ℕ)) → HasSize height width picture → AreMoves (moved_along axis (Deleted at) height width) → Follows (record { moves = moved_along axis (Deleted at) height width; marked = marked }) picture (without_line axis at picture)
+follows_delete Across at height width marked picture has moves = follows Across (Deleted at) height width marked picture tt has moves (moves.among Across)
+follows_delete Down at height width marked picture has moves = follows Down (Deleted at) height width marked picture tt has moves (moves.among Down)
 
 -- an exchange
 swapped_line : (axis along : Axis) (first second height width : ℕ) (picture : List (List ℕ)) (at : ℕ) → HasSize height width picture → AreAmong (Swapped first second) (lines_before axis (still height width)) → at < lines_after along (moved_along axis (Swapped first second) height width) → (along ≡ crossing axis → get_or (line_along along at picture) first 0 ≡ get_or (line_along along at picture) second 0) → IsOldLine (moved_along axis (Swapped first second) height width) picture (edited_picture axis (Swapped first second) picture) (line_at along at)
@@ -255,6 +248,18 @@ swapped_lines axis first second height width picture has moves among =
     let sizes = edited-sizes axis (Swapped first second) height width picture has among (moves.some_after axis) in
     record { sizes = sizes; alike = λ line within same. swapped_line axis line.axis first second height width picture line.at has among (rw sizes at within) same }
 
-pub follows_swap : (axis : Axis) (first second height width : ℕ) (picture : List (List ℕ)) → HasSize height width picture → AreMoves (moved_along axis (Swapped first second) height width) → FollowsSwap axis first second (moved_along axis (Swapped first second) height width) picture (lines_swapped axis first second picture)
+follows_swap : (axis : Axis) (first second height width : ℕ) (picture : List (List ℕ)) → HasSize height width picture → AreMoves (moved_along axis (Swapped first second) height width) → FollowsSwap axis first second (moved_along axis (Swapped first second) height width) picture (lines_swapped axis first second picture)
 follows_swap Across first second height width picture has moves = swapped_lines Across first second height width picture has moves (moves.among Across)
 follows_swap Down first second height width picture has moves = swapped_lines Down first second height width picture has moves (moves.among Down)
+
+-- the pictures that the changes of lines follow
+pub inserts : (change : Changes) (axis : Axis) (at height width : ℕ) → change ≡ record { moves = moved_along axis (Inserted at) height width; marked = no_names } → AreMoves change.moves → (picture : List (List ℕ)) → HasSize height width picture → Follows change picture (with_line axis at picture)
+inserts change axis at height width is moves = λ picture has. rw is (follows_insert axis at height width no_names picture has (rw is at moves))
+
+pub deletes : (change : Changes) (axis : Axis) (at height width : ℕ) → change ≡ record { moves = moved_along axis (Deleted at) height width; marked = no_names } → AreMoves change.moves → (picture : List (List ℕ)) → HasSize height width picture → Follows change picture (without_line axis at picture)
+deletes change axis at height width is moves = λ picture has. rw is (follows_delete axis at height width no_names picture has (rw is at moves))
+
+pub swaps : (change : Changes) (axis : Axis) (first second height width : ℕ) → change ≡ record { moves = moved_along axis (Swapped first second) height width; marked = no_names } → AreMoves change.moves → (picture : List (List ℕ)) → HasSize height width picture → FollowsSwap axis first second change.moves picture (lines_swapped axis first second picture)
+swaps change axis first second height width is moves = λ picture has. rw is (follows_swap axis first second height width picture has (rw is at moves))
+
+pub ruleset following = (inserts, deletes, swaps)

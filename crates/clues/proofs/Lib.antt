@@ -1,4 +1,5 @@
 pub mod EditedPictures
 pub mod LineClues
 pub mod MovedLines
+pub mod RefreshedClues
 pub mod Runs

@@ -43,6 +43,9 @@ pub clues_along-clues_of : (axis : Axis) (picture : List (List ℕ)) → clues_a
 clues_along-clues_of Across picture = refl
 clues_along-clues_of Down picture = refl
 
+pub length_along-clues_of : (axis : Axis) (picture : List (List ℕ)) → length (clues_along axis (clues_of picture)) ≡ lines_along axis picture
+length_along-clues_of axis picture = ap length (clues_along-clues_of axis picture) ∙ length-first_clues axis picture (lines_along axis picture)
+
 -- the clue of a line in the clues of a picture
 pub clue_at-clues_of : (picture : List (List ℕ)) (line : LineId) → HasLine picture line → clue_at (clues_of picture) line ≡ clue_of (line_of picture line)
 clue_at-clues_of picture line has = rw clues_along-clues_of (get_or-first_clues line.axis picture (lines_along line.axis picture) line.at [] has)

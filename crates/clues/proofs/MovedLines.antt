@@ -6,10 +6,10 @@ use Rattle.clues.specs.declared.places.Places.TheVariants.{Kept, Inserted, Delet
 use Rattle.picture.specs.declared.line_id.LineId.{LineId}
 use Rattle.picture.specs.Rows.{HasLine, line_of, lines_along}
 use Rattle.picture.specs.declared.line_id.Axis.{Axis}
-use Rattle.clues.proofs.LineClues.{clue_at-clues_of, has_clue-clues_of}
+use Rattle.clues.proofs.LineClues.{clue_at-clues_of, has_clue-clues_of, length_along-clues_of}
 use Rattle.clues.specs.Clue.{clue_of}
-use Rattle.clues.specs.ClueBook.{Clues, HasClue, clue_at, clues_of}
-use Rattle.clues.specs.Change.{CanRefresh, Changes, Follows, IsTouched, Moves, image_of, line_at, origin_of, places_along}
+use Rattle.clues.specs.ClueBook.{clue_at, clues_of}
+use Rattle.clues.specs.Change.{CanRefresh, Changes, Follows, IsTouched, KeepsClues, Moves, image_of, line_at, origin_of, places_along}
 use Rattle.clues.specs.Places.{new_place, old_place, count_after, AreAmong}
 
 -- a line that is still there came from its old place
@@ -36,21 +36,21 @@ origin_from_place moves from line (Some to) place e =
 pub origin_of-image : (moves : Moves) (from line : LineId) → image_of moves from ≡ Some line → origin_of moves line ≡ Some from
 origin_of-image moves from line e = origin_from_place moves from line (new_place (places_along from.axis moves) from.at) refl e
 
--- an untouched line has the clue of the line that it was
-pub old_clue : (clues : Clues) (picture : List (List ℕ)) (change : Changes) (line old : LineId) → CanRefresh clues picture change → HasLine picture line → (IsTouched change line → ⊥) → origin_of change.moves line ≡ Some old → HasClue clues old × (clue_at clues old ≡ clue_of (line_of picture line))
-old_clue clues picture change line old can has untouched e =
-    let is = can.untouched line has untouched in
-    let same : is.0 ≡ old = cc (origin_of-image change.moves is.0 line is.2, e) in
-    rw (← same) (is.1, sym is.3)
-
--- where untouched lines have the cells of the lines that they were, they have their clues
+-- where untouched lines have the cells of the lines that they were, those lines' clues are there and stand
 pub can_refresh : (change : Changes) (old new : List (List ℕ)) → Follows change old new → CanRefresh (clues_of old) new change
 can_refresh change old new follows = record {
   sizes = follows.sizes;
   untouched = λ line has untouched.
       let from = follows.untouched line has untouched in
-      (from.0, has_clue-clues_of old from.0 from.1, from.2, ap clue_of from.3 ∙ sym (clue_at-clues_of old from.0 from.1));
+      (from.0, has_clue-clues_of old from.0 from.1, from.2);
 }
+
+pub clues_stand : (change : Changes) (old new : List (List ℕ)) → Follows change old new → KeepsClues change (clues_of old) (clues_of new)
+clues_stand change old new follows = λ line has untouched from image.
+    let is_line : HasLine new line = omega (arith, length_along-clues_of line.axis new) in
+    let is = follows.untouched line is_line untouched in
+    let same : is.0 ≡ from = cc (origin_of-image change.moves is.0 line is.2, origin_of-image change.moves from line image) in
+    clue_at-clues_of new line is_line ∙ (ap clue_of is.3 ∙ (sym (clue_at-clues_of old is.0 is.1) ∙ ap (clue_at (clues_of old)) same))
 
 -- untouched lines may be looked up in another picture where they have the same cells
 pub follows_alike : (change : Changes) (old between new : List (List ℕ)) → Follows change old between → ((axis : Axis) → lines_along axis new ≡ lines_along axis between) → ((line : LineId) → HasLine new line → (IsTouched change line → ⊥) → line_of new line ≡ line_of between line) → Follows change old new
@@ -60,7 +60,5 @@ follows_alike change old between new follows sizes alike = record {
       let from = follows.untouched line (rw (← sizes line.axis) has) untouched in
       (from.0, from.1, from.2, alike line has untouched ∙ from.3);
 }
-
-pub ruleset refreshing = (old_clue)
 
 pub ruleset moving = (old_place-new_place, new_place-among)

@@ -1,5 +1,5 @@
 -- What an edit changes: which line of the new picture is which line of the old one, and which lines have other cells.
-use Rattle.std.specs.Prelude.{◌≡◌, ℕ, ◌<◌, ◌≤◌, ◌⊎◌, List, length, slice_index, Option, Some, option_map}
+use Rattle.std.specs.Prelude.{◌≡◌, ℕ, ◌<◌, ◌≤◌, ◌⊎◌, List, [], length, slice_index, slice_index_or, Option, Some, option_map}
 use Rattle.picture.specs.declared.line_id.Axis.{Axis}
 use Rattle.picture.specs.declared.line_id.Axis.TheVariants.{Across, Down}
 use Rattle.picture.specs.declared.line_id.LineId.{LineId}
@@ -10,6 +10,7 @@ use Rattle.picture.specs.Rows.{lines_along, line_of, width_of, HasLine}
 use Rattle.clues.specs.declared.places.Places.{Places}
 use Rattle.clues.specs.declared.places.Places.TheVariants.{Kept}
 use Rattle.clues.specs.Places.{new_place, old_place, count_after, AreAmong, IsNewAt, ChangesLength}
+use Rattle.clues.specs.declared.block.Block.{Block}
 use Rattle.clues.specs.Clue.{clue_of}
 use Rattle.clues.specs.ClueBook.{Clues, clue_at, HasClue}
 
@@ -121,12 +122,32 @@ pub record FollowsCells (moves : Moves) (old new : List (List ℕ)) : Type 0 whe
   pub sizes : (along : Axis) → lines_along along new ≡ lines_after along moves
   pub same : (line : LineId) → HasLine new line → line_of new line ≡ line_of old line → IsOldLine moves old new line
 
--- the clue of a line of the new picture is that of the old line that it is
-abbrev pub HasOldClue : Moves → Clues → List (List ℕ) → LineId → Type 0
-HasOldClue moves clues picture line =
-    (from : LineId) × HasClue clues from × (image_of moves from ≡ Some line) × (clue_of (line_of picture line) ≡ clue_at clues from)
+-- the line of the new picture is an old line, which has a clue
+abbrev pub HasOldClue : Moves → Clues → LineId → Type 0
+HasOldClue moves clues line = (from : LineId) × HasClue clues from × (image_of moves from ≡ Some line)
 
--- the picture has the sizes that the change gives, and untouched lines have the clues of the old lines that they are
+-- the picture has the sizes that the change gives, and the old lines that untouched lines are have clues
 pub record CanRefresh (clues : Clues) (picture : List (List ℕ)) (change : Changes) : Type 0 where
   pub sizes : (axis : Axis) → lines_along axis picture ≡ lines_after axis change.moves
-  pub untouched : (line : LineId) → HasLine picture line → (IsTouched change line → ⊥) → HasOldClue change.moves clues picture line
+  pub untouched : (line : LineId) → HasLine picture line → (IsTouched change line → ⊥) → HasOldClue change.moves clues line
+
+-- where the line is untouched, the clue is that of the old line that it is
+abbrev pub IsOldClue : Changes → Clues → LineId → List Block → Type 0
+IsOldClue change clues line clue =
+    (IsTouched change line → ⊥) → (from : LineId) → image_of change.moves from ≡ Some line → clue ≡ clue_at clues from
+
+-- where the line is touched, the clue is that of its cells
+abbrev pub IsNewClue : Changes → List (List ℕ) → LineId → List Block → Type 0
+IsNewClue change picture line clue = IsTouched change line → clue ≡ clue_of (line_of picture line)
+
+-- each untouched line has the clue that the old line which it is had before
+abbrev pub KeepsClues : Changes → Clues → Clues → Type 0
+KeepsClues change old new = (line : LineId) → HasClue new line → IsOldClue change old line (clue_at new line)
+
+-- each touched line has the clue of its cells
+abbrev pub CountsClues : Changes → List (List ℕ) → Clues → Type 0
+CountsClues change picture new = (line : LineId) → HasClue new line → IsNewClue change picture line (clue_at new line)
+
+-- something holds of each line along an axis and its clue
+abbrev pub EachAlong : Axis → List (List Block) → (LineId → List Block → Type 0) → Type 0
+EachAlong axis clues P = (at : ℕ) → at < length clues → P (line_at axis at) (slice_index_or clues at [])

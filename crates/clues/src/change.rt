@@ -1,6 +1,6 @@
 //! What an edit changes: which lines it moves, and which lines have other cells afterwards.
 
-ghost use Rattle.std.specs.Prelude.{◌≡◌, ℕ, ◌<◌, ◌≤◌, ◌⊎◌, ◌↔◌, List, Some, IfSome, OnSome, IsTrue};
+ghost use Rattle.std.specs.Prelude.{◌≡◌, ℕ, ◌<◌, ◌≤◌, ◌⊎◌, ◌↔◌, List, Some, IfNone, IfSome, OnSome, IsTrue};
 ghost use Rattle.picture.specs.declared.line_id.LineId.{LineId};
 ghost use Rattle.picture.specs.LineSet.{no_names};
 ghost use Rattle.picture.specs.Rows.{line_deleted, line_inserted, lines_swapped};
@@ -33,7 +33,7 @@ impl Model for Change {
     ghost invariant = { λ c. AreMoves (moves_from c.height c.width c.rows c.columns) };
 }
 
-#[tactic(auto, using(crate::proofs::MovedLines::moving))]
+#[tactic(auto, using(crate::proofs::MovedLines::moving, crate::proofs::EditedPictures::following))]
 impl Change {
     /// The change of cells alone, in a picture of 1 to 120 rows and columns. Each line stays, and none is touched yet.
     pub fn cells(height: u8, width: u8) -> Change
@@ -165,6 +165,7 @@ impl Change {
         requires { line.at < lines_after line.axis self.now.moves }
         ensures origin { IfSome result (λ old. origin_of self.now.moves line ≡ Some old) }
         ensures untouched { OnSome result (IsTouched self.now line → ⊥) }
+        ensures touched { IfNone result (IsTouched self.now line) }
     {
         if self.touched(line) {
             return None;

@@ -1,10 +1,11 @@
 //! The clues of all lines of a picture.
 
 ghost use Rattle.std.specs.Prelude.{◌≡◌, ◌↔◌, ◌<◌, ◌≤◌, length, IfOk, IsTrue};
+ghost use Rattle.picture.specs.declared.line_id.Axis.{Axis};
 ghost use Rattle.picture.specs.Rows.{line_of, lines_along, HasLine};
 ghost use Rattle.clues.specs.Clue.{clue_of};
-ghost use Rattle.clues.specs.Change.{CanRefresh};
-ghost use Rattle.clues.specs.ClueBook.{clue_at, clues_from, clues_of, first_clues, HasClue, IsBook};
+ghost use Rattle.clues.specs.Change.{CanRefresh, CountsClues, EachAlong, IsNewClue, IsOldClue, KeepsClues};
+ghost use Rattle.clues.specs.ClueBook.{clue_at, clues_along, clues_from, clues_of, first_clues, HasClue, IsBook};
 
 use crate::counting::clue_of;
 use crate::matching::is_clue_of;
@@ -30,7 +31,7 @@ impl Model for ClueBook {
     ghost invariant = { λ b. IsBook (clues_from b.rows.items b.columns.items) };
 }
 
-#[tactic(auto, using(crate::proofs::LineClues::counting, crate::proofs::MovedLines::refreshing))]
+#[tactic(auto, using(crate::proofs::LineClues::counting, crate::proofs::RefreshedClues::refreshing))]
 impl ClueBook {
     /// The clues of a picture's lines.
     pub fn of(alloc: Global, picture: &Picture) -> Result<ClueBook, AllocError>
@@ -66,11 +67,16 @@ impl ClueBook {
             && are_clues(&self.columns, picture, Axis::Down)
     }
 
-    /// The clue book of a picture after a change, where each untouched line has the clue of the old line that it is.
-    /// Only touched lines are counted; the clues of the others are copied.
+    /// The clue book of a picture after a change. Touched lines are counted. Each untouched line gets the clue that
+    /// this book has for the old line that it is, right or wrong: it is copied and not counted again. Where the clues
+    /// that are copied are those of the picture's lines, the book is the picture's.
     pub fn refresh(&self, picture: &Picture, change: &Change) -> Result<ClueBook, AllocError>
         requires { CanRefresh self.now picture.now change.now }
-        ensures { IfOk result (λ book. book ≡ clues_of picture.now) }
+        ensures sizes { IfOk result (λ book. (axis : Axis) → length (clues_along axis book) ≡ lines_along axis picture.now) }
+        ensures copied { IfOk result (λ book. KeepsClues change.now self.now book) }
+        ensures counted { IfOk result (λ book. CountsClues change.now picture.now book) }
+        ensures value { KeepsClues change.now self.now (clues_of picture.now)
+            → IfOk result (λ book. book ≡ clues_of picture.now) }
     {
         let rows = self.refreshed(picture, change, Axis::Across)?;
         let columns = self.refreshed(picture, change, Axis::Down)?;
@@ -85,8 +91,10 @@ impl ClueBook {
         axis: Axis,
     ) -> Result<Vec<Clue>, AllocError>
         requires { CanRefresh self.now picture.now change.now }
-        ensures clues { IfOk result (λ clues. clues.items ≡ first_clues axis picture.now (lines_along axis picture.now)) }
+        ensures count { IfOk result (λ clues. length clues.items ≡ lines_along axis picture.now) }
         ensures fits { IfOk result (λ clues. (0 < length clues.items) × (length clues.items ≤ MAX_SIDE)) }
+        ensures copied { IfOk result (λ clues. EachAlong axis clues.items (IsOldClue change.now self.now)) }
+        ensures counted { IfOk result (λ clues. EachAlong axis clues.items (IsNewClue change.now picture.now)) }
     {
         let count = line_count(picture, axis);
         let mut clues = Vec::with_capacity(*self.rows.allocator(), usize::from(count))?;
@@ -105,7 +113,8 @@ impl ClueBook {
     ) -> Result<Clue, AllocError>
         requires can { CanRefresh self.now picture.now change.now }
         requires line { HasLine picture.now line }
-        ensures { IfOk result (λ clue. clue ≡ clue_of (line_of picture.now line)) }
+        ensures copied { IfOk result (IsOldClue change.now self.now line) }
+        ensures counted { IfOk result (IsNewClue change.now picture.now line) }
     {
         match change.kept_from(line) {
             Some(old) => self.clue(old).copy(),

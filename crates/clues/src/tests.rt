@@ -150,3 +150,20 @@ fn a_book_is_refreshed_after_an_insertion(rt: HostRuntime) -> Result<(), Fail> {
     assert!(rt; !refreshed.has_clues(&old));
     Ok(())
 }
+
+// The clues of `a`, and of a picture that became `.` while no line was touched
+#[test]
+fn an_untouched_line_keeps_its_clue(rt: HostRuntime) -> Result<(), Fail> {
+    let mut old = Picture::blank(rt.alloc(), 1, 1)?;
+    old.set(0, 0, 1);
+    let new = Picture::blank(rt.alloc(), 1, 1)?;
+    let book = ClueBook::of(rt.alloc(), &old)?;
+    let mut change = Change::cells(1, 1);
+    let kept = book.refresh(&new, &change)?;
+    assert!(rt; kept.has_clues(&old));
+    change.touch(row(0));
+    let counted = book.refresh(&new, &change)?;
+    assert_eq!(rt; counted.clue(row(0)).blocks().len(), 0);
+    assert_eq!(rt; counted.clue(column(0)).blocks().len(), 1);
+    Ok(())
+}

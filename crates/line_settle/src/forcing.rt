@@ -1,4 +1,4 @@
-ghost use Rattle.std.specs.Prelude.{◌≡◌, ◌<◌, ◌≤◌, length, slice_index};
+ghost use Rattle.std.specs.Prelude.{◌≡◌, ◌<◌, ◌≤◌, length};
 ghost use Rattle.picture.specs.Rows.{line_of, with_cell, HasLine};
 ghost use Rattle.line_settle.specs.Counting.{counted};
 ghost use Rattle.line_settle.specs.FactSets.{Gains, HoldsLine, IsFacts, row_on, col_on};
@@ -30,51 +30,11 @@ pub fn force<E: LineEngine>(
 {
     let mut left = [0; MOST_CELLS];
     let mut out = [0; MOST_CELLS];
-    let cells = usize::from(line_len(facts, line));
-    read_line(facts, line, &mut left[..cells]);
+    let cells = usize::from(facts.line_len(line));
+    facts.copy_line(line, &mut left[..cells]);
     let outcome = engine.narrow(count, clue, &left[..cells], &mut out[..cells]);
     write_line(facts, line, &out[..cells]);
     outcome
-}
-
-#[tactic(auto, using(crate::proofs::AlongLemmas::places))]
-// How many cells a line has.
-fn line_len(facts: &Facts, line: LineId) -> u8
-    requires { HasLine facts.now line }
-    ensures len { result ≡ length (line_of facts.now line) }
-    ensures short { result ≤ MAX_SIDE }
-{
-    match line.axis {
-        Axis::Across => facts.width(),
-        Axis::Down => facts.height(),
-    }
-}
-
-#[tactic(auto, using(crate::proofs::AlongLemmas::same_list))]
-// Copies the masks of a line.
-fn read_line(facts: &Facts, line: LineId, left: &mut [u16])
-    requires line { HasLine facts.now line }
-    requires whole { length left.old ≡ length (line_of facts.now line) }
-    requires short { length left.old ≤ MAX_SIDE }
-    ensures { left.new ≡ line_of facts.now line }
-{
-    for i in 0..left.len() {
-        left[i] = left_at(facts, line, i as u8);
-    }
-}
-
-#[tactic(auto, using(crate::proofs::AlongLemmas::places))]
-// The mask at a place of a line.
-fn left_at(facts: &Facts, line: LineId, i: u8) -> u16
-    requires line { HasLine facts.now line }
-    requires place { i < length (line_of facts.now line) }
-    ensures { result ≡ slice_index (line_of facts.now line) i }
-{
-    let _ = facts.height();
-    match line.axis {
-        Axis::Across => facts.left(line.at, i),
-        Axis::Down => facts.left(i, line.at),
-    }
 }
 
 #[tactic(auto, using(crate::proofs::AlongLemmas::writing))]

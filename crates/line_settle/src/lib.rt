@@ -1,6 +1,7 @@
 //! One line compared with its clue: which colours each of its cells can still have.
 #![tactic(auto)]
 
+mod along;
 mod base;
 mod block_steps;
 mod facts;

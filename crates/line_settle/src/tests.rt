@@ -479,6 +479,32 @@ fn facts_are_a_set_of_exclusions(rt: HostRuntime) -> Result<(), Fail> {
     Ok(())
 }
 
+// Facts of two rows and three columns, where the last cell of the second row has one colour left
+#[test]
+fn lines_are_read_from_the_facts(rt: HostRuntime) -> Result<(), Fail> {
+    let mut facts = Facts::none(rt.alloc(), 2, 3)?;
+    assert!(rt; facts.height() == 2 && facts.width() == 3);
+    facts.exclude(1, 2, !0b100);
+    let row = LineId {
+        axis: Axis::Across,
+        at: 1,
+    };
+    let column = LineId {
+        axis: Axis::Down,
+        at: 2,
+    };
+    assert!(rt; facts.height() == 2 && facts.width() == 3);
+    assert_eq!(rt; facts.line_len(row), 3);
+    assert_eq!(rt; facts.line_len(column), 2);
+    assert_eq!(rt; facts.left_on(row, 1), ALL);
+    assert_eq!(rt; facts.left_on(row, 2), 0b100);
+    assert_eq!(rt; facts.left_on(column, 1), 0b100);
+    let mut masks = [0; 2];
+    facts.copy_line(column, &mut masks);
+    assert_eq!(rt; masks, [ALL, 0b100]);
+    Ok(())
+}
+
 #[test]
 fn a_given_leaves_the_colour_of_the_picture(rt: HostRuntime) -> Result<(), Fail> {
     let white = Rgb {

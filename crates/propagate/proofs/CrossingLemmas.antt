@@ -5,7 +5,6 @@ use Rattle.picture.specs.declared.line_id.Axis.{Axis}
 use Rattle.picture.specs.declared.line_id.Axis.TheVariants.{Across, Down}
 use Rattle.picture.specs.declared.line_id.LineId.{LineId}
 use Rattle.picture.specs.LineSet.{Lines, HasName, PutsName, no_names}
-use Rattle.line_settle.proofs.AlongLemmas.{across_in, down_in, across_cell, down_cell, same_list, across_length, down_length}
 use Rattle.propagate.specs.Closing.{change, changes, crossing_at, PutsCrossing, PutsChanged}
 use Rattle.propagate.proofs.NameLemmas.{put_counts, same_lines, none_has}
 
@@ -104,7 +103,5 @@ filled none half full lines e h f within = same_lines full lines (λ line. (
     one_axis : (axis : Axis) → (axis ≡ Across) ⊎ (axis ≡ Down)
     one_axis Across = inl refl
     one_axis Down = inr refl
-
-pub ruleset reading = (across_in, down_in, across_cell, down_cell, across_length, down_length, same_list)
 
 pub ruleset crossing = (changed_same, changed_put, crossing_none, crossing_more)

@@ -6,7 +6,7 @@ ghost use Rattle.line_settle.specs.FactSets.{Gains, IsFacts};
 ghost use Rattle.propagate.specs.Closing.{AreClosable, AreLinesOf, Closes, PutsCrossing, SettledOutside, Works};
 
 use crate::agenda::Agenda;
-use crate::crossing::{line_len, put_crossing, put_lines, read_line};
+use crate::crossing::{put_crossing, put_lines};
 use clues::ClueBook;
 use line_settle::{Facts, LineEngine, Meter, Outcome, force};
 use picture::{LineId, LineSet};
@@ -66,8 +66,8 @@ fn evaluate<E: LineEngine, A: Agenda>(
     let _ = facts.height();
     let _trials = meter.trials;
     let mut before = [0; MOST_CELLS];
-    let cells = usize::from(line_len(facts, line));
-    read_line(facts, line, &mut before[..cells]);
+    let cells = usize::from(facts.line_len(line));
+    facts.copy_line(line, &mut before[..cells]);
     let outcome = force(engine, facts, book.clue(line), line, &mut meter.evaluations);
     put_crossing(agenda, facts, line, &before[..cells]);
     outcome

@@ -1,4 +1,4 @@
-ghost use Rattle.std.specs.Prelude.{◌≡◌, ℕ, ◌<◌, ◌≤◌, ◌↔◌, ◌⊎◌, length, slice_index};
+ghost use Rattle.std.specs.Prelude.{◌≡◌, ℕ, ◌<◌, ◌≤◌, ◌↔◌, ◌⊎◌, length};
 ghost use Rattle.picture.specs.LineSet.{HasName};
 ghost use Rattle.picture.specs.Rows.{line_of, HasLine};
 ghost use Rattle.propagate.specs.Closing.{PutsChanged, PutsCrossing, crossing_at};
@@ -6,46 +6,6 @@ ghost use Rattle.propagate.specs.Closing.{PutsChanged, PutsCrossing, crossing_at
 use crate::agenda::Agenda;
 use line_settle::Facts;
 use picture::{Axis, LineId, LineSet, MAX_SIDE};
-
-#[tactic(auto, using(crate::proofs::CrossingLemmas::reading))]
-// How many cells a line has.
-pub(crate) fn line_len(facts: &Facts, line: LineId) -> u8
-    requires { HasLine facts.now line }
-    ensures len { result ≡ length (line_of facts.now line) }
-    ensures short { result ≤ MAX_SIDE }
-{
-    match line.axis {
-        Axis::Across => facts.width(),
-        Axis::Down => facts.height(),
-    }
-}
-
-#[tactic(auto, using(crate::proofs::CrossingLemmas::reading))]
-// Copies the masks of a line.
-pub(crate) fn read_line(facts: &Facts, line: LineId, masks: &mut [u16])
-    requires line { HasLine facts.now line }
-    requires whole { length masks.old ≡ length (line_of facts.now line) }
-    requires short { length masks.old ≤ MAX_SIDE }
-    ensures { masks.new ≡ line_of facts.now line }
-{
-    for i in 0..masks.len() {
-        masks[i] = left_at(facts, line, i as u8);
-    }
-}
-
-#[tactic(auto, using(crate::proofs::CrossingLemmas::reading))]
-// The mask at a place of a line.
-fn left_at(facts: &Facts, line: LineId, i: u8) -> u16
-    requires line { HasLine facts.now line }
-    requires place { i < length (line_of facts.now line) }
-    ensures { result ≡ slice_index (line_of facts.now line) i }
-{
-    let _ = facts.height();
-    match line.axis {
-        Axis::Across => facts.left(line.at, i),
-        Axis::Down => facts.left(i, line.at),
-    }
-}
 
 #[tactic(auto, using(crate::proofs::CrossingLemmas::crossing))]
 // Puts the lines that cross a line on an agenda, where a cell of the line is not as it was before.
@@ -61,7 +21,7 @@ pub(crate) fn put_crossing<A: Agenda>(agenda: &mut A, facts: &Facts, line: LineI
             agenda,
             crossing(line, at),
             before[i],
-            left_at(facts, line, at),
+            facts.left_on(line, at),
         );
     }
 }

@@ -1,6 +1,10 @@
-use Rattle.std.proofs.Common.{◌≡◌}
-use Rattle.clues.specs.ClueBook.{first_clues}
+use Rattle.std.proofs.Common.{◌≡◌, length}
+use Rattle.clues.specs.Change.{EachAlong, IsNewClue, IsOldClue}
 use Rattle.clues.proofs.clue_book.ClueBook.refreshed.Given as goal
 
 abbrev pub invariant-loop-at : goal.invariant-loop-at
-invariant-loop-at l = l.clues.items ≡ first_clues l.axis l.picture l.at
+invariant-loop-at l = record {
+  count : length l.clues.items ≡ l.at;
+  copied : EachAlong l.axis l.clues.items (IsOldClue l.change l.self);
+  counted : EachAlong l.axis l.clues.items (IsNewClue l.change l.picture);
+}

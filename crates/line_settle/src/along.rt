@@ -1,0 +1,49 @@
+ghost use Rattle.std.specs.Prelude.{◌≡◌, ◌<◌, ◌≤◌, length, slice_index};
+ghost use Rattle.picture.specs.Rows.{line_of, HasLine};
+ghost use Rattle.line_settle.specs.FactSets.{IsFacts};
+
+use crate::facts::Facts;
+use picture::{Axis, LineId, MAX_SIDE};
+
+#[tactic(auto, using(crate::proofs::AlongLemmas::places, crate::proofs::AlongLemmas::same_list))]
+impl Facts {
+    /// How many cells a line has, from 1 to 120.
+    pub fn line_len(&self, line: LineId) -> u8
+        requires { HasLine self.now line }
+        ensures len { result ≡ length (line_of self.now line) }
+        ensures some { 0 < result }
+        ensures short { result ≤ MAX_SIDE }
+        ensures facts { IsFacts self.now }
+    {
+        match line.axis {
+            Axis::Across => self.width(),
+            Axis::Down => self.height(),
+        }
+    }
+
+    /// The colours left in the cell at a place along a line.
+    pub fn left_on(&self, line: LineId, place: u8) -> u16
+        requires line { HasLine self.now line }
+        requires place { place < length (line_of self.now line) }
+        ensures value { result ≡ slice_index (line_of self.now line) place }
+        ensures facts { IsFacts self.now }
+    {
+        let _ = self.height();
+        match line.axis {
+            Axis::Across => self.left(line.at, place),
+            Axis::Down => self.left(place, line.at),
+        }
+    }
+
+    /// Copies the colours left in each cell of a line, from the left or from the top.
+    pub fn copy_line(&self, line: LineId, masks: &mut [u16])
+        requires line { HasLine self.now line }
+        requires whole { length masks.old ≡ length (line_of self.now line) }
+        requires short { length masks.old ≤ MAX_SIDE }
+        ensures { masks.new ≡ line_of self.now line }
+    {
+        for place in 0..masks.len() {
+            masks[place] = self.left_on(line, place as u8);
+        }
+    }
+}
