@@ -140,6 +140,21 @@ fn a_background_is_handed_in(rt: HostRuntime) -> Result<(), Fail> {
 }
 
 #[test]
+fn colours_are_numbered_row_by_row(rt: HostRuntime) -> Result<(), Fail> {
+    // Read by columns, the other colour would come first.
+    let text = b"P3 2 2 9  9 9 9  8 0 0  0 0 8  9 9 9";
+    let document = read_ppm(rt.alloc(), text, None)?;
+    assert_eq!(rt; document.palette.len(), 3);
+    assert_eq!(rt; document.palette.rgb(1), Rgb { r: 8, g: 0, b: 0 });
+    assert_eq!(rt; document.palette.rgb(2), Rgb { r: 0, g: 0, b: 8 });
+    assert_eq!(rt; document.picture.height(), 2);
+    assert_eq!(rt; document.picture.width(), 2);
+    assert_eq!(rt; document.picture.cell(0, 1), 1);
+    assert_eq!(rt; document.picture.cell(1, 0), 2);
+    Ok(())
+}
+
+#[test]
 fn a_text_is_written_and_read(rt: HostRuntime) -> Result<(), Fail> {
     let text = b"P3\n2 3\n255\n0 0 0\n255 255 255\n0 0 0\n9 10 255\n0 0 0\n255 255 255\n";
     let document = read_ppm(rt.alloc(), text, None)?;
