@@ -22,7 +22,6 @@ pub mod PositionLemmas
 pub mod ColouringLemmas
 pub mod GatheringLemmas
 pub mod SetStepLemmas
-pub mod SetNarrowLemmas
 pub mod LayingLemmas
 pub mod BlockLemmas
 pub mod MarkLemmas

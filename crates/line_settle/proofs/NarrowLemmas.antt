@@ -128,6 +128,10 @@ narrows_dead clue left out n none =
 pub narrows_long : (clue : List Block) (left out : List ℕ) → IsClue clue → out ≡ replicate (length left) 0 → length left + 1 < length (pattern_of clue) → Narrows clue left Dead out
 narrows_long clue left out b n l = narrows_dead clue left out n (too_long clue left b l)
 
+-- no line goes from the first state to the end
+pub narrows_stuck : (clue : List Block) (left out : List ℕ) → IsClue clue → out ≡ replicate (length left) 0 → finishes (pattern_of clue) left 0 ≡ false → Narrows clue left Dead out
+narrows_stuck clue left out b n f = narrows_dead clue left out n (λ h. false≢true (sym f ∙ fit_finishes clue left b h))
+
 -- the same over what was written for the pattern
 pub narrows_some_at : (clue : List Block) (left out written : List ℕ) → IsClue clue → written ≡ pattern_of clue → length out ≡ length left → finishes written left 0 ≡ true → Collected written left out → Narrows clue left Narrowed out
 narrows_some_at clue left out written b e n f c =

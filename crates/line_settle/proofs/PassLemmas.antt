@@ -6,9 +6,9 @@ use Rattle.clues.specs.Clue.{IsClue}
 use Rattle.line_settle.specs.Spelling.{pattern_of, allows, waits, advances, rests, finishes, reaches, passes, passes_below}
 use Rattle.line_settle.specs.Positions.{has, IsCellsWith}
 use Rattle.line_settle.specs.Laying.{moved, covers, meets, gap_before, state_behind, IsAllowed, IsBack, IsStart, AreMarked, AreSeen}
-use Rattle.line_settle.proofs.PositionLemmas.{has_and, has_or, has_down, has_one}
+use Rattle.line_settle.proofs.PositionLemmas.{has_and, has_or, has_down, has_none, has_one}
 use Rattle.line_settle.proofs.StateLemmas.{waits_at_end}
-use Rattle.line_settle.proofs.SetNarrowLemmas.{none_seen}
+use Rattle.line_settle.proofs.NarrowLemmas.{zeros}
 use Rattle.line_settle.proofs.BlockLemmas.{BlockAt, GapAt, PieceAt, block_at, piece_of, state_next, state_at_end, gap_waits_not, inside_waits_not, waits_for_block}
 use Rattle.line_settle.proofs.MarkLemmas.{finish_on, none_left, step_back}
 
@@ -499,5 +499,5 @@ pass_end bs left allowed starting waiting n from here old new clue e is short ma
 pub none_yet : (bs : List Block) (left seen : List ℕ) → seen ≡ replicate 16 0 → finishes (pattern_of bs) left 0 ≡ true → Behind (pattern_of bs) left 0 1 seen
 none_yet bs left seen e f = record {
   entry = first_entry (pattern_of bs) left f;
-  seen_is = λ i k h. ap (λ xs. has (get_or xs k 0) i) e ∙ none_seen 16 k i;
+  seen_is = λ i k h. ap (λ xs. has (get_or xs k 0) i) e ∙ ap (λ s. has s i) (zeros 16 k) ∙ has_none i;
 }

@@ -1,8 +1,7 @@
-use Rattle.std.proofs.Common.{◌∙◌, ◌≡◌, ◌+◌, sym, ap, refl, arith, length, replicate}
+use Rattle.std.proofs.Common.{◌∙◌, ◌≡◌, ◌+◌, sym, ap, arith, length, replicate}
 use Rattle.line_settle.specs.Spelling.{pattern_of}
 use Rattle.line_settle.proofs.BlockLemmas.{blocks_have_room, no_room}
-use Rattle.line_settle.proofs.NarrowLemmas.{narrows_some, narrows_long}
-use Rattle.line_settle.proofs.SetNarrowLemmas.{narrows_empty}
+use Rattle.line_settle.proofs.NarrowLemmas.{narrows_some, narrows_long, narrows_stuck}
 use Rattle.line_settle.proofs.mask_line.narrow_by_sets.Goals as goal
 
 pub returns-then-not-has_room : goal.returns-then-not-has_room
@@ -26,4 +25,4 @@ pub returns-then-narrow_sets : goal.returns-then-narrow_sets
 returns-then-narrow_sets c = narrows_some c.args.blocks.now c.args.left.now c.narrow_sets.new.out c.requires.blocks_of_clue (omega (arith, c.requires.same_length)) (sym c.narrow_sets.ensures.fits ∙ c.if-narrow_sets.true) (c.narrow_sets.ensures.collected c.if-narrow_sets.true)
 
 pub returns-else-narrow_sets : goal.returns-else-narrow_sets
-returns-else-narrow_sets c = narrows_empty c.args.blocks.now c.args.left.now c.narrow_sets.new.out (pattern_of c.args.blocks.now) c.requires.blocks_of_clue refl (c.narrow_sets.ensures.empty c.if-narrow_sets.false) (sym c.narrow_sets.ensures.fits ∙ c.if-narrow_sets.false)
+returns-else-narrow_sets c = narrows_stuck c.args.blocks.now c.args.left.now c.narrow_sets.new.out c.requires.blocks_of_clue (c.narrow_sets.ensures.empty c.if-narrow_sets.false) (sym c.narrow_sets.ensures.fits ∙ c.if-narrow_sets.false)
