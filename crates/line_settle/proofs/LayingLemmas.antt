@@ -1,14 +1,9 @@
 -- Sets of positions moved over the cells of a block and over the gap before it.
-use Rattle.std.proofs.Common.{◌≡◌, ℕ, zero, suc, ◌+◌, ◌*◌, ◌/◌, ◌%◌, ◌<◌, Bool, true, false, ◌&&◌, ◌||◌, bit_and, bit_or, refl, ap, ◌∙◌, arith}
+use Rattle.std.proofs.Common.{◌≡◌, ℕ, zero, suc, ◌+◌, ◌*◌, ◌/◌, ◌%◌, ◌<◌, ◌&&◌, ◌||◌, bit_and, bit_or, ap, ◌∙◌, arith}
+use Rattle.std.proofs.Math.Bool.{and_comm}
 use Rattle.line_settle.specs.Positions.{has}
 use Rattle.line_settle.specs.Laying.{lays, moved, covers}
 use Rattle.line_settle.proofs.PositionLemmas.{has_and, has_or, has_none, has_down, has_up_first, has_up, up_next}
-
-swapped : (a b : Bool) → (a && b) ≡ (b && a)
-swapped true true = refl
-swapped true false = refl
-swapped false true = refl
-swapped false false = refl
 
 -- ---- before the cells of a block
 
@@ -17,7 +12,7 @@ lays_more ends cells starts new n m i e is made =
     let z : suc n ≡ m = omega arith in
     ap (λ s. has s i) made
     ∙ (has_and (starts / 2) cells i
-    ∙ (swapped (has (starts / 2) i) (has cells i)
+    ∙ (and_comm (has (starts / 2) i) (has cells i)
     ∙ (ap (λ x. has cells i && x) (has_down 1 starts i ∙ is (i + 1))
     ∙ ap (λ k. lays cells ends k i) z)))
 
@@ -41,10 +36,10 @@ covers_more starts cells ends n m i e is at h =
 -- ---- the gap before a block
 
 pub gap_behind : (from background i : ℕ) → i < 127 → has ((bit_and from background) * 2 % 340282366920938463463374607431768211456) (i + 1) ≡ (has background i && has from i)
-gap_behind from background i h = up_next (bit_and from background) i h ∙ (has_and from background i ∙ swapped (has from i) (has background i))
+gap_behind from background i h = up_next (bit_and from background) i h ∙ (has_and from background i ∙ and_comm (has from i) (has background i))
 
 pub gap_before : (later background i : ℕ) → has (bit_and (later / 2) background) i ≡ (has background i && has later (i + 1))
-gap_before later background i = has_and (later / 2) background i ∙ (swapped (has (later / 2) i) (has background i) ∙ ap (λ x. has background i && x) (has_down 1 later i))
+gap_before later background i = has_and (later / 2) background i ∙ (and_comm (has (later / 2) i) (has background i) ∙ ap (λ x. has background i && x) (has_down 1 later i))
 
 pub ruleset starting = (lays_more)
 

@@ -1,5 +1,6 @@
 -- What is marked for each block from the back: the positions from which a line can go to its end.
 use Rattle.std.proofs.Common.{◌≡◌, ℕ, zero, suc, ◌+◌, ◌-◌, ◌*◌, ◌%◌, ◌^◌, ◌<◌, ◌≤◌, Bool, true, false, List, ◌==◌, ◌&&◌, ◌||◌, nat_lt, bit_and, refl, sym, ap, subst, ◌∙◌, arith, inl, inr, eq-eqb, ne_eqb, length, get_or, drop}
+use Rattle.std.proofs.Math.Bool.{and-false, or-false}
 use Rattle.std.proofs.Math.Seq.{drop-length}
 use Rattle.std.proofs.Math.ListN.{set}
 use Rattle.std.proofs.lemmas.Bool.{cases_eq, cases_lt, lt-ltb, le-ltb}
@@ -93,23 +94,15 @@ block_start pattern left s len c cells ends starts b is short back laid i h =
 abbrev pub Waits : ℕ → ℕ → ℕ → Type 0
 Waits background starts waiting = (i : ℕ) → has waiting i ≡ (has starts i || (has background i && has waiting (i + 1)))
 
-false_and : (b : Bool) → (b && false) ≡ false
-false_and true = refl
-false_and false = refl
-
 -- at the last position nothing starts and nothing waits
 last_alone : (pattern left : List ℕ) (q starts background waiting i : ℕ) → IsCellsWith left 0 background → length left < 128 → Waits background starts waiting → i ≡ length left → has waiting i ≡ has starts i
 last_alone pattern left q starts background waiting i is short w e =
     let a = is i (omega arith) ∙ none_left left i 0 (omega arith) in
-    w i ∙ (ap (λ x. has starts i || (x && has waiting (i + 1))) a ∙ or_false (has starts i))
-  where
-    or_false : (b : Bool) → (b || false) ≡ b
-    or_false true = refl
-    or_false false = refl
+    w i ∙ (ap (λ x. has starts i || (x && has waiting (i + 1))) a ∙ or-false (has starts i))
 
 no_start : (pattern left : List ℕ) (s starts i : ℕ) → IsStart pattern left s starts → i ≡ length left → has starts i ≡ false
 no_start pattern left s starts i is e =
-    is i (omega arith) ∙ (ap (λ x. nat_lt (s + 1) (length pattern) && (x && finishes pattern (drop (i + 1) left) (s + 1))) (none_left left i (get_or pattern (s + 1) 0) (omega arith)) ∙ false_and (nat_lt (s + 1) (length pattern)))
+    is i (omega arith) ∙ (ap (λ x. nat_lt (s + 1) (length pattern) && (x && finishes pattern (drop (i + 1) left) (s + 1))) (none_left left i (get_or pattern (s + 1) 0) (omega arith)) ∙ and-false (nat_lt (s + 1) (length pattern)))
 
 wait_step : (pattern left : List ℕ) (s len c background starts waiting : ℕ) → BlockAt pattern s len c → IsCellsWith left 0 background → length left < 128 → IsStart pattern left s starts → Waits background starts waiting → (d i : ℕ) → i + d ≡ length left → has waiting i ≡ finishes pattern (drop i left) s
 wait_step pattern left s len c background starts waiting b is short begins w zero i e =

@@ -1,5 +1,6 @@
 -- What is seen from the front: the cells with which a line goes on from its first position to its end.
 use Rattle.std.proofs.Common.{◌≡◌, ℕ, zero, suc, ◌+◌, ◌-◌, ◌/◌, ◌<◌, ◌≤◌, Bool, true, false, List, ◌==◌, ◌&&◌, ◌||◌, nat_lt, bit_and, bit_or, replicate, refl, sym, ap, subst, ◌∙◌, arith, inl, inr, ne_eqb, length, get_or, drop}
+use Rattle.std.proofs.Math.Bool.{and-false, or_self}
 use Rattle.std.proofs.lemmas.Bool.{cases_lt, lt-ltb, le-ltb}
 use Rattle.clues.specs.declared.block.Block.{Block}
 use Rattle.clues.specs.Clue.{IsClue}
@@ -87,16 +88,9 @@ twice false f = refl
 waited : (e f a h r x g w : Bool) → w ≡ true → g ≡ (x || (w && (a && f))) → (h && g) ≡ (r && g) → (((e && f) || (a && h)) && f) ≡ ((e || (w && (a && r))) && f)
 waited e f a h r x g false k l m = absurd (let z : ⊥ = cc in z)
 waited true true a h r x g true k l m = refl
-waited true false true h r x g true k l m = nothing h
-  where
-    nothing : (b : Bool) → (b && false) ≡ false
-    nothing true = refl
-    nothing false = refl
+waited true false true h r x g true k l m = and-false h
 waited true false false h r x g true k l m = refl
-waited false true true h r true true true k l m = same h r m
-  where
-    same : (b d : Bool) → (b && true) ≡ (d && true) → (b && true) ≡ (d && true)
-    same b d e = e
+waited false true true h r true true true k l m = m
 waited false true true h r true false true k l m = absurd (let z : ⊥ = cc in z)
 waited false true true h r false true true k l m = m
 waited false true true h r false false true k l m = absurd (let z : ⊥ = cc in z)
@@ -139,11 +133,7 @@ started false false false g x k m = refl
 no_advance : (pattern left : List ℕ) (s i : ℕ) → length left ≤ i → advances pattern (get_or left i 0) (finishes pattern (drop (i + 1) left)) s ≡ false
 no_advance pattern left s i h =
     ap (λ x. nat_lt (s + 1) (length pattern) && (x && finishes pattern (drop (i + 1) left) (s + 1))) (none_left left i (get_or pattern (s + 1) 0) h)
-    ∙ and_false (nat_lt (s + 1) (length pattern))
-  where
-    and_false : (b : Bool) → (b && false) ≡ false
-    and_false true = refl
-    and_false false = refl
+    ∙ and-false (nat_lt (s + 1) (length pattern))
 
 same_nothing : (h r s : Bool) → s ≡ false → (h && s) ≡ (r && s)
 same_nothing h r true e = absurd (let z : ⊥ = cc in z)
@@ -375,11 +365,7 @@ gap_entered pattern left q len c background from entered false p is short before
     λ i h. ap (λ s. has s i) (e.none refl) ∙ (before i h ∙ ap (λ s. enters pattern left i s && finishes pattern (drop i left) s) z)
 
 filled_has : (background entered here i : ℕ) → Filled background entered here → i < 128 → (has entered i || has here i) ≡ has here i
-filled_has background entered here zero f h = ap (λ x. x || has here 0) (sym f.first) ∙ same (has here 0)
-  where
-    same : (b : Bool) → (b || b) ≡ b
-    same true = refl
-    same false = refl
+filled_has background entered here zero f h = ap (λ x. x || has here 0) (sym f.first) ∙ or_self (has here 0)
 filled_has background entered here (suc i) f h =
     let z : suc i ≡ i + 1 = omega arith in
     let e : has here (suc i) ≡ (has entered (suc i) || (has background i && has here i)) = ap (λ n. has here n) z ∙ (f.on i (omega arith) ∙ ap (λ n. has entered n || (has background i && has here i)) (sym z)) in

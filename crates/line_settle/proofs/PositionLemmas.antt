@@ -1,6 +1,7 @@
 -- Sets of positions as masks: what is in them after `&`, `|`, shifts and additions.
 use Rattle.std.proofs.Common.{◌≡◌, ℕ, zero, suc, ◌+◌, ◌*◌, ◌/◌, ◌%◌, ◌^◌, ◌<◌, ◌≤◌, Bool, true, false, ◌==◌, ◌&&◌, ◌||◌, bit_and, bit_or, bit_xor, refl, sym, ap, subst, ◌∙◌, arith, inl, inr, eq-eqb, ne_eqb, max, min, set}
 use Rattle.std.specs.Int.{bit_at}
+use Rattle.std.proofs.Math.Bool.{and_comm}
 use Rattle.std.proofs.lemmas.Bool.{cases_eq}
 use Rattle.std.proofs.Math.Nat.{pow-succ', div-div-eq-div-mul, div-add-mod, mul_comm}
 use Rattle.std.proofs.lemmas.Nat.Bits.{shr_and_one, bit_at_lowest, bit_at-suc, bit_at_and, bit_at_or, bit_at_xor, bit_at-lt, bit_at-zero, bit_at_above, bit_at-pow_same, bit_at-pow_other, bit_at_cat_low}
@@ -254,18 +255,12 @@ pub fills_twice : (set run all runs s t i : ℕ) → t ≡ s + s → ((j : ℕ) 
 fills_twice set run all runs s t i e f g =
     has_or all (bit_and (all / 2 ^ s) runs) i
     ∙ (ap (λ x. has all i || x) (has_and (all / 2 ^ s) runs i)
-    ∙ (ap (λ x. has all i || x) (swapped (has (all / 2 ^ s) i) (has runs i))
+    ∙ (ap (λ x. has all i || x) (and_comm (has (all / 2 ^ s) i) (has runs i))
     ∙ (ap (λ x. has all i || (has runs i && x)) (has_down s all i)
     ∙ (ap (λ x. x || (has runs i && has all (i + s))) (f i)
     ∙ (ap (λ x. fills (has set) (has run) s i || (x && has all (i + s))) (g i)
     ∙ (ap (λ x. fills (has set) (has run) s i || (spans (has run) s i && x)) (f (i + s))
     ∙ (sym (fills_more (has set) (has run) s s i) ∙ ap (λ n. fills (has set) (has run) n i) (sym e))))))))
-  where
-    swapped : (a b : Bool) → (a && b) ≡ (b && a)
-    swapped true true = refl
-    swapped true false = refl
-    swapped false true = refl
-    swapped false false = refl
 
 pub spans_twice : (run runs s t i : ℕ) → t ≡ s + s → ((j : ℕ) → has runs j ≡ spans (has run) s j) → has (bit_and runs (runs / 2 ^ s)) i ≡ spans (has run) t i
 spans_twice run runs s t i e g =

@@ -1,5 +1,6 @@
 -- Sets of cells by colour, as the program makes them and writes them out.
 use Rattle.std.proofs.Common.{◌≡◌, ℕ, ◌*◌, ◌%◌, ◌^◌, ◌<◌, ◌≤◌, Bool, true, false, List, ◌==◌, ◌&&◌, ◌||◌, nat_lt, bit_or, refl, sym, ap, subst, ◌∙◌, arith, inl, inr, eq-eqb, ne_eqb, eqb-true, length, get_or}
+use Rattle.std.proofs.Math.Bool.{and-false, or-false}
 use Rattle.std.proofs.Math.ListN.{set}
 use Rattle.std.proofs.lemmas.Bool.{cases_eq, cases_lt, lt-ltb, le-ltb, or_cases, or_left, or_right, false≢true}
 use Rattle.std.proofs.lemmas.List.{get_or_past, get_or-set_same, get_or-set_other}
@@ -33,14 +34,6 @@ made_kept made colour k e = allows_or made (1 * 2 ^ colour % 65536) k ∙ or_lef
 
 pub ruleset making = (none_made, made_more, made_here, made_kept)
 
-false_and : (b : Bool) → (b && false) ≡ false
-false_and true = refl
-false_and false = refl
-
-false_or : (b : Bool) → (b || false) ≡ b
-false_or true = refl
-false_or false = refl
-
 -- ---- cells that are seen
 
 pub seen_more : (seen : List ℕ) (colour v places i k : ℕ) → colour < length seen → v ≡ bit_or (get_or seen colour 0) places → has (get_or (set seen colour v) k 0) i ≡ (has (get_or seen k 0) i || (has places i && colour == k))
@@ -55,7 +48,7 @@ seen_more seen colour v places i k h e = elim (cases_eq colour k) [
   | inr other ↦
       let t = ap (λ b. has (get_or seen k 0) i || (has places i && b)) (ne_eqb colour k other) in
       ap (λ s. has s i) (get_or-set_other seen colour k v 0 (λ f. other (sym f)))
-      ∙ (sym (false_or (has (get_or seen k 0) i)) ∙ (sym (ap (λ b. has (get_or seen k 0) i || b) (false_and (has places i))) ∙ sym t))
+      ∙ (sym (or-false (has (get_or seen k 0) i)) ∙ (sym (ap (λ b. has (get_or seen k 0) i || b) (and-false (has places i))) ∙ sym t))
 ]
   where
     and_true : (b : Bool) → b ≡ (b && true)
