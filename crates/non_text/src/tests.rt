@@ -134,7 +134,8 @@ fn puzzles_are_read(rt: HostRuntime) {
 #[test]
 fn a_picture_is_written_and_read_again(rt: HostRuntime) -> Result<(), Fail> {
     let picture = corner(rt.alloc())?;
-    let mut text = Vec::new(rt.alloc());
+    // The writer takes its memory first, so that a growth refused later is never its own.
+    let mut text = Vec::with_capacity(rt.alloc(), 64)?;
     write_non(rt.alloc(), &picture, &mut text)?;
     let written = b"width 2\nheight 2\nrows\n2\n1\ncolumns\n2\n1\ngoal \"1110\"\n";
     assert_eq!(rt; text.as_slice(), written.as_slice());
@@ -184,7 +185,7 @@ fn a_failed_write_leaves_a_front(rt: HostRuntime) -> Result<(), Fail> {
     for room in 0..text.len() + 2 {
         let mut writer = Narrow {
             room,
-            taken: Vec::new(rt.alloc()),
+            taken: Vec::with_capacity(rt.alloc(), 64)?,
         };
         let result = write_non(rt.alloc(), &picture, &mut writer);
         if room < text.len() {
