@@ -1,9 +1,10 @@
 -- Lines whose cells are settled, and lines without blocks.
-use Rattle.std.proofs.Common.{◌≡◌, ◌≢◌, ℕ, zero, suc, ◌+◌, ◌*◌, ◌%◌, ◌^◌, ◌<◌, ◌≤◌, ◌++◌, ◌↔◌, ◌==◌, List, [], ◌∷◌, length, get_or, drop, drop-cons, replicate, refl, sym, ap, subst, ◌∙◌, arith, add-one, eq-eqb, inl, inr}
-use Rattle.std.specs.Prelude.{IsBitSet, IsTrue}
+use Rattle.std.proofs.Common.{◌≡◌, ◌≢◌, ℕ, zero, suc, ◌+◌, ◌^◌, ◌<◌, ◌≤◌, ◌++◌, ◌↔◌, List, [], ◌∷◌, length, get_or, drop, drop-cons, replicate, refl, sym, ap, subst, ◌∙◌, arith, add-one, inl, inr}
+use Rattle.std.specs.Prelude.{IsBitSet, IsTrue, Option, Some, None, MatchOption, is_some}
 use Rattle.std.specs.List.{All}
 use Rattle.std.proofs.Math.ListN.{get_or-eq_default}
-use Rattle.std.proofs.lemmas.Bool.{cases_eq, cases_lt, eqb-true}
+use Rattle.std.proofs.lemmas.Bool.{cases_lt}
+use Rattle.std.proofs.lemmas.Nat.{pow_pos}
 use Rattle.std.proofs.lemmas.List.{length-map, length-replicate, get_or-map, drop_all}
 use Rattle.std.proofs.lemmas.List.Elements.{All-get_or, All-from_get_or}
 use Rattle.std.proofs.lemmas.Grind.{same_number_lists}
@@ -14,23 +15,25 @@ use Rattle.line_settle.specs.declared.line_engine.Outcome.TheVariants.{Narrowed,
 use Rattle.line_settle.specs.Fitting.{Fits, CanHave}
 use Rattle.line_settle.specs.Narrowing.{Narrows}
 use Rattle.line_settle.specs.Spelling.{allows}
+use Rattle.line_settle.specs.Masks.{IsOnly}
 use Rattle.line_settle.specs.Settled.{lowest_colour, IsSettled, AreSettled, lowest_colours}
-use Rattle.line_settle.proofs.MaskLemmas.{no_bit, power_has, only_none, only_one, only_lowest, lowest_below}
+use Rattle.line_settle.proofs.MaskLemmas.{no_bit, power_has, bit_below, only_is_power, lowest_of_power}
 use Rattle.line_settle.proofs.FittingLemmas.{allows_bit, bit_allows}
 use Rattle.line_settle.proofs.NarrowLemmas.{zeros, narrows_dead}
 use Rattle.line_settle.proofs.ClueLemmas.{no_block}
 
--- a mask that is not empty has one colour where it is that of its lowest colour
-pub single : (mask : ℕ) → 0 < mask → mask < 2 ^ 16 → IsTrue (mask == 1 * 2 ^ lowest_colour mask % 65536) ↔ IsSettled mask
-single mask p q = (
-  (λ t. only_one mask (lowest_colour mask) (lowest_below mask p q) (eqb-true _ _ t)),
-  (λ s. elim (cases_eq mask (1 * 2 ^ lowest_colour mask % 65536)) [ inl e ↦ eq-eqb _ _ e | inr n ↦ absurd (only_lowest mask p q n (lowest_colour mask) s) ]),
-)
+-- a mask's only colour is its lowest
+only_settled : (mask k : ℕ) → mask < 2 ^ 16 → IsOnly mask k → IsSettled mask
+only_settled mask k h o =
+    let e : mask ≡ 2 ^ k = only_is_power mask k o in
+    let b : k < 16 = bit_below mask 16 k h ((o k).1 refl) in
+    let p : 0 < 2 ^ k = pow_pos k in
+    let l : lowest_colour mask ≡ k = ap lowest_colour e ∙ lowest_of_power k b p (subst (λ m. m < 2 ^ 16) e h) in
+    subst (IsOnly mask) (sym l) o
 
-pub none_single : (mask : ℕ) → mask ≡ 0 → ¬ IsSettled mask
-none_single mask e = only_none mask e (lowest_colour mask)
-
-pub ruleset one_colour = (single, none_single)
+pub one_colour : (mask : ℕ) (found : Option ℕ) → mask < 2 ^ 16 → MatchOption found ((k : ℕ) → IsOnly mask k → ⊥) (λ k. IsOnly mask k) → IsTrue (is_some found) ↔ IsSettled mask
+one_colour mask (Some k) h o = ((λ _. only_settled mask k h o), (λ _. refl))
+one_colour mask None h o = ((λ e. absurd (let z : ⊥ = cc in z)), (λ s. absurd (o (lowest_colour mask) s)))
 
 -- ---- the walk over a settled line
 

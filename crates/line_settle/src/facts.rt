@@ -132,7 +132,7 @@ impl Facts {
 
 #[tactic(auto, using(crate::proofs::MaskLemmas::only))]
 // The only colour of a mask, where it has just one.
-fn only_colour(mask: u16) -> Option<u8>
+pub(crate) fn only_colour(mask: u16) -> Option<u8>
     ensures { MatchOption result ((k : ℕ) → IsOnly mask k → ⊥) (λ k. IsOnly mask k) }
 {
     if mask == 0 {

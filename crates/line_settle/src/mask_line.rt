@@ -35,7 +35,7 @@ fn has_room(blocks: &[Block], cells: usize) -> bool
 }
 
 // Says whether some line of the blocks keeps to the colours left, and writes the colours that such lines have in each
-// cell.
+// cell. It is kept out of the caller's body, where it is slower.
 #[inline(never)]
 fn narrow_sets(
     blocks: &[Block],

@@ -8,6 +8,7 @@ ghost use Rattle.line_settle.specs.Narrowing.{Narrows};
 ghost use Rattle.line_settle.specs.Spelling.{allows};
 ghost use Rattle.line_settle.specs.Settled.{AreSettled, IsSettled, lowest_colours};
 
+use crate::facts::only_colour;
 use crate::line_engine::Outcome;
 use crate::pattern::allows;
 use clues::{Block, without_run};
@@ -41,12 +42,11 @@ pub fn is_settled(left: &[u16]) -> bool
     left.iter().all(|mask| has_one_colour(*mask))
 }
 
-#[tactic(auto, using(crate::proofs::SettledLemmas::one_colour))]
 // Whether a mask has just one colour.
 fn has_one_colour(mask: u16) -> bool
     ensures { IsTrue result ↔ IsSettled mask }
 {
-    mask != 0 && mask == 1 << mask.trailing_zeros()
+    only_colour(mask).is_some()
 }
 
 /// Narrows a line of settled cells: it stays as it is where the clue is that of its colours.

@@ -8,7 +8,8 @@ use crate::document::Document;
 use std::alloc::AllocError;
 
 impl Document {
-    /// The same picture with its colours numbered by first appearance, row after row from the top and behind the background, and with no colour that no cell has. Each cell keeps its colour, and the givens stay.
+    /// The same picture with its colours numbered by first appearance, row after row from the top and behind the
+    /// background, and with no colour that no cell has. Each cell keeps its colour, and the givens stay.
     pub fn ordered(&self) -> Result<Document, AllocError>
         ensures content { IfOk result (λ d. content_of d ≡ ordered_of (content_of self.now)) }
         ensures shown { IfOk result (λ d. rows_shown d.palette.triples d.picture ≡ rows_shown self.now.palette.triples self.now.picture) }
