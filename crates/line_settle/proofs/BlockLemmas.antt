@@ -8,7 +8,6 @@ use Rattle.clues.specs.Clue.{block, IsBlock, IsClue}
 use Rattle.line_settle.specs.Spelling.{gap, spelled_after, pattern_of, waits}
 use Rattle.line_settle.specs.Laying.{meets, gap_before, state_behind, state_before}
 use Rattle.line_settle.proofs.PatternLemmas.{first_is, rest_are}
-use Rattle.line_settle.proofs.WritingLemmas.{spelled_next}
 use Rattle.line_settle.proofs.StateLemmas.{waits_before}
 
 -- the colour behind which block j stands
@@ -208,18 +207,6 @@ inside_waits_not pattern s len c t b h =
     no_wait _ _ _ (lt-leb (length pattern) (s + suc t + 1) l) (or_right _ _ (eq-eqb _ _ (e ∙ sym d)))
 
 -- ---- room for the blocks
-
--- the cells of one block, and those of the blocks behind it
-pub spelled_length : (last : ℕ) (bs : List Block) (j : ℕ) (b d : Block) (n : ℕ) → j < length bs → b ≡ get_or bs j d → n ≡ length (gap (b.colour == last) ++ replicate b.len b.colour) → length (spelled_after last (drop j bs)) ≡ n + length (spelled_after b.colour (drop (j + 1) bs))
-spelled_length last bs j b d n h e is =
-    let g = gap (b.colour == last) in
-    let r = replicate b.len b.colour in
-    let t = spelled_after b.colour (drop (j + 1) bs) in
-    let s = ap length (spelled_next last bs j b d h e) in
-    let k1 = length-append g (r ++ t) in
-    let k2 = length-append r t in
-    let k3 = length-append g r in
-    omega arith
 
 piece_length : (m : Bool) (len c : ℕ) (rest : List ℕ) → len + length rest ≤ length (gap m ++ (replicate len c ++ rest))
 piece_length m len c rest =

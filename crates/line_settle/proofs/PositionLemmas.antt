@@ -6,9 +6,8 @@ use Rattle.std.proofs.lemmas.Bool.{cases_eq}
 use Rattle.std.proofs.Math.Nat.{pow-succ', div-div-eq-div-mul, div-add-mod, mul_comm}
 use Rattle.std.proofs.lemmas.Nat.Bits.{shr_and_one, bit_at_lowest, bit_at-suc, bit_at_and, bit_at_or, bit_at_xor, bit_at-lt, bit_at-zero, bit_at_above, bit_at-pow_same, bit_at-pow_other, bit_at_cat_low}
 use Rattle.std.proofs.lemmas.Grind.{one_shifted}
-use Rattle.line_settle.specs.Spelling.{allows}
 use Rattle.line_settle.specs.Positions.{has}
-use Rattle.line_settle.proofs.BitLemmas.{allows_is, max_is_one}
+use Rattle.line_settle.proofs.BitLemmas.{max_is_one}
 
 -- ---- numbers below 2 as tests
 
@@ -22,10 +21,6 @@ min_is_one zero (suc (suc b)) h i = absurd (omega arith)
 min_is_one (suc zero) (suc (suc b)) h i = absurd (omega arith)
 
 -- ---- sets
-
-pub has_allows : (a i : ℕ) → has a i ≡ allows a i
-unfolding has
-has_allows a i = sym (allows_is a i)
 
 pub has_bit : (a b i j : ℕ) → bit_at a i ≡ bit_at b j → has a i ≡ has b j
 unfolding has
