@@ -68,7 +68,7 @@ pub fn force_crossing<E: LineEngine>(
     Forced { outcome, changed }
 }
 
-#[tactic(auto, using(crate::proofs::AlongLemmas::writing))]
+#[tactic(auto, using(crate::proofs::ChangeLemmas::writing))]
 // Gives the cells of a line other masks, and says which lines cross it where they differ from the old ones.
 fn write_line(facts: &mut Facts, line: LineId, left: &[u16], masks: &[u16]) -> LineSet
     requires line { HasLine facts.old line }
