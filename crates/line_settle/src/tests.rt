@@ -298,8 +298,8 @@ fn are_dead<E: LineEngine>(rt: &impl Abort, engine: &mut E, clue: &Clue, lines: 
     }
 }
 
-// Lines whose cells are settled, with 1 for background, 2 for `a` and 4 for `b`.
-fn settled_rows<E: LineEngine>(rt: &impl Abort, alloc: Global, engine: &mut E) -> Result<(), Fail> {
+// Lines whose cells show a colour, with 1 for background, 2 for `a` and 4 for `b`.
+fn shown_rows<E: LineEngine>(rt: &impl Abort, alloc: Global, engine: &mut E) -> Result<(), Fail> {
     let aab = clue_from(rt, alloc, &[1, 1, 2])?;
     stay(
         rt,
@@ -335,7 +335,7 @@ fn settled_rows<E: LineEngine>(rt: &impl Abort, alloc: Global, engine: &mut E) -
     Ok(())
 }
 
-// Lines without blocks, of open and of settled cells.
+// Lines without blocks, of open and of shown cells.
 fn blank_rows<E: LineEngine>(rt: &impl Abort, alloc: Global, engine: &mut E) -> Result<(), Fail> {
     let none = Clue::from_blocks(alloc, &[])?;
     let one = clue_from(rt, alloc, &[1])?;
@@ -355,12 +355,12 @@ fn blank_rows<E: LineEngine>(rt: &impl Abort, alloc: Global, engine: &mut E) -> 
 }
 
 #[test]
-fn both_engines_show_settled_and_blank_rows(rt: HostRuntime) -> Result<(), Fail> {
+fn both_engines_narrow_shown_and_blank_rows(rt: HostRuntime) -> Result<(), Fail> {
     let mut plain = PlainEngine::make(rt.alloc(), 120)?;
-    settled_rows(&rt, rt.alloc(), &mut plain)?;
+    shown_rows(&rt, rt.alloc(), &mut plain)?;
     blank_rows(&rt, rt.alloc(), &mut plain)?;
     let mut masks = MaskEngine::make(rt.alloc(), 120)?;
-    settled_rows(&rt, rt.alloc(), &mut masks)?;
+    shown_rows(&rt, rt.alloc(), &mut masks)?;
     blank_rows(&rt, rt.alloc(), &mut masks)
 }
 
