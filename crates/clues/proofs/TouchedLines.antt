@@ -147,4 +147,4 @@ all_exact before change old new are sizes moves by only = record {
       elim ((by line).0 touched) [ inl before_touched ↦ only line has before_touched was | inr changed ↦ changed.1 was ];
 }
 
-pub ruleset touching = (old_has_line, is_old_line, is_no_old_line, nothing_touched, line_touched, none_along, one_more_along, all_along, both_axes, all_followed, all_exact)
+pub ruleset touching = (origin_within, image_of-origin, origin_of-image, old_has_line, is_old_line, is_no_old_line, nothing_touched, line_touched, none_along, one_more_along, all_along, both_axes, all_followed, all_exact)

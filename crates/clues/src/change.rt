@@ -200,6 +200,21 @@ impl Change {
         })
     }
 
+    /// Which line of the old picture a line of the new one is, if it was there.
+    pub fn origin(&self, line: LineId) -> Option<LineId>
+        requires { line.at < lines_after line.axis self.now.moves }
+        ensures origin { result ≡ origin_of self.now.moves line }
+        ensures image { IfSome result (λ from. image_of self.now.moves from ≡ Some line) }
+        ensures inside { IfSome result (λ from. from.at < lines_before from.axis self.now.moves) }
+        ensures none { IfNone result ((from : LineId) → image_of self.now.moves from ≡ Some line → ⊥) }
+    {
+        let at = self.places(line.axis).old_place(line.at)?;
+        Some(LineId {
+            axis: line.axis,
+            at,
+        })
+    }
+
     /// Whether a position along the lines of an axis stays: the line that crosses there is its own image.
     pub fn stays(&self, axis: Axis, position: u8) -> bool
         requires { position < lines_before (crossing axis) self.now.moves }
@@ -231,18 +246,6 @@ impl Change {
             return None;
         }
         self.origin(line)
-    }
-
-    // Which line of the old picture a line of the new one is, if it was there.
-    fn origin(&self, line: LineId) -> Option<LineId>
-        requires { line.at < lines_after line.axis self.now.moves }
-        ensures { result ≡ origin_of self.now.moves line }
-    {
-        let at = self.places(line.axis).old_place(line.at)?;
-        Some(LineId {
-            axis: line.axis,
-            at,
-        })
     }
 
     // Where the lines along an axis go.

@@ -104,6 +104,8 @@ fn an_inserted_row_moves_the_later_ones(rt: HostRuntime) {
     let change = Change::insert(1, 2, row(0));
     assert_eq!(rt; change.image(row(0)), Some(row(1)));
     assert_eq!(rt; change.image(column(1)), Some(column(1)));
+    assert_eq!(rt; change.origin(row(1)), Some(row(0)));
+    assert_eq!(rt; change.origin(row(0)), None);
     assert!(rt; !change.stays(Axis::Down, 0));
     assert!(rt; change.stays(Axis::Across, 1));
     assert!(rt; change.touched(row(0)));
