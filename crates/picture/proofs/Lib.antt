@@ -9,4 +9,5 @@ pub mod LineSetLaws
 pub mod LineSetLemmas
 pub mod OrderLemmas
 pub mod PaletteLemmas
+pub mod RoomLemmas
 pub mod WritingLemmas
