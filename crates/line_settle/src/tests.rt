@@ -1,4 +1,6 @@
-use crate::{Facts, LineEngine, MaskEngine, Meter, Outcome, PlainEngine, force, laws};
+use crate::{
+    Facts, LineEngine, MaskEngine, Meter, Outcome, PlainEngine, force, force_crossing, laws,
+};
 use clues::{Block, Clue, clue_of};
 use picture::{Axis, CellSet, Document, LineId, Palette, Picture, Rgb};
 use std::alloc::Global;
@@ -565,6 +567,32 @@ fn a_line_forces_its_exclusions(rt: HostRuntime) -> Result<(), Fail> {
     assert_eq!(rt; facts.left(2, 1), 0b111);
     assert_eq!(rt; facts.left(3, 1), 0b101);
     assert_eq!(rt; facts.left(3, 0), ALL);
+    Ok(())
+}
+
+// A row of three cells with a block of two colours its middle, and elsewhere only what was left already stays.
+#[test]
+fn forcing_names_the_lines_that_cross_a_change(rt: HostRuntime) -> Result<(), Fail> {
+    let mut engine = MaskEngine::make(rt.alloc(), 3)?;
+    let mut facts = Facts::none(rt.alloc(), 2, 3)?;
+    assert!(rt; facts.height() == 2 && facts.width() == 3);
+    facts.exclude(0, 0, !0b011);
+    facts.exclude(0, 2, !0b011);
+    let clue = Clue::from_blocks(rt.alloc(), &[Block { len: 2, colour: 1 }])?;
+    let mut count = 0;
+    let forced = force_crossing(&mut engine, &mut facts, &clue, TOP, &mut count);
+    assert_eq!(rt; forced.outcome, Outcome::Narrowed);
+    assert_eq!(rt; count, 1);
+    let column = |at| LineId {
+        axis: Axis::Down,
+        at,
+    };
+    assert!(rt; forced.changed.has(column(1)));
+    assert!(rt; !forced.changed.has(column(0)) && !forced.changed.has(column(2)));
+    assert_eq!(rt; forced.changed.len(), 1);
+    assert!(rt; facts.height() == 2 && facts.width() == 3);
+    assert_eq!(rt; facts.left(0, 1), 0b010);
+    assert_eq!(rt; facts.left(0, 0), 0b011);
     Ok(())
 }
 
