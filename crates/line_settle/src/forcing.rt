@@ -9,7 +9,7 @@ use clues::Clue;
 use picture::{Axis, LineId, MAX_SIDE};
 
 // No line has more cells.
-const MOST_CELLS: usize = 120;
+const MOST_CELLS: usize = MAX_SIDE as usize;
 
 /// Adds to the facts all that a line forces by its clue: in each of its cells every colour is excluded that no list
 /// that fits has there. Where no list fits, every colour on the line is excluded, and the outcome is Dead. The line is
@@ -28,25 +28,63 @@ pub fn force<E: LineEngine>(
     ensures called { E.calls engine.new ≡ counted (E.calls engine.old) 1 }
     ensures same_longest { E.longest engine.new ≡ E.longest engine.old }
 {
-    let mut left = [0; MOST_CELLS];
-    let mut out = [0; MOST_CELLS];
+    let mut before = [0; MOST_CELLS];
+    let mut after = [0; MOST_CELLS];
     let cells = usize::from(facts.line_len(line));
-    facts.copy_line(line, &mut left[..cells]);
-    let outcome = engine.narrow(count, clue, &left[..cells], &mut out[..cells]);
-    write_line(facts, line, &out[..cells]);
+    force_between(
+        engine,
+        facts,
+        clue,
+        line,
+        count,
+        &mut before[..cells],
+        &mut after[..cells],
+    )
+}
+
+/// Does what `force` does, and leaves the line's masks from before and after in the buffers that are lent, each as
+/// long as the line. So a caller sees what changed.
+pub fn force_between<E: LineEngine>(
+    engine: &mut E,
+    facts: &mut Facts,
+    clue: &Clue,
+    line: LineId,
+    count: &mut u64,
+    before: &mut [u16],
+    after: &mut [u16],
+) -> Outcome
+    requires line { HasLine facts.old line }
+    requires short { length (line_of facts.old line) ≤ E.longest engine.old }
+    requires before_room { length before.old ≡ length (line_of facts.old line) }
+    requires after_room { length after.old ≡ length (line_of facts.old line) }
+    ensures gains { Gains clue.now line facts.old facts.new result }
+    ensures before { before.new ≡ line_of facts.old line }
+    ensures after { after.new ≡ line_of facts.new line }
+    ensures counted { count.new ≡ counted count.old 1 }
+    ensures called { E.calls engine.new ≡ counted (E.calls engine.old) 1 }
+    ensures same_longest { E.longest engine.new ≡ E.longest engine.old }
+    ensures facts { IsFacts facts.old }
+{
+    let _ = facts.line_len(line);
+    facts.copy_line(line, before);
+    let outcome = engine.narrow(count, clue, before, after);
+    write_changed(facts, line, before, after);
     outcome
 }
 
 #[tactic(auto, using(crate::proofs::AlongLemmas::writing))]
-// Gives the cells of a line other masks.
-fn write_line(facts: &mut Facts, line: LineId, masks: &[u16])
+// Gives the cells of a line other masks, where they differ from those that the cells have.
+fn write_changed(facts: &mut Facts, line: LineId, before: &[u16], after: &[u16])
     requires line { HasLine facts.old line }
-    requires whole { length masks.now ≡ length (line_of facts.old line) }
-    requires short { length masks.now ≤ MAX_SIDE }
-    ensures { HoldsLine line facts.old facts.new masks.now }
+    requires known { before.now ≡ line_of facts.old line }
+    requires whole { length after.now ≡ length (line_of facts.old line) }
+    requires short { length after.now ≤ MAX_SIDE }
+    ensures { HoldsLine line facts.old facts.new after.now }
 {
-    for i in 0..masks.len() {
-        set_left_at(facts, line, i as u8, masks[i]);
+    for i in 0..after.len() {
+        if before[i] != after[i] {
+            set_left_at(facts, line, i as u8, after[i]);
+        }
     }
 }
 

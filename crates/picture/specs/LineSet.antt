@@ -1,5 +1,5 @@
 -- A set of line names as a mask for each axis: bit n of the mask stands for the line at place n.
-use Rattle.std.specs.Prelude.{◌≡◌, ℕ, ◌+◌, ◌<◌, ◌^◌, ◌⊎◌, ◌↔◌, IsBitSet, count_ones}
+use Rattle.std.specs.Prelude.{◌≡◌, ℕ, ◌+◌, ◌<◌, ◌≤◌, ◌^◌, ◌⊎◌, ◌↔◌, IsBitSet, count_ones}
 use Rattle.picture.specs.declared.line_id.Axis.{Axis}
 use Rattle.picture.specs.declared.line_id.Axis.TheVariants.{Across, Down}
 use Rattle.picture.specs.declared.line_id.LineId.{LineId}
@@ -36,3 +36,13 @@ name_count lines = count_ones lines.rows + count_ones lines.columns
 -- the set without a name
 abbrev pub no_names : Lines
 no_names = record { rows = 0; columns = 0 }
+
+-- the first bit that is set in a mask from a place on, and that there is none
+pub record IsFirstBit (mask from at : ℕ) : Type 0 where
+  pub onward : from ≤ at
+  pub within : at < MAX_SIDE
+  pub is_set : IsBitSet mask at
+  pub first : (before : ℕ) → from ≤ before → before < at → ¬ IsBitSet mask before
+
+abbrev pub IsClearFrom : ℕ → ℕ → Type 0
+IsClearFrom mask from = (at : ℕ) → from ≤ at → ¬ IsBitSet mask at

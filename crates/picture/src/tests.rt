@@ -377,6 +377,14 @@ fn a_set_of_lines_keeps_what_was_put(rt: HostRuntime) {
     ] {
         assert_eq!(rt; lines.has(LineId { axis, at }), has);
     }
+    for (axis, from, first) in [
+        (Axis::Across, 0, Some(119)),
+        (Axis::Down, 7, Some(7)),
+        (Axis::Down, 8, None),
+        (Axis::Across, 120, None),
+    ] {
+        assert_eq!(rt; lines.first_from(axis, from), first);
+    }
 }
 
 // Puts a cell that is absent into a set, and takes it out again.

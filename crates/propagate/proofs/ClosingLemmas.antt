@@ -19,7 +19,7 @@ use Rattle.line_settle.proofs.LawLemmas.{tighter_fits, within_tighter, fits_narr
 use Rattle.line_settle.proofs.ForceLemmas.{on_or_not, gains_grows, gains_inside, gains_closes}
 use Rattle.propagate.specs.Closing.{AreClosable, IsQuietLine, QuietOutside, Closes, other_axis, crossing_at, CrossesChange, PutsCrossing}
 use Rattle.propagate.specs.LineNames.{AreLinesOf}
-use Rattle.propagate.proofs.NameLemmas.{cases_line, none_has}
+use Rattle.picture.proofs.LineSetLaws.{cases_name, members}
 
 -- ---- cells on a line
 
@@ -33,10 +33,10 @@ shared_cell Across Down at bt i j r c = inr (refl, sym c)
 shared_cell Down Across at bt i j r c = inr (refl, sym r)
 shared_cell Down Down at bt i j r c = inl (refl, c)
 
-within_refl : (a : List (List ℕ)) → IsWithin a a
+pub within_refl : (a : List (List ℕ)) → IsWithin a a
 within_refl a = record { same_shape = shape_refl a; leaves = λ r c k s. s }
 
-within_trans : (a b c : List (List ℕ)) → IsWithin a b → IsWithin b c → IsWithin a c
+pub within_trans : (a b c : List (List ℕ)) → IsWithin a b → IsWithin b c → IsWithin a c
 within_trans a b c x y = record { same_shape = shape_trans x.same_shape y.same_shape; leaves = λ r d k s. x.leaves r d k (y.leaves r d k s) }
 
 -- ---- one line evaluated
@@ -90,7 +90,7 @@ module _ (clues : Clues) (line : LineId) (old new : List (List ℕ)) (outcome : 
       cell_on new other j ∙ (same ∙ sym (cell_on old other j)))
 
   pub quiet_after : (agenda rest after : Lines) → outcome ≡ Narrowed → QuietOutside clues old agenda → TakesOutName agenda rest line → PutsCrossing line (line_of old line) (line_of new line) (length (line_of old line)) rest after → QuietOutside clues new after
-  quiet_after agenda rest after e s t p other h not = elim (cases_line other line) [
+  quiet_after agenda rest after e s t p other h not = elim (cases_name other line) [
     | inl same ↦ let P : LineId → Type 0 = λ x. IsQuietLine (clue_at clues x) (line_of new x) in subst P (sym same) (quiet_here e)
     | inr d ↦
         let before = s other (same_has_line new old other (shape_sym g.same_shape) h) (λ m. not ((p.names other).1 (inl ((t other).1 (m, d))))) in
@@ -162,7 +162,7 @@ closing_dies clues longest base old new agenda line outcome c h g e =
 
 pub closing_ends : (clues : Clues) (longest : ℕ) (base facts : List (List ℕ)) (agenda : Lines) (outcome : Outcome) → Closing clues longest base facts agenda → agenda ≡ no_names → outcome ≡ Narrowed → Closes clues base facts outcome
 closing_ends clues longest base facts agenda outcome c none e =
-    let all : (line : LineId) → HasLine facts line → IsQuietLine (clue_at clues line) (line_of facts line) = λ line has. c.quiet line has (λ h. none_has line (let P : Lines → Type 0 = λ x. HasName x line in subst P none h)) in
+    let all : (line : LineId) → HasLine facts line → IsQuietLine (clue_at clues line) (line_of facts line) = λ line has. c.quiet line has (λ h. members.empty line (let P : Lines → Type 0 = λ x. HasName x line in subst P none h)) in
     record {
       holds = c.holds;
       inside = c.inside;

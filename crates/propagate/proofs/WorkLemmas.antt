@@ -21,7 +21,8 @@ use Rattle.line_settle.proofs.GridLemmas.{cell_along}
 use Rattle.line_settle.proofs.LawLemmas.{counting_adds}
 use Rattle.propagate.specs.Closing.{change, changes, PutsCrossing, Evaluates, Draws, Works}
 use Rattle.propagate.proofs.CrossingLemmas.{change_none, change_some}
-use Rattle.propagate.proofs.NameLemmas.{take_counts, no_names_counted}
+use Rattle.picture.proofs.LineSetLaws.{no_names_counted}
+use Rattle.propagate.proofs.NameLemmas.{take_counts}
 
 -- ---- masks
 

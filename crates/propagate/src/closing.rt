@@ -9,7 +9,7 @@ ghost use Rattle.propagate.specs.LineNames.{AreLinesOf};
 use crate::agenda::Agenda;
 use crate::crossing::{put_crossing, put_lines};
 use clues::ClueBook;
-use line_settle::{Facts, LineEngine, Meter, Outcome, force};
+use line_settle::{Facts, LineEngine, Meter, Outcome, force_between};
 use picture::{LineId, LineSet, MAX_SIDE};
 
 // No line has more cells.
@@ -64,12 +64,15 @@ fn evaluate<E: LineEngine, A: Agenda>(
     ensures same_longest { E.longest engine.new ≡ E.longest engine.old }
     ensures facts { IsFacts facts.old }
 {
-    let _ = facts.height();
     let _trials = meter.trials;
     let mut before = [0; MOST_CELLS];
+    let mut after = [0; MOST_CELLS];
     let cells = usize::from(facts.line_len(line));
-    facts.copy_line(line, &mut before[..cells]);
-    let outcome = force(engine, facts, book.clue(line), line, &mut meter.evaluations);
-    put_crossing(agenda, facts, line, &before[..cells]);
+    let before = &mut before[..cells];
+    let after = &mut after[..cells];
+    let clue = book.clue(line);
+    let count = &mut meter.evaluations;
+    let outcome = force_between(engine, facts, clue, line, count, before, after);
+    put_crossing(agenda, line, before, after);
     outcome
 }
