@@ -81,21 +81,20 @@ written_here rows line i mask is h l =
     let r = is.rectangular (row_on line.axis line.at i) p.0 in
     cell_on (with_place rows line i mask) line i ∙ at_with_cell rows (row_on line.axis line.at i) (col_on line.axis line.at i) mask p.0 (omega arith)
 
-written_apart : (rows : List (List ℕ)) (line : LineId) (i j mask : ℕ) → j ≢ i → get_or (line_of (with_place rows line i mask) line) j 0 ≡ get_or (line_of rows line) j 0
+pub written_apart : (rows : List (List ℕ)) (line : LineId) (i j mask : ℕ) → j ≢ i → get_or (line_of (with_place rows line i mask) line) j 0 ≡ get_or (line_of rows line) j 0
 written_apart rows line i j mask n =
     cell_on (with_place rows line i mask) line j
     ∙ (off_with_cell rows (row_on line.axis line.at i) (col_on line.axis line.at i) mask (row_on line.axis line.at j) (col_on line.axis line.at j) (λ p. n (one_place line.axis line.at i j p.0 p.1))
     ∙ sym (cell_on rows line j))
 
--- the first n cells of a line have these masks, and all other cells are as they were
+-- the first n cells of a line have these masks, and elsewhere all is as it was
 pub record Written (line : LineId) (old rows : List (List ℕ)) (masks : List ℕ) (n : ℕ) : Type 0 where
   pub same_shape : SameShape old rows
   pub so_far : (j : ℕ) → j < n → get_or (line_of rows line) j 0 ≡ get_or masks j 0
-  pub to_come : (j : ℕ) → n ≤ j → get_or (line_of rows line) j 0 ≡ get_or (line_of old line) j 0
   pub elsewhere : (r c : ℕ) → (IsOn line r c → ⊥) → cell_at rows r c ≡ cell_at old r c
 
 pub written_none : (line : LineId) (old : List (List ℕ)) (masks : List ℕ) → Written line old old masks 0
-written_none line old masks = record { same_shape = shape_refl old; so_far = λ j l. absurd (omega arith); to_come = λ j l. refl; elsewhere = λ r c n. refl }
+written_none line old masks = record { same_shape = shape_refl old; so_far = λ j l. absurd (omega arith); elsewhere = λ r c n. refl }
 
 pub written_more : (line : LineId) (old rows new : List (List ℕ)) (masks : List ℕ) (i mask : ℕ) → IsFacts rows → HasLine old line → length masks ≡ length (line_of old line) → i < length masks → mask ≡ get_or masks i 0 → Written line old rows masks i → new ≡ with_place rows line i mask → Written line old new masks (i + 1)
 written_more line old rows new masks i mask is h len l e w v =
@@ -110,23 +109,8 @@ written_more line old rows new masks i mask is h len l e w v =
             subst Q (sym k) (written_here rows line i mask is has (omega arith) ∙ e)
         | inr n ↦ written_apart rows line i j mask n ∙ w.so_far j (omega arith)
       ];
-      to_come = λ j m. written_apart rows line i j mask (let n : j ≢ i = omega arith in n) ∙ w.to_come j (omega arith);
       elsewhere = λ r c n. off_with_cell rows (row_on line.axis line.at i) (col_on line.axis line.at i) mask r c (λ p. n (i, p.0, p.1)) ∙ w.elsewhere r c n;
     })
-
--- a cell that has its mask already
-pub written_same : (line : LineId) (old rows : List (List ℕ)) (before masks : List ℕ) (i x y : ℕ) → before ≡ line_of old line → x ≡ get_or before i 0 → y ≡ get_or masks i 0 → x ≡ y → Written line old rows masks i → Written line old rows masks (i + 1)
-written_same line old rows before masks i x y known ex ey same w = record {
-  same_shape = w.same_shape;
-  so_far = λ j m. elim (cases_eq j i) [
-    | inl k ↦
-        let P : ℕ → Type 0 = λ n. get_or (line_of rows line) n 0 ≡ get_or masks n 0 in
-        subst P (sym k) (w.to_come i (omega arith) ∙ (ap (λ (l : List ℕ). get_or l i 0) (sym known) ∙ (sym ex ∙ (same ∙ ey))))
-    | inr n ↦ w.so_far j (omega arith)
-  ];
-  to_come = λ j m. w.to_come j (omega arith);
-  elsewhere = w.elsewhere;
-}
 
 -- two lists of numbers that agree below their length
 pub same_list : (a b : List ℕ) → length a ≡ length b → ((j : ℕ) → j < length b → get_or a j 0 ≡ get_or b j 0) → a ≡ b
@@ -138,5 +122,3 @@ written_all line old rows masks n len l w = record {
   line_is = same_list (line_of rows line) masks (same_line_length old rows line w.same_shape ∙ sym len) (λ j m. w.so_far j (omega arith));
   elsewhere = w.elsewhere;
 }
-
-pub ruleset writing = (written_none)

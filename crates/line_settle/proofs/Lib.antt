@@ -14,6 +14,7 @@ pub mod GridLemmas
 pub mod FactLemmas
 pub mod BaseLemmas
 pub mod AlongLemmas
+pub mod ChangeLemmas
 pub mod LawLemmas
 pub mod GivenLemmas
 pub mod ForceLemmas

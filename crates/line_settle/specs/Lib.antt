@@ -1,4 +1,5 @@
 pub mod Counting
+pub mod Crossing
 pub mod Engine
 pub mod FactSets
 pub mod Fitting

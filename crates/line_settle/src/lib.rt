@@ -20,7 +20,7 @@ mod settled_line;
 mod tables;
 
 pub use facts::Facts;
-pub use forcing::{force, force_between};
+pub use forcing::{Forced, force, force_crossing};
 pub use line_engine::{LineEngine, Outcome};
 pub use mask_engine::MaskEngine;
 pub use meter::Meter;

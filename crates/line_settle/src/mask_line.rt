@@ -4,7 +4,7 @@ ghost use Rattle.line_settle.specs.Narrowing.{Narrows};
 ghost use Rattle.line_settle.specs.Spelling.{gap, pattern_of, allows, finishes, reaches, passes_below};
 
 use crate::line_engine::Outcome;
-use crate::position_tables::{mark_allowed, mark_back, see_blocks, write_colours};
+use crate::position_tables::{colours_of, mark_allowed, mark_back, see_blocks, write_colours};
 use crate::settled_line::{is_settled, narrow_settled, narrow_without_blocks};
 use clues::Block;
 
@@ -70,7 +70,8 @@ fn narrow_sets(
     }
     let mut seen = [0u128; 16];
     see_blocks(blocks, left, &allowed, starting, waiting, &mut seen);
-    write_colours(&seen, out);
+    let colours = colours_of(blocks);
+    write_colours(&seen[..usize::from(colours)], out);
     true
 }
 

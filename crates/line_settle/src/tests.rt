@@ -1,4 +1,4 @@
-use crate::{Facts, LineEngine, MaskEngine, Meter, Outcome, PlainEngine, force, force_between, laws};
+use crate::{Facts, LineEngine, MaskEngine, Meter, Outcome, PlainEngine, force, laws};
 use clues::{Block, Clue, clue_of};
 use picture::{Axis, CellSet, Document, LineId, Palette, Picture, Rgb};
 use std::alloc::Global;
@@ -565,23 +565,6 @@ fn a_line_forces_its_exclusions(rt: HostRuntime) -> Result<(), Fail> {
     assert_eq!(rt; facts.left(2, 1), 0b111);
     assert_eq!(rt; facts.left(3, 1), 0b101);
     assert_eq!(rt; facts.left(3, 0), ALL);
-    facts.set_left(3, 1, ALL);
-    let mut before = [0; 4];
-    let mut after = [0; 4];
-    let outcome = force_between(
-        &mut engine,
-        &mut facts,
-        &clue,
-        column,
-        &mut meter.evaluations,
-        &mut before,
-        &mut after,
-    );
-    assert_eq!(rt; outcome, Outcome::Narrowed);
-    assert_eq!(rt; meter.evaluations, 2);
-    assert_eq!(rt; before, [0b011, 0b010, 0b111, ALL]);
-    assert_eq!(rt; after, [0b011, 0b010, 0b111, 0b101]);
-    assert_eq!(rt; facts.left(3, 1), 0b101);
     Ok(())
 }
 
