@@ -10,4 +10,5 @@ pub mod LineSetLaws
 pub mod LineSetLemmas
 pub mod OrderLemmas
 pub mod PaletteLemmas
+pub mod UnionLemmas
 pub mod WritingLemmas

@@ -25,6 +25,10 @@ HasName lines line = IsBitSet (mask_along line.axis lines) line.at
 abbrev pub PutsName : Lines → Lines → LineId → Type 0
 PutsName old new line = (other : LineId) → HasName new other ↔ (HasName old other ⊎ (other ≡ line))
 
+-- new has the names of old and those of another set
+abbrev pub PutsNames : Lines → Lines → Lines → Type 0
+PutsNames old new names = (line : LineId) → HasName new line ↔ (HasName old line ⊎ HasName names line)
+
 -- new has the names of old but for this one
 abbrev pub TakesOutName : Lines → Lines → LineId → Type 0
 TakesOutName old new line = (other : LineId) → HasName new other ↔ (HasName old other × ¬ (other ≡ line))

@@ -1,7 +1,7 @@
 //! A set of names of rows and columns, in a fixed table.
 
 ghost use Rattle.std.specs.Prelude.{◌≡◌, ◌+◌, ◌^◌, ◌<◌, ◌≤◌, ◌↔◌, IsTrue, MatchOption};
-ghost use Rattle.picture.specs.LineSet.{IsClearFrom, IsFirstBit, IsLineSet, HasName, PutsName, TakesOutName, mask_along, name_count, no_names};
+ghost use Rattle.picture.specs.LineSet.{IsClearFrom, IsFirstBit, IsLineSet, HasName, PutsName, PutsNames, TakesOutName, mask_along, name_count, no_names};
 
 use crate::line_id::{Axis, LineId};
 use crate::picture::MAX_SIDE;
@@ -65,6 +65,15 @@ impl LineSet {
             Axis::Across => self.rows |= 1 << line.at,
             Axis::Down => self.columns |= 1 << line.at,
         }
+    }
+
+    /// Puts all names of another set into the set.
+    pub fn put_all(&mut self, names: &LineSet)
+        ensures members { PutsNames self.old self.new names.now }
+        ensures set { IsLineSet self.new }
+    {
+        self.rows |= names.rows;
+        self.columns |= names.columns;
     }
 
     /// Takes a name out of the set. A set that does not have it stays as it is.

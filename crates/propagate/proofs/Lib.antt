@@ -1,6 +1,6 @@
 pub mod NameLemmas
 pub mod OrderLemmas
-pub mod CrossingLemmas
+pub mod AlongLemmas
 pub mod ClosingLemmas
 pub mod WorkLemmas
 pub mod PictureLemmas

@@ -8,7 +8,7 @@ use Rattle.picture.specs.declared.line_id.Axis.TheVariants.{Across, Down}
 use Rattle.picture.specs.declared.line_id.LineId.{LineId}
 use Rattle.picture.specs.LineSet.{Lines, IsLineSet, IsClearFrom, IsFirstBit, HasName, mask_along, no_names}
 use Rattle.picture.proofs.LineSetLaws.{members}
-use Rattle.propagate.specs.Closing.{other_axis}
+use Rattle.line_settle.specs.Crossing.{other_axis}
 use Rattle.propagate.specs.Agenda.{name_at}
 use Rattle.propagate.specs.Orders.{IsNextRound, Pile, PutsNewest, pile, place_along, place_of, places_on, round}
 use Rattle.propagate.proofs.NameLemmas.{no_name_is_empty}

@@ -1,10 +1,10 @@
-ghost use Rattle.std.specs.Prelude.{◌≡◌, ℕ, ◌<◌, ◌≤◌, MatchOption};
-ghost use Rattle.picture.specs.LineSet.{HasName, PutsName, no_names};
+ghost use Rattle.std.specs.Prelude.{◌≡◌, ◌<◌, ◌≤◌, MatchOption};
+ghost use Rattle.picture.specs.LineSet.{PutsName, PutsNames, no_names};
+ghost use Rattle.line_settle.specs.Crossing.{other_axis};
 ghost use Rattle.propagate.specs.Agenda.{Takes};
 ghost use Rattle.propagate.specs.Orders.{IsNextRound, TakesNextRound, place_along, round};
 
 use crate::agenda::Agenda;
-use crate::crossing::crossing_axis;
 use picture::{Axis, LineId, LineSet, MAX_SIDE};
 use std::marker::Model;
 
@@ -54,6 +54,13 @@ impl Agenda for InOrder {
         self.lines.put(line);
     }
 
+    fn put_all(&mut self, lines: &LineSet)
+        ensures members { PutsNames self.old.waiting self.new.waiting lines.now }
+        ensures same_place { self.new.from ≡ self.old.from }
+    {
+        self.lines.put_all(lines);
+    }
+
     fn take(&mut self) -> Option<LineId>
         ensures members { Takes self.old.waiting self.new.waiting result }
         ensures next { TakesNextRound self.old self.new result }
@@ -97,5 +104,15 @@ fn next_line(lines: &LineSet, axis: Axis, from: u8) -> Option<LineId>
     match lines.first_from(axis, 0) {
         Some(at) => Some(LineId { axis, at }),
         None => None,
+    }
+}
+
+// The axis of the lines that cross the lines of an axis.
+fn crossing_axis(axis: Axis) -> Axis
+    ensures { result ≡ other_axis axis }
+{
+    match axis {
+        Axis::Across => Axis::Down,
+        Axis::Down => Axis::Across,
     }
 }

@@ -1,6 +1,7 @@
 ghost use Rattle.std.specs.Prelude.{◌≡◌, ◌<◌, []};
 ghost use Rattle.picture.specs.LineSet.{PutsName, no_names};
 ghost use Rattle.propagate.specs.Agenda.{Takes};
+ghost use Rattle.propagate.specs.LineNames.{PutsAlong};
 ghost use Rattle.propagate.specs.Orders.{PutsNewest, TakesNewest, pile};
 
 use crate::agenda::Agenda;
@@ -46,6 +47,17 @@ impl NewestFirst {
             lines: LineSet::empty(),
         }
     }
+
+    // Puts the lines of a set along an axis on the agenda, by number.
+    fn put_along(&mut self, lines: &LineSet, axis: Axis)
+        ensures { PutsAlong axis lines.now self.old.waiting self.new.waiting }
+    {
+        let mut from = 0;
+        while let Some(at) = lines.first_from(axis, from) {
+            self.put(LineId { axis, at });
+            from = at + 1;
+        }
+    }
 }
 
 impl Agenda for NewestFirst {
@@ -61,6 +73,11 @@ impl Agenda for NewestFirst {
             self.stack[self.len] = line;
             self.len += 1;
         }
+    }
+
+    fn put_all(&mut self, lines: &LineSet) {
+        self.put_along(lines, Axis::Across);
+        self.put_along(lines, Axis::Down);
     }
 
     fn take(&mut self) -> Option<LineId>
