@@ -1,6 +1,7 @@
 pub mod BitLemmas
 pub mod CellSetLaws
 pub mod CellSetLemmas
+pub mod DocumentLaws
 pub mod FirstNameLemmas
 pub mod FlatLemmas
 pub mod GridLemmas
@@ -10,5 +11,6 @@ pub mod LineSetLaws
 pub mod LineSetLemmas
 pub mod OrderLemmas
 pub mod PaletteLemmas
+pub mod RoomLemmas
 pub mod UnionLemmas
 pub mod WritingLemmas
