@@ -28,4 +28,4 @@ pub mod LayingLemmas
 pub mod BlockLemmas
 pub mod MarkLemmas
 pub mod PassLemmas
-pub mod SettledLemmas
+pub mod ShownLemmas

@@ -22,7 +22,7 @@ use Rattle.line_settle.proofs.TableLemmas.{Passing}
 use Rattle.line_settle.proofs.FittingLemmas.{allows_bit, bit_allows, fit_finishes, finishes_fit, have_shown, shown_have, have_fits, too_long}
 
 -- a pattern has no colours but its blocks' and the background
-gap_below : (n : ℕ) → 0 < n → (meets : Bool) → All (λ c. c < n) (gap meets)
+gap_below : (n : ℕ) → 0 < n → (is_gap : Bool) → All (λ c. c < n) (gap is_gap)
 gap_below n h true = All-cons (λ c. c < n) 0 [] h (All-nil (λ c. c < n))
 gap_below n h false = All-nil (λ c. c < n)
 

@@ -8,5 +8,5 @@ pub mod Laying
 pub mod Masks
 pub mod Narrowing
 pub mod Positions
-pub mod Settled
+pub mod Shown
 pub mod Spelling

@@ -16,7 +16,7 @@ mod pattern;
 mod plain_engine;
 mod position_tables;
 mod positions;
-mod settled_line;
+mod shown_line;
 mod tables;
 
 pub use facts::Facts;

@@ -105,11 +105,15 @@ pub fn see_blocks(
     for j in 0..blocks.len() {
         let block = blocks[j];
         let here = fill_up(behind_gap(from, allowed[0], meets(blocks, j)), allowed[0]);
+        // A line reads background in the gap, which begins at `from`, and while it waits, which it does within `here`. Of
+        // these cells it goes on behind those that end, one position on, where it can still wait for the block: a set's
+        // position i is bit i, so `>> 1` asks it of the position behind the cell.
         see_colour((from | here) & (allowed[0] & (waiting[j] >> 1)), 0, seen);
         let laid = lay(here & starting[j], block.len);
         see_colour(laid.cells, block.colour, seen);
         from = laid.ends;
     }
+    // The same behind the last block, where there is no gap.
     let here = fill_up(from, allowed[0]);
     see_colour(here & (allowed[0] & (waiting[blocks.len()] >> 1)), 0, seen);
 }

@@ -1,4 +1,4 @@
-//! The lines that need no tables: those whose cells are all settled, and those without blocks. What narrows them is kept
+//! The lines that need no tables: those whose cells all show a colour, and those without blocks. What narrows them is kept
 //! out of the caller's body, which is slower on open lines with it.
 
 ghost use Rattle.std.specs.Prelude.{◌≡◌, ◌↔◌, ◌≤◌, length, [], IsTrue};
@@ -6,12 +6,13 @@ ghost use Rattle.std.specs.List.{All};
 ghost use Rattle.clues.specs.Clue.{clue_of};
 ghost use Rattle.line_settle.specs.Narrowing.{Narrows};
 ghost use Rattle.line_settle.specs.Spelling.{allows};
-ghost use Rattle.line_settle.specs.Settled.{AreSettled, IsSettled, lowest_colours};
+ghost use Rattle.line_settle.specs.Shown.{AreShown, IsShown, lowest_colours};
 
 use crate::facts::only_colour;
 use crate::line_engine::Outcome;
 use crate::pattern::allows;
 use clues::{Block, without_run};
+use picture::MAX_SIDE;
 
 /// Narrows a line whose clue is empty: it can only be background.
 #[inline(never)]
@@ -36,24 +37,24 @@ fn allow_background(left: &[u16]) -> bool
 }
 
 /// Whether each cell has just one colour left.
-pub fn is_settled(left: &[u16]) -> bool
-    ensures { IsTrue result ↔ AreSettled left.now }
+pub fn are_shown(left: &[u16]) -> bool
+    ensures { IsTrue result ↔ AreShown left.now }
 {
     left.iter().all(|mask| has_one_colour(*mask))
 }
 
 // Whether a mask has just one colour.
 fn has_one_colour(mask: u16) -> bool
-    ensures { IsTrue result ↔ IsSettled mask }
+    ensures { IsTrue result ↔ IsShown mask }
 {
     only_colour(mask).is_some()
 }
 
-/// Narrows a line of settled cells: it stays as it is where the clue is that of its colours.
+/// Narrows a line of cells that show a colour: it stays as it is where the clue is that of its colours.
 #[inline(never)]
-pub fn narrow_settled(blocks: &[Block], left: &[u16], out: &mut [u16]) -> Outcome
-    requires settled { AreSettled left.now }
-    requires short { length left.now ≤ 120 }
+pub fn narrow_shown(blocks: &[Block], left: &[u16], out: &mut [u16]) -> Outcome
+    requires shown { AreShown left.now }
+    requires short { length left.now ≤ MAX_SIDE }
     requires same_length { length left.now ≡ length out.old }
     ensures { Narrows blocks.now left.now result out.new }
 {
@@ -66,10 +67,10 @@ pub fn narrow_settled(blocks: &[Block], left: &[u16], out: &mut [u16]) -> Outcom
     }
 }
 
-#[tactic(auto, using(crate::proofs::SettledLemmas::walking))]
+#[tactic(auto, using(crate::proofs::ShownLemmas::walking))]
 // Whether the blocks are the clue of the cells' lowest colours.
 fn has_clue(blocks: &[Block], left: &[u16]) -> bool
-    requires { length left.now ≤ 120 }
+    requires { length left.now ≤ MAX_SIDE }
     ensures { IsTrue result ↔ (clue_of (lowest_colours left.now) ≡ blocks.now) }
 {
     let mut owed = blocks;

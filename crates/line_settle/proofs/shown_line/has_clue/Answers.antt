@@ -3,9 +3,9 @@ use Rattle.std.proofs.Common.{◌≡◌, length}
 use Rattle.std.proofs.lemmas.Bool.Decides.{Decides-at, Decides-like, Decides-eqb}
 use Rattle.clues.specs.Clue.{clue_of}
 use Rattle.clues.proofs.Runs.{last_run-matches}
-use Rattle.line_settle.specs.Settled.{lowest_colours}
-use Rattle.line_settle.proofs.SettledLemmas.{colours_past}
-use Rattle.line_settle.proofs.settled_line.has_clue.Goals as goal
+use Rattle.line_settle.specs.Shown.{lowest_colours}
+use Rattle.line_settle.proofs.ShownLemmas.{colours_past}
+use Rattle.line_settle.proofs.shown_line.has_clue.Goals as goal
 
 pub returns : goal.returns
 returns c =

@@ -1,7 +1,7 @@
 use Rattle.std.proofs.Common.{◌≡◌, ◌∙◌, sym, ap, length, replicate}
 use Rattle.std.proofs.lemmas.Bool.Decides.{not_from_Decides}
-use Rattle.line_settle.proofs.SettledLemmas.{narrows_blank, narrows_not_blank}
-use Rattle.line_settle.proofs.settled_line.narrow_without_blocks.Goals as goal
+use Rattle.line_settle.proofs.ShownLemmas.{narrows_blank, narrows_not_blank}
+use Rattle.line_settle.proofs.shown_line.narrow_without_blocks.Goals as goal
 
 pub returns-then-allow_background : goal.returns-then-allow_background
 returns-then-allow_background c =

@@ -1,7 +1,7 @@
 use Rattle.std.proofs.Common.{◌≡◌, ◌≢◌, ◌↔◌, ◌<◌, ◌≤◌, ◌++◌, drop, replicate}
 use Rattle.clues.specs.Clue.{clue_of}
-use Rattle.line_settle.specs.Settled.{lowest_colours}
-use Rattle.line_settle.proofs.settled_line.has_clue.Given as goal
+use Rattle.line_settle.specs.Shown.{lowest_colours}
+use Rattle.line_settle.proofs.shown_line.has_clue.Given as goal
 
 -- the line has the clue where the run that is open, and then the cells to come, give the blocks that are owed
 abbrev pub invariant-loop-mask : goal.invariant-loop-mask

@@ -1,4 +1,4 @@
--- Lines whose cells are settled, and lines without blocks.
+-- Lines whose cells show a colour, and lines without blocks.
 use Rattle.std.proofs.Common.{◌≡◌, ◌≢◌, ℕ, zero, suc, ◌+◌, ◌^◌, ◌<◌, ◌≤◌, ◌++◌, ◌↔◌, List, [], ◌∷◌, length, get_or, drop, drop-cons, replicate, refl, sym, ap, subst, ◌∙◌, arith, add-one, inl, inr}
 use Rattle.std.specs.Prelude.{IsBitSet, IsTrue, Option, Some, None, MatchOption, is_some}
 use Rattle.std.specs.List.{All}
@@ -16,26 +16,26 @@ use Rattle.line_settle.specs.Fitting.{Fits, CanHave}
 use Rattle.line_settle.specs.Narrowing.{Narrows}
 use Rattle.line_settle.specs.Spelling.{allows}
 use Rattle.line_settle.specs.Masks.{IsOnly}
-use Rattle.line_settle.specs.Settled.{lowest_colour, IsSettled, AreSettled, lowest_colours}
+use Rattle.line_settle.specs.Shown.{lowest_colour, IsShown, AreShown, lowest_colours}
 use Rattle.line_settle.proofs.MaskLemmas.{no_bit, power_has, bit_below, only_is_power, lowest_of_power}
 use Rattle.line_settle.proofs.FittingLemmas.{allows_bit, bit_allows}
 use Rattle.line_settle.proofs.NarrowLemmas.{zeros, narrows_dead}
 use Rattle.line_settle.proofs.ClueLemmas.{no_block}
 
 -- a mask's only colour is its lowest
-only_settled : (mask k : ℕ) → mask < 2 ^ 16 → IsOnly mask k → IsSettled mask
-only_settled mask k h o =
+only_shown : (mask k : ℕ) → mask < 2 ^ 16 → IsOnly mask k → IsShown mask
+only_shown mask k h o =
     let e : mask ≡ 2 ^ k = only_is_power mask k o in
     let b : k < 16 = bit_below mask 16 k h ((o k).1 refl) in
     let p : 0 < 2 ^ k = pow_pos k in
     let l : lowest_colour mask ≡ k = ap lowest_colour e ∙ lowest_of_power k b p (subst (λ m. m < 2 ^ 16) e h) in
     subst (IsOnly mask) (sym l) o
 
-pub one_colour : (mask : ℕ) (found : Option ℕ) → mask < 2 ^ 16 → MatchOption found ((k : ℕ) → IsOnly mask k → ⊥) (λ k. IsOnly mask k) → IsTrue (is_some found) ↔ IsSettled mask
-one_colour mask (Some k) h o = ((λ _. only_settled mask k h o), (λ _. refl))
+pub one_colour : (mask : ℕ) (found : Option ℕ) → mask < 2 ^ 16 → MatchOption found ((k : ℕ) → IsOnly mask k → ⊥) (λ k. IsOnly mask k) → IsTrue (is_some found) ↔ IsShown mask
+one_colour mask (Some k) h o = ((λ _. only_shown mask k h o), (λ _. refl))
 one_colour mask None h o = ((λ e. absurd (let z : ⊥ = cc in z)), (λ s. absurd (o (lowest_colour mask) s)))
 
--- ---- the walk over a settled line
+-- ---- the walk over such a line
 
 -- the colours from cell i on
 colours_on : (left : List ℕ) (i : ℕ) → i < length left → lowest_colours (drop i left) ≡ lowest_colour (get_or left i 0) ∷ lowest_colours (drop (i + 1) left)
@@ -61,28 +61,28 @@ colours_past left i h = ap lowest_colours (drop_all i left h)
 
 pub ruleset walking = (run_longer, run_ends, run_begins, colours_past, clue_of-last_run)
 
--- ---- what narrowing a settled line promises
+-- ---- what narrowing such a line promises
 
-settled_at : (left : List ℕ) (i : ℕ) → AreSettled left → i < length left → IsSettled (get_or left i 0)
-settled_at left i s h = All-get_or IsSettled left i 0 h s
+shown_at : (left : List ℕ) (i : ℕ) → AreShown left → i < length left → IsShown (get_or left i 0)
+shown_at left i s h = All-get_or IsShown left i 0 h s
 
 colour_at : (left : List ℕ) (i : ℕ) → i < length left → get_or (lowest_colours left) i 0 ≡ lowest_colour (get_or left i 0)
 colour_at left i h = get_or-map lowest_colour left i 0 0 h
 
--- the colours of a settled line fit where they have the clue, and no other list does
-colours_fit : (clue : List Block) (left : List ℕ) → AreSettled left → clue_of (lowest_colours left) ≡ clue → Fits clue left (lowest_colours left)
+-- the colours that the cells show fit where they have the clue, and no other list does
+colours_fit : (clue : List Block) (left : List ℕ) → AreShown left → clue_of (lowest_colours left) ≡ clue → Fits clue left (lowest_colours left)
 colours_fit clue left s e = record {
   same_length = length-map left lowest_colour;
   has_clue = e;
-  keeps = λ i h. (settled_at left i s h (get_or (lowest_colours left) i 0)).1 (colour_at left i h);
+  keeps = λ i h. (shown_at left i s h (get_or (lowest_colours left) i 0)).1 (colour_at left i h);
 }
 
-only_colours_fit : (clue : List Block) (left line : List ℕ) → AreSettled left → Fits clue left line → line ≡ lowest_colours left
+only_colours_fit : (clue : List Block) (left line : List ℕ) → AreShown left → Fits clue left line → line ≡ lowest_colours left
 only_colours_fit clue left line s f =
     same_number_lists line (lowest_colours left) (f.same_length ∙ sym (length-map left lowest_colour))
     (λ i h.
     let l : i < length left = let e = f.same_length in omega arith in
-    (settled_at left i s l (get_or line i 0)).0 (f.keeps i l) ∙ sym (colour_at left i l))
+    (shown_at left i s l (get_or line i 0)).0 (f.keeps i l) ∙ sym (colour_at left i l))
 
 -- a colour is left only in a cell of the line
 within : (left : List ℕ) (i k : ℕ) → IsBitSet (get_or left i 0) k → i < length left
@@ -91,31 +91,31 @@ within left i k s = elim (cases_lt i (length left)) [
   | inr g ↦ absurd (no_bit k (let P : ℕ → Type 0 = λ m. IsBitSet m k in subst P (get_or-eq_default left 0 g) s))
 ]
 
-settled_have : (clue : List Block) (left : List ℕ) (i k : ℕ) → AreSettled left → clue_of (lowest_colours left) ≡ clue → IsBitSet (get_or left i 0) k → CanHave clue left i k
-settled_have clue left i k s e b =
+shown_lines_have : (clue : List Block) (left : List ℕ) (i k : ℕ) → AreShown left → clue_of (lowest_colours left) ≡ clue → IsBitSet (get_or left i 0) k → CanHave clue left i k
+shown_lines_have clue left i k s e b =
     let h = within left i k b in
     record {
       line = lowest_colours left;
       fits = colours_fit clue left s e;
       within = h;
-      has = colour_at left i h ∙ sym ((settled_at left i s h k).0 b);
+      has = colour_at left i h ∙ sym ((shown_at left i s h k).0 b);
     }
 
 have_left : (clue : List Block) (left : List ℕ) (i k : ℕ) → CanHave clue left i k → IsBitSet (get_or left i 0) k
 have_left clue left i k h = let P : ℕ → Type 0 = λ x. IsBitSet (get_or left i 0) x in subst P h.has (h.fits.keeps i h.within)
 
-settled_stays : (clue : List Block) (left : List ℕ) → AreSettled left → clue_of (lowest_colours left) ≡ clue → Narrows clue left Narrowed left
-settled_stays clue left s e = record {
+shown_stays : (clue : List Block) (left : List ℕ) → AreShown left → clue_of (lowest_colours left) ≡ clue → Narrows clue left Narrowed left
+shown_stays clue left s e = record {
   same_length = refl;
   fits = ((λ _. (lowest_colours left, colours_fit clue left s e)), (λ _. refl));
-  exact = λ i k. (settled_have clue left i k s e, have_left clue left i k);
+  exact = λ i k. (shown_lines_have clue left i k s e, have_left clue left i k);
   empty = λ e. absurd (let z : ⊥ = cc in z);
 }
 
-pub narrows_settled : (clue : List Block) (left out : List ℕ) → AreSettled left → clue_of (lowest_colours left) ≡ clue → out ≡ left → Narrows clue left Narrowed out
-narrows_settled clue left out s e o = let P : List ℕ → Type 0 = λ m. Narrows clue left Narrowed m in subst P (sym o) (settled_stays clue left s e)
+pub narrows_shown : (clue : List Block) (left out : List ℕ) → AreShown left → clue_of (lowest_colours left) ≡ clue → out ≡ left → Narrows clue left Narrowed out
+narrows_shown clue left out s e o = let P : List ℕ → Type 0 = λ m. Narrows clue left Narrowed m in subst P (sym o) (shown_stays clue left s e)
 
-pub narrows_another : (clue : List Block) (left out : List ℕ) → AreSettled left → clue_of (lowest_colours left) ≢ clue → out ≡ replicate (length left) 0 → Narrows clue left Dead out
+pub narrows_another : (clue : List Block) (left out : List ℕ) → AreShown left → clue_of (lowest_colours left) ≢ clue → out ≡ replicate (length left) 0 → Narrows clue left Dead out
 narrows_another clue left out s n o =
     narrows_dead clue left out o (λ h. n (ap clue_of (sym (only_colours_fit clue left h.0 s h.1)) ∙ h.1.has_clue))
 
