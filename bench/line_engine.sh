@@ -5,25 +5,19 @@ set -euo pipefail
 root=$(cd "$(dirname "$0")/.." && pwd)
 rounds=${1:-500}
 program=$root/crates/line_bench/out/line_bench
-[ -x "$program" ] || (cd "$root/crates/line_bench" && rt run -- mask 120 15 4 open 3 >/dev/null)
+[ -x "$program" ] || (cd "$root/crates/line_bench" && rt run -- mask 120 15 open 3 >/dev/null)
 instructions() {
     valgrind --tool=callgrind --callgrind-out-file=/dev/null "$program" "$@" 2>&1 >/dev/null | sed -n 's/.*Collected : //p'
 }
-printf '%-6s %-7s %-8s %-8s %14s %14s %8s %12s\n' cells blocks colours settled plain mask ratio 'mask a cell'
+printf '%-6s %-7s %-8s %14s %14s %8s %12s\n' cells blocks settled plain mask ratio 'mask a cell'
 for cells in 120 60 30 15; do
     for blocks in 1 15 30 60; do
         [ $((2 * blocks)) -le $((cells + 1)) ] || continue
-        for colours in 2 4 15; do
-            [ "$blocks" -ge $((colours - 1)) ] || continue
-            for settled in open half nearly settled; do
-                line="$cells $blocks $colours $settled"
-                # shellcheck disable=SC2086
-                plain=$(($(instructions plain $line "$rounds") - $(instructions plain $line 1)))
-                # shellcheck disable=SC2086
-                mask=$(($(instructions mask $line "$rounds") - $(instructions mask $line 1)))
-                awk "BEGIN { p = $plain / ($rounds - 1); m = $mask / ($rounds - 1)
-                    printf \"%-6s %-7s %-8s %-8s %14.0f %14.0f %8.1f %12.1f\\n\", $cells, $blocks, $colours, \"$settled\", p, m, p / m, m / $cells }"
-            done
+        for settled in open half nearly settled; do
+            plain=$(($(instructions plain $cells $blocks $settled "$rounds") - $(instructions plain $cells $blocks $settled 1)))
+            mask=$(($(instructions mask $cells $blocks $settled "$rounds") - $(instructions mask $cells $blocks $settled 1)))
+            awk "BEGIN { p = $plain / ($rounds - 1); m = $mask / ($rounds - 1)
+                printf \"%-6s %-7s %-8s %14.0f %14.0f %8.1f %12.1f\n\", $cells, $blocks, \"$settled\", p, m, p / m, m / $cells }"
         done
     done
 done

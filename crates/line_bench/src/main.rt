@@ -1,7 +1,6 @@
 //! Evaluates one line many times, so that the work of an evaluation can be measured from outside.
-//! The words are the engine (`plain` or `mask`), the number of cells up to 120, the number of blocks from 1 on, the number
-//! of colours with the background from 2 to 16, what is settled (`open`, `half`, `nearly` or `settled`) and the number of
-//! rounds.
+//! The words are the engine (`plain` or `mask`), the number of cells up to 120, the number of blocks from 1 on, what is
+//! settled (`open`, `half`, `nearly` or `settled`) and the number of rounds.
 #![tactic(auto)]
 
 ghost use Rattle.std.specs.Prelude.{◌≡◌, ◌≤◌, length};
@@ -35,19 +34,15 @@ impl Settled {
     }
 }
 
-/// A line of blocks of one length, their colours in turn, with one cell between each two, and which of its cells are
-/// settled.
+/// A line of blocks of one length with one cell between each two, and which of its cells are settled.
 #[derive(Debug, Drop)]
 struct Task {
     cells: usize,
     blocks: u8,
     len: u8,
-    colours: u8,
     settled: Settled,
     rounds: u32,
     ghost short: { cells ≤ 120 },
-    ghost some_colour: { 1 < colours },
-    ghost in_palette: { colours ≤ 16 },
 }
 
 fn main(rt: HostRuntime) -> Result<()> {
@@ -55,10 +50,9 @@ fn main(rt: HostRuntime) -> Result<()> {
     let engine = words.next().context("the engine is missing")?;
     let cells = words.next().context("the number of cells is missing")?;
     let blocks = words.next().context("the number of blocks is missing")?;
-    let colours = words.next().context("the number of colours is missing")?;
     let settled = words.next().context("what is settled is missing")?;
     let rounds = words.next().context("the number of rounds is missing")?;
-    let task = task_of(&cells, &blocks, &colours, &settled, &rounds)?;
+    let task = task_of(&cells, &blocks, &settled, &rounds)?;
     let (evaluations, open) = match engine.as_str() {
         "plain" => evaluate(
             rt.alloc(),
@@ -77,10 +71,9 @@ fn main(rt: HostRuntime) -> Result<()> {
 }
 
 // The task that the words name.
-fn task_of(cells: &str, blocks: &str, colours: &str, settled: &str, rounds: &str) -> Result<Task> {
+fn task_of(cells: &str, blocks: &str, settled: &str, rounds: &str) -> Result<Task> {
     let cells: usize = cells.parse().context("the number of cells")?;
     let blocks: u8 = blocks.parse().context("the number of blocks")?;
-    let colours: u8 = colours.parse().context("the number of colours")?;
     let rounds: u32 = rounds.parse().context("the number of rounds")?;
     let settled = match settled {
         "open" => Settled::Open,
@@ -93,46 +86,31 @@ fn task_of(cells: &str, blocks: &str, colours: &str, settled: &str, rounds: &str
         0 < blocks && cells <= MOST,
         "too few blocks or too many cells"
     );
-    ensure!(1 < colours && colours <= 16, "from 2 to 16 colours");
     let len = (cells / 2 / usize::from(blocks.max(1))).clamp(1, 60) as u8;
     Ok(Task {
         cells,
         blocks,
         len,
-        colours,
         settled,
         rounds,
     })
 }
 
-// The colour of a block.
-fn colour_of(task: &Task, block: usize) -> u8
-    ensures some { 0 < result }
-    ensures in_palette { result < 16 }
-{
-    (1 + block % (usize::from(task.colours) - 1)) as u8
-}
-
 // The clue of the line.
 fn clue_of(alloc: Global, task: &Task) -> Result<Clue, AllocError> {
-    let mut blocks = Vec::new(alloc);
-    for block in 0..usize::from(task.blocks) {
-        blocks.push(Block {
-            len: task.len.max(1),
-            colour: colour_of(task, block),
-        })?;
-    }
+    let len = task.len.max(1);
+    let blocks = vec![in alloc; Block { len, colour: 1 }; task.blocks as usize]?;
     Clue::from_blocks(alloc, &blocks)
 }
 
 // The colours left in a cell: its own where it is settled, and else all.
 fn left_in(task: &Task, cell: usize) -> u16 {
     let period = usize::from(task.len) + 1;
-    let block = cell / period;
+    let is_block = cell % period != period - 1 && cell / period < usize::from(task.blocks);
     if !task.settled.has(cell) {
         u16::MAX
-    } else if cell % period != period - 1 && block < usize::from(task.blocks) {
-        1 << colour_of(task, block)
+    } else if is_block {
+        2
     } else {
         1
     }
