@@ -1,13 +1,14 @@
-use Rattle.std.proofs.Common.{length, ◌-◌, ◌≡◌, ◌≤◌, drop, true, false, Some, IfSome}
-use Rattle.ppm_text.specs.Tokens.{tokens_from, without_comments}
-use Rattle.ppm_text.proofs.Counting.{read_on}
+use Rattle.std.proofs.Common.{length, get_or, ◌-◌, ◌≡◌, ◌≢◌, ◌<◌, ◌≤◌, drop, true, false, Some}
+use Rattle.ppm_text.specs.Numerals.{number_on}
+use Rattle.ppm_text.specs.Tokens.{is_gap, tokens_from, without_comments}
 use Rattle.ppm_text.proofs.scanner.count_digits.Given as goal
 
 abbrev pub invariant-loop-at : goal.invariant-loop-at
 invariant-loop-at l = record {
   within : l.at ≤ length l.bytes;
-  small : IfSome l.number (λ n. n ≤ 65536);
-  value : read_on l.number (drop l.at l.bytes) ≡ read_on (Some 0) (drop l.from l.bytes);
+  first : l.from ≢ l.at → (l.from < length l.bytes) × (is_gap (get_or l.bytes l.from 0) ≡ false);
+  small : l.value ≤ 65536;
+  value : number_on (Some l.value) (drop l.at l.bytes) ≡ number_on (Some 0) (drop l.from l.bytes);
   rest : tokens_from true l.at (without_comments false (drop l.at l.bytes)) ≡ tokens_from true l.from (without_comments false (drop l.from l.bytes));
 }
 
