@@ -184,13 +184,13 @@ fn count_digits(bytes: &[u8], from: usize) -> (u32, usize)
     ensures first { from ≢ result.1
         → (from < length bytes.now) × (is_gap (slice_index bytes.now from) ≡ false) }
 {
-    let mut at = from;
+    let mut rest = &bytes[from..];
     let mut value: u32 = 0;
-    while at < bytes.len() && bytes[at].is_ascii_digit() {
-        value = (value * 10 + u32::from(bytes[at] - b'0')).min(CAP);
-        at += 1;
+    while let [digit @ b'0'..=b'9', behind @ ..] = rest {
+        value = (value * 10 + u32::from(*digit - b'0')).min(CAP);
+        rest = behind;
     }
-    (value, at)
+    (value, bytes.len() - rest.len())
 }
 
 #[tactic(auto, using(crate::proofs::Counting::token_end))]
