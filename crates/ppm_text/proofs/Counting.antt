@@ -1,30 +1,82 @@
 -- How the digits of a token are counted, byte by byte and no further than the cap.
-use Rattle.std.proofs.Common.{◌≡◌, ℕ, ◌+◌, ◌-◌, ◌*◌, ◌<◌, ◌≤◌, min, Bool, true, false, not, ◌&&◌, cond, List, [], ◌∷◌, length, get_or, drop, Option, Some, None, refl, sym, ap, ◌∙◌, arith}
+use Rattle.std.proofs.Common.{◌≡◌, ◌≢◌, ℕ, suc, take, inl, inr, ◌+◌, ◌-◌, ◌*◌, ◌<◌, ◌≤◌, min, Bool, true, false, not, ◌&&◌, cond, List, [], ◌∷◌, length, get_or, drop, Option, Some, None, refl, sym, ap, ◌∙◌, arith}
 use Rattle.std.specs.Char.{is_ascii_digit, digit_value}
 use Rattle.std.specs.Str.{all_ascii_digits}
 use Rattle.std.specs.Str.Parse.{digits_value_after}
 use Rattle.std.specs.List.{take_while}
 use Rattle.std.proofs.lemmas.Bool.Decides.{nat_tests}
-use Rattle.std.proofs.lemmas.List.{at_drop_more, at_drop_all}
+use Rattle.std.proofs.lemmas.Bool.{cases_lt}
+use Rattle.std.proofs.lemmas.List.{at_drop_more, at_drop_all, take_rest}
 use Rattle.std.proofs.lemmas.List.Sums.{take_while-cons}
 use Rattle.ppm_text.specs.Tokens.{tokens_from, without_comments, is_gap}
-use Rattle.ppm_text.specs.Numerals.{capped, with_byte, number_on}
-use Rattle.ppm_text.proofs.Scanning.{no_gap, token_step, token_ends, last_token_ends}
+use Rattle.ppm_text.specs.Numerals.{begins_number, capped, with_byte, number_on}
+use Rattle.ppm_text.proofs.Scanning.{no_gap, no_comment, gap_parts, token_ends, last_token_ends}
+
+is_digit : (d : ℕ) → d ≤ 9 → is_ascii_digit (48 + d) ≡ true
+is_digit d le = grind (arith, nat_tests)
 
 -- a digit is counted on
-pub digit_counts : (bytes : List ℕ) (at n : ℕ) → at < length bytes → is_ascii_digit (get_or bytes at 0) ≡ true
-    → number_on (Some (min (n * 10 + (get_or bytes at 0 - 48)) 65536)) (drop (at + 1) bytes) ≡ number_on (Some n) (drop at bytes)
-digit_counts bytes at n lt h =
-    let gap = no_gap (get_or bytes at 0) h in
-    let one : number_on (Some n) (get_or bytes at 0 ∷ drop (at + 1) bytes) ≡ number_on (Some (min (n * 10 + (get_or bytes at 0 - 48)) 65536)) (drop (at + 1) bytes) = rw (gap, h) refl in
-    sym (at_drop_more (number_on (Some n)) bytes at 0 lt ∙ one)
+pub digit_counts : (rest more : List ℕ) (d n : ℕ) → rest ≡ (48 + d) ∷ more → d ≤ 9 → number_on (Some (min (n * 10 + d) 65536)) more ≡ number_on (Some n) rest
+digit_counts rest more d n e le =
+    let digit = is_digit d le in
+    let gap = no_gap (48 + d) digit in
+    let value : 48 + d - 48 ≡ d = omega arith in
+    let one : number_on (Some n) ((48 + d) ∷ more) ≡ number_on (Some (min (n * 10 + d) 65536)) more = rw (gap, digit, value) refl in
+    sym (ap (number_on (Some n)) e ∙ one)
 
 -- and is part of its token
-pub digit_passes : (bytes : List ℕ) (at : ℕ) → at < length bytes → is_ascii_digit (get_or bytes at 0) ≡ true
-    → tokens_from true (at + 1) (without_comments false (drop (at + 1) bytes)) ≡ tokens_from true at (without_comments false (drop at bytes))
-digit_passes bytes at lt h = token_step bytes at lt (no_gap (get_or bytes at 0) h)
+pub digit_passes : (end : ℕ) (rest more : List ℕ) (d : ℕ) → rest ≡ (48 + d) ∷ more → d ≤ 9 → length rest ≤ end
+    → tokens_from true (end - length more) (without_comments false more) ≡ tokens_from true (end - length rest) (without_comments false rest)
+digit_passes end rest more d e le fits =
+    let gap = no_gap (48 + d) (is_digit d le) in
+    let place = end - length rest in
+    let later : suc place ≡ end - length more = omega (arith, ap length e) in
+    let one : tokens_from true place (without_comments false ((48 + d) ∷ more)) ≡ tokens_from true (suc place) (without_comments false more) = rw (no_comment _ gap, (gap_parts _ gap).0) refl in
+    sym (ap (λ bs. tokens_from true place (without_comments false bs)) e ∙ one ∙ ap (λ (n : ℕ). tokens_from true n (without_comments false more)) later)
 
-pub ruleset counting = (digit_counts, digit_passes)
+-- what is left behind it is a tail too
+pub tail_passes : (bytes rest more : List ℕ) (b : ℕ) → rest ≡ b ∷ more → length rest ≤ length bytes → rest ≡ drop (length bytes - length rest) bytes → more ≡ drop (length bytes - length more) bytes
+tail_passes bytes rest more b e fits tail =
+    let at = length bytes - length rest in
+    let lt : at < length bytes = omega (arith, ap length e) in
+    let later : at + 1 ≡ length bytes - length more = omega (arith, ap length e) in
+    let both : b ∷ more ≡ get_or bytes at 0 ∷ drop (at + 1) bytes = sym e ∙ tail ∙ at_drop_more (λ bs. bs) bytes at 0 lt in
+    let same : more ≡ drop (at + 1) bytes = cc in
+    same ∙ ap (λ (n : ℕ). drop n bytes) later
+
+-- what a slice from a place on has
+pub tail_from : (bytes : List ℕ) (from : ℕ) → take (length bytes - from) (drop from bytes) ≡ drop from bytes
+tail_from bytes from = take_rest bytes from
+
+-- a text that begins with a digit
+pub digit_begins : (rest more : List ℕ) (d : ℕ) → rest ≡ (48 + d) ∷ more → d ≤ 9 → begins_number rest ≡ true
+digit_begins rest more d e le = ap begins_number e ∙ is_digit d le
+
+-- the text from a place on began with a digit, where one was passed before or is passed now
+pub first_passes : (bytes rest more : List ℕ) (from d : ℕ) → rest ≡ (48 + d) ∷ more → d ≤ 9 → from + length rest ≤ length bytes → rest ≡ drop (length bytes - length rest) bytes
+    → (from ≢ length bytes - length rest → begins_number (drop from bytes) ≡ true) → begins_number (drop from bytes) ≡ true
+first_passes bytes rest more from d e le within tail before =
+    elim (cases_lt from (length bytes - length rest)) [
+      | inl lt ↦ before (λ same. omega arith)
+      | inr ge ↦
+          let same : length bytes - length rest ≡ from = omega arith in
+          ap begins_number (ap (λ (n : ℕ). drop n bytes) (sym same) ∙ sym tail) ∙ digit_begins rest more d e le
+    ]
+
+pub ruleset counting = (digit_counts, digit_passes, tail_passes, tail_from, digit_begins)
+
+-- at a place of the text
+pub number_begins : (bytes : List ℕ) (at : ℕ) → begins_number (drop at bytes) ≡ true → (at < length bytes) × (is_gap (get_or bytes at 0) ≡ false)
+number_begins bytes at h =
+    elim (cases_lt at (length bytes)) [
+      | inl lt ↦ (lt, no_gap (get_or bytes at 0) (sym (at_drop_more begins_number bytes at 0 lt) ∙ h))
+      | inr le ↦ absurd (none (sym (at_drop_all begins_number bytes at le) ∙ h))
+    ] where
+      none : false ≡ true → ⊥
+      none e = cc
+
+pub number_begins_not : (bytes : List ℕ) (at : ℕ) → begins_number (drop at bytes) ≡ false → at < length bytes → is_ascii_digit (get_or bytes at 0) ≡ false
+number_begins_not bytes at h lt = sym (at_drop_more begins_number bytes at 0 lt) ∙ h
 
 -- a number ends at a gap, and at the end of the text
 pub number_ends : (bytes : List ℕ) (at n : ℕ) → at < length bytes → is_gap (get_or bytes at 0) ≡ true → number_on (Some n) (drop at bytes) ≡ Some n

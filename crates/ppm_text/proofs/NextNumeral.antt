@@ -1,14 +1,13 @@
 -- The next number of a text, by where its token begins and ends.
 use Rattle.std.proofs.Common.{◌≡◌, ℕ, ◌<◌, ◌≤◌, min, Bool, true, false, not, cond, List, [], ◌∷◌, length, get_or, drop, Some, None, Ok, Err, refl, sym, ap, ◌∙◌, arith}
-use Rattle.std.specs.Char.{is_ascii_digit}
 use Rattle.std.specs.Str.{all_ascii_digits}
 use Rattle.std.specs.Str.Parse.{digits_value}
 use Rattle.std.specs.List.{take_while}
 use Rattle.std.proofs.lemmas.List.{at_drop_all}
 use Rattle.ppm_text.specs.declared.fault.PpmFault.TheVariants.{Truncated, BadNumber}
 use Rattle.ppm_text.specs.Tokens.{Token, tokens_at, tokens_from, without_comments, is_gap, next_place}
-use Rattle.ppm_text.specs.Numerals.{capped, capped_at, number_on, numeral_at}
-use Rattle.ppm_text.proofs.Counting.{counted, other_byte}
+use Rattle.ppm_text.specs.Numerals.{begins_number, capped, capped_at, number_on, numeral_at}
+use Rattle.ppm_text.proofs.Counting.{counted, number_begins, number_begins_not, other_byte}
 use Rattle.ppm_text.proofs.Scanning.{token_begins}
 
 pub no_token : (bytes : List ℕ) (from place : ℕ) → tokens_at bytes place ≡ tokens_at bytes from → place ≡ length bytes
@@ -54,15 +53,15 @@ number_token bytes from place end value behind same lt stops rest goes given end
 
 -- a token whose digits go up to another byte
 pub other_token : (bytes : List ℕ) (from place end value : ℕ) → tokens_at bytes place ≡ tokens_at bytes from → place < length bytes → is_gap (get_or bytes place 0) ≡ false
-    → number_on (Some value) (drop end bytes) ≡ number_on (Some 0) (drop place bytes) → end < length bytes → is_gap (get_or bytes end 0) ≡ false → is_ascii_digit (get_or bytes end 0) ≡ false
+    → number_on (Some value) (drop end bytes) ≡ number_on (Some 0) (drop place bytes) → end < length bytes → is_gap (get_or bytes end 0) ≡ false → begins_number (drop end bytes) ≡ false
     → capped_at (length bytes) (tokens_at bytes from) ≡ Err (BadNumber place)
 other_token bytes from place end value same lt stops given inside gap digit =
     let token = token_of bytes place in
     let rest = tokens_from true place (without_comments false (drop place bytes)) in
-    let no_digits = given_none (all_ascii_digits token.bytes) (min (digits_value 10 token.bytes) 65536) (sym (other_byte bytes end value inside gap digit) ∙ given ∙ counted (drop place bytes)) in
+    let no_digits = given_none (all_ascii_digits token.bytes) (min (digits_value 10 token.bytes) 65536) (sym (other_byte bytes end value inside gap (number_begins_not bytes end digit inside)) ∙ given ∙ counted (drop place bytes)) in
     ap (capped_at (length bytes)) (sym same ∙ token_begins bytes place lt stops) ∙ read_token (length bytes) token rest false no_digits
 
-pub ruleset next_numeral = (no_token, number_token, other_token)
+pub ruleset next_numeral = (no_token, number_token, other_token, number_begins)
 
 pub no_next : (bytes : List ℕ) (from place : ℕ) → tokens_at bytes place ≡ tokens_at bytes from → length bytes ≤ place → next_place (tokens_at bytes from) ≡ None
 no_next bytes from place same last =

@@ -116,13 +116,6 @@ token_begins bytes place lt h =
     ap (tokens_from false place) outside ∙ one ∙ ap (λ (bs : List ℕ). record { place = place; bytes = take_while (λ x. not (is_space x)) bs } ∷ tokens_from true place bs) (sym outside) ∙ ap (λ (bs : List ℕ). record { place = place; bytes = bs } ∷ tokens_from true place (without_comments false (b ∷ rest))) (token_bytes (b ∷ rest)) in
     whole ∙ same ∙ sym (at_drop_more (λ bs. record { place = place; bytes = take_while (λ x. not (is_gap x)) bs } ∷ tokens_from true place (without_comments false bs)) bytes place 0 lt)
 
--- a byte of a token is stepped over
-pub token_step : (bytes : List ℕ) (at : ℕ) → at < length bytes → is_gap (get_or bytes at 0) ≡ false
-    → tokens_from true (at + 1) (without_comments false (drop (at + 1) bytes)) ≡ tokens_from true at (without_comments false (drop at bytes))
-token_step bytes at lt h =
-    let one : tokens_from true at (without_comments false (get_or bytes at 0 ∷ drop (at + 1) bytes)) ≡ tokens_from true (at + 1) (without_comments false (drop (at + 1) bytes)) = rw (no_comment _ h, (gap_parts _ h).0, add-one) refl in
-    sym (at_drop_more (λ bs. tokens_from true at (without_comments false bs)) bytes at 0 lt ∙ one)
-
 -- a token ends at a gap, and at the end of the text
 pub token_ends : (bytes : List ℕ) (at : ℕ) → at < length bytes → is_gap (get_or bytes at 0) ≡ true → tokens_from true at (without_comments false (drop at bytes)) ≡ tokens_at bytes at
 token_ends bytes at lt h =

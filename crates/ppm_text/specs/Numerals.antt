@@ -1,5 +1,5 @@
 -- Numbers of any length, counted no further than a cap that is above each limit.
-use Rattle.std.specs.Prelude.{ℕ, ◌+◌, ◌-◌, ◌*◌, min, if◌then◌else◌, List, [], ◌∷◌, Option, Some, None, Result, Ok, Err}
+use Rattle.std.specs.Prelude.{ℕ, ◌+◌, ◌-◌, ◌*◌, min, Bool, false, if◌then◌else◌, List, [], ◌∷◌, Option, Some, None, Result, Ok, Err}
 use Rattle.std.specs.Char.{is_ascii_digit}
 use Rattle.std.specs.Str.{all_ascii_digits}
 use Rattle.std.specs.Str.Parse.{digits_value}
@@ -17,6 +17,11 @@ capped bytes = if all_ascii_digits bytes then Some (min (digits_value 10 bytes) 
 abbrev pub with_byte : Option ℕ → ℕ → Option ℕ
 with_byte None b = None
 with_byte (Some n) b = if is_ascii_digit b then Some (min (n * 10 + (b - 48)) 65536) else None
+
+-- the first byte is a digit
+abbrev pub begins_number : List ℕ → Bool
+begins_number [] = false
+begins_number (b ∷ rest) = is_ascii_digit b
 
 -- the number that the bytes up to the next gap make, after the one that was counted before them
 abbrev pub number_on : Option ℕ → List ℕ → Option ℕ

@@ -1,8 +1,7 @@
-ghost use Rattle.std.specs.Prelude.{◌≡◌, ◌≢◌, ℕ, ◌<◌, ◌≤◌, length, slice_index, drop, is_some, true, false, IfNone, IfSome, IfOk};
-ghost use Rattle.std.specs.Char.{is_ascii_digit};
+ghost use Rattle.std.specs.Prelude.{◌≡◌, ◌≢◌, ℕ, ◌+◌, ◌∷◌, ◌<◌, ◌≤◌, length, slice_index, drop, is_some, true, false, IfNone, IfSome, IfOk};
 ghost use Rattle.picture.specs.Reading.{Reads};
 ghost use Rattle.ppm_text.specs.Tokens.{is_gap, is_line_end, tokens_from, tokens_at, without_comments, magic_of, next_place};
-ghost use Rattle.ppm_text.specs.Numerals.{capped_at, number_on};
+ghost use Rattle.ppm_text.specs.Numerals.{begins_number, capped_at, number_on};
 
 use crate::fault::PpmFault;
 use std::marker::Model;
@@ -179,18 +178,29 @@ fn count_digits(bytes: &[u8], from: usize) -> (u32, usize)
         ≡ number_on (Some 0) (drop from bytes.now) }
     ensures rest { tokens_from true result.1 (without_comments false (drop result.1 bytes.now))
         ≡ tokens_from true from (without_comments false (drop from bytes.now)) }
-    ensures stops { result.1 < length bytes.now
-        → is_ascii_digit (slice_index bytes.now result.1) ≡ false }
-    ensures first { from ≢ result.1
-        → (from < length bytes.now) × (is_gap (slice_index bytes.now from) ≡ false) }
+    ensures stops { begins_number (drop result.1 bytes.now) ≡ false }
+    ensures first { from ≢ result.1 → begins_number (drop from bytes.now) ≡ true }
 {
     let mut rest = &bytes[from..];
     let mut value: u32 = 0;
-    while let [digit @ b'0'..=b'9', behind @ ..] = rest {
-        value = (value * 10 + u32::from(*digit - b'0')).min(CAP);
+    while let Some((digit, behind)) = first_digit(rest) {
+        value = (value * 10 + digit).min(CAP);
         rest = behind;
     }
     (value, bytes.len() - rest.len())
+}
+
+#[inline(always)]
+// The value of the digit that begins a text, and what stands behind it, if one does.
+fn first_digit(text: &[u8]) -> Option<(u32, &[u8])>
+    ensures some { IfSome result (λ x. text.now ≡ (48 + x.0) ∷ x.1.now) }
+    ensures value { IfSome result (λ x. x.0 ≤ 9) }
+    ensures none { IfNone result (begins_number text.now ≡ false) }
+{
+    match text {
+        [digit @ b'0'..=b'9', behind @ ..] => Some((u32::from(*digit - b'0'), behind)),
+        _ => None,
+    }
 }
 
 #[tactic(auto, using(crate::proofs::Counting::token_end))]
