@@ -1,6 +1,7 @@
 pub mod BitLemmas
 pub mod CellSetLaws
 pub mod CellSetLemmas
+pub mod DocumentLaws
 pub mod FlatLemmas
 pub mod GridLemmas
 pub mod LineEditLemmas

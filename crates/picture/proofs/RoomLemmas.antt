@@ -1,7 +1,7 @@
 -- A palette has room for a colour that comes, as all of its own do, from another palette.
-use Rattle.std.proofs.Common.{◌≡◌, ℕ, ◌+◌, ◌<◌, Bool, true, false, List, [], ◌∷◌, ◌++◌, length, get_or, Option, Some, None, refl, sym, subst, ap, ◌∙◌, inl, inr, arith}
+use Rattle.std.proofs.Common.{◌≡◌, ℕ, ◌<◌, Bool, true, false, List, [], ◌∷◌, ◌++◌, length, Option, Some, None, refl, sym, subst, ap, ◌∙◌, inl, inr, arith}
 use Rattle.std.specs.Prelude.{◌⊎◌, slice_get}
-use Rattle.std.specs.List.{list_any, AllByRecursion, IsDistinct}
+use Rattle.std.specs.List.{list_any, AllByRecursion}
 use Rattle.std.specs.Cmp.{IsEquivalence}
 use Rattle.std.proofs.lemmas.Bool.{cases_Bool}
 use Rattle.std.proofs.lemmas.List.{length_push}
@@ -11,7 +11,7 @@ use Rattle.picture.specs.declared.rgb.Rgb.{Rgb}
 use Rattle.picture.specs.declared.palette.PaletteFault.{PaletteFault}
 use Rattle.picture.specs.declared.palette.PaletteFault.TheVariants.{Memory}
 use Rattle.picture.specs.Palette.{Colours, rgb_eq, fits, first_of, triple_at, place_of, add_fault, only_background, stands_elsewhere, IsPalette, AreAmong, HasPlaceFor}
-use Rattle.picture.specs.Document.{with_seen, seen_after}
+use Rattle.picture.specs.Document.{with_seen}
 use Rattle.picture.proofs.PaletteLemmas.{same_rgb, rgb_eq-sym, not_full, at_each, at_no_other}
 use Rattle.picture.proofs.OrderLemmas.{same, absent}
 use Rattle.picture.proofs.GridLemmas.{every_append}

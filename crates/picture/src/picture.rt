@@ -38,7 +38,7 @@ impl Model for Picture {
 
 #[tactic(auto, using(crate::proofs::FlatLemmas::flat))]
 impl Picture {
-    /// A picture that is all background, of 1 to 120 rows and columns.
+    /// A picture that is all background, of 1 to `MAX_SIDE` rows and columns.
     pub fn blank(alloc: Global, height: u8, width: u8) -> Result<Picture, AllocError>
         requires has_row { 0 < height }
         requires rows_fit { height ≤ MAX_SIDE }

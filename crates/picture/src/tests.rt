@@ -232,39 +232,25 @@ fn lines_are_inserted_deleted_and_exchanged(rt: HostRuntime) -> Result<(), Fail>
     Ok(())
 }
 
-// Row 1 has the fourth colour and the background, row 2 the third and the fourth. No cell has the second. The first cell of row 2 is given.
-fn with_unused_colour(alloc: Global) -> Result<Document, PaletteFault> {
+// A black cell, which is given, beside a white one.
+fn with_a_given(alloc: Global) -> Result<Document, PaletteFault> {
     let mut palette = Palette::start(alloc, 255, WHITE)?;
     palette.add(BLACK)?;
-    palette.add(RED)?;
-    palette.add(BLUE)?;
     let mut givens = CellSet::empty();
-    givens.put(1, 0);
-    let cells = vec![in alloc; 3, 0, 2, 3]?;
+    givens.put(0, 0);
     Ok(Document {
         palette,
-        picture: Picture::from_cells(2, 2, cells),
+        picture: Picture::from_cells(1, 2, vec![in alloc; 1, 0]?),
         givens,
     })
 }
 
 #[test]
 fn a_document_is_copied(rt: HostRuntime) -> Result<(), Fail> {
-    let copy = with_unused_colour(rt.alloc())?.copy()?;
-    assert_eq!(rt; copy.palette.number_of(BLUE), Some(3));
-    assert!(rt; copy.picture.same(&drawn(rt.alloc(), 2, 2, &[3, 0, 2, 3])?));
-    assert!(rt; copy.givens.has(1, 0));
-    Ok(())
-}
-
-#[test]
-fn an_unused_colour_goes(rt: HostRuntime) -> Result<(), Fail> {
-    let ordered = with_unused_colour(rt.alloc())?.ordered()?;
-    assert_eq!(rt; ordered.palette.len(), 3);
-    assert_eq!(rt; ordered.palette.number_of(BLUE), Some(1));
-    let cells = drawn(rt.alloc(), 2, 2, &[1, 0, 2, 1])?;
-    assert!(rt; ordered.picture.same(&cells));
-    assert!(rt; ordered.givens.has(1, 0));
+    let copy = with_a_given(rt.alloc())?.copy()?;
+    assert_eq!(rt; copy.palette.number_of(BLACK), Some(1));
+    assert!(rt; copy.picture.same(&drawn(rt.alloc(), 1, 2, &[1, 0])?));
+    assert!(rt; copy.givens.has(0, 0));
     Ok(())
 }
 
@@ -305,7 +291,6 @@ fn sixteen_colours_are_ordered(rt: HostRuntime) -> Result<(), Fail> {
     let document = of_sixteen(greys(rt.alloc())?, picture).ok_or("fewer colours")?;
     let ordered = document.ordered()?;
     assert_eq!(rt; ordered.palette.len(), 16);
-    assert_eq!(rt; ordered.palette.number_of(grey(15)), Some(1));
     assert_eq!(rt; ordered.palette.number_of(grey(1)), Some(15));
     let cells = [1, 2, 3, 4, 5, 6, 7, 8, 9, 10, 11, 12, 13, 14, 15, 0];
     assert!(rt; ordered.picture.same(&drawn(rt.alloc(), 4, 4, &cells)?));

@@ -1,7 +1,7 @@
 use Rattle.std.proofs.Common.{◌∙◌, sym}
 use Rattle.std.proofs.lemmas.Bool.{false≢true}
 use Rattle.picture.proofs.PaletteLemmas.{stands_nowhere, kept_over}
-use Rattle.picture.proofs.RoomLemmas.{own_nowhere, own_fits, own_same}
+use Rattle.picture.proofs.RoomLemmas.{own_nowhere}
 use Rattle.picture.proofs.palette.Palette.set.Goals as goal
 
 pub returns-then-stands_elsewhere-clause-same : goal.returns-then-stands_elsewhere-clause-same
