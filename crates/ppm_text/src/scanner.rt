@@ -88,7 +88,7 @@ fn numeral_after(bytes: &[u8], from: usize) -> Result<(Numeral, usize), PpmFault
 }
 
 #[tactic(auto, using(crate::proofs::NextNumeral::next_numeral))]
-#[inline(never)]
+#[inline(always)]
 // The same, where white space or comments may come first.
 fn numeral_behind_gaps(bytes: &[u8], from: usize) -> Result<(Numeral, usize), PpmFault>
     requires { from ≤ length bytes.now }
@@ -118,6 +118,7 @@ fn place_after(bytes: &[u8], from: usize) -> Option<usize>
 }
 
 #[tactic(auto, using(crate::proofs::Scanning::scanning))]
+#[inline(never)]
 // Where the next token begins, or the end of the text.
 fn token_start(bytes: &[u8], from: usize) -> usize
     requires { from ≤ length bytes.now }
