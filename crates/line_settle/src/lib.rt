@@ -16,11 +16,11 @@ mod pattern;
 mod plain_engine;
 mod position_tables;
 mod positions;
-mod settled_line;
+mod shown_line;
 mod tables;
 
 pub use facts::Facts;
-pub use forcing::force;
+pub use forcing::{Forced, force, force_crossing};
 pub use line_engine::{LineEngine, Outcome};
 pub use mask_engine::MaskEngine;
 pub use meter::Meter;
