@@ -1,7 +1,7 @@
 -- The clue of a line that begins with a run.
-use Rattle.std.proofs.Common.{◌≡◌, ◌≢◌, ℕ, zero, suc, ◌+◌, ◌<◌, true, false, cond, eqb, List, [], ◌∷◌, ◌++◌, length, replicate, get_or, refl, sym, ap, ◌∙◌, add-one, arith, append_assoc, ◌↔◌}
+use Rattle.std.proofs.Common.{◌≡◌, ◌≢◌, ℕ, zero, suc, ◌+◌, ◌<◌, ◌≤◌, true, false, cond, eqb, List, [], ◌∷◌, ◌++◌, length, replicate, get_or, take, set, refl, sym, ap, ◌∙◌, add-one, arith, append_assoc, ◌↔◌}
 use Rattle.std.proofs.lemmas.Bool.{eq-eqb}
-use Rattle.std.proofs.lemmas.List.{append_cancel_left, nil_from_length}
+use Rattle.std.proofs.lemmas.List.{append-nil, append_cancel_left, nil_from_length, take_more_set}
 use Rattle.std.proofs.lemmas.List.Elements.{All-nil, All-cons, All-head, All-tail}
 use Rattle.clues.specs.declared.block.Block.{Block}
 use Rattle.clues.specs.Clue.{block, longer, joined, clue_of, blocks_of, IsBlock, IsClue}
@@ -88,6 +88,22 @@ clue_of-clue [] small = All-nil IsBlock
 clue_of-clue (zero ∷ rest) small = clue_of-clue rest (λ i. small (suc i))
 clue_of-clue (suc x ∷ rest) small = joined-clue x rest (clue_of rest) (small 0) (clue_of-clue rest (λ i. small (suc i)))
 
+-- a block that is put behind those before it
+pub block-put : (blocks : List Block) (count : ℕ) (run : Block) → count < length blocks → run.colour ≢ 0 → take (count + 1) (set blocks count run) ≡ take count blocks ++ blocks_of run.len run.colour
+block-put blocks count run lt coloured = take_more_set blocks count run lt ∙ ap (λ (last : List Block). take count blocks ++ last) (sym (one run coloured)) where
+  one : (run : Block) → run.colour ≢ 0 → blocks_of run.len run.colour ≡ run ∷ []
+  one run coloured = rw (eqb-apart run.colour 0 coloured) refl
+
+pub no-block : (blocks : List Block) (count : ℕ) (run : Block) → run.colour ≡ 0 → take count blocks ≡ take count blocks ++ blocks_of run.len run.colour
+no-block blocks count run background = sym (rw background (append-nil (take count blocks)))
+
+pub ruleset finishing = (block-put, no-block)
+
+-- a run has no more blocks than cells
+pub blocks-few : (n x : ℕ) → (x ≢ 0 → 0 < n) → length (blocks_of n x) ≤ n
+blocks-few n zero some = omega arith
+blocks-few n (suc x) some = rw blocks_of-coloured (some (omega arith))
+
 -- where the line ends, the last run has to be all that is left
 pub last_run-matches : (n x : ℕ) (left rest : List Block) → (x ≢ 0 → 0 < n) → left ≡ blocks_of n x ++ rest → (clue_of (replicate n x ++ []) ≡ left) ↔ (length rest ≡ 0)
 last_run-matches n x left rest some e = (
@@ -97,4 +113,4 @@ last_run-matches n x left rest some e = (
 
 pub ruleset matching = (clue_of-run, clue_of-last_run, replicate-more, last_run-matches)
 
-pub ruleset runs = (blocks-run, clue_of-last_run, replicate-more, clue_of-clue)
+pub ruleset runs = (blocks-run, blocks-few, clue_of-last_run, replicate-more, clue_of-clue)

@@ -34,14 +34,6 @@ impl Clue {
         Ok(Clue { blocks })
     }
 
-    // The clue with blocks that were counted on a line.
-    pub(crate) fn from_counted(blocks: SmallVec<Block, 8>) -> Clue
-        requires { IsClue blocks.items }
-        ensures { result ≡ blocks.items }
-    {
-        Clue { blocks }
-    }
-
     /// The blocks, from the left or from the top.
     pub fn blocks(&self) -> &[Block]
         ensures blocks { result.now ≡ self.now }

@@ -50,10 +50,6 @@ first_of_two (Some e) later = Some e
 unfoldable pub first_fault : List (List ℕ) → List (List ℕ) → Option NonFault
 first_fault above [] = None
 first_fault above (line ∷ lines) = first_of_two (line_fault above line) (first_fault (line ∷ above) lines)
-  where
-    first_of_two : Option NonFault → Option NonFault → Option NonFault
-    first_of_two None later = later
-    first_of_two (Some e) later = Some e
 
 -- the size behind a keyword
 unfoldable pub size_behind : List ℕ → List (List ℕ) → Option ℕ

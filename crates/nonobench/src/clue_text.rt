@@ -1,6 +1,6 @@
 //! Clues as text, a line for each row and column.
 
-ghost use Rattle.std.specs.Prelude.{◌≡◌, ◌≤◌, ◌++◌, length, IfOk, OnOk};
+ghost use Rattle.std.specs.Prelude.{◌≡◌, ◌≤◌, ◌++◌, decimal, length, IfOk, OnOk};
 ghost use Rattle.std.specs.List.{flat_map};
 ghost use Rattle.clues.specs.Clue.{IsBlock, IsClue};
 ghost use Rattle.clues.specs.ClueBook.{clues_along};
@@ -61,7 +61,7 @@ fn push_line(text: &mut Vec<u8>, letter: u8, number: u8, blocks: &[Block]) -> Re
 {
     text.push(letter)?;
     text.push(b' ')?;
-    text.extend_from_slice(Buffer::new().format(number).as_bytes())?;
+    push_number(text, number)?;
     text.extend_from_slice(b": ")?;
     push_clue(text, blocks)?;
     text.push(b'\n')?;
@@ -100,7 +100,28 @@ fn push_block(text: &mut Vec<u8>, block: Block) -> Result<(), AllocError>
     requires { IsBlock block }
     ensures { OnOk result (text.new.items ≡ text.old.items ++ block_text block) }
 {
-    text.extend_from_slice(Buffer::new().format(block.len).as_bytes())?;
+    push_number(text, block.len)?;
     text.push(b'a' - 1 + block.colour)?;
+    Ok(())
+}
+
+#[tactic(auto, using(std::proofs::lemmas::Fmt::decimal_digit))]
+// A number without leading zeros. Most have one digit, and the others are kept out of their way.
+fn push_number(text: &mut Vec<u8>, number: u8) -> Result<(), AllocError>
+    ensures { OnOk result (text.new.items ≡ text.old.items ++ decimal number) }
+{
+    if number < 10 {
+        text.push(b'0' + number)?;
+        return Ok(());
+    }
+    push_digits(text, number)
+}
+
+#[inline(never)]
+// A number of any length.
+fn push_digits(text: &mut Vec<u8>, number: u8) -> Result<(), AllocError>
+    ensures { OnOk result (text.new.items ≡ text.old.items ++ decimal number) }
+{
+    text.extend_from_slice(Buffer::new().format(number).as_bytes())?;
     Ok(())
 }

@@ -17,8 +17,8 @@ const ROOM: usize = 4096;
 /// All bytes up to the end of the input. It is too long where it has more than 16,777,216 bytes.
 pub fn read_input<R: Read>(alloc: Global, reader: &mut R) -> Result<Vec<u8>, ProgramFault>
     ensures all { IfOk result (λ bytes. IfSome (R.remaining reader.old) (λ input. bytes.items ≡ input)) }
-    ensures fits { IfOk result (λ bytes. length bytes.items ≤ MAX_INPUT) }
-    ensures long { result ≡ Err ProgramFault.TooLong → IfSome (R.remaining reader.old) (λ input. MAX_INPUT < length input) }
+    ensures fits { IfOk result (λ bytes. length bytes.items ≤ 16777216) }
+    ensures long { result ≡ Err ProgramFault.TooLong → IfSome (R.remaining reader.old) (λ input. 16777216 < length input) }
     ensures only { IfErr result (λ e. (e ≡ TooLong) ⊎ ((e ≡ Unread) ⊎ (e ≡ Memory))) }
 {
     let mut bytes = Vec::new(alloc);

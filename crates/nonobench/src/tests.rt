@@ -1,5 +1,4 @@
 use super::*;
-use crate::input::MAX_INPUT;
 use crate::paint::PaintFault;
 use ppm_text::PpmFault;
 use std::io::{Read, Write};
@@ -108,15 +107,15 @@ impl Read for Spaces {
 #[test]
 fn an_input_has_a_limit(rt: HostRuntime) {
     let mut most = Spaces {
-        left: MAX_INPUT,
+        left: 16_777_216,
         fails: false,
     };
     assert_eq!(rt;
         read_input(rt.alloc(), &mut most).map(|bytes| bytes.len()),
-        Ok(MAX_INPUT)
+        Ok(16_777_216)
     );
     let mut more = Spaces {
-        left: MAX_INPUT + 1,
+        left: 16_777_217,
         fails: false,
     };
     assert_eq!(rt;

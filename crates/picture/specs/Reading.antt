@@ -12,6 +12,11 @@ abbrev pub Gives : {X Y E : Type 0} → E → (X → Y) → Result X E → Resul
 Gives memory view (Ok x) read = read ≡ Ok (view x)
 Gives memory view (Err e) read = (e ≡ memory) ⊎ (read ≡ Err e)
 
+-- What a function that takes no memory answers, seen by view, is what is read.
+abbrev pub Reads : {X Y E : Type 0} → (X → Y) → Result X E → Result Y E → Type 0
+Reads view (Ok x) read = read ≡ Ok (view x)
+Reads view (Err e) read = read ≡ Err e
+
 -- A call is refused exactly where there is a first fault, with that fault. Want of memory comes only where there is none.
 abbrev pub Refuses : {X E : Type 0} → E → Result X E → Option E → Type 0
 Refuses memory (Ok x) fault = fault ≡ None

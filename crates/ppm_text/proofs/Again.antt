@@ -15,7 +15,7 @@ use Rattle.ppm_text.specs.declared.fault.PpmFault.{PpmFault}
 use Rattle.ppm_text.specs.declared.fault.PpmFault.TheVariants.{NotP3}
 use Rattle.ppm_text.specs.Tokens.{Token, Unread, magic_of}
 use Rattle.ppm_text.specs.Samples.{side_at}
-use Rattle.ppm_text.specs.Ppm.{palette_at, cells_at, at_the_end, ppm_of}
+use Rattle.ppm_text.specs.Ppm.{Header, header_of, palette_at, cells_at, at_the_end, ppm_of}
 use Rattle.ppm_text.specs.Text.{number_text, triple_text, cell_text, row_text, rows_text, ppm_text}
 use Rattle.ppm_text.specs.RoundTrip.{IsUngiven, IsReadAgain}
 use Rattle.ppm_text.proofs.Binds.{bind_is}
@@ -80,22 +80,29 @@ magic_again : (body : List ℕ) → magic_of (codes "P3\n" ++ body) ≡ Ok (reco
 magic_again body = ap (λ b. cond b (Ok (record { end = length (codes "P3\n" ++ body); tokens = text_tokens 3 body })) (Err (NotP3 0))) (or_true (eqb (length (codes "P3\n" ++ body)) 2))
 
 -- the steps of reading, each with what follows it
-abbrev with_cells : ℕ → ℕ → List ℕ × Colours × List Token → Result Content PpmFault
-with_cells height width cells = at_the_end (record { colours = cells.1; rows = rows_of height width cells.0; givens = no_cells }) cells.2
+abbrev with_cells : Header → List ℕ × Colours × List Token → Result Content PpmFault
+with_cells header cells = at_the_end (record { colours = cells.1; rows = rows_of header.height header.width cells.0; givens = no_cells }) cells.2
 
-abbrev with_palette : ℕ → ℕ → ℕ → Colours × List Token → Result Content PpmFault
-with_palette end height width palette = cells_at end (height * width) palette.0 palette.1 >>= with_cells height width
+abbrev with_header : Header → Result Content PpmFault
+with_header header = cells_at header.rest.end (header.height * header.width) header.colours header.rest.tokens >>= with_cells header
 
-abbrev with_height : Option Rgb → ℕ → ℕ → ℕ × List Token → Result Content PpmFault
+abbrev with_palette : ℕ → ℕ → ℕ → Colours × List Token → Result Header PpmFault
+with_palette end height width palette = Ok (record { width = width; height = height; colours = palette.0; rest = record { end = end; tokens = palette.1 } })
+
+abbrev with_height : Option Rgb → ℕ → ℕ → ℕ × List Token → Result Header PpmFault
 with_height background end width height = palette_at background end height.1 >>= with_palette end height.0 width
 
-abbrev with_width : Option Rgb → ℕ → ℕ × List Token → Result Content PpmFault
+abbrev with_width : Option Rgb → ℕ → ℕ × List Token → Result Header PpmFault
 with_width background end width = side_at end width.1 >>= with_height background end width.0
 
-abbrev with_start : Option Rgb → Unread → Result Content PpmFault
+abbrev with_start : Option Rgb → Unread → Result Header PpmFault
 with_start background start = side_at start.end start.tokens >>= with_width background start.end
 
-steps : (text : List ℕ) (background : Option Rgb) → ppm_of text background ≡ (magic_of text >>= with_start background)
+header_steps : (text : List ℕ) (background : Option Rgb) → header_of text background ≡ (magic_of text >>= with_start background)
+unfolding header_of
+header_steps text background = refl
+
+steps : (text : List ℕ) (background : Option Rgb) → ppm_of text background ≡ (header_of text background >>= with_header)
 unfolding ppm_of
 steps text background = refl
 
@@ -117,12 +124,16 @@ read_steps width height maxval background ts final some_width most_width some_he
     let cells = cells_again end maxval ts at3 (background ∷ []) final [] most_maxval all_lawful seen room in
     let read : cells_at end (height * width) palette (text_tokens at3 (flat_map triple_text ts ++ [])) ≡ Ok (map (number_among final) ts, record { maxval = maxval; triples = final }, []) =
     ap (λ (n : ℕ). cells_at end n palette (text_tokens at3 (flat_map triple_text ts ++ []))) count ∙ cells.1 in
-    steps (codes "P3\n" ++ body) (Some background)
+    let header : Header = record { width = width; height = height; colours = palette; rest = record { end = end; tokens = text_tokens at3 (flat_map triple_text ts ++ []) } } in
+    let header_again : header_of (codes "P3\n" ++ body) (Some background) ≡ Ok header =
+    header_steps (codes "P3\n" ++ body) (Some background)
     ∙ bind_is (magic_of (codes "P3\n" ++ body)) start (with_start (Some background)) (magic_again body)
     ∙ bind_is (side_at end (text_tokens 3 body)) (width, text_tokens at1 second) (with_width (Some background) end) (side_again end 3 width 32 second some_width most_width space_closes)
     ∙ bind_is (side_at end (text_tokens at1 second)) (height, text_tokens at2 third) (with_height (Some background) end width) (side_again end at1 height 10 third some_height most_height line_end_closes)
-    ∙ bind_is (palette_at (Some background) end (text_tokens at2 third)) (palette, text_tokens at3 (flat_map triple_text ts ++ [])) (with_palette end height width) (palette_again background end at2 maxval (flat_map triple_text ts ++ []) some_maxval most_maxval lawful)
-    ∙ bind_is (cells_at end (height * width) palette (text_tokens at3 (flat_map triple_text ts ++ []))) (map (number_among final) ts, record { maxval = maxval; triples = final }, []) (with_cells height width) read
+    ∙ bind_is (palette_at (Some background) end (text_tokens at2 third)) (palette, text_tokens at3 (flat_map triple_text ts ++ [])) (with_palette end height width) (palette_again background end at2 maxval (flat_map triple_text ts ++ []) some_maxval most_maxval lawful) in
+    steps (codes "P3\n" ++ body) (Some background)
+    ∙ bind_is (header_of (codes "P3\n" ++ body) (Some background)) header with_header header_again
+    ∙ bind_is (cells_at end (height * width) palette (text_tokens at3 (flat_map triple_text ts ++ []))) (map (number_among final) ts, record { maxval = maxval; triples = final }, []) (with_cells header) read
 
 written_so : (d : Content) → ppm_text d ≡ codes "P3\n" ++ (number_text (width_of d.rows) 32 ++ (number_text (length d.rows) 10 ++ (number_text d.colours.maxval 10 ++ (flat_map triple_text (flat_map (triples_of d.colours.triples) d.rows) ++ []))))
 written_so d =

@@ -1,34 +1,93 @@
 -- How the digits of a token are counted, byte by byte and no further than the cap.
-use Rattle.std.proofs.Common.{◌≡◌, ℕ, ◌+◌, ◌-◌, ◌*◌, ◌<◌, ◌≤◌, min, Bool, true, false, not, ◌&&◌, cond, List, [], ◌∷◌, length, get_or, drop, Option, Some, None, refl, sym, ap, ◌∙◌, arith}
+use Rattle.std.proofs.Common.{◌≡◌, ◌≢◌, ℕ, suc, take, inl, inr, ◌+◌, ◌-◌, ◌*◌, ◌<◌, ◌≤◌, min, Bool, true, false, not, ◌&&◌, cond, List, [], ◌∷◌, length, get_or, drop, Option, Some, None, refl, sym, ap, ◌∙◌, arith}
 use Rattle.std.specs.Char.{is_ascii_digit, digit_value}
 use Rattle.std.specs.Str.{all_ascii_digits}
 use Rattle.std.specs.Str.Parse.{digits_value_after}
 use Rattle.std.specs.List.{take_while}
 use Rattle.std.proofs.lemmas.Bool.Decides.{nat_tests}
-use Rattle.std.proofs.lemmas.List.{at_drop_more, at_drop_all}
+use Rattle.std.proofs.lemmas.Bool.{cases_lt}
+use Rattle.std.proofs.lemmas.List.{at_drop_more, at_drop_all, take_rest}
 use Rattle.std.proofs.lemmas.List.Sums.{take_while-cons}
-use Rattle.ppm_text.specs.Tokens.{is_gap}
-use Rattle.ppm_text.specs.Numerals.{capped, with_byte}
-use Rattle.ppm_text.proofs.Scanning.{token_step, token_ends, last_token_ends}
+use Rattle.ppm_text.specs.Tokens.{tokens_from, without_comments, is_gap}
+use Rattle.ppm_text.specs.Numerals.{begins_number, capped, with_byte, number_on}
+use Rattle.ppm_text.proofs.Scanning.{no_gap, no_comment, gap_parts, token_ends, last_token_ends}
 
--- the number that the bytes up to the next gap leave, after one that was counted before them
-abbrev pub read_on : Option ℕ → List ℕ → Option ℕ
-read_on number [] = number
-read_on number (b ∷ rest) = cond (is_gap b) number (read_on (with_byte number b) rest)
+is_digit : (d : ℕ) → d ≤ 9 → is_ascii_digit (48 + d) ≡ true
+is_digit d le = grind (arith, nat_tests)
 
-pub count_step : (bytes : List ℕ) (at : ℕ) (number : Option ℕ) → at < length bytes → is_gap (get_or bytes at 0) ≡ false
-    → read_on (with_byte number (get_or bytes at 0)) (drop (at + 1) bytes) ≡ read_on number (drop at bytes)
-count_step bytes at number lt h =
-    let one : read_on number (get_or bytes at 0 ∷ drop (at + 1) bytes) ≡ read_on (with_byte number (get_or bytes at 0)) (drop (at + 1) bytes) = rw h refl in
-    sym (at_drop_more (read_on number) bytes at 0 lt ∙ one)
+-- a digit is counted on
+pub digit_counts : (rest more : List ℕ) (d n : ℕ) → rest ≡ (48 + d) ∷ more → d ≤ 9 → number_on (Some (min (n * 10 + d) 65536)) more ≡ number_on (Some n) rest
+digit_counts rest more d n e le =
+    let digit = is_digit d le in
+    let gap = no_gap (48 + d) digit in
+    let value : 48 + d - 48 ≡ d = omega arith in
+    let one : number_on (Some n) ((48 + d) ∷ more) ≡ number_on (Some (min (n * 10 + d) 65536)) more = rw (gap, digit, value) refl in
+    sym (ap (number_on (Some n)) e ∙ one)
 
-pub count_ends : (bytes : List ℕ) (at : ℕ) (number : Option ℕ) → at < length bytes → is_gap (get_or bytes at 0) ≡ true → read_on number (drop at bytes) ≡ number
-count_ends bytes at number lt h =
-    let one : read_on number (get_or bytes at 0 ∷ drop (at + 1) bytes) ≡ number = rw h refl in
-    at_drop_more (read_on number) bytes at 0 lt ∙ one
+-- and is part of its token
+pub digit_passes : (end : ℕ) (rest more : List ℕ) (d : ℕ) → rest ≡ (48 + d) ∷ more → d ≤ 9 → length rest ≤ end
+    → tokens_from true (end - length more) (without_comments false more) ≡ tokens_from true (end - length rest) (without_comments false rest)
+digit_passes end rest more d e le fits =
+    let gap = no_gap (48 + d) (is_digit d le) in
+    let place = end - length rest in
+    let later : suc place ≡ end - length more = omega (arith, ap length e) in
+    let one : tokens_from true place (without_comments false ((48 + d) ∷ more)) ≡ tokens_from true (suc place) (without_comments false more) = rw (no_comment _ gap, (gap_parts _ gap).0) refl in
+    sym (ap (λ bs. tokens_from true place (without_comments false bs)) e ∙ one ∙ ap (λ (n : ℕ). tokens_from true n (without_comments false more)) later)
 
-pub count_ends_all : (bytes : List ℕ) (at : ℕ) (number : Option ℕ) → length bytes ≤ at → read_on number (drop at bytes) ≡ number
-count_ends_all bytes at number le = at_drop_all (read_on number) bytes at le
+-- what is left behind it is a tail too
+pub tail_passes : (bytes rest more : List ℕ) (b : ℕ) → rest ≡ b ∷ more → length rest ≤ length bytes → rest ≡ drop (length bytes - length rest) bytes → more ≡ drop (length bytes - length more) bytes
+tail_passes bytes rest more b e fits tail =
+    let at = length bytes - length rest in
+    let lt : at < length bytes = omega (arith, ap length e) in
+    let later : at + 1 ≡ length bytes - length more = omega (arith, ap length e) in
+    let both : b ∷ more ≡ get_or bytes at 0 ∷ drop (at + 1) bytes = sym e ∙ tail ∙ at_drop_more (λ bs. bs) bytes at 0 lt in
+    let same : more ≡ drop (at + 1) bytes = cc in
+    same ∙ ap (λ (n : ℕ). drop n bytes) later
+
+-- what a slice from a place on has
+pub tail_from : (bytes : List ℕ) (from : ℕ) → take (length bytes - from) (drop from bytes) ≡ drop from bytes
+tail_from bytes from = take_rest bytes from
+
+-- a text that begins with a digit
+pub digit_begins : (rest more : List ℕ) (d : ℕ) → rest ≡ (48 + d) ∷ more → d ≤ 9 → begins_number rest ≡ true
+digit_begins rest more d e le = ap begins_number e ∙ is_digit d le
+
+-- the text from a place on began with a digit, where one was passed before or is passed now
+pub first_passes : (bytes rest more : List ℕ) (from d : ℕ) → rest ≡ (48 + d) ∷ more → d ≤ 9 → from + length rest ≤ length bytes → rest ≡ drop (length bytes - length rest) bytes
+    → (from ≢ length bytes - length rest → begins_number (drop from bytes) ≡ true) → begins_number (drop from bytes) ≡ true
+first_passes bytes rest more from d e le within tail before =
+    elim (cases_lt from (length bytes - length rest)) [
+      | inl lt ↦ before (λ same. omega arith)
+      | inr ge ↦
+          let same : length bytes - length rest ≡ from = omega arith in
+          ap begins_number (ap (λ (n : ℕ). drop n bytes) (sym same) ∙ sym tail) ∙ digit_begins rest more d e le
+    ]
+
+pub ruleset counting = (digit_counts, digit_passes, tail_passes, tail_from, digit_begins)
+
+-- at a place of the text
+pub number_begins : (bytes : List ℕ) (at : ℕ) → begins_number (drop at bytes) ≡ true → (at < length bytes) × (is_gap (get_or bytes at 0) ≡ false)
+number_begins bytes at h =
+    elim (cases_lt at (length bytes)) [
+      | inl lt ↦ (lt, no_gap (get_or bytes at 0) (sym (at_drop_more begins_number bytes at 0 lt) ∙ h))
+      | inr le ↦ absurd (none (sym (at_drop_all begins_number bytes at le) ∙ h))
+    ] where
+      none : false ≡ true → ⊥
+      none e = cc
+
+pub number_begins_not : (bytes : List ℕ) (at : ℕ) → begins_number (drop at bytes) ≡ false → at < length bytes → is_ascii_digit (get_or bytes at 0) ≡ false
+number_begins_not bytes at h lt = sym (at_drop_more begins_number bytes at 0 lt) ∙ h
+
+-- a number ends at a gap, and at the end of the text
+pub number_ends : (bytes : List ℕ) (at n : ℕ) → at < length bytes → is_gap (get_or bytes at 0) ≡ true → number_on (Some n) (drop at bytes) ≡ Some n
+number_ends bytes at n lt h =
+    let one : number_on (Some n) (get_or bytes at 0 ∷ drop (at + 1) bytes) ≡ Some n = rw h refl in
+    at_drop_more (number_on (Some n)) bytes at 0 lt ∙ one
+
+pub last_number_ends : (bytes : List ℕ) (at n : ℕ) → length bytes ≤ at → number_on (Some n) (drop at bytes) ≡ Some n
+last_number_ends bytes at n le = at_drop_all (number_on (Some n)) bytes at le
+
+pub ruleset token_end = (number_ends, last_number_ends, token_ends, last_token_ends)
 
 -- the digits after a number, counted up to the cap
 abbrev capped_after : ℕ → List ℕ → Option ℕ
@@ -44,36 +103,40 @@ kept : (gap : Bool) (rest : Option ℕ) → rest ≡ None → cond gap None rest
 kept true rest h = refl
 kept false rest h = h
 
-read_on-none : (bytes : List ℕ) → read_on None bytes ≡ None
-read_on-none [] = refl
-read_on-none (b ∷ rest) = kept (is_gap b) (read_on None rest) (read_on-none rest)
+number_on-none : (bytes : List ℕ) → number_on None bytes ≡ None
+number_on-none [] = refl
+number_on-none (b ∷ rest) = kept (is_gap b) (number_on None rest) (number_on-none rest)
 
 abbrev digits_of_token : List ℕ → List ℕ
 digits_of_token bytes = take_while (λ b. not (is_gap b)) bytes
 
-by_digit : (n b : ℕ) (rest : List ℕ) (digit : Bool) → is_ascii_digit b ≡ digit → ((m : ℕ) → read_on (Some (min m 65536)) rest ≡ capped_after m (digits_of_token rest))
-    → read_on (with_byte (Some (min n 65536)) b) rest ≡ capped_after n (b ∷ digits_of_token rest)
+by_digit : (n b : ℕ) (rest : List ℕ) (digit : Bool) → is_ascii_digit b ≡ digit → ((m : ℕ) → number_on (Some (min m 65536)) rest ≡ capped_after m (digits_of_token rest))
+    → number_on (with_byte (Some (min n 65536)) b) rest ≡ capped_after n (b ∷ digits_of_token rest)
 by_digit n b rest true h others =
     let m = n * 10 + digit_value b in
     let one : with_byte (Some (min n 65536)) b ≡ Some (min m 65536) = ap (λ t. cond t (Some (min (min n 65536 * 10 + (b - 48)) 65536)) None) h ∙ ap (λ (d : ℕ). Some (min (min n 65536 * 10 + d) 65536)) (sym (digit_value_is b h)) ∙ ap (λ (v : ℕ). Some v) (min_again n (digit_value b)) in
-    ap (λ (v : Option ℕ). read_on v rest) one ∙ others m ∙ sym (ap (λ t. cond (t && all_ascii_digits (digits_of_token rest)) (Some (min (digits_value_after 10 m (digits_of_token rest)) 65536)) None) h)
+    ap (λ (v : Option ℕ). number_on v rest) one ∙ others m ∙ sym (ap (λ t. cond (t && all_ascii_digits (digits_of_token rest)) (Some (min (digits_value_after 10 m (digits_of_token rest)) 65536)) None) h)
 by_digit n b rest false h others =
     let one : with_byte (Some (min n 65536)) b ≡ None = ap (λ t. cond t (Some (min (min n 65536 * 10 + (b - 48)) 65536)) None) h in
-    ap (λ (v : Option ℕ). read_on v rest) one ∙ read_on-none rest ∙ sym (ap (λ t. cond (t && all_ascii_digits (digits_of_token rest)) (Some (min (digits_value_after 10 (n * 10 + digit_value b) (digits_of_token rest)) 65536)) None) h)
+    ap (λ (v : Option ℕ). number_on v rest) one ∙ number_on-none rest ∙ sym (ap (λ t. cond (t && all_ascii_digits (digits_of_token rest)) (Some (min (digits_value_after 10 (n * 10 + digit_value b) (digits_of_token rest)) 65536)) None) h)
 
-by_gap : (n b : ℕ) (rest : List ℕ) (gap : Bool) → is_gap b ≡ gap → ((m : ℕ) → read_on (Some (min m 65536)) rest ≡ capped_after m (digits_of_token rest))
-    → read_on (Some (min n 65536)) (b ∷ rest) ≡ capped_after n (digits_of_token (b ∷ rest))
+by_gap : (n b : ℕ) (rest : List ℕ) (gap : Bool) → is_gap b ≡ gap → ((m : ℕ) → number_on (Some (min m 65536)) rest ≡ capped_after m (digits_of_token rest))
+    → number_on (Some (min n 65536)) (b ∷ rest) ≡ capped_after n (digits_of_token (b ∷ rest))
 by_gap n b rest true h others =
-    ap (λ t. cond t (Some (min n 65536)) (read_on (with_byte (Some (min n 65536)) b) rest)) h ∙ sym (ap (capped_after n) (take_while-cons (λ x. not (is_gap x)) b rest ∙ ap (λ t. cond (not t) (b ∷ digits_of_token rest) []) h))
+    ap (λ t. cond t (Some (min n 65536)) (number_on (with_byte (Some (min n 65536)) b) rest)) h ∙ sym (ap (capped_after n) (take_while-cons (λ x. not (is_gap x)) b rest ∙ ap (λ t. cond (not t) (b ∷ digits_of_token rest) []) h))
 by_gap n b rest false h others =
-    ap (λ t. cond t (Some (min n 65536)) (read_on (with_byte (Some (min n 65536)) b) rest)) h ∙ by_digit n b rest (is_ascii_digit b) refl others ∙ sym (ap (capped_after n) (take_while-cons (λ x. not (is_gap x)) b rest ∙ ap (λ t. cond (not t) (b ∷ digits_of_token rest) []) h))
+    ap (λ t. cond t (Some (min n 65536)) (number_on (with_byte (Some (min n 65536)) b) rest)) h ∙ by_digit n b rest (is_ascii_digit b) refl others ∙ sym (ap (capped_after n) (take_while-cons (λ x. not (is_gap x)) b rest ∙ ap (λ t. cond (not t) (b ∷ digits_of_token rest) []) h))
 
-read_after : (bytes : List ℕ) (n : ℕ) → read_on (Some (min n 65536)) bytes ≡ capped_after n (digits_of_token bytes)
-read_after [] n = refl
-read_after (b ∷ rest) n = by_gap n b rest (is_gap b) refl (read_after rest)
+number_after : (bytes : List ℕ) (n : ℕ) → number_on (Some (min n 65536)) bytes ≡ capped_after n (digits_of_token bytes)
+number_after [] n = refl
+number_after (b ∷ rest) n = by_gap n b rest (is_gap b) refl (number_after rest)
 
--- what the loop counts from 0 is the value of the token's digits, up to the cap
-pub counted : (bytes : List ℕ) → read_on (Some 0) bytes ≡ capped (take_while (λ b. not (is_gap b)) bytes)
-counted bytes = read_after bytes 0
+-- what is counted from 0 is the value of the token's digits, up to the cap
+pub counted : (bytes : List ℕ) → number_on (Some 0) bytes ≡ capped (take_while (λ b. not (is_gap b)) bytes)
+counted bytes = number_after bytes 0
 
-pub ruleset counting = (count_step, count_ends, count_ends_all, counted, token_step, token_ends, last_token_ends)
+-- another byte makes no number
+pub other_byte : (bytes : List ℕ) (at n : ℕ) → at < length bytes → is_gap (get_or bytes at 0) ≡ false → is_ascii_digit (get_or bytes at 0) ≡ false → number_on (Some n) (drop at bytes) ≡ None
+other_byte bytes at n lt gap digit =
+    let one : number_on (Some n) (get_or bytes at 0 ∷ drop (at + 1) bytes) ≡ number_on None (drop (at + 1) bytes) = rw (gap, digit) refl in
+    at_drop_more (number_on (Some n)) bytes at 0 lt ∙ one ∙ number_on-none (drop (at + 1) bytes)

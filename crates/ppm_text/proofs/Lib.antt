@@ -9,6 +9,7 @@ pub mod Adding
 pub mod Pictures
 pub mod Spelled
 pub mod Numbering
+pub mod KnownLemmas
 pub mod Seen
 pub mod Again
 mod Examples

@@ -6,7 +6,8 @@ use Rattle.std.specs.List.{take_while}
 use Rattle.std.proofs.lemmas.List.{at_drop_all}
 use Rattle.ppm_text.specs.declared.fault.PpmFault.TheVariants.{Truncated, BadNumber}
 use Rattle.ppm_text.specs.Tokens.{Token, tokens_at, tokens_from, without_comments, is_gap, next_place}
-use Rattle.ppm_text.specs.Numerals.{capped, capped_at, numeral_at}
+use Rattle.ppm_text.specs.Numerals.{begins_number, capped, capped_at, number_on, numeral_at}
+use Rattle.ppm_text.proofs.Counting.{counted, number_begins, number_begins_not, other_byte}
 use Rattle.ppm_text.proofs.Scanning.{token_begins}
 
 pub no_token : (bytes : List ℕ) (from place : ℕ) → tokens_at bytes place ≡ tokens_at bytes from → place ≡ length bytes
@@ -39,23 +40,28 @@ given_none : (digits : Bool) (n : ℕ) → None ≡ cond digits (Some n) None �
 given_none true n h = absurd cc
 given_none false n h = refl
 
-pub number_token : (bytes : List ℕ) (from place end value : ℕ) → tokens_at bytes place ≡ tokens_at bytes from → place < length bytes → is_gap (get_or bytes place 0) ≡ false
-    → tokens_from true place (without_comments false (drop place bytes)) ≡ tokens_at bytes end → Some value ≡ capped (take_while (λ b. not (is_gap b)) (drop place bytes))
-    → capped_at (length bytes) (tokens_at bytes from) ≡ Ok (record { place = place; value = value }, tokens_at bytes end)
-number_token bytes from place end value same lt stops rest given =
+-- a token whose digits go up to a gap or the end of the text
+pub number_token : (bytes : List ℕ) (from place end value behind : ℕ) → tokens_at bytes place ≡ tokens_at bytes from → place < length bytes → is_gap (get_or bytes place 0) ≡ false
+    → tokens_from true end (without_comments false (drop end bytes)) ≡ tokens_from true place (without_comments false (drop place bytes))
+    → tokens_from true end (without_comments false (drop end bytes)) ≡ tokens_at bytes behind
+    → number_on (Some value) (drop end bytes) ≡ number_on (Some 0) (drop place bytes) → ((n : ℕ) → number_on (Some n) (drop end bytes) ≡ Some n)
+    → capped_at (length bytes) (tokens_at bytes from) ≡ Ok (record { place = place; value = value }, tokens_at bytes behind)
+number_token bytes from place end value behind same lt stops rest goes given ends =
     let token = token_of bytes place in
-    let found = given_some (all_ascii_digits token.bytes) value (min (digits_value 10 token.bytes) 65536) given in
-    ap (capped_at (length bytes)) (some_token bytes from place end same lt stops rest) ∙ read_token (length bytes) token (tokens_at bytes end) true found.0 ∙ ap (λ (n : ℕ). Ok (record { place = place; value = n }, tokens_at bytes end)) (sym found.1)
+    let found = given_some (all_ascii_digits token.bytes) value (min (digits_value 10 token.bytes) 65536) (sym (ends value) ∙ given ∙ counted (drop place bytes)) in
+    ap (capped_at (length bytes)) (some_token bytes from place behind same lt stops (sym rest ∙ goes)) ∙ read_token (length bytes) token (tokens_at bytes behind) true found.0 ∙ ap (λ (n : ℕ). Ok (record { place = place; value = n }, tokens_at bytes behind)) (sym found.1)
 
-pub other_token : (bytes : List ℕ) (from place end : ℕ) → tokens_at bytes place ≡ tokens_at bytes from → place < length bytes → is_gap (get_or bytes place 0) ≡ false
-    → tokens_from true place (without_comments false (drop place bytes)) ≡ tokens_at bytes end → None ≡ capped (take_while (λ b. not (is_gap b)) (drop place bytes))
+-- a token whose digits go up to another byte
+pub other_token : (bytes : List ℕ) (from place end value : ℕ) → tokens_at bytes place ≡ tokens_at bytes from → place < length bytes → is_gap (get_or bytes place 0) ≡ false
+    → number_on (Some value) (drop end bytes) ≡ number_on (Some 0) (drop place bytes) → end < length bytes → is_gap (get_or bytes end 0) ≡ false → begins_number (drop end bytes) ≡ false
     → capped_at (length bytes) (tokens_at bytes from) ≡ Err (BadNumber place)
-other_token bytes from place end same lt stops rest given =
+other_token bytes from place end value same lt stops given inside gap digit =
     let token = token_of bytes place in
-    let no_digits = given_none (all_ascii_digits token.bytes) (min (digits_value 10 token.bytes) 65536) given in
-    ap (capped_at (length bytes)) (some_token bytes from place end same lt stops rest) ∙ read_token (length bytes) token (tokens_at bytes end) false no_digits
+    let rest = tokens_from true place (without_comments false (drop place bytes)) in
+    let no_digits = given_none (all_ascii_digits token.bytes) (min (digits_value 10 token.bytes) 65536) (sym (other_byte bytes end value inside gap (number_begins_not bytes end digit inside)) ∙ given ∙ counted (drop place bytes)) in
+    ap (capped_at (length bytes)) (sym same ∙ token_begins bytes place lt stops) ∙ read_token (length bytes) token rest false no_digits
 
-pub ruleset next_numeral = (no_token, number_token, other_token)
+pub ruleset next_numeral = (no_token, number_token, other_token, number_begins)
 
 pub no_next : (bytes : List ℕ) (from place : ℕ) → tokens_at bytes place ≡ tokens_at bytes from → length bytes ≤ place → next_place (tokens_at bytes from) ≡ None
 no_next bytes from place same last =

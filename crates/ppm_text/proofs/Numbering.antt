@@ -32,7 +32,7 @@ known_by true o p k h e = e
 known_by false None p k h e = absurd cc
 known_by false (Some j) p k h e = ap later (h j refl) ∙ e
 
-place_stays : (t : Rgb) (known more : List Rgb) (k : ℕ) → place_of t known ≡ Some k → place_of t (known ++ more) ≡ Some k
+pub place_stays : (t : Rgb) (known more : List Rgb) (k : ℕ) → place_of t known ≡ Some k → place_of t (known ++ more) ≡ Some k
 place_stays t [] more k e = absurd cc
 place_stays t (x ∷ known) more k e = known_by (rgb_eq t x) (place_of t known) (place_of t (known ++ more)) k (λ j h. place_stays t known more j h) e
 
@@ -41,7 +41,7 @@ new_by true o p n h e = absurd cc
 new_by false None p n h e = ap later (h refl) ∙ ap (λ (k : ℕ). Some k) (omega arith)
 new_by false (Some j) p n h e = absurd cc
 
-place_new : (t : Rgb) (known more : List Rgb) → place_of t known ≡ None → place_of t (known ++ t ∷ more) ≡ Some (length known)
+pub place_new : (t : Rgb) (known more : List Rgb) → place_of t known ≡ None → place_of t (known ++ t ∷ more) ≡ Some (length known)
 place_new t [] more e = ap (λ b. cond b (Some 0) (later (place_of t more))) (rgb_eq-refl t)
 place_new t (x ∷ known) more e = new_by (rgb_eq t x) (place_of t known) (place_of t (known ++ t ∷ more)) (length known) (place_new t known more) e
 

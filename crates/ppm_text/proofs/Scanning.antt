@@ -1,5 +1,6 @@
 -- How the scanner's loops go over a text: step by step the tokens to come stay the same.
-use Rattle.std.proofs.Common.{◌≡◌, ℕ, ◌+◌, ◌<◌, ◌≤◌, Bool, true, false, not, ◌&&◌, ◌||◌, cond, eqb, List, [], ◌∷◌, length, get_or, drop, refl, sym, ap, ◌∙◌, add-one, arith}
+use Rattle.std.proofs.Common.{◌≡◌, ◌≢◌, ℕ, ◌+◌, ◌<◌, ◌≤◌, Bool, true, false, not, ◌&&◌, ◌||◌, cond, eqb, List, [], ◌∷◌, length, get_or, drop, refl, sym, ap, ◌∙◌, add-one, arith}
+use Rattle.std.specs.Char.{is_ascii_digit}
 use Rattle.std.specs.List.{take_while}
 use Rattle.std.proofs.lemmas.Bool.Decides.{nat_tests}
 use Rattle.std.proofs.lemmas.List.{at_drop_more, at_drop_all}
@@ -31,15 +32,48 @@ skips : (commented : Bool) (place b : ℕ) (rest : List ℕ) → (commented || i
 skips commented place b rest h = rw (space_there commented b h, add-one) refl
 
 -- a byte of a gap is stepped over
-pub skip_step : (bytes : List ℕ) (at : ℕ) (commented : Bool) → at < length bytes → (commented || is_gap (get_or bytes at 0)) ≡ true
+skip_step : (bytes : List ℕ) (at : ℕ) (commented : Bool) → at < length bytes → (commented || is_gap (get_or bytes at 0)) ≡ true
     → tokens_from false (at + 1) (without_comments (in_comment commented (get_or bytes at 0)) (drop (at + 1) bytes)) ≡ tokens_from false at (without_comments commented (drop at bytes))
 skip_step bytes at commented lt h =
     sym (at_drop_more (λ bs. tokens_from false at (without_comments commented bs)) bytes at 0 lt ∙ skips commented at (get_or bytes at 0) (drop (at + 1) bytes) h)
 
-pub skip_end : (bytes : List ℕ) (at : ℕ) (commented : Bool) → length bytes ≤ at → tokens_from false at (without_comments commented (drop at bytes)) ≡ tokens_at bytes at
-skip_end bytes at commented le = at_drop_all (λ bs. tokens_from false at (without_comments commented bs)) bytes at le ∙ sym (at_drop_all (λ bs. tokens_from false at (without_comments false bs)) bytes at le)
+skip_as : (bytes : List ℕ) (at : ℕ) (before after : Bool) → at < length bytes → (before || is_gap (get_or bytes at 0)) ≡ true → in_comment before (get_or bytes at 0) ≡ after
+    → tokens_from false (at + 1) (without_comments after (drop (at + 1) bytes)) ≡ tokens_from false at (without_comments before (drop at bytes))
+skip_as bytes at before after lt h e = ap (λ t. tokens_from false (at + 1) (without_comments t (drop (at + 1) bytes))) (sym e) ∙ skip_step bytes at before lt h
 
-pub ruleset scanning = (skip_step, skip_end)
+-- a digit opens no gap
+pub no_gap : (b : ℕ) → is_ascii_digit b ≡ true → is_gap b ≡ false
+no_gap b h = grind (arith, nat_tests)
+
+-- white space
+pub space_skipped : (bytes : List ℕ) (at : ℕ) → at < length bytes → is_gap (get_or bytes at 0) ≡ true → get_or bytes at 0 ≢ 35 → tokens_at bytes (at + 1) ≡ tokens_at bytes at
+space_skipped bytes at lt h other = skip_as bytes at false false lt h (opens_none (get_or bytes at 0) other) where
+  opens_none : (b : ℕ) → b ≢ 35 → in_comment false b ≡ false
+  opens_none b other = grind (arith, nat_tests)
+
+-- the # that opens a comment
+pub comment_opens : (bytes : List ℕ) (at : ℕ) → at < length bytes → get_or bytes at 0 ≡ 35
+    → tokens_from false (at + 1) (without_comments true (drop (at + 1) bytes)) ≡ tokens_at bytes at
+comment_opens bytes at lt h = skip_as bytes at false true lt (ap is_gap h) (ap (in_comment false) h)
+
+-- a byte of a comment
+pub comment_goes_on : (bytes : List ℕ) (at : ℕ) → at < length bytes → is_line_end (get_or bytes at 0) ≡ false
+    → tokens_from false (at + 1) (without_comments true (drop (at + 1) bytes)) ≡ tokens_from false at (without_comments true (drop at bytes))
+comment_goes_on bytes at lt h = skip_as bytes at true true lt refl (ap not h)
+
+-- the line end that closes one
+pub comment_ends : (bytes : List ℕ) (at : ℕ) → at < length bytes → is_line_end (get_or bytes at 0) ≡ true
+    → tokens_at bytes at ≡ tokens_from false at (without_comments true (drop at bytes))
+comment_ends bytes at lt h =
+    let gap : is_gap (get_or bytes at 0) ≡ true = rw (line_ends_are_space (get_or bytes at 0) h) refl in
+    let closed : in_comment false (get_or bytes at 0) ≡ false = grind (arith, nat_tests) in
+    sym (skip_as bytes at false false lt gap closed) ∙ skip_as bytes at true false lt refl (ap not h)
+
+-- the end of the text
+pub last_comment_ends : (bytes : List ℕ) (at : ℕ) → length bytes ≤ at → tokens_at bytes at ≡ tokens_from false at (without_comments true (drop at bytes))
+last_comment_ends bytes at le = at_drop_all (λ bs. tokens_from false at (without_comments false bs)) bytes at le ∙ sym (at_drop_all (λ bs. tokens_from false at (without_comments true bs)) bytes at le)
+
+pub ruleset scanning = (nat_tests, no_gap, space_skipped, comment_opens, comment_goes_on, comment_ends, last_comment_ends)
 
 -- outside of comments and gaps a byte is left as it is
 pub gap_parts : (b : ℕ) → is_gap b ≡ false → (is_space b ≡ false) × (eqb b 35 ≡ false)
@@ -81,13 +115,6 @@ token_begins bytes place lt h =
     let same : tokens_from false place (without_comments false (b ∷ rest)) ≡ record { place = place; bytes = take_while (λ x. not (is_gap x)) (b ∷ rest) } ∷ tokens_from true place (without_comments false (b ∷ rest)) =
     ap (tokens_from false place) outside ∙ one ∙ ap (λ (bs : List ℕ). record { place = place; bytes = take_while (λ x. not (is_space x)) bs } ∷ tokens_from true place bs) (sym outside) ∙ ap (λ (bs : List ℕ). record { place = place; bytes = bs } ∷ tokens_from true place (without_comments false (b ∷ rest))) (token_bytes (b ∷ rest)) in
     whole ∙ same ∙ sym (at_drop_more (λ bs. record { place = place; bytes = take_while (λ x. not (is_gap x)) bs } ∷ tokens_from true place (without_comments false bs)) bytes place 0 lt)
-
--- a byte of a token is stepped over
-pub token_step : (bytes : List ℕ) (at : ℕ) → at < length bytes → is_gap (get_or bytes at 0) ≡ false
-    → tokens_from true (at + 1) (without_comments false (drop (at + 1) bytes)) ≡ tokens_from true at (without_comments false (drop at bytes))
-token_step bytes at lt h =
-    let one : tokens_from true at (without_comments false (get_or bytes at 0 ∷ drop (at + 1) bytes)) ≡ tokens_from true (at + 1) (without_comments false (drop (at + 1) bytes)) = rw (no_comment _ h, (gap_parts _ h).0, add-one) refl in
-    sym (at_drop_more (λ bs. tokens_from true at (without_comments false bs)) bytes at 0 lt ∙ one)
 
 -- a token ends at a gap, and at the end of the text
 pub token_ends : (bytes : List ℕ) (at : ℕ) → at < length bytes → is_gap (get_or bytes at 0) ≡ true → tokens_from true at (without_comments false (drop at bytes)) ≡ tokens_at bytes at

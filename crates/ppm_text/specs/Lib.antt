@@ -5,4 +5,5 @@ pub mod Samples
 pub mod Ppm
 pub mod Text
 pub mod Adding
+pub mod Known
 pub mod RoundTrip

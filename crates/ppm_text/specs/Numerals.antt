@@ -1,5 +1,5 @@
 -- Numbers of any length, counted no further than a cap that is above each limit.
-use Rattle.std.specs.Prelude.{ℕ, ◌+◌, ◌-◌, ◌*◌, min, if◌then◌else◌, List, [], ◌∷◌, Option, Some, None, Result, Ok, Err}
+use Rattle.std.specs.Prelude.{ℕ, ◌+◌, ◌-◌, ◌*◌, min, Bool, false, if◌then◌else◌, List, [], ◌∷◌, Option, Some, None, Result, Ok, Err}
 use Rattle.std.specs.Char.{is_ascii_digit}
 use Rattle.std.specs.Str.{all_ascii_digits}
 use Rattle.std.specs.Str.Parse.{digits_value}
@@ -7,7 +7,7 @@ use Rattle.picture.specs.Reading.{◌>>=◌}
 use Rattle.ppm_text.specs.declared.fault.PpmFault.{PpmFault}
 use Rattle.ppm_text.specs.declared.fault.PpmFault.TheVariants.{Truncated, BadNumber}
 use Rattle.ppm_text.specs.declared.scanner.Numeral.{Numeral}
-use Rattle.ppm_text.specs.Tokens.{Token}
+use Rattle.ppm_text.specs.Tokens.{Token, is_gap}
 
 -- the value of digits up to the cap, and nothing for other bytes
 abbrev pub capped : List ℕ → Option ℕ
@@ -17,6 +17,16 @@ capped bytes = if all_ascii_digits bytes then Some (min (digits_value 10 bytes) 
 abbrev pub with_byte : Option ℕ → ℕ → Option ℕ
 with_byte None b = None
 with_byte (Some n) b = if is_ascii_digit b then Some (min (n * 10 + (b - 48)) 65536) else None
+
+-- the first byte is a digit
+abbrev pub begins_number : List ℕ → Bool
+begins_number [] = false
+begins_number (b ∷ rest) = is_ascii_digit b
+
+-- the number that the bytes up to the next gap make, after the one that was counted before them
+abbrev pub number_on : Option ℕ → List ℕ → Option ℕ
+number_on number [] = number
+number_on number (b ∷ rest) = if is_gap b then number else number_on (with_byte number b) rest
 
 -- the next token as a number
 unfoldable pub numeral_at : ℕ → List Token → Result (Numeral × List Token) PpmFault

@@ -10,7 +10,7 @@ use Rattle.picture.specs.Palette.{Colours, fits, place_of, with_colour, only_bac
 use Rattle.ppm_text.specs.declared.fault.PpmFault.{PpmFault}
 use Rattle.ppm_text.specs.declared.fault.PpmFault.TheVariants.{BadMaxval, SampleOver, TooManyColours, TrailingToken}
 use Rattle.ppm_text.specs.declared.fields.Triple.{Triple}
-use Rattle.ppm_text.specs.Tokens.{Token, magic_of}
+use Rattle.ppm_text.specs.Tokens.{Token, Unread, magic_of}
 use Rattle.ppm_text.specs.Numerals.{numeral_at}
 use Rattle.ppm_text.specs.Samples.{side_at, triple_at}
 
@@ -63,13 +63,25 @@ abbrev pub at_the_end : {A : Type 0} → A → List Token → Result A PpmFault
 at_the_end x [] = Ok x
 at_the_end x (token ∷ rest) = Err (TrailingToken token.place)
 
--- What the whole text says: the magic, the width, the height, the maxval, a triple for each cell, and no more.
--- Nothing in it is a given.
-unfoldable pub ppm_of : List ℕ → Option Rgb → Result Content PpmFault
-ppm_of text background = do
+-- what stands before the cells: the sizes, the palette so far, and what is still to be read
+pub record Header : Type 0 where
+  pub width : ℕ
+  pub height : ℕ
+  pub colours : Colours
+  pub rest : Unread
+
+-- the magic, the width, the height and the maxval
+unfoldable pub header_of : List ℕ → Option Rgb → Result Header PpmFault
+header_of text background = do
   start ← magic_of text
   width ← side_at start.end start.tokens
   height ← side_at start.end width.1
   palette ← palette_at background start.end height.1
-  cells ← cells_at start.end (height.0 * width.0) palette.0 palette.1
-  at_the_end (record { colours = cells.1; rows = rows_of height.0 width.0 cells.0; givens = no_cells }) cells.2
+  Ok (record { width = width.0; height = height.0; colours = palette.0; rest = record { end = start.end; tokens = palette.1 } })
+
+-- What the whole text says: the header, a triple for each cell, and no more. Nothing in it is a given.
+unfoldable pub ppm_of : List ℕ → Option Rgb → Result Content PpmFault
+ppm_of text background = do
+  header ← header_of text background
+  cells ← cells_at header.rest.end (header.height * header.width) header.colours header.rest.tokens
+  at_the_end (record { colours = cells.1; rows = rows_of header.height header.width cells.0; givens = no_cells }) cells.2

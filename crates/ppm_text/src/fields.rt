@@ -1,7 +1,6 @@
 ghost use Rattle.std.specs.Prelude.{◌≡◌, ◌<◌, ◌≤◌, IfOk, IsTrue};
 ghost use Rattle.picture.specs.Palette.{fits};
-ghost use Rattle.picture.specs.Reading.{Gives};
-ghost use Rattle.ppm_text.specs.declared.fault.PpmFault.TheVariants.{Memory};
+ghost use Rattle.picture.specs.Reading.{Reads};
 ghost use Rattle.ppm_text.specs.Samples.{side_at, sample_at, triple_at};
 
 use crate::fault::PpmFault;
@@ -18,7 +17,7 @@ pub struct Triple {
 #[tactic(auto, using(crate::proofs::Caps::caps))]
 /// Reads the width or the height.
 pub fn read_side(scanner: &mut Scanner) -> Result<u8, PpmFault>
-    ensures read { Gives Memory (λ side. (side, scanner.new.tokens)) result
+    ensures read { Reads (λ side. (side, scanner.new.tokens)) result
         (side_at scanner.old.end scanner.old.tokens) }
     ensures within { IfOk result (λ side. (0 < side) × (side ≤ MAX_SIDE)) }
     ensures end { scanner.new.end ≡ scanner.old.end }
@@ -34,9 +33,10 @@ pub fn read_side(scanner: &mut Scanner) -> Result<u8, PpmFault>
 }
 
 #[tactic(auto, using(crate::proofs::Caps::caps))]
+#[inline(always)]
 // Reads a sample up to the maxval.
 fn read_sample(scanner: &mut Scanner, maxval: u16) -> Result<Numeral, PpmFault>
-    ensures read { Gives Memory (λ n. (n, scanner.new.tokens)) result
+    ensures read { Reads (λ n. (n, scanner.new.tokens)) result
         (sample_at scanner.old.end maxval scanner.old.tokens) }
     ensures within { IfOk result (λ n. n.value ≤ maxval) }
     ensures end { scanner.new.end ≡ scanner.old.end }
@@ -51,7 +51,7 @@ fn read_sample(scanner: &mut Scanner, maxval: u16) -> Result<Numeral, PpmFault>
 #[tactic(auto, unfolding(crate::specs::Samples::triple_at))]
 /// Reads a colour.
 pub fn read_triple(scanner: &mut Scanner, maxval: u16) -> Result<Triple, PpmFault>
-    ensures read { Gives Memory (λ t. (t, scanner.new.tokens)) result
+    ensures read { Reads (λ t. (t, scanner.new.tokens)) result
         (triple_at scanner.old.end maxval scanner.old.tokens) }
     ensures within { IfOk result (λ t. IsTrue (fits maxval t.colour)) }
     ensures end { scanner.new.end ≡ scanner.old.end }

@@ -3,6 +3,7 @@
 
 mod fault;
 mod fields;
+mod known;
 mod laws;
 mod reader;
 mod scanner;

@@ -1,15 +1,17 @@
-ghost use Rattle.std.specs.Prelude.{◌≡◌, ℕ, ◌*◌, ◌<◌, ◌≤◌, length, slice_index, IsTrue, IfOk};
+ghost use Rattle.std.specs.Prelude.{◌≡◌, ℕ, ◌*◌, ◌<◌, ◌≤◌, length, slice_index, IfErr, OnOk};
+ghost use Rattle.std.specs.Result.{result_err};
 ghost use Rattle.picture.specs.CellSet.{no_cells};
 ghost use Rattle.picture.specs.Rows.{rows_of};
 ghost use Rattle.picture.specs.Palette.{fits};
 ghost use Rattle.picture.specs.Content.{content_of};
-ghost use Rattle.picture.specs.Reading.{Gives};
+ghost use Rattle.picture.specs.Reading.{Gives, Refuses};
 ghost use Rattle.ppm_text.specs.declared.fault.PpmFault.TheVariants.{Memory};
-ghost use Rattle.ppm_text.specs.Ppm.{first_palette, palette_at, numbered, cell_at, cells_at, ppm_of};
-ghost use Rattle.ppm_text.specs.Adding.{adding_fault};
+ghost use Rattle.ppm_text.specs.Known.{AreKnown};
+ghost use Rattle.ppm_text.specs.Ppm.{first_palette, palette_at, cell_at, cells_at, header_of, ppm_of};
 
 use crate::fault::PpmFault;
-use crate::fields::{Triple, read_side, read_triple};
+use crate::fields::{read_side, read_triple};
+use crate::known::{Known, SLOTS, background_alone, number_of};
 use crate::scanner::{Numeral, Scanner};
 use picture::{CellSet, Document, MAX_SIDE, Palette, PaletteFault, Picture, Rgb};
 use std::alloc::Global;
@@ -23,6 +25,8 @@ fn read_palette(
 ) -> Result<Palette, PpmFault>
     ensures read { Gives Memory (λ p. (p, scanner.new.tokens)) result
         (palette_at background scanner.old.end scanner.old.tokens) }
+    ensures fault { Refuses Memory result
+        (result_err (palette_at background scanner.old.end scanner.old.tokens)) }
     ensures end { scanner.new.end ≡ scanner.old.end }
 {
     let Numeral { place, value } = scanner.numeral()?;
@@ -40,7 +44,8 @@ fn begin_palette(
     background: Option<Rgb>,
 ) -> Result<Palette, PpmFault>
     requires { 0 < maxval }
-    ensures { Gives Memory (λ p. p) result (first_palette background maxval place) }
+    ensures read { Gives Memory (λ p. p) result (first_palette background maxval place) }
+    ensures fault { Refuses Memory result (result_err (first_palette background maxval place)) }
 {
     let white = Rgb {
         r: maxval,
@@ -54,41 +59,22 @@ fn begin_palette(
     }
 }
 
-#[tactic(auto, using(crate::proofs::Adding::refused))]
-// The number of a triple in the palette, which is added where it is new.
-fn number_of(palette: &mut Palette, triple: Triple) -> Result<u8, PpmFault>
-    requires { IsTrue (fits palette.old.maxval triple.colour) }
-    ensures { Gives Memory (λ number. (number, palette.new)) result (numbered palette.old triple) }
-{
-    if let Some(number) = palette.number_of(triple.colour) {
-        return Ok(number);
-    }
-    match palette.add(triple.colour) {
-        Ok(number) => Ok(number),
-        Err(fault) => Err(adding_fault(fault, triple.place)),
-    }
-}
-
-// Why the palette refused a new triple with lawful samples: it is full, or memory ran out.
-fn adding_fault(fault: PaletteFault, place: usize) -> PpmFault
-    ensures { result ≡ adding_fault fault place }
-{
-    match fault {
-        PaletteFault::Memory => PpmFault::Memory,
-        _ => PpmFault::TooManyColours(place),
-    }
-}
-
 #[tactic(auto, unfolding(crate::specs::Ppm::cell_at))]
 // Reads a cell's triple, and gives its number.
-fn read_cell(scanner: &mut Scanner, palette: &mut Palette) -> Result<u8, PpmFault>
+fn read_cell(
+    scanner: &mut Scanner,
+    palette: &mut Palette,
+    known: &mut [Known; SLOTS],
+) -> Result<u8, PpmFault>
+    requires { AreKnown palette.old.triples known.old }
     ensures read { Gives Memory (λ number. (number, palette.new, scanner.new.tokens)) result
         (cell_at scanner.old.end palette.old scanner.old.tokens) }
+    ensures known { OnOk result (AreKnown palette.new.triples known.new) }
     ensures end { scanner.new.end ≡ scanner.old.end }
 {
     let maxval = palette.maxval();
     let triple = read_triple(scanner, maxval)?;
-    number_of(palette, triple)
+    number_of(palette, known, triple)
 }
 
 #[tactic(auto, using(crate::proofs::Cells::cell_loop))]
@@ -103,9 +89,10 @@ fn read_cells(
         (cells_at scanner.old.end count palette.old scanner.old.tokens) }
     ensures end { scanner.new.end ≡ scanner.old.end }
 {
-    let mut cells = Vec::new(alloc);
+    let mut cells = Vec::with_capacity(alloc, count)?;
+    let mut known = background_alone(palette);
     for _ in 0..count {
-        let cell = read_cell(scanner, palette)?;
+        let cell = read_cell(scanner, palette, &mut known)?;
         cells.push(cell)?;
     }
     Ok(cells)
@@ -134,7 +121,7 @@ fn document_of(palette: Palette, height: u8, width: u8, cells: Vec<u8>) -> Docum
     }
 }
 
-#[tactic(auto, using(crate::proofs::Cells::read_cells), unfolding(crate::specs::Ppm::ppm_of))]
+#[tactic(auto, using(crate::proofs::Cells::read_cells), unfolding(crate::specs::Ppm::ppm_of, crate::specs::Ppm::header_of))]
 /// Reads a plain PPM text (P3) whole: the magic, the width and the height from 1 to 120, the maxval
 /// from 1 to 65535, and the samples of each cell in row order, each a decimal number of any length.
 ///
@@ -145,9 +132,11 @@ fn document_of(palette: Palette, height: u8, width: u8, cells: Vec<u8>) -> Docum
 /// numbered by first appearance in row order, up to 16 in all. No cell is a given.
 ///
 /// The text is read from the front, and the first fault is answered, with the byte at which it was
-/// met. A background with a sample above the maxval is refused at the maxval.
+/// met. A background with a sample above the maxval is refused at the maxval. No memory is taken
+/// before the maxval has been read, so a fault up to there is answered whatever memory there is.
 pub fn read_ppm(alloc: Global, bytes: &[u8], background: Option<Rgb>) -> Result<Document, PpmFault>
-    ensures { Gives Memory content_of result (ppm_of bytes.now background) }
+    ensures read { Gives Memory content_of result (ppm_of bytes.now background) }
+    ensures header { IfErr (header_of bytes.now background) (λ fault. result ≡ Err fault) }
 {
     let mut scanner = Scanner::start(bytes)?;
     let width = read_side(&mut scanner)?;

@@ -1,10 +1,7 @@
-ghost use Rattle.std.specs.Prelude.{◌≡◌, ◌<◌, ◌≤◌, length, slice_index, drop, not, true, false, IfSome, IfOk, Some};
-ghost use Rattle.std.specs.List.{take_while};
-ghost use Rattle.picture.specs.Reading.{Gives};
-ghost use Rattle.ppm_text.specs.declared.fault.PpmFault.TheVariants.{Memory};
-ghost use Rattle.ppm_text.specs.Tokens.{is_space, is_gap, in_comment, without_comments};
-ghost use Rattle.ppm_text.specs.Tokens.{tokens_from, tokens_at, magic_of, next_place};
-ghost use Rattle.ppm_text.specs.Numerals.{capped, with_byte, capped_at};
+ghost use Rattle.std.specs.Prelude.{◌≡◌, ◌≢◌, ℕ, ◌+◌, ◌∷◌, ◌<◌, ◌≤◌, length, slice_index, drop, is_some, true, false, IfNone, IfSome, IfOk};
+ghost use Rattle.picture.specs.Reading.{Reads};
+ghost use Rattle.ppm_text.specs.Tokens.{is_gap, is_line_end, tokens_from, tokens_at, without_comments, magic_of, next_place};
+ghost use Rattle.ppm_text.specs.Numerals.{begins_number, capped_at, number_on};
 
 use crate::fault::PpmFault;
 use std::marker::Model;
@@ -40,7 +37,7 @@ impl<'a> Model for Scanner<'a> {
 impl<'a> Scanner<'a> {
     /// Reads the magic.
     pub fn start(bytes: &'a [u8]) -> Result<Scanner<'a>, PpmFault>
-        ensures { Gives Memory (λ s. s) result (magic_of bytes.now) }
+        ensures { Reads (λ s. s) result (magic_of bytes.now) }
     {
         match bytes {
             [b'P', b'3'] => {}
@@ -50,9 +47,11 @@ impl<'a> Scanner<'a> {
         Ok(Scanner { bytes, at: 2 })
     }
 
+    // Each sample of a picture comes here, so this and what it calls stand in its caller's loop.
+    #[inline(always)]
     /// Reads the next token as a number.
     pub fn numeral(&mut self) -> Result<Numeral, PpmFault>
-        ensures read { Gives Memory (λ n. (n, self.new.tokens)) result
+        ensures read { Reads (λ n. (n, self.new.tokens)) result
             (capped_at self.old.end self.old.tokens) }
         ensures end { self.new.end ≡ self.old.end }
     {
@@ -70,20 +69,40 @@ impl<'a> Scanner<'a> {
 }
 
 #[tactic(auto, using(crate::proofs::NextNumeral::next_numeral))]
-// The next number from a place on, and where its token ends.
+#[inline(always)]
+// The next number from a place on, and a place behind its token. Mostly the digits begin at once.
 fn numeral_after(bytes: &[u8], from: usize) -> Result<(Numeral, usize), PpmFault>
     requires { from ≤ length bytes.now }
-    ensures read { Gives Memory (λ x. (x.0, tokens_at bytes.now x.1)) result
+    ensures read { Reads (λ x. (x.0, tokens_at bytes.now x.1)) result
+        (capped_at (length bytes.now) (tokens_at bytes.now from)) }
+    ensures within { IfOk result (λ x. x.1 ≤ length bytes.now) }
+{
+    let (value, end) = count_digits(bytes, from);
+    if end == from {
+        return numeral_behind_gaps(bytes, from);
+    }
+    match behind_token(bytes, end) {
+        Some(behind) => Ok((Numeral { place: from, value }, behind)),
+        None => Err(PpmFault::BadNumber(from)),
+    }
+}
+
+#[tactic(auto, using(crate::proofs::NextNumeral::next_numeral))]
+#[inline(always)]
+// The same, where white space or comments may come first.
+fn numeral_behind_gaps(bytes: &[u8], from: usize) -> Result<(Numeral, usize), PpmFault>
+    requires { from ≤ length bytes.now }
+    ensures read { Reads (λ x. (x.0, tokens_at bytes.now x.1)) result
         (capped_at (length bytes.now) (tokens_at bytes.now from)) }
     ensures within { IfOk result (λ x. x.1 ≤ length bytes.now) }
 {
     let place = token_start(bytes, from);
-    if place == bytes.len() {
+    if place >= bytes.len() {
         return Err(PpmFault::Truncated(place));
     }
     let (value, end) = count_digits(bytes, place);
-    match value {
-        Some(value) => Ok((Numeral { place, value }, end)),
+    match behind_token(bytes, end) {
+        Some(behind) => Ok((Numeral { place, value }, behind)),
         None => Err(PpmFault::BadNumber(place)),
     }
 }
@@ -99,6 +118,7 @@ fn place_after(bytes: &[u8], from: usize) -> Option<usize>
 }
 
 #[tactic(auto, using(crate::proofs::Scanning::scanning))]
+#[inline(never)]
 // Where the next token begins, or the end of the text.
 fn token_start(bytes: &[u8], from: usize) -> usize
     requires { from ≤ length bytes.now }
@@ -107,62 +127,111 @@ fn token_start(bytes: &[u8], from: usize) -> usize
     ensures stops { result < length bytes.now → is_gap (slice_index bytes.now result) ≡ false }
 {
     let mut at = from;
-    let mut commented = false;
-    while at < bytes.len() && (commented || is_gap(bytes[at])) {
-        commented = in_comment(commented, bytes[at]);
+    while at < bytes.len()
+        && let Some(behind) = behind_gap(bytes, at)
+    {
+        at = behind;
+    }
+    at
+}
+
+#[tactic(auto, using(crate::proofs::Scanning::scanning))]
+#[inline(always)]
+// A place behind the white space byte or the comment that begins here, if one does.
+fn behind_gap(bytes: &[u8], at: usize) -> Option<usize>
+    requires { at < length bytes.now }
+    ensures further { IfSome result (λ behind. at < behind) }
+    ensures within { IfSome result (λ behind. behind ≤ length bytes.now) }
+    ensures same { IfSome result (λ behind. tokens_at bytes.now behind ≡ tokens_at bytes.now at) }
+    ensures gap { is_some result ≡ is_gap (slice_index bytes.now at) }
+{
+    match bytes[at] {
+        b' ' | 9..=13 => Some(at + 1),
+        b'#' => Some(comment_end(bytes, at + 1)),
+        _ => None,
+    }
+}
+
+#[tactic(auto, using(crate::proofs::Scanning::scanning))]
+#[inline(never)]
+// Where a comment ends that was opened before this place: at a line end, or at the end of the text.
+fn comment_end(bytes: &[u8], from: usize) -> usize
+    requires { from ≤ length bytes.now }
+    ensures further { from ≤ result }
+    ensures within { result ≤ length bytes.now }
+    ensures same { tokens_at bytes.now result
+        ≡ tokens_from false from (without_comments true (drop from bytes.now)) }
+{
+    let mut at = from;
+    while at < bytes.len() && !is_line_end(bytes[at]) {
         at += 1;
     }
     at
 }
 
 #[tactic(auto, using(crate::proofs::Counting::counting))]
-// The number that the token spells, if it is digits alone, and where the token ends.
-fn count_digits(bytes: &[u8], from: usize) -> (Option<u32>, usize)
+#[inline(always)]
+// The number that the digits from a place on spell, and where they end.
+fn count_digits(bytes: &[u8], from: usize) -> (u32, usize)
     requires { from ≤ length bytes.now }
-    ensures value { result.0 ≡ capped (take_while (λ b. not (is_gap b)) (drop from bytes.now)) }
     ensures within { result.1 ≤ length bytes.now }
-    ensures rest { tokens_from true from (without_comments false (drop from bytes.now))
-        ≡ tokens_at bytes.now result.1 }
+    ensures value { number_on (Some result.0) (drop result.1 bytes.now)
+        ≡ number_on (Some 0) (drop from bytes.now) }
+    ensures rest { tokens_from true result.1 (without_comments false (drop result.1 bytes.now))
+        ≡ tokens_from true from (without_comments false (drop from bytes.now)) }
+    ensures stops { begins_number (drop result.1 bytes.now) ≡ false }
+    ensures first { from ≢ result.1 → begins_number (drop from bytes.now) ≡ true }
 {
-    let mut at = from;
-    let mut number = Some(0);
-    while at < bytes.len() && !is_gap(bytes[at]) {
-        number = with_byte(number, bytes[at]);
-        at += 1;
+    let mut rest = &bytes[from..];
+    let mut value: u32 = 0;
+    while let Some((digit, behind)) = first_digit(rest) {
+        value = (value * 10 + digit).min(CAP);
+        rest = behind;
     }
-    (number, at)
+    (value, bytes.len() - rest.len())
 }
 
-fn with_byte(number: Option<u32>, byte: u8) -> Option<u32>
-    requires { IfSome number (λ n. n ≤ 65536) }
-    ensures value { result ≡ with_byte number byte }
-    ensures small { IfSome result (λ n. n ≤ 65536) }
+#[inline(always)]
+// The value of the digit that begins a text, and what stands behind it, if one does.
+fn first_digit(text: &[u8]) -> Option<(u32, &[u8])>
+    ensures some { IfSome result (λ x. text.now ≡ (48 + x.0) ∷ x.1.now) }
+    ensures value { IfSome result (λ x. x.0 ≤ 9) }
+    ensures none { IfNone result (begins_number text.now ≡ false) }
 {
-    match number {
-        Some(value) if byte.is_ascii_digit() => {
-            Some((value * 10 + u32::from(byte - b'0')).min(CAP))
-        }
+    match text {
+        [digit @ b'0'..=b'9', behind @ ..] => Some((u32::from(*digit - b'0'), behind)),
         _ => None,
     }
+}
+
+#[tactic(auto, using(crate::proofs::Counting::token_end))]
+#[inline(always)]
+// A place behind a token whose digits end here, or nothing where it goes on with another byte.
+fn behind_token(bytes: &[u8], end: usize) -> Option<usize>
+    requires { end ≤ length bytes.now }
+    ensures within { IfSome result (λ behind. behind ≤ length bytes.now) }
+    ensures ends { IfSome result (λ behind. (n : ℕ) → number_on (Some n) (drop end bytes.now) ≡ Some n) }
+    ensures rest { IfSome result (λ behind. tokens_from true end (without_comments false (drop end bytes.now))
+        ≡ tokens_at bytes.now behind) }
+    ensures other { IfNone result (end < length bytes.now) }
+    ensures goes_on { IfNone result (is_gap (slice_index bytes.now end) ≡ false) }
+{
+    if end >= bytes.len() {
+        return Some(end);
+    }
+    behind_gap(bytes, end)
 }
 
 // White space, or the # that opens a comment.
 fn is_gap(byte: u8) -> bool
     ensures { result ≡ is_gap byte }
 {
-    is_space(byte) || byte == b'#'
+    matches!(byte, b' ' | 9..=13 | b'#')
 }
 
-// Space, TAB, LF, VT, FF or CR.
-fn is_space(byte: u8) -> bool
-    ensures { result ≡ is_space byte }
+// LF and CR.
+fn is_line_end(byte: u8) -> bool
+    ensures { result ≡ is_line_end byte }
 {
-    byte == b' ' || (9..=13).contains(&byte)
-}
-
-// Whether the byte is part of a comment, where one may have been opened before it.
-fn in_comment(commented: bool, byte: u8) -> bool
-    ensures { result ≡ in_comment commented byte }
-{
-    (commented || byte == b'#') && byte != b'\n' && byte != b'\r'
+    matches!(byte, b'\n' | b'\r')
 }

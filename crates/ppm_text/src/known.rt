@@ -1,0 +1,95 @@
+//! The numbers of colours, with those met lately at hand.
+
+ghost use Rattle.std.specs.Prelude.{◌≡◌, ◌<◌, IsTrue, OnOk};
+ghost use Rattle.picture.specs.Palette.{fits};
+ghost use Rattle.picture.specs.Reading.{Gives};
+ghost use Rattle.ppm_text.specs.declared.fault.PpmFault.TheVariants.{Memory};
+ghost use Rattle.ppm_text.specs.Adding.{adding_fault};
+ghost use Rattle.ppm_text.specs.Known.{AreKnown};
+ghost use Rattle.ppm_text.specs.Ppm.{numbered};
+
+use crate::fault::PpmFault;
+use crate::fields::Triple;
+use picture::{Palette, PaletteFault, Rgb};
+
+/// How many colours are kept at hand.
+pub const SLOTS: usize = 256;
+
+/// A colour of the palette, and its number.
+#[derive(Clone, Copy, Drop)]
+pub struct Known {
+    pub colour: Rgb,
+    pub number: u8,
+}
+
+#[tactic(auto, using(crate::proofs::KnownLemmas::background_known))]
+/// The background at every slot.
+pub fn background_alone(palette: &Palette) -> [Known; SLOTS]
+    ensures { AreKnown palette.now.triples result }
+{
+    let _ = palette.len();
+    let background = Known {
+        colour: palette.rgb(0),
+        number: 0,
+    };
+    [background; SLOTS]
+}
+
+#[tactic(auto, using(crate::proofs::KnownLemmas::knowing))]
+/// The number of a triple in the palette, which is added where it is new. A colour has a slot of its
+/// own or shares one, and only where another colour stands there the palette is asked.
+pub fn number_of(
+    palette: &mut Palette,
+    known: &mut [Known; SLOTS],
+    triple: Triple,
+) -> Result<u8, PpmFault>
+    requires fits { IsTrue (fits palette.old.maxval triple.colour) }
+    requires known { AreKnown palette.old.triples known.old }
+    ensures read { Gives Memory (λ number. (number, palette.new)) result (numbered palette.old triple) }
+    ensures known { OnOk result (AreKnown palette.new.triples known.new) }
+{
+    let slot = slot_of(triple.colour);
+    if known[slot].colour == triple.colour {
+        return Ok(known[slot].number);
+    }
+    let number = find_or_add(palette, triple)?;
+    known[slot] = Known {
+        colour: triple.colour,
+        number,
+    };
+    Ok(number)
+}
+
+// The slot of a colour. The factors are odd, so that colours which differ in one sample alone mostly have two slots.
+fn slot_of(colour: Rgb) -> usize
+    ensures { result < SLOTS }
+{
+    let sum = usize::from(colour.r) * 3 + usize::from(colour.g) * 5 + usize::from(colour.b) * 7;
+    sum % SLOTS
+}
+
+#[tactic(auto, using(crate::proofs::Adding::refused))]
+#[inline(never)]
+// The number of a triple in the palette, which is added where it is new.
+fn find_or_add(palette: &mut Palette, triple: Triple) -> Result<u8, PpmFault>
+    requires { IsTrue (fits palette.old.maxval triple.colour) }
+    ensures { Gives Memory (λ number. (number, palette.new)) result (numbered palette.old triple) }
+{
+    if let Some(number) = palette.number_of(triple.colour) {
+        return Ok(number);
+    }
+    match palette.add(triple.colour) {
+        Ok(number) => Ok(number),
+        Err(fault) => Err(adding_fault(fault, triple.place)),
+    }
+}
+
+// Why the palette refused a new triple with lawful samples: it is full, or memory ran out.
+fn adding_fault(fault: PaletteFault, place: usize) -> PpmFault
+    ensures { result ≡ adding_fault fault place }
+{
+    match fault {
+        PaletteFault::Memory => PpmFault::Memory,
+        _ => PpmFault::TooManyColours(place),
+    }
+}
