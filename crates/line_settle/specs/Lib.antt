@@ -4,6 +4,7 @@ pub mod FactSets
 pub mod Fitting
 pub mod Laws
 pub mod Laying
+pub mod LeavingOut
 pub mod Masks
 pub mod Narrowing
 pub mod Positions

@@ -7,6 +7,7 @@ mod block_steps;
 mod facts;
 mod forcing;
 pub mod laws;
+mod leave_out;
 mod line;
 mod line_engine;
 mod mask_engine;
@@ -21,6 +22,7 @@ mod tables;
 
 pub use facts::Facts;
 pub use forcing::force;
+pub use leave_out::leave_out;
 pub use line_engine::{LineEngine, Outcome};
 pub use mask_engine::MaskEngine;
 pub use meter::Meter;
