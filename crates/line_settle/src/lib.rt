@@ -7,7 +7,6 @@ mod block_steps;
 mod facts;
 mod forcing;
 pub mod laws;
-mod leave_out;
 mod line;
 mod line_engine;
 mod mask_engine;
@@ -18,15 +17,17 @@ mod plain_engine;
 mod position_tables;
 mod positions;
 mod settled_line;
+mod state_sets;
+mod sweep;
 mod tables;
 
 pub use facts::Facts;
 pub use forcing::force;
-pub use leave_out::leave_out;
 pub use line_engine::{LineEngine, Outcome};
 pub use mask_engine::MaskEngine;
 pub use meter::Meter;
 pub use plain_engine::PlainEngine;
+pub use sweep::leave_out;
 
 #[cfg(test)]
 mod tests;
