@@ -27,3 +27,5 @@ pub mod BlockLemmas
 pub mod MarkLemmas
 pub mod PassLemmas
 pub mod SettledLemmas
+pub mod StateSetLemmas
+pub mod MarkedLemmas

@@ -37,7 +37,6 @@ pub record ArePatternSets (pattern : List ℕ) (sets : PatternSets) : Type 0 whe
   pub end : ℕ
   pub is_end : end + 1 ≡ length pattern
   pub short : length pattern ≤ 121
-  pub sixteen : length sets.next ≡ 16
   pub next : AreNext pattern end sets.next
   pub waiting : AreWaiting pattern (length pattern) sets.waiting
   pub colours : HasColours pattern end sets.colours

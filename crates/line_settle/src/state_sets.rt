@@ -1,10 +1,12 @@
 ghost use Rattle.std.specs.Prelude.{◌≡◌, ℕ, ◌+◌, ◌<◌, ◌≤◌, ◌↔◌, true, List, Bool, length, slice_index};
 ghost use Rattle.clues.specs.Clue.{IsClue};
 ghost use Rattle.line_settle.specs.Spelling.{allows, pattern_of, finish_step, reach_step};
+ghost use Rattle.line_settle.specs.Laying.{gap_before};
 ghost use Rattle.line_settle.specs.Positions.{has};
 ghost use Rattle.line_settle.specs.StateSets.{AreStates, MovesBy, AreNext, ArePatternSets};
 
 use crate::block_steps::meets;
+use crate::pattern::allows;
 use crate::position_tables::see_colour;
 use clues::Block;
 
@@ -19,6 +21,7 @@ pub struct Moves {
 }
 
 impl Moves {
+    #[tactic(auto, using(crate::proofs::StateSetLemmas::moving))]
     /// The states behind the cell, from the ones before it.
     pub fn forward(self, from: u128) -> u128
         ensures { (pattern : List ℕ) (mask : ℕ) (before : ℕ → Bool)
@@ -28,6 +31,7 @@ impl Moves {
         ((from & self.advancing) << 1) | (from & self.resting)
     }
 
+    #[tactic(auto, using(crate::proofs::StateSetLemmas::moving))]
     /// The states before the cell from which it leads to one of a set.
     pub fn back(self, later: u128) -> u128
         ensures { (pattern : List ℕ) (mask : ℕ) (behind : ℕ → Bool)
@@ -51,6 +55,7 @@ pub struct PatternSets {
     pub last: u128,
 }
 
+#[tactic(auto, using(crate::proofs::StateSetLemmas::setting))]
 // The states from one on up to another.
 fn states_between(start: usize, end: usize) -> u128
     requires in_order { start ≤ end }
@@ -60,6 +65,7 @@ fn states_between(start: usize, end: usize) -> u128
     (1 << end) - (1 << start)
 }
 
+#[tactic(auto, using(crate::proofs::StateSetLemmas::setting))]
 // Adds the states that a run of one colour stands behind.
 fn see_run(start: usize, end: usize, colour: u8, next: &mut [u128])
     requires in_order { start ≤ end }
@@ -71,6 +77,15 @@ fn see_run(start: usize, end: usize, colour: u8, next: &mut [u128])
         → AreNext pattern end next.new }
 {
     see_colour(states_between(start, end), colour, next);
+}
+
+// The state in which a line waits for a block, `state` being the one behind the block before, with a gap between them or
+// none.
+fn start_behind(state: usize, is_gap: bool) -> usize
+    requires { state < 128 }
+    ensures { result ≡ state + gap_before is_gap }
+{
+    if is_gap { state + 1 } else { state }
 }
 
 impl PatternSets {
@@ -86,7 +101,7 @@ impl PatternSets {
         let mut state = 0;
         for j in 0..blocks.len() {
             let block = blocks[j];
-            let start = if meets(blocks, j) { state + 1 } else { state };
+            let start = start_behind(state, meets(blocks, j));
             let end = start + usize::from(block.len);
             see_run(state, start, 0, &mut next);
             see_run(start, end, block.colour, &mut next);
@@ -102,18 +117,36 @@ impl PatternSets {
         }
     }
 
-    /// How a cell with one of the mask's colours moves a line.
-    pub fn moves_by(&self, mask: u16) -> Moves
-        ensures { (pattern : List ℕ) → ArePatternSets pattern self.now → MovesBy pattern mask result }
+    // The states that a cell with one of the colours leads on to the next one.
+    fn advancing_by(&self, colours: u16) -> u128
+        ensures { (q : ℕ) → (has result q ≡ true)
+            ↔ ((k : ℕ) × (allows colours k ≡ true) × (has (slice_index self.now.next k) q ≡ true)) }
     {
-        let mut rest = mask & self.colours;
-        let resting = if rest & 1 == 1 { self.waiting } else { 0 };
+        let mut rest = colours;
         let mut advancing = 0;
         'colours: while rest != 0 {
             let colour = rest.trailing_zeros();
             advancing |= self.next[colour as usize];
             rest &= !(1 << colour);
         }
-        Moves { advancing, resting }
+        advancing
+    }
+
+    // The states that a cell with one of the colours can leave as they are.
+    fn resting_by(&self, colours: u16) -> u128
+        ensures { (q : ℕ) → (has result q ≡ true) ↔ ((has self.now.waiting q ≡ true) × (allows colours 0 ≡ true)) }
+    {
+        if allows(colours, 0) { self.waiting } else { 0 }
+    }
+
+    /// How a cell with one of the mask's colours moves a line.
+    pub fn moves_by(&self, mask: u16) -> Moves
+        ensures { (pattern : List ℕ) → ArePatternSets pattern self.now → MovesBy pattern mask result }
+    {
+        let colours = mask & self.colours;
+        Moves {
+            advancing: self.advancing_by(colours),
+            resting: self.resting_by(colours),
+        }
     }
 }

@@ -21,35 +21,49 @@ pub struct Reached {
     pub marked: u128,
 }
 
+// The states behind a cell of drawn colours; mostly it has none.
+fn reach_drawn(sets: &PatternSets, colours: u16, from: u128) -> u128
+    ensures { (pattern : List ℕ) (before : ℕ → Bool) → ArePatternSets pattern sets.now → AreStates pattern before from
+        → AreStates pattern (reach_step pattern colours before) result }
+{
+    if colours == 0 {
+        return 0;
+    }
+    sets.moves_by(colours).forward(from)
+}
+
 // The states behind a cell, `colours` being those of the mask's colours that are drawn there.
 fn reach(sets: &PatternSets, moves: Moves, colours: u16, from: Reached) -> Reached
     ensures { (pattern : List ℕ) (mask : ℕ) (all marked : ℕ → Bool)
         → ArePatternSets pattern sets.now → MovesBy pattern mask moves → AreReached pattern all marked from
         → AreReached pattern (reach_step pattern mask all) (reach_marked pattern mask colours all marked) result }
 {
-    let mut marked = moves.forward(from.marked);
-    if colours != 0 {
-        marked |= sets.moves_by(colours).forward(from.all);
-    }
     Reached {
         all: moves.forward(from.all),
-        marked,
+        marked: moves.forward(from.marked) | reach_drawn(sets, colours, from.all),
     }
 }
 
+// The states before a cell of drawn colours that it leads to one of a set; mostly it has none.
+fn back_drawn(sets: &PatternSets, colours: u16, later: u128) -> u128
+    ensures { (pattern : List ℕ) (behind : ℕ → Bool) → ArePatternSets pattern sets.now → AreStates pattern behind later
+        → AreStates pattern (finish_step pattern colours behind) result }
+{
+    if colours == 0 {
+        return 0;
+    }
+    sets.moves_by(colours).back(later)
+}
+
 // The states before a cell from which lines, and marked lines, can go on to the states behind it.
-fn reach_back(sets: &PatternSets, moves: Moves, colours: u16, later: Reached) -> Reached
+fn back(sets: &PatternSets, moves: Moves, colours: u16, later: Reached) -> Reached
     ensures { (pattern : List ℕ) (mask : ℕ) (all marked : ℕ → Bool)
         → ArePatternSets pattern sets.now → MovesBy pattern mask moves → AreReached pattern all marked later
         → AreReached pattern (finish_step pattern mask all) (finish_marked pattern mask colours all marked) result }
 {
-    let mut marked = moves.back(later.marked);
-    if colours != 0 {
-        marked |= sets.moves_by(colours).back(later.all);
-    }
     Reached {
         all: moves.back(later.all),
-        marked,
+        marked: moves.back(later.marked) | back_drawn(sets, colours, later.all),
     }
 }
 
@@ -82,7 +96,7 @@ fn note_behind(
     for i in (0..left.len()).rev() {
         plain[i] = later.all;
         marked[i] = later.marked;
-        later = reach_back(sets, sets.moves_by(left[i]), left[i] & drawn[i], later);
+        later = back(sets, sets.moves_by(left[i]), left[i] & drawn[i], later);
     }
 }
 
