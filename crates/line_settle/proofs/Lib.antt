@@ -29,3 +29,4 @@ pub mod PassLemmas
 pub mod SettledLemmas
 pub mod StateSetLemmas
 pub mod MarkedLemmas
+pub mod SweepLemmas

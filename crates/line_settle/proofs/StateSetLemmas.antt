@@ -169,13 +169,13 @@ pub stays_allowed : (mask colour k : ℕ) → mask < 2 ^ 16 → colour < 16 → 
 stays_allowed mask colour k l c n a =
     allows_is (taken_out mask colour) k ∙ (ap (λ x. x == 1) (bit_at_clear_other w16 mask colour c k (bit_below mask 16 k l (allows_bit mask k a)) n) ∙ (sym (allows_is mask k) ∙ a))
 
-allowed_both : (m n k : ℕ) → allows (bit_and m n) k ≡ true → (allows m k ≡ true) × (allows n k ≡ true)
+pub allowed_both : (m n k : ℕ) → allows (bit_and m n) k ≡ true → (allows m k ≡ true) × (allows n k ≡ true)
 unfolding has
 allowed_both m n k h =
     let p = in_and m n k (sym (allows_is (bit_and m n) k) ∙ h) in
     (allows_is m k ∙ p.0, allows_is n k ∙ p.1)
 
-both_allowed : (m n k : ℕ) → allows m k ≡ true → allows n k ≡ true → allows (bit_and m n) k ≡ true
+pub both_allowed : (m n k : ℕ) → allows m k ≡ true → allows n k ≡ true → allows (bit_and m n) k ≡ true
 unfolding has
 both_allowed m n k g h = allows_is (bit_and m n) k ∙ and_in m n k (sym (allows_is m k) ∙ g) (sym (allows_is n k) ∙ h)
 
