@@ -1,5 +1,7 @@
-ghost use Rattle.std.specs.Prelude.{◌≡◌, ◌<◌, ◌≤◌};
-ghost use Rattle.picture.specs.Rows.{lines_along};
+ghost use Rattle.std.specs.Prelude.{◌≡◌, ◌<◌, ◌≤◌, length};
+ghost use Rattle.picture.specs.Rows.{width_of, lines_along};
+ghost use Rattle.picture.specs.CellSet.{IsCellSet, HasCell, PutsCell, TakesOutCell};
+ghost use Rattle.picture.specs.LineSet.{HasName};
 
 use super::*;
 use std::alloc::{AllocError, Global};
@@ -375,4 +377,70 @@ fn a_set_of_lines_keeps_what_was_put(rt: HostRuntime) {
     ] {
         assert_eq!(rt; lines.has(LineId { axis, at }), has);
     }
+}
+
+// Puts a cell that is absent into a set, and takes it out again.
+fn put_and_take_out(cells: &mut CellSet, row: u8, col: u8)
+    requires in_rows { row < MAX_SIDE }
+    requires in_columns { col < MAX_SIDE }
+    requires absent { ¬ HasCell cells.old row col }
+    ensures { cells.new ≡ cells.old }
+{
+    laws::cells_come_back();
+    let _ = cells.len();
+    cells.put(row, col);
+    cells.take_out(row, col);
+}
+
+// Takes a name that is there out of a set, and puts it back.
+fn take_out_and_put(lines: &mut LineSet, line: LineId)
+    requires in_lines { line.at < MAX_SIDE }
+    requires there { HasName lines.old line }
+    ensures { lines.new ≡ lines.old }
+{
+    laws::names_come_back();
+    let _ = lines.len();
+    lines.take_out(line);
+    lines.put(line);
+}
+
+// Makes a cell a given.
+fn pin(document: &mut Document, row: u8, col: u8)
+    requires in_rows { row < length document.old.picture }
+    requires in_columns { col < width_of document.old.picture }
+    ensures before { IsCellSet document.old.givens }
+    ensures pins { PutsCell document.old.givens document.new.givens row col }
+    ensures picture { document.new.picture ≡ document.old.picture }
+    ensures palette { document.new.palette ≡ document.old.palette }
+{
+    let _ = document.picture.height();
+    let _ = document.givens.len();
+    document.givens.put(row, col);
+}
+
+// Makes a given an ordinary cell again.
+fn unpin(document: &mut Document, row: u8, col: u8)
+    requires in_rows { row < length document.old.picture }
+    requires in_columns { col < width_of document.old.picture }
+    ensures after { IsCellSet document.new.givens }
+    ensures unpins { TakesOutCell document.old.givens document.new.givens row col }
+    ensures picture { document.new.picture ≡ document.old.picture }
+    ensures palette { document.new.palette ≡ document.old.palette }
+{
+    let _ = document.picture.height();
+    document.givens.take_out(row, col);
+}
+
+// A pin and its unpin leave the document as it was.
+fn pin_and_unpin(document: &mut Document, row: u8, col: u8)
+    requires in_rows { row < length document.old.picture }
+    requires in_columns { col < width_of document.old.picture }
+    requires absent { ¬ HasCell document.old.givens row col }
+    ensures givens { document.new.givens ≡ document.old.givens }
+    ensures picture { document.new.picture ≡ document.old.picture }
+    ensures palette { document.new.palette ≡ document.old.palette }
+{
+    laws::cells_come_back();
+    pin(document, row, col);
+    unpin(document, row, col);
 }
