@@ -1,5 +1,5 @@
 -- Sets of cells as sets: which are one, and what their counts say.
-use Rattle.std.proofs.Common.{◌≡◌, ℕ, ◌+◌, ◌<◌, List, length, get_or, replicate, refl, sym, ap, ◌∙◌, subst, inl, inr, arith}
+use Rattle.std.proofs.Common.{◌≡◌, ℕ, ◌<◌, List, length, get_or, replicate, sym, ap, ◌∙◌, subst, inl, inr, arith}
 use Rattle.std.specs.Prelude.{IsBitSet, ◌⊎◌, count_ones}
 use Rattle.std.proofs.lemmas.Bool.{cases_lt, cases_eq}
 use Rattle.std.proofs.lemmas.Grind.{same_number_lists}
@@ -7,7 +7,7 @@ use Rattle.std.proofs.lemmas.List.{get_or_past, get_or-replicate, length-replica
 use Rattle.std.proofs.lemmas.List.Folds.{sum_by-replicate}
 use Rattle.std.proofs.lemmas.List.Sums.{get_or-le-sum_by}
 use Rattle.std.proofs.lemmas.Nat.{zero_from_ones, ones_le_self}
-use Rattle.picture.specs.CellSet.{IsCellSet, HasCell, PutsCell, TakesOutCell, cell_count, no_cells}
+use Rattle.picture.specs.CellSet.{IsCellSet, HasCell, cell_count, no_cells}
 use Rattle.picture.specs.Laws.{SameCellsAreEqual, CellsAreMembers, CellsComeBack}
 use Rattle.picture.proofs.BitLemmas.{zero_has_none, bit_or_not, bit_below, same_bits_below}
 

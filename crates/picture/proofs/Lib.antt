@@ -1,6 +1,7 @@
 pub mod BitLemmas
 pub mod CellSetLaws
 pub mod CellSetLemmas
+pub mod DocumentLaws
 pub mod FlatLemmas
 pub mod GridLemmas
 pub mod LineEditLemmas
@@ -9,4 +10,5 @@ pub mod LineSetLaws
 pub mod LineSetLemmas
 pub mod OrderLemmas
 pub mod PaletteLemmas
+pub mod RoomLemmas
 pub mod WritingLemmas

@@ -1,6 +1,6 @@
 -- Sets of names of lines as sets: which are one, and what their counts say.
 use Rattle.std.proofs.Common.{◌≡◌, ℕ, ◌+◌, ◌^◌, ◌<◌, refl, sym, ap, ◌∙◌, subst, inl, inr, arith}
-use Rattle.std.specs.Prelude.{IsBitSet, ◌⊎◌, ◌↔◌, count_ones}
+use Rattle.std.specs.Prelude.{IsBitSet, ◌⊎◌, count_ones}
 use Rattle.std.proofs.lemmas.Bool.{cases_eq}
 use Rattle.std.proofs.lemmas.Nat.{zero_from_ones, ones_le_self}
 use Rattle.picture.specs.declared.line_id.Axis.{Axis}

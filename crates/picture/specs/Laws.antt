@@ -1,8 +1,10 @@
--- Laws of sets of cells and of names of lines.
+-- Laws of sets of cells, of sets of names of lines, and of documents.
 use Rattle.std.specs.Prelude.{◌≡◌, ℕ, ◌<◌, ◌⊎◌, ◌↔◌, List}
+use Rattle.picture.specs.declared.document.Document.{Document}
 use Rattle.picture.specs.declared.line_id.LineId.{LineId}
 use Rattle.picture.specs.declared.picture.TheConstants.{MAX_SIDE}
 use Rattle.picture.specs.CellSet.{IsCellSet, HasCell, PutsCell, TakesOutCell, cell_count, no_cells}
+use Rattle.picture.specs.Content.{content_of}
 use Rattle.picture.specs.LineSet.{Lines, IsLineSet, HasName, PutsName, TakesOutName, name_count, no_names}
 
 -- sets with the same cells are one
@@ -36,3 +38,7 @@ pub record NamesAreMembers : Type 0 where
 pub record NamesComeBack : Type 0 where
   pub put_first : (old with_it new : Lines) (line : LineId) → IsLineSet old → IsLineSet new → ¬ HasName old line → PutsName old with_it line → TakesOutName with_it new line → new ≡ old
   pub taken_first : (old without_it new : Lines) (line : LineId) → IsLineSet old → IsLineSet new → HasName old line → TakesOutName old without_it line → PutsName without_it new line → new ≡ old
+
+-- documents with the same colours, cells and givens are one
+abbrev pub SameContentsAreEqual : Type 0
+SameContentsAreEqual = (one other : Document) → content_of one ≡ content_of other → one ≡ other

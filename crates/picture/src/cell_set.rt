@@ -9,7 +9,7 @@ use std::marker::Model;
 // How many rows the table has.
 const ROWS: usize = MAX_SIDE as usize;
 
-/// A set of cells, each at a row and a column from 0 to 119. It takes no memory beside itself.
+/// A set of cells, each at a row and a column below `MAX_SIDE`. It takes no memory beside itself.
 #[derive(Clone, Copy)]
 pub struct CellSet {
     // A mask for each row, with a bit for each column.

@@ -1,6 +1,6 @@
 //! Laws of the definitions in `specs/`. Each function does nothing, and its contract is the law.
 
-ghost use Rattle.picture.specs.Laws.{SameCellsAreEqual, CellsAreMembers, CellsComeBack, SameNamesAreEqual, NamesAreMembers, NamesComeBack};
+ghost use Rattle.picture.specs.Laws.{SameCellsAreEqual, CellsAreMembers, CellsComeBack, SameNamesAreEqual, NamesAreMembers, NamesComeBack, SameContentsAreEqual};
 
 #[tactic(auto, using(crate::proofs::CellSetLaws::laws))]
 /// Sets of cells that have the same cells are equal.
@@ -36,4 +36,10 @@ pub fn names_are_members()
 /// Putting a name that was absent is undone by taking it out, and the other way round.
 pub fn names_come_back()
     ensures { NamesComeBack }
+{}
+
+#[tactic(auto, using(crate::proofs::DocumentLaws::same_contents))]
+/// Documents that have the same colours, cells and givens are equal.
+pub fn same_contents_are_equal()
+    ensures { SameContentsAreEqual }
 {}

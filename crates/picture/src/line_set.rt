@@ -7,7 +7,7 @@ use crate::line_id::{Axis, LineId};
 use crate::picture::MAX_SIDE;
 use std::marker::Model;
 
-/// A set of the 240 names of rows and columns, each at a place from 0 to 119. It takes no memory beside itself.
+/// A set of names of rows and columns, each at a place below `MAX_SIDE`. It takes no memory beside itself.
 #[derive(Clone, Copy)]
 pub struct LineSet {
     rows: u128,

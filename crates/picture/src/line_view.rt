@@ -39,7 +39,7 @@ impl<'a> LineView<'a> {
         }
     }
 
-    /// How many cells the line has, from 1 to 120.
+    /// How many cells the line has, from 1 to `MAX_SIDE`.
     pub fn len(&self) -> usize
         ensures value { result ≡ length self.now }
         ensures line { IsLine self.now }
