@@ -252,6 +252,24 @@ moves_made pattern sets mask advancing resting are on stay = record {
   );
 }
 
+-- a mask with all the pattern's colours lets every state move
+pub all_moves : (pattern : List ℕ) (sets : PatternSets) (mask : ℕ) → ArePatternSets pattern sets → bit_and mask sets.colours ≡ sets.colours → MovesBy pattern mask (record { advancing = sets.inner; resting = sets.waiting })
+all_moves pattern sets mask are e =
+    let P : ℕ → Type 0 = λ m. (k : ℕ) → allows m k ≡ true → allows mask k ≡ true in
+    let each : P sets.colours = subst P e (λ k a. (allowed_both mask sets.colours k a).0) in
+    let l = are.is_end in
+    record {
+      short = are.short;
+      advancing = λ q. (
+        (λ h. let i = (are.inner q).0 h in ((omega arith), each (get_or pattern (q + 1) 0) (are.colours.each q i))),
+        (λ p. (are.inner q).1 (let g = p.0 in omega arith)),
+      );
+      resting = λ q. (
+        (λ h. let w = (are.waiting q).0 h in (w.0, w.1, each 0 are.colours.background)),
+        (λ p. (are.waiting q).1 (p.0, p.1)),
+      );
+    }
+
 -- ---- the sets of a pattern
 
 pub place_power : (k : ℕ) → k < 128 → 1 * 2 ^ k % 340282366920938463463374607431768211456 ≡ 2 ^ k

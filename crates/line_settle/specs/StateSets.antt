@@ -40,4 +40,5 @@ pub record ArePatternSets (pattern : List ℕ) (sets : PatternSets) : Type 0 whe
   pub next : AreNext pattern end sets.next
   pub waiting : AreWaiting pattern (length pattern) sets.waiting
   pub colours : HasColours pattern end sets.colours
+  pub inner : (q : ℕ) → (has sets.inner q ≡ true) ↔ (q < end)
   pub last : sets.last ≡ 2 ^ end

@@ -51,6 +51,8 @@ pub struct PatternSets {
     pub waiting: u128,
     /// Background and the colours of the pattern.
     pub colours: u16,
+    /// All states but the last.
+    pub inner: u128,
     /// The last state alone.
     pub last: u128,
 }
@@ -113,6 +115,7 @@ impl PatternSets {
             next,
             waiting: waiting | 1 << state,
             colours,
+            inner: states_between(0, state),
             last: 1 << state,
         }
     }
@@ -144,6 +147,12 @@ impl PatternSets {
         ensures { (pattern : List ℕ) → ArePatternSets pattern self.now → MovesBy pattern mask result }
     {
         let colours = mask & self.colours;
+        if colours == self.colours {
+            return Moves {
+                advancing: self.inner,
+                resting: self.waiting,
+            };
+        }
         Moves {
             advancing: self.advancing_by(colours),
             resting: self.resting_by(colours),

@@ -66,6 +66,11 @@ loop-j-preserved c =
       colours_are = colours_more pattern q b.len b.colour s e c.loop-j.colours m piece c.start_behind-start.ensures to is.in_palette c.loop-j.invariant.colours_are;
     }
 
+pub states_between-requires-clause-few : goal.states_between-requires-clause-few
+states_between-requires-clause-few c =
+    let end = end_state c.args.blocks.now c.loop-j.j c.loop-j.state c.requires.blocks_of_clue (omega arith) c.loop-j.invariant.state_is in
+    omega arith
+
 pub overflow_shl-result : goal.overflow_shl-result
 overflow_shl-result c =
     let end = end_state c.args.blocks.now c.loop-j.j c.loop-j.state c.requires.blocks_of_clue (omega arith) c.loop-j.invariant.state_is in
@@ -88,5 +93,6 @@ returns c =
       next = c.loop-j.invariant.next_are;
       waiting = waiting_all pattern q c.loop-j.waiting end c.requires.short c.loop-j.invariant.waiting_are;
       colours = c.loop-j.invariant.colours_are;
+      inner = λ t. let b = c.states_between.ensures t in ((λ h. (b.0 h).1), (λ l. b.1 (omega arith, l)));
       last = place_power q (omega arith);
     }
