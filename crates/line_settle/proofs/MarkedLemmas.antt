@@ -1,23 +1,17 @@
 -- Lists that have a drawn colour somewhere, told by the states that they go through.
-use Rattle.std.proofs.Common.{◌≡◌, ◌≢◌, ℕ, zero, suc, ◌+◌, ◌<◌, ◌≤◌, ◌↔◌, ◌⊎◌, Bool, true, false, ◌||◌, List, [], ◌∷◌, bit_and, refl, sym, ap, subst, ◌∙◌, arith, inl, inr, length, get_or, drop, drop-cons}
-use Rattle.std.specs.Prelude.{IsBitSet}
-use Rattle.std.proofs.Math.ListN.{set}
+use Rattle.std.proofs.Common.{◌≡◌, ℕ, zero, suc, ◌<◌, ◌≤◌, ◌⊎◌, Bool, true, ◌||◌, List, [], ◌∷◌, bit_and, refl, sym, ap, subst, ◌∙◌, arith, inl, inr, length, get_or, drop, drop-cons}
 use Rattle.std.proofs.lemmas.Bool.{or_cases, or_left, or_right, false≢true, eqb-true}
-use Rattle.std.proofs.lemmas.List.{length-set, get_or-set_same, get_or-set_other, drop-set-lt}
 use Rattle.clues.specs.declared.block.Block.{Block}
 use Rattle.clues.specs.Clue.{IsClue}
-use Rattle.line_settle.specs.Fitting.{Fits, CanHave}
-use Rattle.line_settle.specs.LeavingOut.{ForcesAll, Misses, LeavesOut}
-use Rattle.line_settle.specs.Marking.{finish_marked, finishes_marked, reach_marked, reaches_marked, SweepsOut}
-use Rattle.line_settle.specs.Masks.{all_sixteen}
+use Rattle.line_settle.specs.LeavingOut.{ForcesAll, Misses}
+use Rattle.line_settle.specs.Marking.{finish_marked, finishes_marked, reach_marked, reaches_marked}
 use Rattle.line_settle.specs.Spelling.{pattern_of, allows, finish_step, finishes, reach_step, reaches}
 use Rattle.line_settle.proofs.BitLemmas.{allows_none}
-use Rattle.line_settle.proofs.MaskLemmas.{full_has}
-use Rattle.line_settle.proofs.FillLemmas.{Agree, reach_step_agree}
+use Rattle.line_settle.proofs.FillLemmas.{reach_step_agree}
 use Rattle.line_settle.proofs.FittingLemmas.{allows_bit, bit_allows, fits_from, fits_keeps, fits_spells}
 use Rattle.line_settle.proofs.StateLemmas.{SpellsAt, Step, spells_onward, spells_from}
 use Rattle.line_settle.proofs.StateSetLemmas.{allowed_both, both_allowed}
-use Rattle.line_settle.proofs.StepLemmas.{Crosses, crosses_finish, finish_crosses, step_reaches, reached_by_step}
+use Rattle.line_settle.proofs.StepLemmas.{crosses_finish, finish_crosses, step_reaches, reached_by_step}
 use Rattle.line_settle.proofs.TableLemmas.{Keeps, finishes_from, ending_of}
 
 within : (pattern : List ℕ) (q x r : ℕ) → q < length pattern → Step pattern q x r → r < length pattern

@@ -13,7 +13,7 @@ use Rattle.line_settle.specs.declared.state_sets.PatternSets.{PatternSets}
 use Rattle.line_settle.specs.Spelling.{pattern_of, allows, waits, finish_step, reach_step}
 use Rattle.line_settle.specs.Positions.{has}
 use Rattle.line_settle.specs.Laying.{meets, gap_before, state_behind}
-use Rattle.line_settle.specs.StateSets.{AreStates, Shares, MovesBy, AreNext, AreWaiting, HasColours, ArePatternSets}
+use Rattle.line_settle.specs.StateSets.{AreStates, MovesBy, AreNext, AreWaiting, HasColours, ArePatternSets}
 use Rattle.line_settle.proofs.BitLemmas.{allows_is, allows_or, allows_none, allows_shifted}
 use Rattle.line_settle.proofs.MaskLemmas.{bit_below}
 use Rattle.line_settle.proofs.FittingLemmas.{allows_bit}

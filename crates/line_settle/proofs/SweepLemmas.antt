@@ -1,5 +1,5 @@
 -- What the sweep over a line keeps from cell to cell.
-use Rattle.std.proofs.Common.{◌≡◌, ◌≢◌, ℕ, zero, suc, ◌+◌, ◌-◌, ◌^◌, ◌<◌, ◌≤◌, ◌↔◌, ◌⊎◌, Bool, true, false, ◌||◌, ◌==◌, List, [], ◌∷◌, bit_and, bit_or, refl, sym, ap, subst, ◌∙◌, arith, inl, inr, eq-eqb, length, get_or, drop, drop-cons, replicate}
+use Rattle.std.proofs.Common.{◌≡◌, ◌≢◌, ℕ, zero, suc, ◌+◌, ◌^◌, ◌<◌, ◌≤◌, ◌↔◌, ◌⊎◌, Bool, true, ◌||◌, List, [], ◌∷◌, bit_and, bit_or, refl, sym, ap, subst, ◌∙◌, arith, inl, inr, eq-eqb, length, get_or, drop, drop-cons, replicate}
 use Rattle.std.proofs.Math.ListN.{set, drop_of_length-le}
 use Rattle.std.proofs.Math.Seq.{drop-length}
 use Rattle.std.proofs.lemmas.Bool.{cases_eq, cases_lt, or_cases, or_left, or_right, false≢true, eqb-true}
@@ -7,12 +7,10 @@ use Rattle.std.proofs.lemmas.List.{length-set, length-replicate, get_or-set_same
 use Rattle.std.proofs.lemmas.Nat.{and_le_r}
 use Rattle.clues.specs.declared.block.Block.{Block}
 use Rattle.clues.specs.Clue.{IsClue}
-use Rattle.line_settle.specs.declared.state_sets.Moves.{Moves}
 use Rattle.line_settle.specs.declared.state_sets.PatternSets.{PatternSets}
 use Rattle.line_settle.specs.declared.sweep.Reached.{Reached}
-use Rattle.line_settle.specs.LeavingOut.{ForcesAll, LeavesOut}
+use Rattle.line_settle.specs.LeavingOut.{LeavesOut}
 use Rattle.line_settle.specs.Marking.{finish_marked, finishes_marked, reach_marked, reaches_marked, AreReached, AreBehind, SweepsOut}
-use Rattle.line_settle.specs.Masks.{all_sixteen}
 use Rattle.line_settle.specs.Positions.{has}
 use Rattle.line_settle.specs.Spelling.{pattern_of, allows, finish_step, finishes, reach_step, reaches}
 use Rattle.line_settle.specs.StateSets.{AreStates, Shares, ArePatternSets}
@@ -23,7 +21,7 @@ use Rattle.line_settle.proofs.MaskLemmas.{bit_below, full_has}
 use Rattle.line_settle.proofs.PositionLemmas.{has_power, has_one}
 use Rattle.line_settle.proofs.StateSetLemmas.{in_and, and_in, in_or, left_in, right_in, in_none, has_member}
 use Rattle.line_settle.proofs.StepLemmas.{finish_crosses, reached_by_step}
-use Rattle.line_settle.proofs.MarkedLemmas.{IsWider, Meets, JoinsAt, SameBefore, forces_unmarked, unmarked_forces, marked_misses, wider_marked, marked_at, at_marked, same_reached, same_reached_marked}
+use Rattle.line_settle.proofs.MarkedLemmas.{IsWider, Meets, SameBefore, unmarked_forces, marked_misses, wider_marked, marked_at, at_marked, same_reached, same_reached_marked}
 
 -- ---- sets of states
 

@@ -1,4 +1,4 @@
-use Rattle.std.proofs.Common.{◌≡◌, ℕ, ◌+◌, ◌<◌, List, sym, ap, subst, ◌∙◌, arith, length, drop, replicate}
+use Rattle.std.proofs.Common.{◌≡◌, ◌+◌, ◌<◌, List, subst, length, replicate}
 use Rattle.clues.specs.declared.block.Block.{Block}
 use Rattle.line_settle.specs.Spelling.{pattern_of}
 use Rattle.line_settle.specs.StateSets.{ArePatternSets}

@@ -1,4 +1,4 @@
-use Rattle.std.proofs.Common.{◌≢◌, arith, bit_and, bit_or, ne_eqb}
+use Rattle.std.proofs.Common.{arith, ne_eqb}
 use Rattle.std.proofs.lemmas.Bool.{not-true, not_from_false, eqb-false}
 use Rattle.line_settle.proofs.SweepLemmas.{either_shares}
 use Rattle.line_settle.proofs.sweep.meets_marked.Goals as goal

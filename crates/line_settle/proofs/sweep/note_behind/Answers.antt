@@ -1,4 +1,4 @@
-use Rattle.std.proofs.Common.{◌≡◌, ℕ, suc, ◌-◌, ◌<◌, List, refl, sym, subst, arith, length, drop, get_or}
+use Rattle.std.proofs.Common.{◌≡◌, ℕ, suc, ◌-◌, refl, subst, arith, length, drop, get_or}
 use Rattle.line_settle.specs.Spelling.{finishes}
 use Rattle.line_settle.specs.Marking.{finishes_marked, AreReached}
 use Rattle.line_settle.proofs.SweepLemmas.{at_end, before_cell, noted_more}

@@ -1,5 +1,4 @@
-use Rattle.std.proofs.Common.{◌≡◌, ℕ, suc, ◌+◌, ◌<◌, Bool, true, List, sym, ◌∙◌, subst, arith, length, get_or}
-use Rattle.std.proofs.Math.ListN.{set}
+use Rattle.std.proofs.Common.{◌≡◌, ℕ, suc, ◌+◌, ◌<◌, List, sym, ◌∙◌, subst, arith, length, get_or}
 use Rattle.std.proofs.lemmas.Bool.{false≢true}
 use Rattle.line_settle.specs.declared.sweep.Reached.{Reached}
 use Rattle.line_settle.specs.Spelling.{reaches}

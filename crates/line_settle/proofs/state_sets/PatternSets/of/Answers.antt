@@ -1,4 +1,4 @@
-use Rattle.std.proofs.Common.{◌≡◌, ◌+◌, ◌<◌, ◌≤◌, ◌^◌, refl, arith, length}
+use Rattle.std.proofs.Common.{◌≡◌, ◌+◌, ◌<◌, refl, arith, length}
 use Rattle.clues.specs.Clue.{block}
 use Rattle.line_settle.specs.Spelling.{pattern_of}
 use Rattle.line_settle.proofs.BlockLemmas.{block_at}

@@ -1,4 +1,4 @@
-use Rattle.std.proofs.Common.{◌≡◌, ◌≤◌, length}
+use Rattle.std.proofs.Common.{◌≡◌}
 use Rattle.line_settle.specs.Spelling.{pattern_of}
 use Rattle.line_settle.specs.Laying.{state_behind}
 use Rattle.line_settle.specs.StateSets.{AreNext, AreWaiting, HasColours}
