@@ -81,7 +81,7 @@ written_here rows line i mask is h l =
     let r = is.rectangular (row_on line.axis line.at i) p.0 in
     cell_on (with_place rows line i mask) line i ∙ at_with_cell rows (row_on line.axis line.at i) (col_on line.axis line.at i) mask p.0 (omega arith)
 
-written_apart : (rows : List (List ℕ)) (line : LineId) (i j mask : ℕ) → j ≢ i → get_or (line_of (with_place rows line i mask) line) j 0 ≡ get_or (line_of rows line) j 0
+pub written_apart : (rows : List (List ℕ)) (line : LineId) (i j mask : ℕ) → j ≢ i → get_or (line_of (with_place rows line i mask) line) j 0 ≡ get_or (line_of rows line) j 0
 written_apart rows line i j mask n =
     cell_on (with_place rows line i mask) line j
     ∙ (off_with_cell rows (row_on line.axis line.at i) (col_on line.axis line.at i) mask (row_on line.axis line.at j) (col_on line.axis line.at j) (λ p. n (one_place line.axis line.at i j p.0 p.1))
@@ -122,5 +122,3 @@ written_all line old rows masks n len l w = record {
   line_is = same_list (line_of rows line) masks (same_line_length old rows line w.same_shape ∙ sym len) (λ j m. w.so_far j (omega arith));
   elsewhere = w.elsewhere;
 }
-
-pub ruleset writing = (written_none)

@@ -1,5 +1,5 @@
 -- A colour that is left in the cells of a set, some cells at a time.
-use Rattle.std.proofs.Common.{◌≡◌, ℕ, ◌+◌, ◌-◌, ◌*◌, ◌/◌, ◌%◌, ◌^◌, ◌<◌, ◌≤◌, Bool, false, List, ◌==◌, ◌&&◌, ◌||◌, bit_and, bit_or, refl, sym, ap, subst, ◌∙◌, arith, inl, inr, length, get_or, set}
+use Rattle.std.proofs.Common.{◌≡◌, ℕ, ◌+◌, ◌-◌, ◌*◌, ◌/◌, ◌%◌, ◌^◌, ◌<◌, ◌≤◌, Bool, true, false, List, ◌==◌, ◌&&◌, ◌||◌, bit_and, bit_or, refl, sym, ap, subst, ◌∙◌, arith, inl, inr, length, get_or, set}
 use Rattle.std.proofs.lemmas.Bool.{cases_eq, cases_lt}
 use Rattle.std.proofs.lemmas.List.{get_or-set_same, get_or-set_other}
 use Rattle.std.proofs.lemmas.Nat.Bits.{shr_and_one, bit_at_ones}
@@ -62,5 +62,26 @@ low_eight a j h = has_and a 255 j ∙ (ap (λ x. has a j && (x == 1)) (bit_at_on
 -- the set without eight more positions
 pub rest_more : (places rest chunk j : ℕ) → ((n : ℕ) → has rest n ≡ has places (8 * chunk + n)) → has (rest / 2 ^ 8) j ≡ has places (8 * (chunk + 1) + j)
 rest_more places rest chunk j h = has_down 8 rest j ∙ (h (j + 8) ∙ ap (λ n. has places n) (let e : 8 * chunk + (j + 8) ≡ 8 * (chunk + 1) + j = omega arith in e))
+
+-- the last eight cells, some of which are done already
+pub coloured_last : (places colour last whole n : ℕ) (old out new : List ℕ) → last + 8 ≡ n → last < whole → whole ≤ n → IsColoured places colour 0 whole old out → IsColoured (bit_and (places / 2 ^ last) 255) colour last (last + 8) out new → (i k : ℕ) → i < n → allows (get_or new i 0) k ≡ (allows (get_or old i 0) k || (has places i && colour == k))
+coloured_last places colour last whole n old out new e l w earlier more i k h = elim (cases_lt i last) [
+  | inl low ↦ ap (λ m. allows m k) (more.before i low) ∙ earlier.inside i i k (omega arith) (omega arith)
+  | inr high ↦
+      let j = i - last in
+      let q : j + last ≡ i = omega arith in
+      let here = has places i && colour == k in
+      more.inside i j k (omega arith) (omega arith)
+      ∙ (ap (λ x. allows (get_or out i 0) k || (x && colour == k)) (low_eight (places / 2 ^ last) j (omega arith) ∙ (has_down last places j ∙ ap (λ m. has places m) q))
+      ∙ elim (cases_lt i whole) [
+        | inl done ↦ ap (λ x. x || here) (earlier.inside i i k (omega arith) done) ∙ once (allows (get_or old i 0) k) here
+        | inr new_cell ↦ ap (λ m. allows m k || here) (earlier.behind i new_cell)
+      ])
+]
+  where
+    once : (a b : Bool) → ((a || b) || b) ≡ (a || b)
+    once true b = refl
+    once false true = refl
+    once false false = refl
 
 pub ruleset colouring = (coloured, same_colours, tested, none_coloured)

@@ -1,9 +1,9 @@
 -- The cells in which a colour is left, gathered as a set of positions, some cells at a time.
-use Rattle.std.proofs.Common.{◌≡◌, ℕ, zero, suc, ◌+◌, ◌-◌, ◌*◌, ◌%◌, ◌^◌, ◌<◌, ◌≤◌, Bool, true, false, cond, List, map, eqb, ◌==◌, ◌||◌, bit_and, bit_or, refl, sym, ap, subst, ◌∙◌, arith, inl, inr, eq-eqb, ne_eqb, length, get_or, replicate, w16}
+use Rattle.std.proofs.Common.{◌≡◌, ℕ, zero, suc, ◌+◌, ◌-◌, ◌*◌, ◌%◌, ◌^◌, ◌<◌, ◌≤◌, Bool, true, false, cond, List, map, eqb, ◌==◌, ◌||◌, bit_and, bit_or, refl, sym, ap, subst, ◌∙◌, arith, inl, inr, eq-eqb, ne_eqb, length, get_or, replicate, take, w16}
 use Rattle.std.specs.Int.{bit_at}
 use Rattle.std.specs.Simd.Lanes.{zip2, chunk, top, mask_l}
 use Rattle.std.proofs.lemmas.Bool.{cases_lt}
-use Rattle.std.proofs.lemmas.List.{get_or_past, get_or-map, length-map}
+use Rattle.std.proofs.lemmas.List.{get_or_past, get_or-map, get_or-take, length-map, length-take}
 use Rattle.std.proofs.lemmas.Nat.{pow_pos}
 use Rattle.std.proofs.lemmas.Nat.Bits.{bit_at_cat_low, bit_at_cat_high, bit_at-lt, and_pow}
 use Rattle.std.proofs.lemmas.Simd.{length-chunk, get_or-chunk, length-zip2, zip2_splat, map-map, bitmask_splat, bit_mask_l, mask_l-lt}
@@ -70,6 +70,37 @@ gathered_all w left cells colour n small short is j = elim (cases_lt j w) [
   | inl l ↦ is j l
   | inr m ↦ has_above w cells j small m ∙ sym (none_past left colour (n + j) (omega arith))
 ]
+
+-- the cells of the whole eights, and the last eight cells laid over them
+pub overlapped : (left : List ℕ) (cells low colour whole last : ℕ) → last + 8 ≡ length left → last < whole → whole ≤ length left → length left < whole + 8 → length left < 128 → low < 2 ^ 8 → ((j : ℕ) → j < 8 → has low j ≡ allows (get_or left (last + j) 0) colour) → ((j : ℕ) → j < 128 → has cells j ≡ allows (get_or (take whole left) j 0) colour) → (i : ℕ) → i < 128 → has (bit_or cells (low * 2 ^ last % 2 ^ 128)) i ≡ allows (get_or left i 0) colour
+overlapped left cells low colour whole last e l w short room small new before i h =
+    has_or cells (low * 2 ^ last % 2 ^ 128) i ∙ elim (cases_lt i last) [
+      | inl m ↦
+          ap (λ x. has cells i || x) (below_shifted 128 last low i m h)
+          ∙ (false_behind (has cells i)
+          ∙ (before i h ∙ ap (λ n. allows n colour) (get_or-take whole left i 0 (omega arith))))
+      | inr m ↦
+          ap (λ x. has cells i || x) (shifted 128 last low i (pow_pos last) m h)
+          ∙ (ap (λ x. x || has low (i - last)) (before i h)
+          ∙ elim (cases_lt (i - last) 8) [
+            | inl in_eight ↦
+                let q : last + (i - last) ≡ i = omega arith in
+                ap (λ x. allows (get_or (take whole left) i 0) colour || x) (new (i - last) in_eight ∙ ap (λ n. allows (get_or left n 0) colour) q)
+                ∙ elim (cases_lt i whole) [
+                  | inl b ↦ ap (λ n. allows n colour || allows (get_or left i 0) colour) (get_or-take whole left i 0 b) ∙ twice (allows (get_or left i 0) colour)
+                  | inr b ↦ ap (λ x. x || allows (get_or left i 0) colour) (none_past (take whole left) colour i (let n = length-take whole left in omega arith))
+                ]
+            | inr past ↦
+                ap (λ x. allows (get_or (take whole left) i 0) colour || x) (has_above 8 low (i - last) small past)
+                ∙ (false_behind (allows (get_or (take whole left) i 0) colour)
+                ∙ (none_past (take whole left) colour i (let n = length-take whole left in omega arith)
+                ∙ sym (none_past left colour i (omega arith))))
+          ])
+    ]
+  where
+    twice : (b : Bool) → (b || b) ≡ b
+    twice true = refl
+    twice false = refl
 
 -- ---- eight cells that are compared together
 

@@ -14,6 +14,7 @@ pub mod GridLemmas
 pub mod FactLemmas
 pub mod BaseLemmas
 pub mod AlongLemmas
+pub mod ChangeLemmas
 pub mod LawLemmas
 pub mod GivenLemmas
 pub mod ForceLemmas
@@ -27,7 +28,7 @@ pub mod LayingLemmas
 pub mod BlockLemmas
 pub mod MarkLemmas
 pub mod PassLemmas
-pub mod SettledLemmas
+pub mod ShownLemmas
 pub mod StateSetLemmas
 pub mod MarkedLemmas
 pub mod SweepLemmas

@@ -1,38 +1,88 @@
 -- From the tables to what narrowing a line promises.
-use Rattle.std.proofs.Common.{◌≡◌, ℕ, zero, suc, ◌+◌, ◌<◌, ◌≤◌, Bool, true, false, List, [], ◌∷◌, ◌++◌, replicate, ◌==◌, refl, sym, ap, subst, ◌∙◌, arith, ◌⊎◌, inl, inr, length, get_or, drop, eq-eqb}
+use Rattle.std.proofs.Common.{◌≡◌, ℕ, zero, suc, ◌+◌, ◌<◌, ◌≤◌, Bool, true, false, List, [], ◌∷◌, ◌++◌, replicate, ◌==◌, refl, sym, ap, subst, ◌∙◌, arith, ◌⊎◌, inl, inr, length, get_or, drop, take, ◌&&◌, ◌||◌, eq-eqb, ne_eqb}
 use Rattle.std.specs.List.{All}
 use Rattle.std.specs.Int.{bit_at}
 use Rattle.std.proofs.Math.ListN.{get_or-eq_default}
-use Rattle.std.proofs.lemmas.List.{length-replicate}
-use Rattle.std.proofs.lemmas.List.Elements.{All-append, All-cons, All-nil, All-replicate}
+use Rattle.std.proofs.lemmas.List.{length-replicate, length-take, get_or-take, get_or_past}
+use Rattle.std.proofs.lemmas.List.Elements.{All-append, All-cons, All-nil, All-replicate, All-get_or, All-from_get_or}
 use Rattle.std.proofs.lemmas.Bool.{or_cases, or_left, or_right, cases_lt, cases_Bool, false≢true}
 use Rattle.std.proofs.lemmas.Nat.Bits.{bit_at-zero, same_from_bits, bit_at-lt}
 use Rattle.clues.specs.declared.block.Block.{Block}
-use Rattle.clues.specs.Clue.{IsBlock, IsClue}
+use Rattle.clues.specs.Clue.{block, IsBlock, IsClue}
 use Rattle.line_settle.specs.declared.line_engine.Outcome.TheVariants.{Narrowed, Dead}
 use Rattle.line_settle.specs.Fitting.{CanFit, CanHave}
 use Rattle.line_settle.specs.Narrowing.{Narrows}
-use Rattle.line_settle.specs.Spelling.{gap, spelled_after, pattern_of, allows, finishes, reaches, passes, passes_below}
+use Rattle.line_settle.specs.Spelling.{gap, spelled_after, pattern_of, allows, finishes, reaches, advances, rests, passes, passes_below}
+use Rattle.line_settle.specs.Positions.{has}
+use Rattle.line_settle.specs.Laying.{AreSeen}
 use Rattle.line_settle.proofs.PatternLemmas.{first_is, rest_are}
 use Rattle.line_settle.proofs.BitLemmas.{allows_none, allows_is}
+use Rattle.line_settle.proofs.PositionLemmas.{has_none}
 use Rattle.line_settle.proofs.TableLemmas.{Passing}
 use Rattle.line_settle.proofs.FittingLemmas.{allows_bit, bit_allows, fit_finishes, finishes_fit, have_shown, shown_have, have_fits, too_long}
 
-gap_colours : (meets : Bool) → All (λ c. c < 16) (gap meets)
-gap_colours true = All-cons (λ c. c < 16) 0 [] (omega arith) (All-nil (λ c. c < 16))
-gap_colours false = All-nil (λ c. c < 16)
+-- a pattern has no colours but its blocks' and the background
+gap_below : (n : ℕ) → 0 < n → (is_gap : Bool) → All (λ c. c < n) (gap is_gap)
+gap_below n h true = All-cons (λ c. c < n) 0 [] h (All-nil (λ c. c < n))
+gap_below n h false = All-nil (λ c. c < n)
 
-spelled_colours : (last : ℕ) (blocks : List Block) → IsClue blocks → All (λ c. c < 16) (spelled_after last blocks)
-spelled_colours last [] h = All-nil (λ c. c < 16)
-spelled_colours last (b ∷ bs) h =
-    let f = first_is IsBlock b bs h in
-    let r = spelled_colours b.colour bs (rest_are IsBlock b bs h) in
+spelled_below : (n : ℕ) → 0 < n → (last : ℕ) (blocks : List Block) → All (λ b. b.colour < n) blocks → All (λ c. c < n) (spelled_after last blocks)
+spelled_below n some last [] h = All-nil (λ c. c < n)
+spelled_below n some last (b ∷ bs) h =
+    let P : Block → Type 0 = λ x. x.colour < n in
+    let f = first_is P b bs h in
+    let r = spelled_below n some b.colour bs (rest_are P b bs h) in
     let g = gap (b.colour == last) in
-    All-append (λ c. c < 16) g (replicate b.len b.colour ++ spelled_after b.colour bs) (gap_colours (b.colour == last))
-    (All-append (λ c. c < 16) (replicate b.len b.colour) (spelled_after b.colour bs) (All-replicate (λ c. c < 16) b.len b.colour f.in_palette) r)
+    All-append (λ c. c < n) g (replicate b.len b.colour ++ spelled_after b.colour bs) (gap_below n some (b.colour == last))
+    (All-append (λ c. c < n) (replicate b.len b.colour) (spelled_after b.colour bs) (All-replicate (λ c. c < n) b.len b.colour f) r)
+
+pub pattern_below : (n : ℕ) → 0 < n → (blocks : List Block) → All (λ b. b.colour < n) blocks → All (λ c. c < n) (pattern_of blocks)
+pattern_below n some blocks h = All-cons (λ c. c < n) 0 (spelled_after 0 blocks) some (spelled_below n some 0 blocks h)
+
+blocks_below : (blocks : List Block) → IsClue blocks → All (λ b. b.colour < 16) blocks
+blocks_below blocks h =
+    let P : Block → Type 0 = λ b. b.colour < 16 in
+    All-from_get_or P blocks (block 0 0) (λ i l. (All-get_or IsBlock blocks i (block 0 0) l h).in_palette)
 
 pub pattern_colours : (blocks : List Block) → IsClue blocks → All (λ c. c < 16) (pattern_of blocks)
-pattern_colours blocks h = All-cons (λ c. c < 16) 0 (spelled_after 0 blocks) (omega arith) (spelled_colours 0 blocks h)
+pattern_colours blocks h = pattern_below 16 (omega arith) blocks (blocks_below blocks h)
+
+-- no line passes through a cell with a colour above those of its pattern
+no_way : (b x y : Bool) → (b && ((x && false) || (y && false))) ≡ false
+no_way false x y = refl
+no_way true false false = refl
+no_way true false true = refl
+no_way true true false = refl
+no_way true true true = refl
+
+place_below : (pattern : List ℕ) (n q : ℕ) → 0 < n → All (λ c. c < n) pattern → get_or pattern q 0 < n
+place_below pattern n q some h = elim (cases_lt q (length pattern)) [
+  | inl l ↦ All-get_or (λ c. c < n) pattern q 0 l h
+  | inr l ↦ let e = get_or-eq_default pattern 0 l in omega arith
+]
+
+passes_above : (pattern : List ℕ) (mask : ℕ) (f g : ℕ → Bool) (n q k : ℕ) → 0 < n → All (λ c. c < n) pattern → n ≤ k → passes pattern mask f g q k ≡ false
+passes_above pattern mask f g n q k some h l =
+    let first : (get_or pattern (q + 1) 0 == k) ≡ false = ne_eqb (get_or pattern (q + 1) 0) k (λ e. let c = place_below pattern n (q + 1) some h in absurd (omega arith)) in
+    let rest : (0 == k) ≡ false = ne_eqb 0 k (λ e. absurd (omega arith)) in
+    let a = advances pattern mask g q in
+    let r = rests pattern mask g q in
+    ap (λ x. f q && ((a && x) || (r && (0 == k)))) first ∙ (ap (λ x. f q && ((a && false) || (r && x))) rest ∙ no_way (f q) a r)
+
+none_above : (pattern : List ℕ) (mask : ℕ) (f g : ℕ → Bool) (n m k : ℕ) → 0 < n → All (λ c. c < n) pattern → n ≤ k → passes_below pattern mask f g m k ≡ false
+none_above pattern mask f g n zero k some h l = refl
+none_above pattern mask f g n (suc m) k some h l =
+    ap (λ x. x || passes pattern mask f g m k) (none_above pattern mask f g n m k some h l) ∙ passes_above pattern mask f g n m k some h l
+
+-- so what is seen of the colours up to the highest one of the blocks is all
+pub seen_in_full : (blocks : List Block) (left seen : List ℕ) (n : ℕ) → 0 < n → All (λ b. b.colour < n) blocks → AreSeen blocks left seen → AreSeen blocks left (take n seen)
+seen_in_full blocks left seen n some h is i k l = elim (cases_lt k n) [
+  | inl m ↦ ap (λ s. has s i) (get_or-take n seen k 0 m) ∙ is i k l
+  | inr m ↦
+      ap (λ s. has s i) (get_or_past (take n seen) k 0 (let e = length-take n seen in omega arith))
+      ∙ (has_none i
+      ∙ sym (none_above (pattern_of blocks) (get_or left i 0) (reaches (pattern_of blocks) left i) (finishes (pattern_of blocks) (drop (i + 1) left)) n (length (pattern_of blocks)) k some (pattern_below n some blocks h) m))
+]
 
 -- some state lets a line pass exactly where one below the pattern's length does
 pub below_passing : (pattern : List ℕ) (mask : ℕ) (f g : ℕ → Bool) (n k : ℕ) → n ≤ length pattern → passes_below pattern mask f g n k ≡ true → Passing pattern mask f g k

@@ -62,9 +62,9 @@ seen_at seen colour n places i k e h =
 
 pub ruleset writing = (has_none)
 
--- a colour that is no colour of the sixteen was never seen
-pub all_written : (seen : List ℕ) (n i k : ℕ) → length seen ≡ 16 → 16 ≤ n → (nat_lt k n && has (get_or seen k 0) i) ≡ has (get_or seen k 0) i
-all_written seen n i k h l = elim (cases_lt k n) [
+-- what lies behind the last colour was never seen
+pub all_written : (seen : List ℕ) (n i k : ℕ) → length seen ≤ n → (nat_lt k n && has (get_or seen k 0) i) ≡ has (get_or seen k 0) i
+all_written seen n i k l = elim (cases_lt k n) [
   | inl b ↦ ap (λ t. t && has (get_or seen k 0) i) (lt-ltb k n b)
   | inr b ↦
       let e : has (get_or seen k 0) i ≡ false = ap (λ s. has s i) (get_or_past seen k 0 (omega arith)) ∙ has_none i in

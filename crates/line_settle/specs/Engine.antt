@@ -1,5 +1,6 @@
 -- What is seen of a line engine.
 use Rattle.std.specs.Prelude.{◌≡◌, ℕ, ◌+◌, ◌*◌, ◌≤◌, Bool, List, length}
+use Rattle.picture.specs.declared.picture.TheConstants.{MAX_SIDE}
 
 -- the longest line that it takes, and how often it has narrowed one
 pub record Engine : Type 0 where
@@ -19,4 +20,4 @@ pub record EngineRoom (longest : ℕ) (pattern : List ℕ) (row table : List Boo
 pub record MaskRoom (longest : ℕ) (starting waiting : List ℕ) : Type 0 where
   pub starting_room : length starting ≡ longest + 1
   pub waiting_room : length waiting ≡ longest + 1
-  pub short : longest ≤ 120
+  pub short : longest ≤ MAX_SIDE

@@ -76,10 +76,6 @@ pub record IsLeast (clues : Clues) (base facts : List (List ℕ)) : Type 0 where
   pub holds : IsWithin base facts
   pub least : (others : List (List ℕ)) → IsClosed clues others → IsWithin base others → IsWithin facts others
 
--- what line logic settles on a picture with givens
-abbrev pub IsSettled : Clues → List ℕ → List (List ℕ) → List (List ℕ) → Type 0
-IsSettled clues givens picture facts = (base : List (List ℕ)) × IsBase givens picture base × IsLeast clues base facts
-
 -- the cell at place i of a line
 abbrev pub row_on : Axis → ℕ → ℕ → ℕ
 row_on Across at i = at

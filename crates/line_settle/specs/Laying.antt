@@ -29,7 +29,7 @@ meets last (b ∷ bs) (suc j) = meets b.colour bs j
 
 -- how many cells of background a block must have before it
 abbrev pub gap_before : Bool → ℕ
-gap_before meets = cond meets 1 0
+gap_before is_gap = cond is_gap 1 0
 
 -- the state of a pattern behind the first j blocks
 abbrev pub state_behind : ℕ → List Block → ℕ → ℕ

@@ -1,4 +1,5 @@
 pub mod Counting
+pub mod Crossing
 pub mod Engine
 pub mod FactSets
 pub mod Fitting
@@ -9,6 +10,6 @@ pub mod Marking
 pub mod Masks
 pub mod Narrowing
 pub mod Positions
-pub mod Settled
+pub mod Shown
 pub mod Spelling
 pub mod StateSets

@@ -2,9 +2,9 @@
 use Rattle.std.specs.Prelude.{ℕ, zero, suc, ◌+◌, ◌-◌, ◌*◌, ◌/◌, ◌^◌, List, [], ◌∷◌, ◌++◌, Bool, false, cond, ◌&&◌, ◌||◌, not, ◌==◌, nat_le, nat_lt, length, slice_index, slice_index_or, bit_and, replicate}
 use Rattle.clues.specs.declared.block.Block.{Block}
 
--- one background cell where two blocks of one colour meet
+-- one background cell where two blocks of one colour follow each other
 abbrev pub gap : Bool → List ℕ
-gap meets = cond meets (0 ∷ []) []
+gap is_gap = cond is_gap (0 ∷ []) []
 
 -- the blocks written out as cells, behind a block of colour `last`
 abbrev pub spelled_after : ℕ → List Block → List ℕ

@@ -42,8 +42,33 @@ impl Facts {
         requires short { length masks.old ≤ MAX_SIDE }
         ensures { masks.new ≡ line_of self.now line }
     {
-        for place in 0..masks.len() {
-            masks[place] = self.left_on(line, place as u8);
+        match line.axis {
+            Axis::Across => self.copy_across(line, masks),
+            Axis::Down => self.copy_down(line, masks),
+        }
+    }
+
+    // The same for a row. It asks for no axis at each cell.
+    fn copy_across(&self, line: LineId, masks: &mut [u16])
+        requires axis { line.axis ≡ Axis.Across }
+        requires line { HasLine self.now line }
+        requires whole { length masks.old ≡ length (line_of self.now line) }
+        ensures { masks.new ≡ line_of self.now line }
+    {
+        for col in 0..self.width() {
+            masks[usize::from(col)] = self.left(line.at, col);
+        }
+    }
+
+    // The same for a column.
+    fn copy_down(&self, line: LineId, masks: &mut [u16])
+        requires axis { line.axis ≡ Axis.Down }
+        requires line { HasLine self.now line }
+        requires whole { length masks.old ≡ length (line_of self.now line) }
+        ensures { masks.new ≡ line_of self.now line }
+    {
+        for row in 0..self.height() {
+            masks[usize::from(row)] = self.left(row, line.at);
         }
     }
 }

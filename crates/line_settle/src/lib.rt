@@ -16,13 +16,13 @@ mod pattern;
 mod plain_engine;
 mod position_tables;
 mod positions;
-mod settled_line;
+mod shown_line;
 mod state_sets;
 mod sweep;
 mod tables;
 
 pub use facts::Facts;
-pub use forcing::force;
+pub use forcing::{Forced, force, force_crossing};
 pub use line_engine::{LineEngine, Outcome};
 pub use mask_engine::MaskEngine;
 pub use meter::Meter;

@@ -4,6 +4,7 @@ ghost use Rattle.line_settle.specs.Engine.{Engine, MaskRoom, engine};
 use crate::line_engine::{LineEngine, Outcome};
 use crate::mask_line::narrow_by_sets;
 use clues::Clue;
+use picture::MAX_SIDE;
 use std::alloc::{AllocError, Global};
 use std::marker::Model;
 
@@ -29,7 +30,7 @@ impl Model for MaskEngine {
 impl MaskEngine {
     /// An engine for lines of up to `longest` cells, with all the memory that it will use.
     pub fn make(alloc: Global, longest: u8) -> Result<MaskEngine, AllocError>
-        requires { longest ≤ 120 }
+        requires { longest ≤ MAX_SIDE }
         ensures { IfOk result (λ made. made ≡ engine longest 0) }
     {
         let side = usize::from(longest) + 1;

@@ -4,9 +4,10 @@ ghost use Rattle.line_settle.specs.Narrowing.{Narrows};
 ghost use Rattle.line_settle.specs.Spelling.{gap, pattern_of, allows, finishes, reaches, passes_below};
 
 use crate::line_engine::Outcome;
-use crate::position_tables::{mark_allowed, mark_back, see_blocks, write_colours};
-use crate::settled_line::{is_settled, narrow_settled, narrow_without_blocks};
+use crate::position_tables::{colours_of, mark_allowed, mark_back, see_blocks, write_colours};
+use crate::shown_line::{are_shown, narrow_shown, narrow_without_blocks};
 use clues::Block;
+use picture::MAX_SIDE;
 
 // How many cells a block takes behind a block of colour `last`, with the background that must lie between them.
 fn cells_for(block: Block, last: u8) -> usize
@@ -19,7 +20,7 @@ fn cells_for(block: Block, last: u8) -> usize
 
 /// Whether a line of so many cells has room for a clue's blocks and for background between blocks of one colour.
 pub fn has_room(blocks: &[Block], cells: usize) -> bool
-    requires short { cells ≤ 120 }
+    requires short { cells ≤ MAX_SIDE }
     ensures { IsTrue result ↔ length (pattern_of blocks.now) ≤ cells + 1 }
 {
     let mut needed = 0;
@@ -45,7 +46,7 @@ fn narrow_sets(
     out: &mut [u16],
 ) -> bool
     requires blocks_of_clue { IsClue blocks.now }
-    requires short { length left.now ≤ 120 }
+    requires short { length left.now ≤ MAX_SIDE }
     requires starting_room { length blocks.now < length starting.old }
     requires waiting_room { length blocks.now < length waiting.old }
     requires same_length { length left.now ≡ length out.old }
@@ -70,7 +71,8 @@ fn narrow_sets(
     }
     let mut seen = [0u128; 16];
     see_blocks(blocks, left, &allowed, starting, waiting, &mut seen);
-    write_colours(&seen, out);
+    let colours = colours_of(blocks);
+    write_colours(&seen[..usize::from(colours)], out);
     true
 }
 
@@ -85,7 +87,7 @@ pub fn narrow_by_sets(
 ) -> Outcome
     requires blocks_of_clue { IsClue blocks.now }
     requires same_length { length left.now ≡ length out.old }
-    requires short { length left.now ≤ 120 }
+    requires short { length left.now ≤ MAX_SIDE }
     requires starting_room { length left.now < length starting.old }
     requires waiting_room { length left.now < length waiting.old }
     ensures { Narrows blocks.now left.now result out.new }
@@ -93,8 +95,8 @@ pub fn narrow_by_sets(
     if blocks.is_empty() {
         return narrow_without_blocks(left, out);
     }
-    if is_settled(left) {
-        return narrow_settled(blocks, left, out);
+    if are_shown(left) {
+        return narrow_shown(blocks, left, out);
     }
     if !has_room(blocks, left.len()) {
         out.fill(0);

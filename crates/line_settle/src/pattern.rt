@@ -26,22 +26,22 @@ pub fn spell(blocks: &[Block], buffer: &mut [u8]) -> Option<usize>
     Some(end)
 }
 
-// Writes the cells of one block from `start` on, behind a background cell where it meets a block of its colour.
-fn write_block(block: Block, meets: bool, buffer: &mut [u8], start: usize) -> Option<usize>
+// Writes the cells of one block from `start` on, behind a background cell where it follows a block of its colour.
+fn write_block(block: Block, is_gap: bool, buffer: &mut [u8], start: usize) -> Option<usize>
     requires begun { start ≤ length buffer.old }
     requires small { length buffer.old ≤ 256 }
     ensures { MatchOption
         result
-        (length buffer.old < start + length (gap meets ++ replicate block.len block.colour))
+        (length buffer.old < start + length (gap is_gap ++ replicate block.len block.colour))
         (λ n. (n ≤ length buffer.new)
-        × (take n buffer.new ≡ take start buffer.old ++ (gap meets ++ replicate block.len block.colour))) }
+        × (take n buffer.new ≡ take start buffer.old ++ (gap is_gap ++ replicate block.len block.colour))) }
 {
-    let first = if meets { start + 1 } else { start };
+    let first = if is_gap { start + 1 } else { start };
     let end = first + usize::from(block.len);
     if end > buffer.len() {
         return None;
     }
-    if meets {
+    if is_gap {
         buffer[start] = 0;
     }
     buffer[first..end].fill(block.colour);

@@ -1,4 +1,5 @@
-ghost use Rattle.std.specs.Prelude.{◌≡◌, ℕ, ◌<◌, ◌&&◌, ◌||◌, ◌==◌, true, length, replicate, slice_index};
+ghost use Rattle.std.specs.Prelude.{◌≡◌, ℕ, ◌<◌, ◌≤◌, ◌&&◌, ◌||◌, ◌==◌, true, length, replicate, slice_index};
+ghost use Rattle.std.specs.List.{All};
 ghost use Rattle.clues.specs.Clue.{IsClue};
 ghost use Rattle.line_settle.specs.Spelling.{allows, pattern_of, finishes};
 ghost use Rattle.line_settle.specs.Positions.{has, HasMade};
@@ -13,6 +14,7 @@ use clues::Block;
 // Makes the set of cells in which a colour is left, unless it is one of the colours that are `made`.
 fn mark_colour(colour: u8, left: &[u16], made: u16, allowed: &mut [u128]) -> u16
     requires colour { colour < 16 }
+    requires short { length left.now < 128 }
     requires sixteen { length allowed.old ≡ 16 }
     requires before { HasMade left.now made allowed.old }
     ensures after { HasMade left.now result allowed.new }
@@ -29,6 +31,7 @@ fn mark_colour(colour: u8, left: &[u16], made: u16, allowed: &mut [u128]) -> u16
 /// Makes the sets of cells in which the background and the colour of each block are left.
 pub fn mark_allowed(blocks: &[Block], left: &[u16], allowed: &mut [u128])
     requires blocks_of_clue { IsClue blocks.now }
+    requires short { length left.now < 128 }
     requires sixteen { length allowed.old ≡ 16 }
     ensures { IsAllowed blocks.now left.now allowed.new }
 {
@@ -102,11 +105,15 @@ pub fn see_blocks(
     for j in 0..blocks.len() {
         let block = blocks[j];
         let here = fill_up(behind_gap(from, allowed[0], meets(blocks, j)), allowed[0]);
+        // A line reads background in the gap, which begins at `from`, and while it waits, which it does within `here`. Of
+        // these cells it goes on behind those that end, one position on, where it can still wait for the block: a set's
+        // position i is bit i, so `>> 1` asks it of the position behind the cell.
         see_colour((from | here) & (allowed[0] & (waiting[j] >> 1)), 0, seen);
         let laid = lay(here & starting[j], block.len);
         see_colour(laid.cells, block.colour, seen);
         from = laid.ends;
     }
+    // The same behind the last block, where there is no gap.
     let here = fill_up(from, allowed[0]);
     see_colour(here & (allowed[0] & (waiting[blocks.len()] >> 1)), 0, seen);
 }
@@ -114,13 +121,30 @@ pub fn see_blocks(
 #[tactic(auto, using(crate::proofs::SetStepLemmas::writing))]
 /// Writes for each cell the colours that were seen there.
 pub fn write_colours(seen: &[u128], out: &mut [u16])
-    requires { length seen.now ≡ 16 }
+    requires sixteen { length seen.now ≤ 16 }
+    requires short { length out.old < 128 }
     ensures { (i k : ℕ) → i < length out.old → allows (slice_index out.new i) k ≡ has (slice_index seen.now k) i }
 {
     out.fill(0);
-    for k in 0..16u8 {
-        if seen[usize::from(k)] != 0 {
-            add_colour(seen[usize::from(k)], k, out);
+    for k in 0..seen.len() {
+        if seen[k] != 0 {
+            add_colour(seen[k], k as u8, out);
         }
     }
+}
+
+/// How many colours there are up to the highest one of the blocks, with the background.
+pub fn colours_of(blocks: &[Block]) -> u8
+    requires { IsClue blocks.now }
+    ensures some { 0 < result }
+    ensures few { result ≤ 16 }
+    ensures each { All (λ b. b.colour < result) blocks.now }
+{
+    let mut colours = 1;
+    for block in blocks {
+        if block.colour >= colours {
+            colours = block.colour + 1;
+        }
+    }
+    colours
 }

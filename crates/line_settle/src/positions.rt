@@ -35,21 +35,20 @@ pub fn fill_down(set: u128, run: u128) -> u128
     all
 }
 
-// The cells from `first` on in which a colour is left, one by one, as the positions before them counted from there.
-fn few_with(left: &[u16], first: usize, colour: u8) -> u64
-    requires colour { colour < 16 }
-    requires begun { first ≤ length left.now }
-    ensures { (i : ℕ) → i < 64 → has result i ≡ allows (slice_index left.now (first + i)) colour }
+// The cells in which a colour is left, one by one, as the positions before them.
+fn few_with(left: &[u16], colour: u8) -> u64
+    requires { colour < 16 }
+    ensures { (i : ℕ) → i < 64 → has result i ≡ allows (slice_index left.now i) colour }
 {
     let mut cells = 0;
-    for i in (first..left.len()).rev() {
+    for i in (0..left.len()).rev() {
         cells = (cells << 1) | u64::from(allows(left[i], colour));
     }
     cells
 }
 
 #[inline]
-// The same for eight cells, which are compared with the colour together.
+// The same for the eight cells from `first` on, which are compared with the colour together.
 fn eight_with(left: &[u16], first: usize, colour: u8) -> u64
     requires colour { colour < 16 }
     requires room { first + 8 ≤ length left.now }
@@ -64,14 +63,22 @@ fn eight_with(left: &[u16], first: usize, colour: u8) -> u64
 /// The cells of a line in which a colour is left, as the positions before them.
 pub fn cells_with(left: &[u16], colour: u8) -> u128
     requires colour { colour < 16 }
+    requires short { length left.now < 128 }
     ensures { (i : ℕ) → i < 128 → has result i ≡ allows (slice_index left.now i) colour }
 {
-    let chunks = left.len() / 8;
-    let mut cells = u128::from(few_with(left, 8 * chunks, colour));
-    for chunk in (0..chunks).rev() {
+    if left.len() < 8 {
+        return u128::from(few_with(left, colour));
+    }
+    let mut cells = 0u128;
+    for chunk in (0..left.len() / 8).rev() {
         cells = (cells << 8) | u128::from(eight_with(left, 8 * chunk, colour));
     }
-    cells
+    if left.len() % 8 == 0 {
+        return cells;
+    }
+    // The last eight cells together: some of them once more, which changes nothing.
+    let last = left.len() - 8;
+    cells | (u128::from(eight_with(left, last, colour)) << last)
 }
 
 #[tactic(auto, using(crate::proofs::ColouringLemmas::colouring))]
@@ -101,16 +108,24 @@ fn colour_cells(set: u16, colour: u8, first: usize, count: usize, out: &mut [u16
 /// Leaves a colour in the cells behind the positions of a set.
 pub fn add_colour(set: u128, colour: u8, out: &mut [u16])
     requires colour { colour < 16 }
+    requires short { length out.old < 128 }
     ensures { (i k : ℕ) → i < length out.old
         → allows (slice_index out.new i) k ≡ (allows (slice_index out.old i) k || (has set i && colour == k)) }
 {
     let cells = out.len();
-    let whole = 8 * (cells / 8);
+    if cells < 8 {
+        colour_cells((set & 0xff) as u16, colour, 0, cells, out);
+        return;
+    }
     let mut rest = set;
     for chunk in 0..cells / 8 {
         // Always eight cells, so that they are coloured together.
         colour_cells((rest & 0xff) as u16, colour, 8 * chunk, 8, out);
         rest >>= 8;
     }
-    colour_cells((rest & 0xff) as u16, colour, whole, cells % 8, out);
+    if cells % 8 != 0 {
+        // The last eight cells: some of them once more, which changes nothing.
+        let last = cells - 8;
+        colour_cells(((set >> last) & 0xff) as u16, colour, last, 8, out);
+    }
 }

@@ -1,4 +1,6 @@
-use crate::{Facts, LineEngine, MaskEngine, Meter, Outcome, PlainEngine, force, laws};
+use crate::{
+    Facts, LineEngine, MaskEngine, Meter, Outcome, PlainEngine, force, force_crossing, laws,
+};
 use clues::{Block, Clue, clue_of};
 use picture::{Axis, CellSet, Document, LineId, Palette, Picture, Rgb};
 use std::alloc::Global;
@@ -300,8 +302,8 @@ fn are_dead<E: LineEngine>(rt: &impl Abort, engine: &mut E, clue: &Clue, lines: 
     }
 }
 
-// Lines whose cells are settled, with 1 for background, 2 for `a` and 4 for `b`.
-fn settled_rows<E: LineEngine>(rt: &impl Abort, alloc: Global, engine: &mut E) -> Result<(), Fail> {
+// Lines whose cells show a colour, with 1 for background, 2 for `a` and 4 for `b`.
+fn shown_rows<E: LineEngine>(rt: &impl Abort, alloc: Global, engine: &mut E) -> Result<(), Fail> {
     let aab = clue_from(rt, alloc, &[1, 1, 2])?;
     stay(
         rt,
@@ -337,7 +339,7 @@ fn settled_rows<E: LineEngine>(rt: &impl Abort, alloc: Global, engine: &mut E) -
     Ok(())
 }
 
-// Lines without blocks, of open and of settled cells.
+// Lines without blocks, of open and of shown cells.
 fn blank_rows<E: LineEngine>(rt: &impl Abort, alloc: Global, engine: &mut E) -> Result<(), Fail> {
     let none = Clue::from_blocks(alloc, &[])?;
     let one = clue_from(rt, alloc, &[1])?;
@@ -357,12 +359,12 @@ fn blank_rows<E: LineEngine>(rt: &impl Abort, alloc: Global, engine: &mut E) -> 
 }
 
 #[test]
-fn both_engines_show_settled_and_blank_rows(rt: HostRuntime) -> Result<(), Fail> {
+fn both_engines_narrow_shown_and_blank_rows(rt: HostRuntime) -> Result<(), Fail> {
     let mut plain = PlainEngine::make(rt.alloc(), 120)?;
-    settled_rows(&rt, rt.alloc(), &mut plain)?;
+    shown_rows(&rt, rt.alloc(), &mut plain)?;
     blank_rows(&rt, rt.alloc(), &mut plain)?;
     let mut masks = MaskEngine::make(rt.alloc(), 120)?;
-    settled_rows(&rt, rt.alloc(), &mut masks)?;
+    shown_rows(&rt, rt.alloc(), &mut masks)?;
     blank_rows(&rt, rt.alloc(), &mut masks)
 }
 
@@ -567,6 +569,32 @@ fn a_line_forces_its_exclusions(rt: HostRuntime) -> Result<(), Fail> {
     assert_eq!(rt; facts.left(2, 1), 0b111);
     assert_eq!(rt; facts.left(3, 1), 0b101);
     assert_eq!(rt; facts.left(3, 0), ALL);
+    Ok(())
+}
+
+// A row of three cells with a block of two colours its middle, and elsewhere only what was left already stays.
+#[test]
+fn forcing_names_the_lines_that_cross_a_change(rt: HostRuntime) -> Result<(), Fail> {
+    let mut engine = MaskEngine::make(rt.alloc(), 3)?;
+    let mut facts = Facts::none(rt.alloc(), 2, 3)?;
+    assert!(rt; facts.height() == 2 && facts.width() == 3);
+    facts.exclude(0, 0, !0b011);
+    facts.exclude(0, 2, !0b011);
+    let clue = Clue::from_blocks(rt.alloc(), &[Block { len: 2, colour: 1 }])?;
+    let mut count = 0;
+    let forced = force_crossing(&mut engine, &mut facts, &clue, TOP, &mut count);
+    assert_eq!(rt; forced.outcome, Outcome::Narrowed);
+    assert_eq!(rt; count, 1);
+    let column = |at| LineId {
+        axis: Axis::Down,
+        at,
+    };
+    assert!(rt; forced.changed.has(column(1)));
+    assert!(rt; !forced.changed.has(column(0)) && !forced.changed.has(column(2)));
+    assert_eq!(rt; forced.changed.len(), 1);
+    assert!(rt; facts.height() == 2 && facts.width() == 3);
+    assert_eq!(rt; facts.left(0, 1), 0b010);
+    assert_eq!(rt; facts.left(0, 0), 0b011);
     Ok(())
 }
 

@@ -2,6 +2,7 @@ pub mod BitLemmas
 pub mod CellSetLaws
 pub mod CellSetLemmas
 pub mod DocumentLaws
+pub mod FirstNameLemmas
 pub mod FlatLemmas
 pub mod GridLemmas
 pub mod LineEditLemmas
@@ -11,4 +12,5 @@ pub mod LineSetLemmas
 pub mod OrderLemmas
 pub mod PaletteLemmas
 pub mod RoomLemmas
+pub mod UnionLemmas
 pub mod WritingLemmas

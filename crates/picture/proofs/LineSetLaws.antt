@@ -61,7 +61,7 @@ same_axis Down Across = inr (λ e. cc)
 same_axis Down Down = inl refl
 
 -- two names are one or not
-cases_name : (a b : LineId) → (a ≡ b) ⊎ ¬ (a ≡ b)
+pub cases_name : (a b : LineId) → (a ≡ b) ⊎ ¬ (a ≡ b)
 cases_name a b = elim (same_axis a.axis b.axis) [
   | inl x ↦ elim (cases_eq a.at b.at) [
     | inl y ↦ inl (same_name a b x y)

@@ -1,5 +1,5 @@
 -- A set of line names as a mask for each axis: bit n of the mask stands for the line at place n.
-use Rattle.std.specs.Prelude.{◌≡◌, ℕ, ◌+◌, ◌<◌, ◌^◌, ◌⊎◌, ◌↔◌, IsBitSet, count_ones}
+use Rattle.std.specs.Prelude.{◌≡◌, ℕ, ◌+◌, ◌<◌, ◌≤◌, ◌^◌, ◌⊎◌, ◌↔◌, IsBitSet, count_ones}
 use Rattle.picture.specs.declared.line_id.Axis.{Axis}
 use Rattle.picture.specs.declared.line_id.Axis.TheVariants.{Across, Down}
 use Rattle.picture.specs.declared.line_id.LineId.{LineId}
@@ -25,6 +25,10 @@ HasName lines line = IsBitSet (mask_along line.axis lines) line.at
 abbrev pub PutsName : Lines → Lines → LineId → Type 0
 PutsName old new line = (other : LineId) → HasName new other ↔ (HasName old other ⊎ (other ≡ line))
 
+-- new has the names of old and those of another set
+abbrev pub PutsNames : Lines → Lines → Lines → Type 0
+PutsNames old new names = (line : LineId) → HasName new line ↔ (HasName old line ⊎ HasName names line)
+
 -- new has the names of old but for this one
 abbrev pub TakesOutName : Lines → Lines → LineId → Type 0
 TakesOutName old new line = (other : LineId) → HasName new other ↔ (HasName old other × ¬ (other ≡ line))
@@ -36,3 +40,13 @@ name_count lines = count_ones lines.rows + count_ones lines.columns
 -- the set without a name
 abbrev pub no_names : Lines
 no_names = record { rows = 0; columns = 0 }
+
+-- the first bit that is set in a mask from a place on, and that there is none
+pub record IsFirstBit (mask from at : ℕ) : Type 0 where
+  pub onward : from ≤ at
+  pub within : at < MAX_SIDE
+  pub is_set : IsBitSet mask at
+  pub first : (before : ℕ) → from ≤ before → before < at → ¬ IsBitSet mask before
+
+abbrev pub IsClearFrom : ℕ → ℕ → Type 0
+IsClearFrom mask from = (at : ℕ) → from ≤ at → ¬ IsBitSet mask at

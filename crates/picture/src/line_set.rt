@@ -1,7 +1,7 @@
 //! A set of names of rows and columns, in a fixed table.
 
-ghost use Rattle.std.specs.Prelude.{◌≡◌, ◌+◌, ◌<◌, ◌↔◌, IsTrue};
-ghost use Rattle.picture.specs.LineSet.{IsLineSet, HasName, PutsName, TakesOutName, name_count, no_names};
+ghost use Rattle.std.specs.Prelude.{◌≡◌, ◌+◌, ◌^◌, ◌<◌, ◌≤◌, ◌↔◌, IsTrue, MatchOption};
+ghost use Rattle.picture.specs.LineSet.{IsClearFrom, IsFirstBit, IsLineSet, HasName, PutsName, PutsNames, TakesOutName, mask_along, name_count, no_names};
 
 use crate::line_id::{Axis, LineId};
 use crate::picture::MAX_SIDE;
@@ -67,6 +67,15 @@ impl LineSet {
         }
     }
 
+    /// Puts all names of another set into the set.
+    pub fn put_all(&mut self, names: &LineSet)
+        ensures members { PutsNames self.old self.new names.now }
+        ensures set { IsLineSet self.new }
+    {
+        self.rows |= names.rows;
+        self.columns |= names.columns;
+    }
+
     /// Takes a name out of the set. A set that does not have it stays as it is.
     pub fn take_out(&mut self, line: LineId)
         requires { line.at < MAX_SIDE }
@@ -96,4 +105,33 @@ impl LineSet {
     {
         self.len() == 0
     }
+
+    /// The place of the first name along an axis from a place on, if there is one.
+    pub fn first_from(&self, axis: Axis, from: u8) -> Option<u8>
+        requires { from ≤ MAX_SIDE }
+        ensures value { MatchOption
+            result
+            (IsClearFrom (mask_along axis self.now) from)
+            (IsFirstBit (mask_along axis self.now) from) }
+        ensures set { IsLineSet self.now }
+    {
+        match axis {
+            Axis::Across => first_bit(self.rows, from),
+            Axis::Down => first_bit(self.columns, from),
+        }
+    }
+}
+
+#[tactic(auto, using(crate::proofs::FirstNameLemmas::first))]
+// The place of the first bit that is set in a mask from a place on.
+fn first_bit(mask: u128, from: u8) -> Option<u8>
+    requires narrow { mask < 2 ^ MAX_SIDE }
+    requires within { from ≤ MAX_SIDE }
+    ensures { MatchOption result (IsClearFrom mask from) (IsFirstBit mask from) }
+{
+    let onward = mask >> from;
+    if onward == 0 {
+        return None;
+    }
+    Some(from + onward.trailing_zeros() as u8)
 }

@@ -362,3 +362,24 @@ fn pin_and_unpin(document: &mut Document, row: u8, col: u8)
     pin(document, row, col);
     unpin(document, row, col);
 }
+
+#[test]
+fn names_come_in_turn(rt: HostRuntime) {
+    let mut lines = LineSet::empty();
+    let mut more = LineSet::empty();
+    for (axis, at) in [(Axis::Across, 119), (Axis::Down, 7)] {
+        lines.put(LineId { axis, at });
+        more.put(LineId { axis, at: 5 });
+    }
+    lines.put_all(&more);
+    assert_eq!(rt; lines.len(), 4);
+    for (axis, from, first) in [
+        (Axis::Across, 0, Some(5)),
+        (Axis::Across, 6, Some(119)),
+        (Axis::Down, 7, Some(7)),
+        (Axis::Down, 8, None),
+        (Axis::Across, 120, None),
+    ] {
+        assert_eq!(rt; lines.first_from(axis, from), first);
+    }
+}

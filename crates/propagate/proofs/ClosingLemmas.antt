@@ -17,9 +17,10 @@ use Rattle.line_settle.proofs.GridLemmas.{cell_on}
 use Rattle.line_settle.proofs.AlongLemmas.{place_on, same_line_length, same_has_line, shape_refl, shape_trans, shape_sym, same_list}
 use Rattle.line_settle.proofs.LawLemmas.{tighter_fits, within_tighter, fits_narrowed}
 use Rattle.line_settle.proofs.ForceLemmas.{on_or_not, gains_grows, gains_inside, gains_closes}
-use Rattle.propagate.specs.Closing.{AreClosable, IsQuietLine, QuietOutside, Closes, other_axis, crossing_at, CrossesChange, PutsCrossing}
+use Rattle.line_settle.specs.Crossing.{other_axis, crossing_at, CrossesChange}
+use Rattle.propagate.specs.Closing.{AreClosable, IsQuietLine, QuietOutside, Closes, PutsCrossing}
 use Rattle.propagate.specs.LineNames.{AreLinesOf}
-use Rattle.propagate.proofs.NameLemmas.{cases_line, none_has}
+use Rattle.picture.proofs.LineSetLaws.{cases_name, members}
 
 -- ---- cells on a line
 
@@ -33,10 +34,10 @@ shared_cell Across Down at bt i j r c = inr (refl, sym c)
 shared_cell Down Across at bt i j r c = inr (refl, sym r)
 shared_cell Down Down at bt i j r c = inl (refl, c)
 
-within_refl : (a : List (List ℕ)) → IsWithin a a
+pub within_refl : (a : List (List ℕ)) → IsWithin a a
 within_refl a = record { same_shape = shape_refl a; leaves = λ r c k s. s }
 
-within_trans : (a b c : List (List ℕ)) → IsWithin a b → IsWithin b c → IsWithin a c
+pub within_trans : (a b c : List (List ℕ)) → IsWithin a b → IsWithin b c → IsWithin a c
 within_trans a b c x y = record { same_shape = shape_trans x.same_shape y.same_shape; leaves = λ r d k s. x.leaves r d k (y.leaves r d k s) }
 
 -- ---- one line evaluated
@@ -61,7 +62,7 @@ module _ (clues : Clues) (line : LineId) (old new : List (List ℕ)) (outcome : 
         fits = (f.0, fits_narrowed (clue_at clues line) (line_of old line) f.0 (line_of new line) outcome f.1 n);
       }
 
-  unchanged_cell : (other : LineId) → (other ≡ line → ⊥) → (CrossesChange line (line_of old line) (line_of new line) (length (line_of old line)) other → ⊥) → (row col i : ℕ) → row ≡ row_on line.axis line.at i → col ≡ col_on line.axis line.at i → other.axis ≡ other_axis line.axis → i ≡ other.at → cell_at new row col ≡ cell_at old row col
+  unchanged_cell : (other : LineId) → (other ≡ line → ⊥) → (CrossesChange line (line_of old line) (line_of new line) other → ⊥) → (row col i : ℕ) → row ≡ row_on line.axis line.at i → col ≡ col_on line.axis line.at i → other.axis ≡ other_axis line.axis → i ≡ other.at → cell_at new row col ≡ cell_at old row col
   unchanged_cell other d n row col i r c ax at = elim (cases_eq (get_or (line_of old line) i 0) (get_or (line_of new line) i 0)) [
     | inl e ↦ at_on new line row col i r c ∙ (sym e ∙ sym (at_on old line row col i r c))
     | inr differs ↦ elim (cases_lt i (length (line_of old line))) [
@@ -76,7 +77,7 @@ module _ (clues : Clues) (line : LineId) (old new : List (List ℕ)) (outcome : 
     ]
   ]
 
-  pub unchanged_line : (other : LineId) → (other ≡ line → ⊥) → (CrossesChange line (line_of old line) (line_of new line) (length (line_of old line)) other → ⊥) → line_of new other ≡ line_of old other
+  pub unchanged_line : (other : LineId) → (other ≡ line → ⊥) → (CrossesChange line (line_of old line) (line_of new line) other → ⊥) → line_of new other ≡ line_of old other
   unchanged_line other d n = same_list (line_of new other) (line_of old other) (same_line_length old new other g.same_shape) (λ j l.
       let row = row_on other.axis other.at j in
       let col = col_on other.axis other.at j in
@@ -89,8 +90,8 @@ module _ (clues : Clues) (line : LineId) (old new : List (List ℕ)) (outcome : 
       ] in
       cell_on new other j ∙ (same ∙ sym (cell_on old other j)))
 
-  pub quiet_after : (agenda rest after : Lines) → outcome ≡ Narrowed → QuietOutside clues old agenda → TakesOutName agenda rest line → PutsCrossing line (line_of old line) (line_of new line) (length (line_of old line)) rest after → QuietOutside clues new after
-  quiet_after agenda rest after e s t p other h not = elim (cases_line other line) [
+  pub quiet_after : (agenda rest after : Lines) → outcome ≡ Narrowed → QuietOutside clues old agenda → TakesOutName agenda rest line → PutsCrossing line (line_of old line) (line_of new line) rest after → QuietOutside clues new after
+  quiet_after agenda rest after e s t p other h not = elim (cases_name other line) [
     | inl same ↦ let P : LineId → Type 0 = λ x. IsQuietLine (clue_at clues x) (line_of new x) in subst P (sym same) (quiet_here e)
     | inr d ↦
         let before = s other (same_has_line new old other (shape_sym g.same_shape) h) (λ m. not ((p.names other).1 (inl ((t other).1 (m, d))))) in
@@ -102,7 +103,7 @@ crossing_has : (axis : Axis) (at i : ℕ) (rows : List (List ℕ)) → row_on ax
 crossing_has Across at i rows r c = c
 crossing_has Down at i rows r c = r
 
-pub lines_after : (line : LineId) (old new : List (List ℕ)) (agenda rest after : Lines) → IsFacts old → HasLine old line → SameShape old new → AreLinesOf old agenda → TakesOutName agenda rest line → PutsCrossing line (line_of old line) (line_of new line) (length (line_of old line)) rest after → AreLinesOf new after
+pub lines_after : (line : LineId) (old new : List (List ℕ)) (agenda rest after : Lines) → IsFacts old → HasLine old line → SameShape old new → AreLinesOf old agenda → TakesOutName agenda rest line → PutsCrossing line (line_of old line) (line_of new line) rest after → AreLinesOf new after
 lines_after line old new agenda rest after is has shape of t p other h = same_has_line old new other shape (elim ((p.names other).0 h) [
   | inl m ↦ of other ((t other).0 m).0
   | inr x ↦
@@ -134,7 +135,7 @@ same_sizes clues longest old new s c =
     let e = c.tall in
     record { rows = omega arith; columns = omega arith; wide = omega arith; tall = omega arith }
 
-pub closing_goes_on : (clues : Clues) (longest : ℕ) (base old new : List (List ℕ)) (agenda rest after : Lines) (line : LineId) (outcome : Outcome) → Closing clues longest base old agenda → HasName agenda line → TakesOutName agenda rest line → IsFacts old → Gains (clue_at clues line) line old new outcome → outcome ≡ Narrowed → PutsCrossing line (line_of old line) (line_of new line) (length (line_of old line)) rest after → Closing clues longest base new after
+pub closing_goes_on : (clues : Clues) (longest : ℕ) (base old new : List (List ℕ)) (agenda rest after : Lines) (line : LineId) (outcome : Outcome) → Closing clues longest base old agenda → HasName agenda line → TakesOutName agenda rest line → IsFacts old → Gains (clue_at clues line) line old new outcome → outcome ≡ Narrowed → PutsCrossing line (line_of old line) (line_of new line) rest after → Closing clues longest base new after
 closing_goes_on clues longest base old new agenda rest after line outcome c h t is g e p =
     let has = c.lines line h in
     record {
@@ -162,7 +163,7 @@ closing_dies clues longest base old new agenda line outcome c h g e =
 
 pub closing_ends : (clues : Clues) (longest : ℕ) (base facts : List (List ℕ)) (agenda : Lines) (outcome : Outcome) → Closing clues longest base facts agenda → agenda ≡ no_names → outcome ≡ Narrowed → Closes clues base facts outcome
 closing_ends clues longest base facts agenda outcome c none e =
-    let all : (line : LineId) → HasLine facts line → IsQuietLine (clue_at clues line) (line_of facts line) = λ line has. c.quiet line has (λ h. none_has line (let P : Lines → Type 0 = λ x. HasName x line in subst P none h)) in
+    let all : (line : LineId) → HasLine facts line → IsQuietLine (clue_at clues line) (line_of facts line) = λ line has. c.quiet line has (λ h. members.empty line (let P : Lines → Type 0 = λ x. HasName x line in subst P none h)) in
     record {
       holds = c.holds;
       inside = c.inside;

@@ -1,5 +1,7 @@
 pub mod NameLemmas
-pub mod CrossingLemmas
+pub mod OrderLemmas
+pub mod AlongLemmas
 pub mod ClosingLemmas
 pub mod WorkLemmas
 pub mod PictureLemmas
+pub mod ScheduleLemmas

@@ -1,14 +1,16 @@
 -- How much is left to do, and how much was done.
-use Rattle.std.proofs.Common.{◌≡◌, ℕ, zero, suc, ◌+◌, ◌^◌, ◌<◌, ◌≤◌, List, length, get_or, refl, sym, ap, subst, ◌∙◌, arith, inl, inr, bit_and}
-use Rattle.std.specs.Prelude.{IsBitSet}
+use Rattle.std.proofs.Common.{◌≡◌, ℕ, zero, suc, ◌+◌, ◌^◌, ◌<◌, ◌≤◌, List, length, get_or, ◌==◌, ◌/◌, ◌↔◌, ◌⊎◌, cond, Bool, true, false, eq-eqb, eqb-true, refl, sym, ap, subst, ◌∙◌, arith, inl, inr, bit_and}
+use Rattle.std.specs.Prelude.{IsBitSet, count_ones}
+use Rattle.std.specs.Int.{bit_at}
+use Rattle.std.specs.Int.Count.{ones_step}
 use Rattle.std.proofs.lemmas.Bool.{cases_eq}
 use Rattle.std.proofs.lemmas.List.{length-map}
-use Rattle.std.proofs.lemmas.Nat.{and_le_r}
-use Rattle.std.proofs.lemmas.Nat.Bits.{bit_at_and, bit_at-lt}
+use Rattle.std.proofs.lemmas.Nat.{and_le_r, ones_le_self}
+use Rattle.std.proofs.lemmas.Nat.Bits.{bit_at_and, bit_at-lt, bit_at-suc, bit_at-zero, bit_at_lowest, same_from_bits}
 use Rattle.picture.specs.declared.line_id.Axis.{Axis}
 use Rattle.picture.specs.declared.line_id.Axis.TheVariants.{Across, Down}
 use Rattle.picture.specs.declared.line_id.LineId.{LineId}
-use Rattle.picture.specs.LineSet.{Lines, HasName, TakesOutName, name_count, no_names}
+use Rattle.picture.specs.LineSet.{Lines, HasName, PutsNames, TakesOutName, mask_along, name_count, no_names}
 use Rattle.picture.specs.Rows.{width_of, row_at, cell_at, line_along, line_of, lines_along, HasLine}
 use Rattle.clues.specs.ClueBook.{Clues, clue_at}
 use Rattle.line_settle.specs.declared.line_engine.Outcome.{Outcome}
@@ -16,12 +18,26 @@ use Rattle.line_settle.specs.declared.line_engine.Outcome.TheVariants.{Narrowed,
 use Rattle.line_settle.specs.declared.meter.Meter.{Meter}
 use Rattle.line_settle.specs.Counting.{Counts, counted}
 use Rattle.line_settle.specs.FactSets.{IsFacts, IsWithin, Gains}
-use Rattle.line_settle.proofs.MaskLemmas.{bit_is_set, set_bit, same_bits}
+use Rattle.line_settle.proofs.MaskLemmas.{bit_is_set, set_bit, same_bits, no_bit}
 use Rattle.line_settle.proofs.GridLemmas.{cell_along}
 use Rattle.line_settle.proofs.LawLemmas.{counting_adds}
 use Rattle.propagate.specs.Closing.{change, changes, PutsCrossing, Evaluates, Draws, Works}
-use Rattle.propagate.proofs.CrossingLemmas.{change_none, change_some}
-use Rattle.propagate.proofs.NameLemmas.{take_counts, no_names_counted}
+use Rattle.picture.proofs.LineSetLaws.{no_names_counted}
+use Rattle.picture.proofs.UnionLemmas.{put_all_counts}
+use Rattle.line_settle.specs.Crossing.{CrossesChange, other_axis}
+use Rattle.propagate.proofs.NameLemmas.{take_counts}
+
+-- ---- cells that differ
+
+change_none : (before after : ℕ) → before ≡ after → change before after ≡ 0
+change_none before after e = let P : Bool → ℕ = λ b. cond b 0 1 in ap P (eq-eqb before after e)
+
+change_some : (before after : ℕ) → (before ≡ after → ⊥) → change before after ≡ 1
+change_some before after d = by (before == after) refl
+  where
+    by : (b : Bool) → (before == after) ≡ b → ◌≡◌ {A = ℕ} (cond b 0 1) 1
+    by true e = absurd (d (eqb-true before after e))
+    by false e = refl
 
 -- ---- masks
 
@@ -117,7 +133,7 @@ changes_along Down at old new is h =
 pub left_to_do : List (List ℕ) → Lines → ℕ
 left_to_do facts agenda = weight (length facts) (width_of facts) facts + name_count agenda
 
-pub less_to_do : (old new : List (List ℕ)) (agenda rest after : Lines) (line : LineId) → IsFacts old → HasLine old line → IsWithin old new → HasName agenda line → TakesOutName agenda rest line → PutsCrossing line (line_of old line) (line_of new line) (length (line_of old line)) rest after → left_to_do new after < left_to_do old agenda
+pub less_to_do : (old new : List (List ℕ)) (agenda rest after : Lines) (line : LineId) → IsFacts old → HasLine old line → IsWithin old new → HasName agenda line → TakesOutName agenda rest line → PutsCrossing line (line_of old line) (line_of new line) rest after → left_to_do new after < left_to_do old agenda
 unfolding left_to_do
 less_to_do old new agenda rest after line is has w h t p =
     let c = take_counts agenda rest line h t in
@@ -128,6 +144,79 @@ less_to_do old new agenda rest after line is has w h t p =
     let wide : width_of old ≡ width_of new = w.same_shape.each 0 in
     let columns = ap (λ n. weight (length old) n new) (sym wide) in
     omega arith
+
+-- ---- the lines put on the agenda
+
+sum_first : (f : ℕ → ℕ) (n : ℕ) → sum_to f (suc n) ≡ f 0 + sum_to (λ i. f (suc i)) n
+unfolding sum_to
+sum_first f zero = omega arith
+sum_first f (suc n) = let r = sum_first f n in omega arith
+
+-- a mask has no more bits than they are allowed below n, where it has none from n on
+ones_at_most : (n mask : ℕ) (f : ℕ → ℕ) → ((k : ℕ) → bit_at mask k ≤ f k) → ((k : ℕ) → n ≤ k → bit_at mask k ≡ 0) → count_ones mask ≤ sum_to f n
+unfolding sum_to
+ones_at_most zero mask f low high =
+    let none : mask ≡ 0 = same_from_bits mask 0 (λ k. high k (omega arith) ∙ sym (bit_at-zero k)) in
+    let same = ap count_ones none in
+    omega (arith, ones_le_self 0)
+ones_at_most (suc n) mask f low high =
+    let rest = ones_at_most n (mask / 2) (λ k. f (suc k)) (λ k. (let l = low (suc k) in omega (arith, bit_at-suc mask k))) (λ k l. (sym (bit_at-suc mask k) ∙ high (suc k) (omega arith))) in
+    let one = low 0 in
+    let all = sum_first f n in
+    omega (arith, ones_step mask, bit_at_lowest mask, rest, one, all)
+
+module _ (line : LineId) (before after : List ℕ) (changed : Lines) (is : (other : LineId) → HasName changed other ↔ CrossesChange line before after other) where
+  allowed : ℕ → ℕ
+  allowed k = change (get_or before k 0) (get_or after k 0)
+
+  -- the names along the axis that crosses are no more than the cells that differ, and there are none along the other one
+  bit_allowed : (axis : Axis) (k : ℕ) → bit_at (mask_along axis changed) k ≤ allowed k
+  unfolding allowed
+  bit_allowed axis k = elim (cases_eq (bit_at (mask_along axis changed) k) 1) [
+    | inl e ↦
+        let x = (is (record { axis = axis; at = k })).0 (bit_is_set (mask_along axis changed) k e) in
+        let one = change_some (get_or before k 0) (get_or after k 0) x.differs in
+        omega arith
+    | inr d ↦ let l = bit_at-lt (mask_along axis changed) k in omega arith
+  ]
+
+  bit_past : (axis : Axis) (k : ℕ) → length before ≤ k → bit_at (mask_along axis changed) k ≡ 0
+  bit_past axis k past = elim (cases_eq (bit_at (mask_along axis changed) k) 1) [
+    | inl e ↦
+        let x = (is (record { axis = axis; at = k })).0 (bit_is_set (mask_along axis changed) k e) in
+        let w = x.within in
+        absurd (omega arith)
+    | inr d ↦ let l = bit_at-lt (mask_along axis changed) k in omega arith
+  ]
+
+  none_along : (axis : Axis) → (other_axis line.axis ≡ axis → ⊥) → count_ones (mask_along axis changed) ≡ 0
+  none_along axis d =
+      let none : mask_along axis changed ≡ 0 = same_bits (mask_along axis changed) 0 (λ k. (
+        (λ s. let x = (is (record { axis = axis; at = k })).0 s in absurd (d (sym (ap (λ (l : LineId). l.axis) x.is_crossing)))),
+        (λ s. absurd (no_bit k s)),
+      )) in
+      omega (arith, ap count_ones none, ones_le_self 0)
+
+  few_along : (axis : Axis) → count_ones (mask_along axis changed) ≤ changes before after (length before)
+  unfolding allowed
+  few_along axis = omega (arith, ones_at_most (length before) (mask_along axis changed) allowed (bit_allowed axis) (bit_past axis), changes_sum before after (length before))
+
+  few_by_axis : (axis : Axis) → other_axis line.axis ≡ axis → name_count changed ≤ changes before after (length before)
+  few_by_axis Across e = let none = none_along Down (λ x. let y : Across ≡ Down = sym e ∙ x in absurd cc) in let few = few_along Across in omega arith
+  few_by_axis Down e = let none = none_along Across (λ x. let y : Down ≡ Across = sym e ∙ x in absurd cc) in let few = few_along Down in omega arith
+
+  pub crossing_put : (old new : Lines) → PutsNames old new changed → PutsCrossing line before after old new
+  crossing_put old new puts =
+      let counts = put_all_counts old new changed puts in
+      let few = few_by_axis (other_axis line.axis) refl in
+      record {
+        names = λ other. (
+          (λ s. elim ((puts other).0 s) [ inl o ↦ inl o | inr x ↦ inr ((is other).0 x) ]),
+          (λ s. elim s [ inl o ↦ (puts other).1 (inl o) | inr x ↦ (puts other).1 (inr ((is other).1 x)) ]),
+        );
+        at_least = counts.0;
+        at_most = omega (arith, counts.1, few);
+      }
 
 -- ---- the work so far
 
@@ -157,7 +246,7 @@ working_starts clues dirty agenda base meter calls same e t c =
       at_least = omega arith;
     }
 
-module _ (clues : Clues) (dirty : Lines) (base old new : List (List ℕ)) (agenda rest after : Lines) (line : LineId) (outcome : Outcome) (m0 m1 m2 : Meter) (c0 c1 c2 : ℕ) (w : Working clues dirty base old agenda m0 m1 c0 c1) (h : HasName agenda line) (t : TakesOutName agenda rest line) (has : HasLine old line) (g : Gains (clue_at clues line) line old new outcome) (p : PutsCrossing line (line_of old line) (line_of new line) (length (line_of old line)) rest after) (counts : Counts 1 0 m1 m2 c1 c2) where
+module _ (clues : Clues) (dirty : Lines) (base old new : List (List ℕ)) (agenda rest after : Lines) (line : LineId) (outcome : Outcome) (m0 m1 m2 : Meter) (c0 c1 c2 : ℕ) (w : Working clues dirty base old agenda m0 m1 c0 c1) (h : HasName agenda line) (t : TakesOutName agenda rest line) (has : HasLine old line) (g : Gains (clue_at clues line) line old new outcome) (p : PutsCrossing line (line_of old line) (line_of new line) rest after) (counts : Counts 1 0 m1 m2 c1 c2) where
   drawn : ℕ
   drawn = changes (line_of old line) (line_of new line) (length (line_of old line))
 

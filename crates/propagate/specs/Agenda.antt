@@ -1,7 +1,8 @@
 -- Lines that wait to be evaluated, as a set of names.
-use Rattle.std.specs.Prelude.{◌≡◌, ℕ, ◌<◌, List, length, Option, None, Some, slice_index_or}
+use Rattle.std.specs.Prelude.{◌≡◌, ℕ, ◌*◌, ◌<◌, List, length, Option, None, Some, slice_index_or}
 use Rattle.picture.specs.declared.line_id.Axis.TheVariants.{Across}
 use Rattle.picture.specs.declared.line_id.LineId.{LineId}
+use Rattle.picture.specs.declared.picture.TheConstants.{MAX_SIDE}
 use Rattle.picture.specs.LineSet.{Lines, IsLineSet, HasName, TakesOutName, name_count, no_names}
 
 -- a name leaves the set, or the set is empty
@@ -17,6 +18,6 @@ name_at stack i = slice_index_or stack i (record { axis = Across; at = 0 })
 pub record IsStack (stack : List LineId) (len : ℕ) (lines : Lines) : Type 0 where
   pub within : IsLineSet lines
   pub count : len ≡ name_count lines
-  pub room : length stack ≡ 240
+  pub room : length stack ≡ 2 * MAX_SIDE
   pub members : (i : ℕ) → i < len → HasName lines (name_at stack i)
   pub apart : (i j : ℕ) → i < len → j < len → name_at stack i ≡ name_at stack j → i ≡ j

@@ -1,7 +1,5 @@
 -- Facts closed line by line.
-use Rattle.std.specs.Prelude.{◌≡◌, ◌≢◌, ℕ, zero, suc, ◌+◌, ◌<◌, ◌≤◌, ◌⊎◌, ◌↔◌, ◌==◌, cond, List, length, slice_index}
-use Rattle.picture.specs.declared.line_id.Axis.{Axis}
-use Rattle.picture.specs.declared.line_id.Axis.TheVariants.{Across, Down}
+use Rattle.std.specs.Prelude.{◌≡◌, ℕ, zero, suc, ◌+◌, ◌≤◌, ◌⊎◌, ◌↔◌, ◌==◌, cond, List, length, slice_index}
 use Rattle.picture.specs.declared.line_id.LineId.{LineId}
 use Rattle.picture.specs.LineSet.{Lines, HasName, name_count}
 use Rattle.picture.specs.Rows.{width_of, line_of, HasLine}
@@ -11,6 +9,7 @@ use Rattle.line_settle.specs.declared.line_engine.Outcome.{Outcome}
 use Rattle.line_settle.specs.declared.line_engine.Outcome.TheVariants.{Narrowed, Dead}
 use Rattle.line_settle.specs.declared.meter.Meter.{Meter}
 use Rattle.line_settle.specs.Counting.{Counts}
+use Rattle.line_settle.specs.Crossing.{CrossesChange}
 use Rattle.line_settle.specs.Fitting.{CanFit}
 use Rattle.line_settle.specs.FactSets.{IsClosedLine, IsClosed, IsLeast, IsWithin, Gains}
 
@@ -60,31 +59,11 @@ abbrev pub changes : List ℕ → List ℕ → ℕ → ℕ
 changes before after zero = 0
 changes before after (suc n) = changes before after n + change (slice_index before n) (slice_index after n)
 
-abbrev pub other_axis : Axis → Axis
-other_axis Across = Down
-other_axis Down = Across
-
--- the line that crosses a line at place i
-abbrev pub crossing_at : LineId → ℕ → LineId
-crossing_at line i = record { axis = other_axis line.axis; at = i }
-
--- one of the lines that cross the first n cells, where the cell differs
-pub record CrossesChange (line : LineId) (before after : List ℕ) (n : ℕ) (other : LineId) : Type 0 where
-  pub is_crossing : other ≡ crossing_at line other.at
-  pub within : other.at < n
-  pub differs : slice_index before other.at ≢ slice_index after other.at
-
--- the lines that cross a line where one of its first n cells differs are put into a set
-pub record PutsCrossing (line : LineId) (before after : List ℕ) (n : ℕ) (old new : Lines) : Type 0 where
-  pub names : (other : LineId) → HasName new other ↔ (HasName old other ⊎ CrossesChange line before after n other)
+-- the lines that cross a line where one of its cells differs are put into a set
+pub record PutsCrossing (line : LineId) (before after : List ℕ) (old new : Lines) : Type 0 where
+  pub names : (other : LineId) → HasName new other ↔ (HasName old other ⊎ CrossesChange line before after other)
   pub at_least : name_count old ≤ name_count new
-  pub at_most : name_count new ≤ name_count old + changes before after n
-
--- one line is put into a set where a cell differs
-pub record PutsChanged (line : LineId) (before after : ℕ) (old new : Lines) : Type 0 where
-  pub names : (other : LineId) → HasName new other ↔ (HasName old other ⊎ ((other ≡ line) × (before ≢ after)))
-  pub at_least : name_count old ≤ name_count new
-  pub at_most : name_count new ≤ name_count old + change before after
+  pub at_most : name_count new ≤ name_count old + changes before after (length before)
 
 -- ---- the work
 

@@ -1,12 +1,15 @@
--- Laws of the least closed facts, and of pictures that facts allow.
+-- Laws of the least closed facts, of pictures that facts allow, and of schedules.
 use Rattle.std.specs.Prelude.{◌≡◌, ℕ, ◌<◌, ◌↔◌, List, length}
+use Rattle.std.specs.List.{All}
 use Rattle.picture.specs.Picture.{IsPicture}
-use Rattle.picture.specs.Rows.{row_at, cell_at}
+use Rattle.picture.specs.declared.line_id.LineId.{LineId}
+use Rattle.picture.specs.Rows.{row_at, cell_at, HasLine}
 use Rattle.clues.specs.ClueBook.{Clues, clues_of}
 use Rattle.line_settle.specs.declared.line_engine.Outcome.{Outcome}
 use Rattle.line_settle.specs.FactSets.{IsClosed, IsLeast, IsWithin, Leaves, SameShape}
 use Rattle.propagate.specs.Closing.{Closes, HasDeadLine}
 use Rattle.propagate.specs.Filling.{Fills, LeavesPicture, only}
+use Rattle.propagate.specs.Schedule.{AreAfter, IsDeadInTurn}
 
 -- where the base leaves the colours of a picture that has the clues, so do the least closed facts
 abbrev pub PictureStays : Type 0
@@ -26,3 +29,14 @@ pub record ClosingKeepsFillings : Type 0 where
   pub stays : (clues : Clues) (base facts : List (List ℕ)) (outcome : Outcome) (picture : List (List ℕ)) → Closes clues base facts outcome → Fills clues base picture ↔ Fills clues facts picture
   pub least : (clues : Clues) (base facts picture : List (List ℕ)) → IsLeast clues base facts → Fills clues base picture ↔ Fills clues facts picture
   pub none_where_dead : (clues : Clues) (base picture : List (List ℕ)) → HasDeadLine clues base → Fills clues base picture → ⊥
+
+-- A schedule leads to one result, whatever lines it names and however often: the facts after it hold the base and lie inside
+-- the least closed facts over it, and where they are closed they are the least. A line that is dead in its turn is dead under
+-- every closed facts over the base.
+pub record SchedulesLeadInside : Type 0 where
+  pub one : (clues : Clues) (base : List (List ℕ)) (lines : List LineId) (facts others : List (List ℕ)) → AreAfter clues base lines facts → AreAfter clues base lines others → facts ≡ others
+  pub holds : (clues : Clues) (base : List (List ℕ)) (lines : List LineId) (facts : List (List ℕ)) → AreAfter clues base lines facts → IsWithin base facts
+  pub inside : (clues : Clues) (base : List (List ℕ)) (lines : List LineId) (facts : List (List ℕ)) → All (HasLine base) lines → AreAfter clues base lines facts → (others : List (List ℕ)) → IsClosed clues others → IsWithin base others → IsWithin facts others
+  pub least : (clues : Clues) (base : List (List ℕ)) (lines : List LineId) (facts : List (List ℕ)) → All (HasLine base) lines → AreAfter clues base lines facts → IsClosed clues facts → IsLeast clues base facts
+  pub dead : (clues : Clues) (base : List (List ℕ)) (lines : List LineId) → All (HasLine base) lines → IsDeadInTurn clues base lines → HasDeadLine clues base
+  pub not_both : (clues : Clues) (base : List (List ℕ)) (lines : List LineId) (facts : List (List ℕ)) → AreAfter clues base lines facts → ¬ IsDeadInTurn clues base lines

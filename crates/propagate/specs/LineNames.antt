@@ -13,6 +13,10 @@ AreLinesOf facts lines = (line : LineId) → HasName lines line → HasLine fact
 abbrev pub AllLines : List (List ℕ) → Lines → Type 0
 AllLines facts lines = (line : LineId) → HasName lines line ↔ HasLine facts line
 
+-- the names that a set has along an axis are put into another set
+abbrev pub PutsAlong : Axis → Lines → Lines → Lines → Type 0
+PutsAlong axis lines old new = (line : LineId) → HasName new line ↔ (HasName old line ⊎ ((line.axis ≡ axis) × HasName lines line))
+
 -- the first so many names along an axis are put into a set
 abbrev pub PutsFirst : Lines → Lines → Axis → ℕ → Type 0
 PutsFirst old new axis count = (line : LineId) → HasName new line ↔ (HasName old line ⊎ ((line.axis ≡ axis) × (line.at < count)))

@@ -1,8 +1,8 @@
 ghost use Rattle.std.specs.Prelude.{◌≡◌, ◌<◌};
-ghost use Rattle.picture.specs.LineSet.{Lines, PutsName, no_names};
+ghost use Rattle.picture.specs.LineSet.{Lines, PutsName, PutsNames, no_names};
 ghost use Rattle.propagate.specs.Agenda.{Takes};
 
-use picture::{LineId, MAX_SIDE};
+use picture::{LineId, LineSet, MAX_SIDE};
 
 /// Lines that wait to be evaluated. In which order they are taken is the agenda's own affair.
 pub trait Agenda {
@@ -12,6 +12,10 @@ pub trait Agenda {
     fn put(&mut self, line: LineId)
         requires { line.at < MAX_SIDE }
         ensures { PutsName (members self.old) (members self.new) line };
+
+    /// Puts all lines of a set on the agenda. No memory is taken.
+    fn put_all(&mut self, lines: &LineSet)
+        ensures { PutsNames (members self.old) (members self.new) lines.now };
 
     /// Takes a line off the agenda. There is none exactly where the agenda is empty. No memory is taken.
     fn take(&mut self) -> Option<LineId>

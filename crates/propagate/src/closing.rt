@@ -1,4 +1,4 @@
-ghost use Rattle.std.specs.Prelude.{◌≡◌, ◌<◌, ◌≤◌, length};
+ghost use Rattle.std.specs.Prelude.{◌≡◌};
 ghost use Rattle.picture.specs.Rows.{line_of, HasLine};
 ghost use Rattle.clues.specs.ClueBook.{clue_at};
 ghost use Rattle.line_settle.specs.Counting.{Counts};
@@ -7,13 +7,9 @@ ghost use Rattle.propagate.specs.Closing.{AreClosable, Closes, PutsCrossing, Qui
 ghost use Rattle.propagate.specs.LineNames.{AreLinesOf};
 
 use crate::agenda::Agenda;
-use crate::crossing::{put_crossing, put_lines};
 use clues::ClueBook;
-use line_settle::{Facts, LineEngine, Meter, Outcome, force};
-use picture::{LineId, LineSet, MAX_SIDE};
-
-// No line has more cells.
-const MOST_CELLS: usize = MAX_SIDE as usize;
+use line_settle::{Facts, LineEngine, Meter, Outcome, force_crossing};
+use picture::{LineId, LineSet};
 
 /// Excludes in the facts what any line forces, until no line forces more. Every line that is not in `dirty` has to be
 /// quiet already: it forces nothing new, and some list fits it. Narrowed leaves the least closed facts that hold the
@@ -37,7 +33,8 @@ pub fn close_facts<E: LineEngine, A: Agenda>(
     let _ = (facts.height(), engine.calls());
     let _evaluations = meter.evaluations;
     let _trials = meter.trials;
-    put_lines(agenda, dirty);
+    agenda.clear();
+    agenda.put_all(dirty);
     while let Some(line) = agenda.take() {
         match evaluate(engine, agenda, facts, book, line, meter) {
             Outcome::Dead => return Outcome::Dead,
@@ -59,17 +56,14 @@ fn evaluate<E: LineEngine, A: Agenda>(
     requires closable { AreClosable book.now (E.longest engine.old) facts.old }
     requires line { HasLine facts.old line }
     ensures gains { Gains (clue_at book.now line) line facts.old facts.new result }
-    ensures puts { PutsCrossing line (line_of facts.old line) (line_of facts.new line) (length (line_of facts.old line)) (A.members agenda.old) (A.members agenda.new) }
+    ensures puts { PutsCrossing line (line_of facts.old line) (line_of facts.new line) (A.members agenda.old) (A.members agenda.new) }
     ensures counts { Counts 1 0 meter.old meter.new (E.calls engine.old) (E.calls engine.new) }
     ensures same_longest { E.longest engine.new ≡ E.longest engine.old }
     ensures facts { IsFacts facts.old }
 {
     let _ = facts.height();
     let _trials = meter.trials;
-    let mut before = [0; MOST_CELLS];
-    let cells = usize::from(facts.line_len(line));
-    facts.copy_line(line, &mut before[..cells]);
-    let outcome = force(engine, facts, book.clue(line), line, &mut meter.evaluations);
-    put_crossing(agenda, facts, line, &before[..cells]);
-    outcome
+    let forced = force_crossing(engine, facts, book.clue(line), line, &mut meter.evaluations);
+    agenda.put_all(&forced.changed);
+    forced.outcome
 }

@@ -1,12 +1,15 @@
-ghost use Rattle.std.specs.Prelude.{◌≡◌, ℕ, ◌<◌, ◌≤◌, MatchOption};
-ghost use Rattle.picture.specs.LineSet.{HasName, no_names};
+ghost use Rattle.std.specs.Prelude.{◌≡◌, ◌<◌, ◌≤◌, MatchOption};
+ghost use Rattle.picture.specs.LineSet.{PutsName, PutsNames, no_names};
+ghost use Rattle.line_settle.specs.Crossing.{other_axis};
+ghost use Rattle.propagate.specs.Agenda.{Takes};
+ghost use Rattle.propagate.specs.Orders.{IsNextRound, TakesNextRound, place_along, round};
 
 use crate::agenda::Agenda;
 use picture::{Axis, LineId, LineSet, MAX_SIDE};
 use std::marker::Model;
 
-/// An agenda that goes round: rows by number, then columns by number, on from the line that was taken last. Its table
-/// is fixed, so it takes no memory.
+/// An agenda that goes round: rows by number, then columns by number, on from the line that was taken last. It begins
+/// with the first row, and again after `clear`. Its table is fixed, so it takes no memory.
 #[derive(Drop)]
 pub struct InOrder {
     lines: LineSet,
@@ -16,19 +19,21 @@ pub struct InOrder {
 
 impl Model for InOrder {
     ghost use Rattle.std.specs.Prelude.{◌≤◌};
-    ghost use Rattle.picture.specs.LineSet.{Lines, IsLineSet};
+    ghost use Rattle.picture.specs.declared.picture.TheConstants.{MAX_SIDE};
+    ghost use Rattle.picture.specs.LineSet.{IsLineSet};
+    ghost use Rattle.propagate.specs.Orders.{Round, place_along, round};
 
-    ghost Value = { Lines };
+    ghost Value = { Round };
 
-    ghost view = { λ a. a.lines };
+    ghost view = { λ a. round a.lines (place_along a.axis a.from) };
 
-    ghost invariant = { λ a. IsLineSet a.lines × (a.from ≤ 120) };
+    ghost invariant = { λ a. IsLineSet a.lines × (a.from ≤ MAX_SIDE) };
 }
 
 impl InOrder {
     /// The agenda without a line.
     pub fn make() -> InOrder
-        ensures { result ≡ no_names }
+        ensures { result ≡ round no_names 0 }
     {
         InOrder {
             lines: LineSet::empty(),
@@ -39,13 +44,27 @@ impl InOrder {
 }
 
 impl Agenda for InOrder {
-    ghost members = { λ a. a };
+    ghost members = { λ a. a.waiting };
 
-    fn put(&mut self, line: LineId) {
+    fn put(&mut self, line: LineId)
+        requires { line.at < MAX_SIDE }
+        ensures members { PutsName self.old.waiting self.new.waiting line }
+        ensures same_place { self.new.from ≡ self.old.from }
+    {
         self.lines.put(line);
     }
 
-    fn take(&mut self) -> Option<LineId> {
+    fn put_all(&mut self, lines: &LineSet)
+        ensures members { PutsNames self.old.waiting self.new.waiting lines.now }
+        ensures same_place { self.new.from ≡ self.old.from }
+    {
+        self.lines.put_all(lines);
+    }
+
+    fn take(&mut self) -> Option<LineId>
+        ensures members { Takes self.old.waiting self.new.waiting result }
+        ensures next { TakesNextRound self.old self.new result }
+    {
         match next_line(&self.lines, self.axis, self.from) {
             Some(line) => {
                 self.lines.take_out(line);
@@ -57,8 +76,13 @@ impl Agenda for InOrder {
         }
     }
 
-    fn clear(&mut self) {
+    fn clear(&mut self)
+        ensures members { self.new.waiting ≡ no_names }
+        ensures start { self.new ≡ round no_names 0 }
+    {
         self.lines = LineSet::empty();
+        self.axis = Axis::Across;
+        self.from = 0;
     }
 }
 
@@ -67,35 +91,28 @@ fn next_line(lines: &LineSet, axis: Axis, from: u8) -> Option<LineId>
     requires { from ≤ MAX_SIDE }
     ensures { MatchOption
         result
-        ((line : LineId) → line.at < MAX_SIDE → HasName lines.now line → ⊥)
-        (λ line. (line.at < MAX_SIDE) × HasName lines.now line) }
+        (lines.now ≡ no_names)
+        (λ line. (line.at < MAX_SIDE) × IsNextRound (round lines.now (place_along axis from)) line) }
 {
-    if let Some(line) = first_along(lines, axis, from, MAX_SIDE) {
-        return Some(line);
+    if let Some(at) = lines.first_from(axis, from) {
+        return Some(LineId { axis, at });
     }
-    let crossing = match axis {
-        Axis::Across => Axis::Down,
-        Axis::Down => Axis::Across,
-    };
-    if let Some(line) = first_along(lines, crossing, 0, MAX_SIDE) {
-        return Some(line);
+    let crossing = crossing_axis(axis);
+    if let Some(at) = lines.first_from(crossing, 0) {
+        return Some(LineId { axis: crossing, at });
     }
-    first_along(lines, axis, 0, from)
+    match lines.first_from(axis, 0) {
+        Some(at) => Some(LineId { axis, at }),
+        None => None,
+    }
 }
 
-// The first line along an axis between two places.
-fn first_along(lines: &LineSet, axis: Axis, from: u8, to: u8) -> Option<LineId>
-    requires { to ≤ MAX_SIDE }
-    ensures { MatchOption
-        result
-        ((line : LineId) → line.axis ≡ axis → from ≤ line.at → line.at < to → HasName lines.now line → ⊥)
-        (λ line. (line.at < MAX_SIDE) × HasName lines.now line) }
+// The axis of the lines that cross the lines of an axis.
+fn crossing_axis(axis: Axis) -> Axis
+    ensures { result ≡ other_axis axis }
 {
-    for at in from..to {
-        let line = LineId { axis, at };
-        if lines.has(line) {
-            return Some(line);
-        }
+    match axis {
+        Axis::Across => Axis::Down,
+        Axis::Down => Axis::Across,
     }
-    None
 }

@@ -1,7 +1,7 @@
-//! Laws of the least closed facts, and of pictures that facts allow. Each function does nothing, and its contract is
-//! the law.
+//! Laws of the least closed facts, of pictures that facts allow, and of schedules. Each function does nothing, and its
+//! contract is the law.
 
-ghost use Rattle.propagate.specs.Laws.{ClosingKeepsFillings, OnlyIsClosed, PictureStays};
+ghost use Rattle.propagate.specs.Laws.{ClosingKeepsFillings, OnlyIsClosed, PictureStays, SchedulesLeadInside};
 
 #[tactic(auto, using(crate::proofs::PictureLemmas::laws))]
 /// Line logic never excludes the colours of a picture that has the clues, where the base doesn't.
@@ -20,4 +20,11 @@ pub fn only_is_closed()
 /// and where it answers Dead there is none. The same holds of the least closed facts.
 pub fn closing_keeps_fillings()
     ensures { ClosingKeepsFillings }
+{}
+
+#[tactic(auto, using(crate::proofs::ScheduleLemmas::schedules))]
+/// The facts after a schedule lie inside the least closed facts, and are these where they are closed: so the order and
+/// the repeats of its lines don't matter then.
+pub fn schedules_lead_inside()
+    ensures { SchedulesLeadInside }
 {}

@@ -3,7 +3,6 @@
 
 mod agenda;
 mod closing;
-mod crossing;
 mod fault;
 mod in_order;
 pub mod laws;

@@ -1,14 +1,18 @@
-ghost use Rattle.std.specs.Prelude.{◌≡◌};
-ghost use Rattle.picture.specs.LineSet.{no_names};
+ghost use Rattle.std.specs.Prelude.{◌≡◌, ◌<◌, []};
+ghost use Rattle.picture.specs.LineSet.{PutsName, no_names};
+ghost use Rattle.propagate.specs.Agenda.{Takes};
+ghost use Rattle.propagate.specs.LineNames.{PutsAlong};
+ghost use Rattle.propagate.specs.Orders.{PutsNewest, TakesNewest, pile};
 
 use crate::agenda::Agenda;
-use picture::{Axis, LineId, LineSet};
+use picture::{Axis, LineId, LineSet, MAX_SIDE};
 use std::marker::Model;
 
 // How many lines a picture has at most.
-const MOST_LINES: usize = 240;
+const MOST_LINES: usize = 2 * MAX_SIDE as usize;
 
-/// An agenda that takes the line that was put on last. Its table is fixed, so it takes no memory.
+/// An agenda that takes the line that was put on last and is still there. A line that is put on while it waits keeps its
+/// place. Its table is fixed, so it takes no memory.
 #[derive(Drop)]
 pub struct NewestFirst {
     stack: [LineId; MOST_LINES],
@@ -17,12 +21,13 @@ pub struct NewestFirst {
 }
 
 impl Model for NewestFirst {
-    ghost use Rattle.picture.specs.LineSet.{Lines};
+    ghost use Rattle.std.specs.Prelude.{take};
     ghost use Rattle.propagate.specs.Agenda.{IsStack};
+    ghost use Rattle.propagate.specs.Orders.{Pile, pile};
 
-    ghost Value = { Lines };
+    ghost Value = { Pile };
 
-    ghost view = { λ a. a.lines };
+    ghost view = { λ a. pile a.lines (take a.len a.stack) };
 
     ghost invariant = { λ a. IsStack a.stack a.len a.lines };
 }
@@ -30,7 +35,7 @@ impl Model for NewestFirst {
 impl NewestFirst {
     /// The agenda without a line.
     pub fn make() -> NewestFirst
-        ensures { result ≡ no_names }
+        ensures { result ≡ pile no_names [] }
     {
         let none = LineId {
             axis: Axis::Across,
@@ -42,12 +47,27 @@ impl NewestFirst {
             lines: LineSet::empty(),
         }
     }
+
+    // Puts the lines of a set along an axis on the agenda, by number.
+    fn put_along(&mut self, lines: &LineSet, axis: Axis)
+        ensures { PutsAlong axis lines.now self.old.waiting self.new.waiting }
+    {
+        let mut from = 0;
+        while let Some(at) = lines.first_from(axis, from) {
+            self.put(LineId { axis, at });
+            from = at + 1;
+        }
+    }
 }
 
 impl Agenda for NewestFirst {
-    ghost members = { λ a. a };
+    ghost members = { λ a. a.waiting };
 
-    fn put(&mut self, line: LineId) {
+    fn put(&mut self, line: LineId)
+        requires { line.at < MAX_SIDE }
+        ensures members { PutsName self.old.waiting self.new.waiting line }
+        ensures newest { PutsNewest self.old self.new line }
+    {
         if !self.lines.has(line) {
             self.lines.put(line);
             self.stack[self.len] = line;
@@ -55,7 +75,15 @@ impl Agenda for NewestFirst {
         }
     }
 
-    fn take(&mut self) -> Option<LineId> {
+    fn put_all(&mut self, lines: &LineSet) {
+        self.put_along(lines, Axis::Across);
+        self.put_along(lines, Axis::Down);
+    }
+
+    fn take(&mut self) -> Option<LineId>
+        ensures members { Takes self.old.waiting self.new.waiting result }
+        ensures newest { TakesNewest self.old self.new result }
+    {
         if self.len == 0 {
             return None;
         }
@@ -65,7 +93,10 @@ impl Agenda for NewestFirst {
         Some(line)
     }
 
-    fn clear(&mut self) {
+    fn clear(&mut self)
+        ensures members { self.new.waiting ≡ no_names }
+        ensures start { self.new ≡ pile no_names [] }
+    {
         self.lines = LineSet::empty();
         self.len = 0;
     }

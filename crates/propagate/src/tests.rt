@@ -128,6 +128,70 @@ fn all_lines_are_rows_and_columns(rt: HostRuntime) -> Result<(), Fail> {
     Ok(())
 }
 
+// The lines that an agenda gives, one after the other.
+fn takes(rt: &impl Abort, agenda: &mut impl Agenda, want: &[LineId]) {
+    for line in want {
+        assert_eq!(rt; agenda.take(), Some(*line));
+    }
+    assert_eq!(rt; agenda.take(), None);
+}
+
+const ROW_1: LineId = LineId {
+    axis: Axis::Across,
+    at: 1,
+};
+
+const ROW_5: LineId = LineId {
+    axis: Axis::Across,
+    at: 5,
+};
+
+const COLUMN_1: LineId = LineId {
+    axis: Axis::Down,
+    at: 1,
+};
+
+const COLUMN_119: LineId = LineId {
+    axis: Axis::Down,
+    at: 119,
+};
+
+#[test]
+fn in_order_goes_round(rt: HostRuntime) {
+    let mut agenda = InOrder::make();
+    for line in [COLUMN_119, ROW_5, COLUMN_1, ROW_1, ROW_5] {
+        agenda.put(line);
+    }
+    takes(&rt, &mut agenda, &[ROW_1, ROW_5, COLUMN_1, COLUMN_119]);
+    agenda.put(ROW_5);
+    assert_eq!(rt; agenda.take(), Some(ROW_5));
+    for line in [ROW_1, COLUMN_119, ROW_5] {
+        agenda.put(line);
+    }
+    takes(&rt, &mut agenda, &[COLUMN_119, ROW_1, ROW_5]);
+}
+
+#[test]
+fn in_order_begins_again_after_clear(rt: HostRuntime) {
+    let mut agenda = InOrder::make();
+    agenda.put(ROW_1);
+    assert_eq!(rt; agenda.take(), Some(ROW_1));
+    agenda.put(COLUMN_1);
+    agenda.clear();
+    agenda.put(ROW_5);
+    agenda.put(ROW_1);
+    takes(&rt, &mut agenda, &[ROW_1, ROW_5]);
+}
+
+#[test]
+fn the_newest_line_comes_first(rt: HostRuntime) {
+    let mut agenda = NewestFirst::make();
+    for line in [ROW_5, COLUMN_1, ROW_1, ROW_5] {
+        agenda.put(line);
+    }
+    takes(&rt, &mut agenda, &[ROW_1, COLUMN_1, ROW_5]);
+}
+
 // Two rows full of a colour, and two columns without one.
 fn impossible(rt: &impl Abort, alloc: Global) -> Result<ClueBook, Fail> {
     let full = [Block { len: 2, colour: 1 }];
@@ -247,4 +311,5 @@ fn the_laws_do_nothing() {
     laws::picture_stays();
     laws::only_is_closed();
     laws::closing_keeps_fillings();
+    laws::schedules_lead_inside();
 }

@@ -1,7 +1,9 @@
-use Rattle.std.proofs.Common.{ℕ, refl, sym, ◌∙◌, subst}
+use Rattle.std.proofs.Common.{ℕ, refl, sym, ◌∙◌, subst, arith}
+use Rattle.picture.specs.LineSet.{Lines}
 use Rattle.line_settle.proofs.ForceLemmas.{gains_grows}
-use Rattle.propagate.proofs.ClosingLemmas.{Closing, closing_dies, closing_ends, closing_goes_on}
-use Rattle.propagate.proofs.WorkLemmas.{working_dies, working_goes_on, less_to_do}
+use Rattle.propagate.proofs.AlongLemmas.{filled}
+use Rattle.propagate.proofs.ClosingLemmas.{Closing, closing_dies, closing_ends, closing_goes_on, closing_starts}
+use Rattle.propagate.proofs.WorkLemmas.{working_dies, working_goes_on, working_starts, less_to_do}
 use Rattle.propagate.proofs.closing.close_facts.Goals as goal
 
 pub returns-in-Dead-clause-closes : goal.returns-in-Dead-clause-closes
@@ -38,3 +40,13 @@ loop-line-preserved g c =
 pub returns-clause-closes : goal.returns-clause-closes
 returns-clause-closes g c =
     closing_ends _ _ _ _ _ _ c.loop-line.invariant.closing c.in_default.ensures.0 refl
+
+pub loop-line-init : goal.loop-line-init
+loop-line-init g c =
+    let all = filled _ _ _ c.clear.ensures c.put_all.ensures in
+    let P : Lines → Type 0 = λ lines. Closing c.args.book.now (g.E.LineEngine.longest c.args.engine.now) c.args.facts.now c.args.facts.now lines in
+    record {
+      closing = subst P (sym all) (closing_starts _ _ _ _ c.requires.closable c.requires.lines c.requires.quiet);
+      working = working_starts _ _ _ _ _ _ all (omega arith) (omega arith) (omega arith);
+      same_longest = refl;
+    }
