@@ -1,17 +1,14 @@
 -- Lines forced in turn.
-use Rattle.std.proofs.Common.{◌≡◌, ℕ, List, [], ◌∷◌, refl, sym, ap, subst, ◌∙◌, inl, inr}
+use Rattle.std.proofs.Common.{◌≡◌, ℕ, List, [], ◌∷◌, refl, sym, subst, ◌∙◌, inl, inr}
 use Rattle.std.specs.List.{All}
-use Rattle.std.proofs.lemmas.Bool.{cases_eq}
-use Rattle.std.proofs.lemmas.List.{ext_get_or}
 use Rattle.std.proofs.lemmas.List.Elements.{All-head, All-tail}
 use Rattle.picture.specs.declared.line_id.LineId.{LineId}
-use Rattle.picture.specs.Rows.{cell_at, line_of, HasLine}
+use Rattle.picture.specs.Rows.{line_of, HasLine}
 use Rattle.clues.specs.ClueBook.{Clues, clue_at}
-use Rattle.line_settle.specs.declared.line_engine.Outcome.{Outcome}
 use Rattle.line_settle.specs.declared.line_engine.Outcome.TheVariants.{Narrowed}
 use Rattle.line_settle.specs.Fitting.{CanFit}
 use Rattle.line_settle.specs.FactSets.{Gains, IsClosed, IsLeast, IsWithin, SameShape}
-use Rattle.line_settle.proofs.AlongLemmas.{same_has_line, shape_refl, shape_sym}
+use Rattle.line_settle.proofs.AlongLemmas.{same_has_line, shape_sym}
 use Rattle.line_settle.proofs.ForceLemmas.{gains_grows, gains_inside, gains_closes}
 use Rattle.line_settle.proofs.LawLemmas.{tighter_fits, within_both, within_tighter}
 use Rattle.propagate.specs.Closing.{HasDeadLine}

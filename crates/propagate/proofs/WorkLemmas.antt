@@ -1,5 +1,5 @@
 -- How much is left to do, and how much was done.
-use Rattle.std.proofs.Common.{◌≡◌, ℕ, zero, suc, ◌+◌, ◌^◌, ◌<◌, ◌≤◌, List, length, get_or, ◌==◌, ◌/◌, ◌↔◌, ◌⊎◌, cond, Bool, true, false, eq-eqb, eqb-true, refl, sym, ap, subst, ◌∙◌, arith, inl, inr, bit_and}
+use Rattle.std.proofs.Common.{◌≡◌, ℕ, zero, suc, ◌+◌, ◌^◌, ◌<◌, ◌≤◌, List, length, get_or, ◌==◌, ◌/◌, ◌↔◌, cond, Bool, true, false, eq-eqb, eqb-true, refl, sym, ap, subst, ◌∙◌, arith, inl, inr, bit_and}
 use Rattle.std.specs.Prelude.{IsBitSet, count_ones}
 use Rattle.std.specs.Int.{bit_at}
 use Rattle.std.specs.Int.Count.{ones_step}

@@ -4,7 +4,7 @@ use Rattle.picture.specs.declared.line_id.Axis.{Axis}
 use Rattle.picture.specs.declared.line_id.Axis.TheVariants.{Across, Down}
 use Rattle.picture.specs.declared.line_id.LineId.{LineId}
 use Rattle.picture.specs.declared.picture.TheConstants.{MAX_SIDE}
-use Rattle.picture.specs.LineSet.{Lines, HasName, no_names}
+use Rattle.picture.specs.LineSet.{Lines, HasName}
 
 -- ---- going round
 
