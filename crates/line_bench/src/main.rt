@@ -1,15 +1,19 @@
 //! Evaluates one line many times, so that the work of an evaluation can be measured from outside.
-//! The words are the engine (`plain` or `mask`), the number of cells up to 120, the number of blocks from 1 on, what is
+//! The words are the engine (`plain` or `mask`, or `sweep` for leaving out what is not needed to force what the line
+//! excludes), the number of cells up to 120, the number of blocks from 1 on, what is
 //! settled (`open`, `half`, `nearly` or `settled`) and the number of rounds.
 #![tactic(auto)]
 
 ghost use Rattle.std.specs.Prelude.{◌≡◌, ◌≤◌, length};
+
+mod sweeping;
 
 use anyhow::{Context, Result, bail, ensure};
 use clues::{Block, Clue};
 use line_settle::{LineEngine, MaskEngine, Outcome, PlainEngine};
 use std::alloc::{AllocError, Global};
 use std::env;
+use sweeping::{draw, leave_out_often};
 
 // How many cells a line has at the most.
 const MOST: usize = 120;
@@ -53,6 +57,11 @@ fn main(rt: HostRuntime) -> Result<()> {
     let settled = words.next().context("what is settled is missing")?;
     let rounds = words.next().context("the number of rounds is missing")?;
     let task = task_of(&cells, &blocks, &settled, &rounds)?;
+    if engine.as_str() == "sweep" {
+        let kept = sweep(rt.alloc(), &task)?;
+        println!(rt; "{kept} cells kept")?;
+        return Ok(());
+    }
     let (evaluations, open) = match engine.as_str() {
         "plain" => evaluate(
             rt.alloc(),
@@ -64,7 +73,7 @@ fn main(rt: HostRuntime) -> Result<()> {
             &mut MaskEngine::make(rt.alloc(), MOST as u8)?,
             &task,
         )?,
-        _ => bail!("an engine is plain or mask"),
+        _ => bail!("an engine is plain or mask, or else sweep"),
     };
     println!(rt; "{evaluations} evaluations, {open} cells open")?;
     Ok(())
@@ -155,4 +164,22 @@ fn narrow_often<E: LineEngine>(
         outcome = engine.narrow(&mut count, clue, left, out);
     }
     (count, outcome)
+}
+
+// Leaves out on the line what is not needed to force all that it excludes, and says how many cells keep their mask.
+fn sweep(alloc: Global, task: &Task) -> Result<usize> {
+    let clue = clue_of(alloc, task)?;
+    let mut engine = MaskEngine::make(alloc, MOST as u8)?;
+    let mut left = [u16::MAX; MOST];
+    for cell in 0..MOST {
+        left[cell] = left_in(task, cell);
+    }
+    let mut drawn = [0; MOST];
+    let mut kept = [0; MOST];
+    let left = &left[..task.cells];
+    let drawn = &mut drawn[..task.cells];
+    let kept = &mut kept[..task.cells];
+    draw(&mut engine, &clue, left, kept, drawn);
+    leave_out_often(&clue, drawn, left, task.rounds, kept);
+    Ok(kept.iter().filter(|mask| **mask != u16::MAX).count())
 }

@@ -26,7 +26,7 @@ finish_step_agree : (pattern : List ℕ) (mask : ℕ) (f g : ℕ → Bool) → A
 finish_step_agree pattern mask f g h q l =
     ap (λ x. x || rests pattern mask f q) (advances_same pattern mask f g h q) ∙ ap (λ x. advances pattern mask g q || x) (rests_same pattern mask f g q (h q l))
 
-reach_step_agree : (pattern : List ℕ) (mask : ℕ) (f g : ℕ → Bool) → Agree (length pattern) f g → (q : ℕ) → q < length pattern → reach_step pattern mask f q ≡ reach_step pattern mask g q
+pub reach_step_agree : (pattern : List ℕ) (mask : ℕ) (f g : ℕ → Bool) → Agree (length pattern) f g → (q : ℕ) → q < length pattern → reach_step pattern mask f q ≡ reach_step pattern mask g q
 reach_step_agree pattern mask f g h q l =
     ap (λ x. (nat_lt 0 q && (allows mask (get_or pattern q 0) && x)) || rests pattern mask f q) (h (q - 1) (omega arith))
     ∙ ap (λ x. (nat_lt 0 q && (allows mask (get_or pattern q 0) && g (q - 1))) || x) (rests_same pattern mask f g q (h q l))

@@ -36,17 +36,17 @@ keeps_from (m ∷ masks) [] e h = absurd (omega arith)
 keeps_from (m ∷ masks) (x ∷ line) e h =
     (bit_allows m x (h 0 (omega arith)), keeps_from masks line (omega arith) (λ i l. h (suc i) (omega arith)))
 
-fits_from : (clue : List Block) (left line : List ℕ) → IsClue clue → Keeps left line → SpellsAt (pattern_of clue) 0 line → Fits clue left line
+pub fits_from : (clue : List Block) (left line : List ℕ) → IsClue clue → Keeps left line → SpellsAt (pattern_of clue) 0 line → Fits clue left line
 fits_from clue left line b k s = record {
   same_length = keeps_length left line k;
   has_clue = clue_is_spelled clue line b s;
   keeps = keeps_each left line k;
 }
 
-fits_keeps : {clue : List Block} {left line : List ℕ} → Fits clue left line → Keeps left line
+pub fits_keeps : {clue : List Block} {left line : List ℕ} → Fits clue left line → Keeps left line
 fits_keeps {clue = clue} {left = left} {line = line} f = keeps_from left line f.same_length f.keeps
 
-fits_spells : (clue : List Block) {left : List ℕ} (line : List ℕ) → IsClue clue → Fits clue left line → SpellsAt (pattern_of clue) 0 line
+pub fits_spells : (clue : List Block) {left : List ℕ} (line : List ℕ) → IsClue clue → Fits clue left line → SpellsAt (pattern_of clue) 0 line
 fits_spells clue line b f = spells_clue clue line b f.has_clue
 
 -- some list fits exactly where the first state finishes

@@ -29,3 +29,6 @@ pub mod BlockLemmas
 pub mod MarkLemmas
 pub mod PassLemmas
 pub mod ShownLemmas
+pub mod StateSetLemmas
+pub mod MarkedLemmas
+pub mod SweepLemmas

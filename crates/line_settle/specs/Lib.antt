@@ -5,8 +5,11 @@ pub mod FactSets
 pub mod Fitting
 pub mod Laws
 pub mod Laying
+pub mod LeavingOut
+pub mod Marking
 pub mod Masks
 pub mod Narrowing
 pub mod Positions
 pub mod Shown
 pub mod Spelling
+pub mod StateSets

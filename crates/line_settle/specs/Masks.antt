@@ -9,3 +9,7 @@ without mask colours = bit_and mask (bit_not w16 colours)
 -- colour k alone is left
 abbrev pub IsOnly : ℕ → ℕ → Type 0
 IsOnly mask k = (j : ℕ) → IsBitSet mask j ↔ (j ≡ k)
+
+-- all sixteen colours are left
+abbrev pub all_sixteen : ℕ
+all_sixteen = 65535

@@ -17,6 +17,8 @@ mod plain_engine;
 mod position_tables;
 mod positions;
 mod shown_line;
+mod state_sets;
+mod sweep;
 mod tables;
 
 pub use facts::Facts;
@@ -25,6 +27,7 @@ pub use line_engine::{LineEngine, Outcome};
 pub use mask_engine::MaskEngine;
 pub use meter::Meter;
 pub use plain_engine::PlainEngine;
+pub use sweep::leave_out;
 
 #[cfg(test)]
 mod tests;

@@ -18,8 +18,8 @@ fn cells_for(block: Block, last: u8) -> usize
     if block.colour == last { len + 1 } else { len }
 }
 
-// Whether a line of so many cells has room for a clue's blocks and for background between blocks of one colour.
-fn has_room(blocks: &[Block], cells: usize) -> bool
+/// Whether a line of so many cells has room for a clue's blocks and for background between blocks of one colour.
+pub fn has_room(blocks: &[Block], cells: usize) -> bool
     requires short { cells ≤ MAX_SIDE }
     ensures { IsTrue result ↔ length (pattern_of blocks.now) ≤ cells + 1 }
 {

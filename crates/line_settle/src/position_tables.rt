@@ -72,8 +72,8 @@ pub fn mark_back(
     later & 1 == 1
 }
 
-// Adds the cells of a set to those seen with a colour.
-fn see_colour(set: u128, colour: u8, seen: &mut [u128])
+/// Adds the cells of a set to those seen with a colour.
+pub fn see_colour(set: u128, colour: u8, seen: &mut [u128])
     requires colour { colour < 16 }
     requires sixteen { length seen.old ≡ 16 }
     ensures { (i k : ℕ) → has (slice_index seen.new k) i ≡ (has (slice_index seen.old k) i || (has set i && colour == k)) }

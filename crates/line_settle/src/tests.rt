@@ -7,6 +7,8 @@ use std::alloc::Global;
 use std::process::Abort;
 use std::test::Fail;
 
+mod leaving_out;
+
 const ALL: u16 = u16::MAX;
 
 const TOP: LineId = LineId {

@@ -1,0 +1,353 @@
+-- What the sweep over a line keeps from cell to cell.
+use Rattle.std.proofs.Common.{◌≡◌, ◌≢◌, ℕ, zero, suc, ◌+◌, ◌^◌, ◌<◌, ◌≤◌, ◌↔◌, ◌⊎◌, Bool, true, ◌||◌, List, [], ◌∷◌, bit_and, bit_or, refl, sym, ap, subst, ◌∙◌, arith, inl, inr, eq-eqb, length, get_or, drop, drop-cons, replicate}
+use Rattle.std.proofs.Math.ListN.{set, drop_of_length-le}
+use Rattle.std.proofs.Math.Seq.{drop-length}
+use Rattle.std.proofs.lemmas.Bool.{cases_eq, cases_lt, or_cases, or_left, or_right, false≢true, eqb-true}
+use Rattle.std.proofs.lemmas.List.{length-set, length-replicate, get_or-set_same, get_or-set_other, get_or-drop, drop-set-lt}
+use Rattle.std.proofs.lemmas.Nat.{and_le_r}
+use Rattle.clues.specs.declared.block.Block.{Block}
+use Rattle.clues.specs.Clue.{IsClue}
+use Rattle.line_settle.specs.declared.state_sets.PatternSets.{PatternSets}
+use Rattle.line_settle.specs.declared.sweep.Reached.{Reached}
+use Rattle.line_settle.specs.LeavingOut.{LeavesOut}
+use Rattle.line_settle.specs.Marking.{finish_marked, finishes_marked, reach_marked, reaches_marked, AreReached, AreBehind, SweepsOut}
+use Rattle.line_settle.specs.Positions.{has}
+use Rattle.line_settle.specs.Spelling.{pattern_of, allows, finish_step, finishes, reach_step, reaches}
+use Rattle.line_settle.specs.StateSets.{AreStates, Shares, ArePatternSets}
+use Rattle.line_settle.proofs.BitLemmas.{allows_none}
+use Rattle.line_settle.proofs.FillLemmas.{reach_step_agree}
+use Rattle.line_settle.proofs.FittingLemmas.{allows_bit, bit_allows, too_long, have_fits}
+use Rattle.line_settle.proofs.MaskLemmas.{bit_below, full_has}
+use Rattle.line_settle.proofs.PositionLemmas.{has_power, has_one}
+use Rattle.line_settle.proofs.StateSetLemmas.{in_and, and_in, in_or, left_in, right_in, in_none, has_member}
+use Rattle.line_settle.proofs.StepLemmas.{finish_crosses, reached_by_step}
+use Rattle.line_settle.proofs.MarkedLemmas.{IsWider, Meets, SameBefore, unmarked_forces, marked_misses, wider_marked, marked_at, at_marked, same_reached, same_reached_marked}
+
+-- ---- sets of states
+
+-- no cell of no colour leads anywhere
+pub none_forward : (pattern : List ℕ) (mask : ℕ) (before : ℕ → Bool) → mask ≡ 0 → AreStates pattern (reach_step pattern mask before) 0
+none_forward pattern mask before e = record {
+  each = λ q. (
+    (λ h. absurd (in_none q h)),
+    (λ p. let r = reached_by_step pattern mask before q p.0 p.1 in absurd (false≢true (sym (allows_none r.colour) ∙ (ap (λ m. allows m r.colour) (sym e) ∙ r.allowed)))),
+  );
+}
+
+pub none_back : (pattern : List ℕ) (mask : ℕ) (behind : ℕ → Bool) → mask ≡ 0 → AreStates pattern (finish_step pattern mask behind) 0
+none_back pattern mask behind e = record {
+  each = λ q. (
+    (λ h. absurd (in_none q h)),
+    (λ p. let c = finish_crosses pattern mask behind q p.1 in absurd (false≢true (sym (allows_none c.0) ∙ (ap (λ m. allows m c.0) (sym e) ∙ c.1.allowed)))),
+  );
+}
+
+pub either_states : (pattern : List ℕ) (f g : ℕ → Bool) (a b : ℕ) → AreStates pattern f a → AreStates pattern g b → AreStates pattern (λ q. f q || g q) (bit_or a b)
+either_states pattern f g a b is are = record {
+  each = λ q. (
+    (λ h. elim (in_or a b q h) [
+      | inl x ↦ let s = (is.each q).0 x in (s.0, or_left _ _ s.1)
+      | inr x ↦ let s = (are.each q).0 x in (s.0, or_right _ _ s.1)
+    ]),
+    (λ p. elim (or_cases _ _ p.1) [
+      | inl x ↦ left_in a b q ((is.each q).1 (p.0, x))
+      | inr x ↦ right_in a b q ((are.each q).1 (p.0, x))
+    ]),
+  );
+}
+
+pub same_states : (pattern : List ℕ) (f g : ℕ → Bool) (set : ℕ) → ((q : ℕ) → q < length pattern → g q ≡ f q) → AreStates pattern f set → AreStates pattern g set
+same_states pattern f g set e is = record {
+  each = λ q. (
+    (λ h. let s = (is.each q).0 h in (s.0, e q s.0 ∙ s.1)),
+    (λ p. (is.each q).1 (p.0, sym (e q p.0) ∙ p.1)),
+  );
+}
+
+shares_meet : (pattern : List ℕ) (f g : ℕ → Bool) (a b : ℕ) → AreStates pattern f a → AreStates pattern g b → Shares a b → Meets pattern f g
+shares_meet pattern f g a b is are s =
+    let x = (is.each s.0).0 s.1 in
+    record { state = s.0; inside = x.0; is_before = x.1; is_later = ((are.each s.0).0 s.2).1 }
+
+meets_share : (pattern : List ℕ) (f g : ℕ → Bool) (a b : ℕ) → AreStates pattern f a → AreStates pattern g b → Meets pattern f g → Shares a b
+meets_share pattern f g a b is are m = (m.state, (is.each m.state).1 (m.inside, m.is_before), (are.each m.state).1 (m.inside, m.is_later))
+
+some_shared : (a b : ℕ) → b < 2 ^ 128 → bit_and a b ≢ 0 → Shares a b
+some_shared a b l n =
+    let below = and_le_r a b in
+    let m = has_member (bit_and a b) (omega arith) n in
+    let p = in_and a b m.0 m.1 in
+    (m.0, p.0, p.1)
+
+shared_some : (a b : ℕ) → Shares a b → bit_and a b ≢ 0
+shared_some a b s e = in_none s.0 (let P : ℕ → Type 0 = λ n. has n s.0 ≡ true in subst P e (and_in a b s.0 s.1 s.2))
+
+or_none : (a b : ℕ) → bit_or a b ≡ 0 → (q : ℕ) → has a q ≡ true → ⊥
+or_none a b e q h = in_none q (let P : ℕ → Type 0 = λ n. has n q ≡ true in subst P e (left_in a b q h))
+
+pub either_shares : (a b c d : ℕ) → b < 2 ^ 128 → d < 2 ^ 128 → (bit_or (bit_and a b) (bit_and c d) ≢ 0) ↔ (Shares a b ⊎ Shares c d)
+either_shares a b c d l m = (
+  (λ n. elim (cases_eq (bit_and a b) 0) [
+    | inl e ↦ elim (cases_eq (bit_and c d) 0) [
+      | inl f ↦ absurd (n (ap (λ x. bit_or x (bit_and c d)) e ∙ ap (λ x. bit_or 0 x) f))
+      | inr f ↦ inr (some_shared c d m f)
+    ]
+    | inr e ↦ inl (some_shared a b l e)
+  ]),
+  (λ s e. elim s [
+    | inl x ↦ in_none x.0 (let P : ℕ → Type 0 = λ n. has n x.0 ≡ true in subst P e (left_in (bit_and a b) (bit_and c d) x.0 (and_in a b x.0 x.1 x.2)))
+    | inr x ↦ in_none x.0 (let P : ℕ → Type 0 = λ n. has n x.0 ≡ true in subst P e (right_in (bit_and a b) (bit_and c d) x.0 (and_in c d x.0 x.1 x.2)))
+  ]),
+)
+
+-- ---- from the back
+
+pub at_end : (pattern left drawn : List ℕ) (sets : PatternSets) (n : ℕ) → n ≡ length left → ArePatternSets pattern sets → AreReached pattern (finishes pattern (drop n left)) (finishes_marked pattern (drop n left) (drop n drawn)) (record { all = sets.last; marked = 0 })
+at_end pattern left drawn sets n e are =
+    let d : drop n left ≡ [] = ap (λ k. drop k left) e ∙ drop-length left in
+    let P : List ℕ → Type 0 = λ ms. AreReached pattern (finishes pattern ms) (finishes_marked pattern ms (drop n drawn)) (record { all = sets.last; marked = 0 }) in
+    let l = are.is_end in
+    subst P (sym d) (record {
+      all_are = record {
+        each = λ q. (
+          (λ h. let w : q ≡ are.end = eqb-true _ _ (sym (has_power are.end q) ∙ (ap (λ s. has s q) (sym are.last) ∙ h)) in (omega arith, eq-eqb _ _ (omega arith))),
+          (λ p. let w : q + 1 ≡ length pattern = eqb-true _ _ p.1 in ap (λ s. has s q) are.last ∙ (has_power are.end q ∙ eq-eqb _ _ (omega arith))),
+        );
+      };
+      marked_are = record { each = λ q. ((λ h. absurd (in_none q h)), (λ p. absurd (false≢true p.1))) };
+    })
+
+-- the states behind cell i give those before it
+pub before_cell : (pattern left drawn : List ℕ) (i : ℕ) (from : Reached) → i < length left → length drawn ≡ length left → AreReached pattern (finish_step pattern (get_or left i 0) (finishes pattern (drop (suc i) left))) (finish_marked pattern (get_or left i 0) (bit_and (get_or left i 0) (get_or drawn i 0)) (finishes pattern (drop (suc i) left)) (finishes_marked pattern (drop (suc i) left) (drop (suc i) drawn))) from → AreReached pattern (finishes pattern (drop i left)) (finishes_marked pattern (drop i left) (drop i drawn)) from
+before_cell pattern left drawn i from l e r =
+    let m = drop-cons left i 0 l in
+    let d = drop-cons drawn i 0 (let k : i < length drawn = omega arith in k) in
+    let P : List ℕ → Type 0 = λ ms. AreReached pattern (finishes pattern ms) (finishes_marked pattern ms (drop i drawn)) from in
+    let Q : List ℕ → Type 0 = λ ds. AreReached pattern (finishes pattern (get_or left i 0 ∷ drop (suc i) left)) (finishes_marked pattern (get_or left i 0 ∷ drop (suc i) left) ds) from in
+    subst P (sym m) (subst Q (sym d) r)
+
+pub noted_more : (pattern left drawn plain marked : List ℕ) (i : ℕ) (later : Reached) → i < length plain → i < length marked → AreReached pattern (finishes pattern (drop (suc i) left)) (finishes_marked pattern (drop (suc i) left) (drop (suc i) drawn)) later → ((j : ℕ) → suc i ≤ j → j < length left → AreBehind pattern left drawn plain marked j) → (j : ℕ) → i ≤ j → j < length left → AreBehind pattern left drawn (set plain i later.all) (set marked i later.marked) j
+noted_more pattern left drawn plain marked i later l m r before j h k = elim (cases_eq j i) [
+  | inl e ↦
+      let P : ℕ → Type 0 = λ n. AreBehind pattern left drawn (set plain i later.all) (set marked i later.marked) n in
+      let S : ℕ → Type 0 = λ s. AreStates pattern (finishes pattern (drop (suc i) left)) s in
+      let T : ℕ → Type 0 = λ s. AreStates pattern (finishes_marked pattern (drop (suc i) left) (drop (suc i) drawn)) s in
+      subst P (sym e) (record {
+        all_are = subst S (sym (get_or-set_same plain i later.all 0 l)) r.all_are;
+        marked_are = subst T (sym (get_or-set_same marked i later.marked 0 m)) r.marked_are;
+      })
+  | inr n ↦
+      let b = before j (omega arith) k in
+      let S : ℕ → Type 0 = λ s. AreStates pattern (finishes pattern (drop (suc j) left)) s in
+      let T : ℕ → Type 0 = λ s. AreStates pattern (finishes_marked pattern (drop (suc j) left) (drop (suc j) drawn)) s in
+      record {
+        all_are = subst S (sym (get_or-set_other plain i j later.all 0 n)) b.all_are;
+        marked_are = subst T (sym (get_or-set_other marked i j later.marked 0 n)) b.marked_are;
+      }
+]
+
+-- ---- from the front
+
+pub at_first : (pattern left drawn : List ℕ) (sets : PatternSets) → ArePatternSets pattern sets → AreReached pattern (reaches pattern left 0) (reaches_marked pattern left drawn 0) (record { all = 1; marked = 0 })
+at_first pattern left drawn sets are =
+    let l = are.is_end in
+    record {
+      all_are = record {
+        each = λ q. (
+          (λ h. let w : q ≡ 0 = eqb-true _ _ (sym (has_one q) ∙ h) in (omega arith, eq-eqb _ _ w)),
+          (λ p. has_one q ∙ p.1),
+        );
+      };
+      marked_are = record { each = λ q. ((λ h. absurd (in_none q h)), (λ p. absurd (false≢true p.1))) };
+    }
+
+-- behind cell i of a line that has the same masks before it, and this mask there
+pub behind_cell : (pattern left new drawn : List ℕ) (i mask : ℕ) (from : Reached) → SameBefore i new left → get_or new i 0 ≡ mask → AreReached pattern (reach_step pattern mask (reaches pattern left i)) (reach_marked pattern mask (bit_and mask (get_or drawn i 0)) (reaches pattern left i) (reaches_marked pattern left drawn i)) from → AreReached pattern (reaches pattern new (suc i)) (reaches_marked pattern new drawn (suc i)) from
+behind_cell pattern left new drawn i mask from same e r =
+    let d = get_or drawn i 0 in
+    let all : (q : ℕ) → q < length pattern → reaches pattern new i q ≡ reaches pattern left i q = same_reached pattern new left i same in
+    let marked : (q : ℕ) → q < length pattern → reaches_marked pattern new drawn i q ≡ reaches_marked pattern left drawn i q = same_reached_marked pattern new left drawn i same in
+    record {
+      all_are = same_states pattern (reach_step pattern mask (reaches pattern left i)) (reaches pattern new (suc i)) from.all
+          (λ q l. ap (λ m. reach_step pattern m (reaches pattern new i) q) e ∙ reach_step_agree pattern mask (reaches pattern new i) (reaches pattern left i) all q l) r.all_are;
+      marked_are = same_states pattern (reach_marked pattern mask (bit_and mask d) (reaches pattern left i) (reaches_marked pattern left drawn i)) (reaches_marked pattern new drawn (suc i)) from.marked
+          (λ q l. ap (λ m. reach_marked pattern m (bit_and m d) (reaches pattern new i) (reaches_marked pattern new drawn i) q) e
+          ∙ (ap (λ x. x || reach_step pattern (bit_and mask d) (reaches pattern new i) q) (reach_step_agree pattern mask (reaches_marked pattern new drawn i) (reaches_marked pattern left drawn i) marked q l)
+          ∙ ap (λ x. reach_step pattern mask (reaches_marked pattern left drawn i) q || x) (reach_step_agree pattern (bit_and mask d) (reaches pattern new i) (reaches pattern left i) all q l))) r.marked_are;
+    }
+
+pub same_here : (left : List ℕ) (i : ℕ) → SameBefore i left left
+same_here left i = λ j l. refl
+
+pub same_set : (left : List ℕ) (i mask : ℕ) → SameBefore i (set left i mask) left
+same_set left i mask = λ j l. get_or-set_other left i j mask 0 (λ e. absurd (omega arith))
+
+-- the masks behind a cell are the old ones
+pub drop_more : (a b : List ℕ) (i : ℕ) → length a ≡ length b → drop i a ≡ drop i b → drop (suc i) a ≡ drop (suc i) b
+drop_more a b i e d = elim (cases_lt i (length a)) [
+  | inl l ↦
+      let x = drop-cons a i 0 l in
+      let y = drop-cons b i 0 (let k : i < length b = omega arith in k) in
+      ap (drop 1) (sym x ∙ (d ∙ y))
+  | inr l ↦ drop_of_length-le a (let k : length a ≤ suc i = omega arith in k) ∙ sym (drop_of_length-le b (let k : length b ≤ suc i = omega arith in k))
+]
+
+pub same_at : (a b : List ℕ) (i : ℕ) → drop i a ≡ drop i b → get_or a i 0 ≡ get_or b i 0
+same_at a b i d =
+    let z : i ≡ i + 0 = omega arith in
+    ap (λ n. get_or a n 0) z ∙ (sym (get_or-drop i a 0 0) ∙ (ap (λ l. get_or l 0 0) d ∙ (get_or-drop i b 0 0 ∙ ap (λ n. get_or b n 0) (sym z))))
+
+-- with all sixteen colours in cell i a line is marked exactly where the sets on the two sides share a state
+pub test_marked : (pattern old left drawn plain marked : List ℕ) (i : ℕ) (on : Reached) → 0 < length pattern → i < length left → length drawn ≡ length left → drop (suc i) left ≡ drop (suc i) old → AreBehind pattern old drawn plain marked i → AreReached pattern (reach_step pattern 65535 (reaches pattern left i)) (reach_marked pattern 65535 (bit_and 65535 (get_or drawn i 0)) (reaches pattern left i) (reaches_marked pattern left drawn i)) on → (Shares on.marked (get_or plain i 0) ⊎ Shares on.all (get_or marked i 0)) ↔ (finishes_marked pattern (set left i 65535) drawn 0 ≡ true)
+test_marked pattern old left drawn plain marked i on p l e d b r =
+    let new = set left i 65535 in
+    let len = length-set left i 65535 in
+    let to = behind_cell pattern left new drawn i 65535 on (same_set left i 65535) (get_or-set_same left i 65535 0 l) r in
+    let rest : drop (suc i) old ≡ drop (suc i) new = sym d ∙ sym (drop-set-lt (suc i) left i 65535 (omega arith)) in
+    let S : List ℕ → Type 0 = λ ms. AreStates pattern (finishes pattern ms) (get_or plain i 0) in
+    let T : List ℕ → Type 0 = λ ms. AreStates pattern (finishes_marked pattern ms (drop (suc i) drawn)) (get_or marked i 0) in
+    let s = subst S rest b.all_are in
+    let t = subst T rest b.marked_are in (
+      (λ x. at_marked pattern new drawn (suc i) (omega arith) (omega arith) (elim x [
+        | inl y ↦ inl (shares_meet pattern _ _ on.marked (get_or plain i 0) to.marked_are s y)
+        | inr y ↦ inr (shares_meet pattern _ _ on.all (get_or marked i 0) to.all_are t y)
+      ])),
+      (λ x. elim (marked_at pattern new drawn (suc i) (omega arith) (omega arith) p x) [
+        | inl y ↦ inl (meets_share pattern _ _ on.marked (get_or plain i 0) to.marked_are s y)
+        | inr y ↦ inr (meets_share pattern _ _ on.all (get_or marked i 0) to.all_are t y)
+      ]),
+    )
+
+-- ---- what is left out so far
+
+pub none_swept : (pattern drawn left : List ℕ) → (finishes_marked pattern left drawn 0 ≡ true → ⊥) → SweepsOut pattern drawn left left 0
+none_swept pattern drawn left f = record {
+  same_length = refl;
+  each = λ i l. absurd (omega arith);
+  behind = refl;
+  forced = f;
+  needed = λ i l. absurd (omega arith);
+}
+
+below_or_at : (j i : ℕ) → j < suc i → (j < i) ⊎ (j ≡ i)
+below_or_at j i h = elim (cases_lt j i) [ inl l ↦ inl l | inr l ↦ inr (omega arith) ]
+
+pub swept_kept : (pattern drawn old left : List ℕ) (i : ℕ) → SweepsOut pattern drawn old left i → finishes_marked pattern (set left i 65535) drawn 0 ≡ true → SweepsOut pattern drawn old left (suc i)
+swept_kept pattern drawn old left i s m =
+    let P : ℕ → Type 0 = λ j. finishes_marked pattern (set left j 65535) drawn 0 ≡ true in
+    record {
+      same_length = s.same_length;
+      each = λ j h. elim (below_or_at j i h) [
+        | inl l ↦ s.each j l
+        | inr e ↦ inl (let Q : ℕ → Type 0 = λ n. get_or left n 0 ≡ get_or old n 0 in subst Q (sym e) (same_at left old i s.behind))
+      ];
+      behind = drop_more left old i s.same_length s.behind;
+      forced = s.forced;
+      needed = λ j h n. elim (below_or_at j i h) [ inl l ↦ s.needed j l n | inr e ↦ subst P (sym e) m ];
+    }
+
+set_wider : (left : List ℕ) (i j : ℕ) → ((t : ℕ) → get_or left t 0 < 2 ^ 16) → i < length left → j < length left → IsWider (set left j 65535) (set (set left i 65535) j 65535)
+set_wider left i j small h l =
+    let a = length-set left i 65535 in
+    let b = length-set left j 65535 in
+    let c = length-set (set left i 65535) j 65535 in
+    record {
+      same_length = omega arith;
+      leaves = λ t k w. elim (cases_eq t j) [
+        | inl e ↦
+            let P : ℕ → Type 0 = λ n. allows (get_or (set left j 65535) n 0) k ≡ true in
+            let Q : ℕ → Type 0 = λ n. allows (get_or (set (set left i 65535) j 65535) n 0) k ≡ true in
+            subst Q (sym e) (ap (λ m. allows m k) (get_or-set_same (set left i 65535) j 65535 0 (omega arith)) ∙ (ap (λ m. allows m k) (sym (get_or-set_same left j 65535 0 l)) ∙ subst P e w))
+        | inr n ↦
+            let v = sym (ap (λ m. allows m k) (get_or-set_other left j t 65535 0 n)) ∙ w in
+            ap (λ m. allows m k) (get_or-set_other (set left i 65535) j t 65535 0 n) ∙ elim (cases_eq t i) [
+              | inl e ↦
+                  let R : ℕ → Type 0 = λ n. allows (get_or (set left i 65535) n 0) k ≡ true in
+                  subst R (sym e) (ap (λ m. allows m k) (get_or-set_same left i 65535 0 h) ∙ bit_allows 65535 k (full_has k (bit_below (get_or left t 0) 16 k (small t) (allows_bit _ _ v))))
+              | inr o ↦ ap (λ m. allows m k) (get_or-set_other left i t 65535 0 o) ∙ v
+            ]
+      ];
+    }
+
+pub swept_out : (pattern drawn old left : List ℕ) (i : ℕ) → 0 < length pattern → i < length left → ((t : ℕ) → get_or left t 0 < 2 ^ 16) → SweepsOut pattern drawn old left i → (finishes_marked pattern (set left i 65535) drawn 0 ≡ true → ⊥) → SweepsOut pattern drawn old (set left i 65535) (suc i)
+swept_out pattern drawn old left i p h small s f = record {
+  same_length = length-set left i 65535 ∙ s.same_length;
+  each = λ j k. elim (below_or_at j i k) [
+    | inl l ↦
+        let o = get_or-set_other left i j 65535 0 (λ e. absurd (omega arith)) in
+        elim (s.each j l) [ inl a ↦ inl (o ∙ a) | inr a ↦ inr (o ∙ a) ]
+    | inr e ↦ inr (let Q : ℕ → Type 0 = λ n. get_or (set left i 65535) n 0 ≡ 65535 in subst Q (sym e) (get_or-set_same left i 65535 0 h))
+  ];
+  behind = drop-set-lt (suc i) left i 65535 (omega arith) ∙ drop_more left old i s.same_length s.behind;
+  forced = f;
+  needed = λ j k n. elim (below_or_at j i k) [
+    | inl l ↦
+        wider_marked pattern (set left j 65535) (set (set left i 65535) j 65535) drawn 0 p (set_wider left i j small h (omega arith))
+        (s.needed j l (λ e. n (get_or-set_other left i j 65535 0 (λ z. absurd (omega arith)) ∙ e)))
+    | inr e ↦ absurd (n (let Q : ℕ → Type 0 = λ m. get_or (set left i 65535) m 0 ≡ 65535 in subst Q (sym e) (get_or-set_same left i 65535 0 h)))
+  ];
+}
+
+-- what the sweep keeps in front of cell i
+pub record SweptTo (sets : PatternSets) (drawn plain marked old left : List ℕ) (from : Reached) (i : ℕ) : Type 0 where
+  pub small : (t : ℕ) → get_or left t 0 < 2 ^ 16
+  pub from_is : (pattern : List ℕ) → ArePatternSets pattern sets → AreReached pattern (reaches pattern left i) (reaches_marked pattern left drawn i) from
+  pub so_far : (pattern : List ℕ) → ArePatternSets pattern sets → ((j : ℕ) → j < length old → AreBehind pattern old drawn plain marked j) → (finishes_marked pattern old drawn 0 ≡ true → ⊥) → SweepsOut pattern drawn old left i
+
+-- the states behind cell i with these colours there
+abbrev pub Reaches : PatternSets → List ℕ → List ℕ → ℕ → ℕ → Reached → Type 0
+Reaches sets drawn left i mask on = (pattern : List ℕ) → ArePatternSets pattern sets → AreReached pattern (reach_step pattern mask (reaches pattern left i)) (reach_marked pattern mask (bit_and mask (get_or drawn i 0)) (reaches pattern left i) (reaches_marked pattern left drawn i)) on
+
+pub step_kept : (sets : PatternSets) (drawn plain marked old left : List ℕ) (from on next : Reached) (i : ℕ) → i < length left → length drawn ≡ length left → SweptTo sets drawn plain marked old left from i → Reaches sets drawn left i 65535 on → Reaches sets drawn left i (get_or left i 0) next → Shares on.marked (get_or plain i 0) ⊎ Shares on.all (get_or marked i 0) → SweptTo sets drawn plain marked old left next (suc i)
+step_kept sets drawn plain marked old left from on next i l e t ons nexts shares = record {
+  small = t.small;
+  from_is = λ pattern are. behind_cell pattern left left drawn i (get_or left i 0) next (same_here left i) refl (nexts pattern are);
+  so_far = λ pattern are tables none.
+      let s = t.so_far pattern are tables none in
+      let n = s.same_length in
+      let p = are.is_end in
+      swept_kept pattern drawn old left i s
+      ((test_marked pattern old left drawn plain marked i on (omega arith) l e (drop_more left old i n s.behind) (tables i (omega arith)) (ons pattern are)).0 shares);
+}
+
+pub step_out : (sets : PatternSets) (drawn plain marked old left : List ℕ) (from on : Reached) (i : ℕ) → i < length left → length drawn ≡ length left → SweptTo sets drawn plain marked old left from i → Reaches sets drawn left i 65535 on → (Shares on.marked (get_or plain i 0) ⊎ Shares on.all (get_or marked i 0) → ⊥) → SweptTo sets drawn plain marked old (set left i 65535) on (suc i)
+step_out sets drawn plain marked old left from on i l e t ons none_shared = record {
+  small = λ j. elim (cases_eq j i) [
+    | inl w ↦ let P : ℕ → Type 0 = λ n. get_or (set left i 65535) n 0 < 2 ^ 16 in subst P (sym w) (let g = get_or-set_same left i 65535 0 l in omega arith)
+    | inr n ↦ let g = get_or-set_other left i j 65535 0 n in let k = t.small j in omega arith
+  ];
+  from_is = λ pattern are. behind_cell pattern left (set left i 65535) drawn i 65535 on (same_set left i 65535) (get_or-set_same left i 65535 0 l) (ons pattern are);
+  so_far = λ pattern are tables none.
+      let s = t.so_far pattern are tables none in
+      let n = s.same_length in
+      let p = are.is_end in
+      swept_out pattern drawn old left i (omega arith) l t.small s
+      (λ m. none_shared ((test_marked pattern old left drawn plain marked i on (omega arith) l e (drop_more left old i n s.behind) (tables i (omega arith)) (ons pattern are)).1 m));
+}
+
+-- ---- the whole line
+
+pub leaves_out : (clue : List Block) (drawn old new : List ℕ) → IsClue clue → SweepsOut (pattern_of clue) drawn old new (length old) → LeavesOut clue drawn old new
+leaves_out clue drawn old new b s = record {
+  same_length = s.same_length;
+  each = s.each;
+  forced = unmarked_forces clue new drawn b s.forced;
+  needed = λ i l n. marked_misses clue (set new i 65535) drawn b (s.needed i l n);
+}
+
+full_at : (n i : ℕ) → i < n → get_or {A = ℕ} (replicate n 65535) i 0 ≡ 65535
+full_at zero i h = absurd (omega arith)
+full_at (suc n) zero h = refl
+full_at (suc n) (suc i) h = full_at n i (omega arith)
+
+-- a line without room for the blocks forces everything
+pub leaves_all : (clue : List Block) (drawn old new : List ℕ) → IsClue clue → new ≡ replicate (length old) 65535 → length old + 1 < length (pattern_of clue) → LeavesOut clue drawn old new
+leaves_all clue drawn old new b e l =
+    let n : length new ≡ length old = ap length e ∙ length-replicate (length old) 65535 in
+    let full : (i : ℕ) → i < length old → get_or new i 0 ≡ 65535 = λ i h. ap (λ m. get_or m i 0) e ∙ full_at (length old) i h in
+    record {
+      same_length = n;
+      each = λ i h. inr (full i h);
+      forced = λ i k d h. too_long clue new b (omega arith) (have_fits h);
+      needed = λ i h f. absurd (f (full i h));
+    }

@@ -1,0 +1,13 @@
+use Rattle.std.proofs.Common.{◌≡◌}
+use Rattle.line_settle.specs.Spelling.{pattern_of}
+use Rattle.line_settle.specs.Laying.{state_behind}
+use Rattle.line_settle.specs.StateSets.{AreNext, AreWaiting, HasColours}
+use Rattle.line_settle.proofs.state_sets.PatternSets.of.Given as goal
+
+abbrev pub invariant-loop-j : goal.invariant-loop-j
+invariant-loop-j l = record {
+  state_is : l.state ≡ state_behind 0 l.blocks l.j;
+  next_are : AreNext (pattern_of l.blocks) l.state l.next;
+  waiting_are : AreWaiting (pattern_of l.blocks) l.state l.waiting;
+  colours_are : HasColours (pattern_of l.blocks) l.state l.colours;
+}

@@ -1,0 +1,44 @@
+-- Sets of the states of a pattern: state q is bit q of a number.
+use Rattle.std.specs.Prelude.{◌≡◌, ℕ, ◌+◌, ◌^◌, ◌<◌, ◌≤◌, ◌↔◌, List, Bool, true, length, slice_index}
+use Rattle.line_settle.specs.declared.state_sets.Moves.{Moves}
+use Rattle.line_settle.specs.declared.state_sets.PatternSets.{PatternSets}
+use Rattle.line_settle.specs.Spelling.{allows, waits}
+use Rattle.line_settle.specs.Positions.{has}
+
+-- a set has the states of a pattern for which a test holds
+pub record AreStates (pattern : List ℕ) (test : ℕ → Bool) (set : ℕ) : Type 0 where
+  pub each : (q : ℕ) → (has set q ≡ true) ↔ ((q < length pattern) × (test q ≡ true))
+
+-- two sets have a state in common
+abbrev pub Shares : ℕ → ℕ → Type 0
+Shares a b = (q : ℕ) × (has a q ≡ true) × (has b q ≡ true)
+
+-- which states a cell with one of the mask's colours leads on to the next one, and which it can leave as they are
+pub record MovesBy (pattern : List ℕ) (mask : ℕ) (moves : Moves) : Type 0 where
+  pub short : length pattern ≤ 121
+  pub advancing : (q : ℕ) → (has moves.advancing q ≡ true) ↔ ((q + 1 < length pattern) × (allows mask (slice_index pattern (q + 1)) ≡ true))
+  pub resting : (q : ℕ) → (has moves.resting q ≡ true) ↔ ((q < length pattern) × (waits pattern q ≡ true) × (allows mask 0 ≡ true))
+
+-- by colour, the states below n behind which the pattern goes on with it
+abbrev pub AreNext : List ℕ → ℕ → List ℕ → Type 0
+AreNext pattern n next = (k q : ℕ) → (has (slice_index next k) q ≡ true) ↔ ((q < n) × (slice_index pattern (q + 1) ≡ k))
+
+-- the states below n in which background can be read without leaving them
+abbrev pub AreWaiting : List ℕ → ℕ → ℕ → Type 0
+AreWaiting pattern n waiting = (q : ℕ) → (has waiting q ≡ true) ↔ ((q < n) × (waits pattern q ≡ true))
+
+-- a mask has background and the colours with which the pattern goes on behind the states below n
+pub record HasColours (pattern : List ℕ) (n colours : ℕ) : Type 0 where
+  pub background : allows colours 0 ≡ true
+  pub each : (q : ℕ) → q < n → allows colours (slice_index pattern (q + 1)) ≡ true
+
+-- the sets that tell how a pattern's states move
+pub record ArePatternSets (pattern : List ℕ) (sets : PatternSets) : Type 0 where
+  pub end : ℕ
+  pub is_end : end + 1 ≡ length pattern
+  pub short : length pattern ≤ 121
+  pub next : AreNext pattern end sets.next
+  pub waiting : AreWaiting pattern (length pattern) sets.waiting
+  pub colours : HasColours pattern end sets.colours
+  pub inner : (q : ℕ) → (has sets.inner q ≡ true) ↔ (q < end)
+  pub last : sets.last ≡ 2 ^ end
