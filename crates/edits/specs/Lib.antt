@@ -1,0 +1,5 @@
+pub mod Design
+pub mod Edit
+pub mod Fault
+pub mod Note
+pub mod History

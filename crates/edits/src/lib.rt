@@ -1,0 +1,10 @@
+//! A designer's edits, why they are refused, and the history of a document.
+#![tactic(auto)]
+
+mod edit;
+mod entry;
+mod fault;
+
+pub use edit::Edit;
+pub use entry::Entry;
+pub use fault::EditFault;
