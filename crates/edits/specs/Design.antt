@@ -6,7 +6,7 @@ use Rattle.picture.specs.CellSet.{IsCellSet}
 use Rattle.picture.specs.Palette.{Colours, IsPalette}
 use Rattle.picture.specs.Picture.{IsPicture}
 use Rattle.picture.specs.Document.{AreColoured}
-use Rattle.picture.specs.Rows.{width_of, row_at}
+use Rattle.picture.specs.Rows.{width_of, row_at, cell_at}
 
 -- the colours by number, the rows of cells, and rows of marks: 1 where a cell is a given, else 0
 pub record Design : Type 0 where
@@ -42,4 +42,5 @@ pub record IsDesign (d : Design) : Type 0 where
   pub is_palette : IsPalette d.colours
   pub is_picture : IsPicture d.rows
   pub is_coloured : AreColoured d.rows d.colours
+  pub are_marks : (i j : ℕ) → cell_at d.marks i j < 2
   pub marks_fit : IsGrid (length d.rows) (width_of d.rows) d.marks
