@@ -47,7 +47,7 @@ same_rgb : (a b : Rgb) → a.r ≡ b.r → a.g ≡ b.g → a.b ≡ b.b → a ≡
 same_rgb a b r g bl =
     ap (λ x. record { r = x; g = a.g; b = a.b }) r ∙ (ap (λ x. record { r = b.r; g = x; b = a.b }) g ∙ ap (λ x. record { r = b.r; g = b.g; b = x }) bl)
 
-rgb_decides : (a b : Rgb) → Decides (rgb_eq a b) (a ≡ b)
+pub rgb_decides : (a b : Rgb) → Decides (rgb_eq a b) (a ≡ b)
 rgb_decides a b =
     Decides-like (rgb_eq a b) (λ same. same_rgb a b same.0 same.1.0 same.1.1) (λ e. (ap (λ (c : Rgb). c.r) e, (ap (λ (c : Rgb). c.g) e, ap (λ (c : Rgb). c.b) e)))
     (Decides-and (eqb a.r b.r) (eqb a.g b.g && eqb a.b b.b) (Decides-eqb a.r b.r) (Decides-and (eqb a.g b.g) (eqb a.b b.b) (Decides-eqb a.g b.g) (Decides-eqb a.b b.b)))

@@ -1,5 +1,8 @@
-pub mod GridLemmas
 pub mod CellLemmas
-pub mod LineLemmas
+pub mod DesignLemmas
 pub mod FaultLemmas
+pub mod GridLemmas
+pub mod IdleLemmas
+pub mod LineLemmas
+pub mod PaintLemmas
 pub mod RevertLemmas

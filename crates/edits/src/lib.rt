@@ -3,7 +3,12 @@
 
 mod edit;
 mod entry;
+mod facts;
 mod fault;
+mod idle;
+mod painting;
+mod places;
+mod refusal;
 
 pub use edit::Edit;
 pub use entry::Entry;
