@@ -1,14 +1,16 @@
 -- Lists of cells: those that an edit changes, and a grid with cells of a list changed.
-use Rattle.std.proofs.Common.{◌≡◌, ◌≢◌, ℕ, zero, suc, ◌+◌, ◌-◌, ◌<◌, ◌≤◌, ◌⊎◌, inl, inr, Bool, true, false, cond, eqb, if◌then◌else◌, ◌==◌, List, [], ◌∷◌, ◌++◌, length, get_or, set, map, refl, sym, ap, subst, ◌∙◌, arith, add-one}
+use Rattle.std.proofs.Common.{◌≡◌, ◌≢◌, ℕ, zero, suc, ◌+◌, ◌-◌, ◌<◌, ◌≤◌, ◌⊎◌, inl, inr, Bool, true, false, cond, eqb, if◌then◌else◌, ◌==◌, List, [], ◌∷◌, ◌++◌, length, get_or, set, map, take, refl, sym, ap, subst, ◌∙◌, arith, add-one}
 use Rattle.std.proofs.lemmas.Bool.{cases_lt, cases_eq, eqb-false, ne_eqb, eq-eqb, cond-false}
 use Rattle.std.proofs.lemmas.Bool.Decides.{nat_tests}
-use Rattle.std.proofs.lemmas.List.{append-nil}
+use Rattle.std.specs.List.{All}
+use Rattle.std.proofs.lemmas.List.{append-nil, take_more, get_or-map, length-map}
+use Rattle.std.proofs.lemmas.List.Elements.{All-head, All-tail, All-take, All-weaker}
 use Rattle.picture.specs.Picture.{IsPicture}
 use Rattle.picture.specs.Rows.{width_of, row_at, cell_at, with_cell}
 use Rattle.edits.specs.declared.edit.Edit.{Edit}
 use Rattle.edits.specs.Design.{IsGrid, grid}
 use Rattle.edits.specs.Edit.{colour_after, painted}
-use Rattle.edits.specs.Note.{Cell, joined, with_cells, changed_cell, changed_cells, changed_in_row}
+use Rattle.edits.specs.Note.{Cell, IsCellIn, repainted, joined, with_cells, changed_cell, changed_cells, changed_in_row}
 use Rattle.edits.proofs.GridLemmas.{same_grid, grid_same, picture_is_grid, grid_is_grid, cell_at-grid, cell_at-with_same, cell_at-with_row, cell_at-with_column, with_cell_is_grid}
 
 -- x is in the list
@@ -165,11 +167,7 @@ unchanged_painted e rows same =
         ∙ joined_none (changed_cell e rows i))
     ∙ joined_none (changed_in_row e rows)
 
--- the cells of a list with what an edit makes of them
-abbrev pub repainted : Edit → Cell → Cell
-repainted e c = (c.0, c.1, colour_after e c.0 c.1 c.2)
-
-has_map : (f : Cell → Cell) (cells : List Cell) (c : Cell) → Has cells c → Has (map f cells) (f c)
+pub has_map : (f : Cell → Cell) (cells : List Cell) (c : Cell) → Has cells c → Has (map f cells) (f c)
 has_map f [] c h = absurd h
 has_map f (d ∷ cells) c h = elim h [ inl e ↦ inl (ap f e) | inr rest ↦ inr (has_map f cells c rest) ]
 
@@ -213,3 +211,49 @@ gives_cells_back e rows is =
           | inl same ↦ inl (after ∙ same)
           | inr other ↦ inr (changed_has e rows i j in_rows in_columns other)
         ])
+
+-- what is true of all that a list has
+has_at : {X : Type 0} (xs : List X) (k : ℕ) (d : X) → k < length xs → Has xs (get_or xs k d)
+has_at [] k d within = absurd (omega arith)
+has_at (x ∷ xs) zero d within = inl refl
+has_at (x ∷ xs) (suc k) d within = inr (has_at xs k d (omega arith))
+
+pub all_has : {X : Type 0} (P : X → Type 0) (xs : List X) → ((x : X) → Has xs x → P x) → All P xs
+all_has P xs each = λ k d within. each (get_or xs k d) (has_at xs k d within)
+
+-- cells changed one by one
+pub with_cells-push : (rows : List (List ℕ)) (cells : List Cell) (c : Cell) → with_cells rows (cells ++ c ∷ []) ≡ with_cell (with_cells rows cells) c.0 c.1 c.2
+with_cells-push rows [] c = refl
+with_cells-push rows (d ∷ cells) c = with_cells-push (with_cell rows d.0 d.1 d.2) cells c
+
+pub with_cells_grid : (h w : ℕ) (rows : List (List ℕ)) (cells : List Cell) → IsGrid h w rows → All (λ (c : Cell). c.0 < h) cells → IsGrid h w (with_cells rows cells)
+with_cells_grid h w rows [] is inside = is
+with_cells_grid h w rows (c ∷ cells) is inside = with_cells_grid h w (with_cell rows c.0 c.1 c.2) cells (with_cell_is_grid h w rows c.0 c.1 c.2 is (All-head (λ (d : Cell). d.0 < h) c cells inside)) (All-tail (λ (d : Cell). d.0 < h) c cells inside)
+
+pub with_cells_sizes : (rows : List (List ℕ)) (cells : List Cell) → IsPicture rows → All (IsCellIn rows) cells → (length (with_cells rows cells) ≡ length rows) × (width_of (with_cells rows cells) ≡ width_of rows)
+with_cells_sizes rows cells is inside =
+    let grid = with_cells_grid (length rows) (width_of rows) rows cells (picture_is_grid rows is) (All-weaker (IsCellIn rows) (λ (c : Cell). c.0 < length rows) (λ c h. h.0) cells inside) in
+    (grid.row_count, grid.row_lengths 0 is.has_row)
+
+-- the loops that change cells
+pub with_first : (rows : List (List ℕ)) (cells : List Cell) → rows ≡ with_cells rows (take 0 cells)
+with_first rows cells = refl
+
+pub with_one_more : (rows now : List (List ℕ)) (cells : List Cell) (i : ℕ) (d : Cell) → i < length cells → now ≡ with_cells rows (take i cells) → with_cell now (get_or cells i d).0 (get_or cells i d).1 (get_or cells i d).2 ≡ with_cells rows (take (i + 1) cells)
+with_one_more rows now cells i d within same =
+    rw same (sym (ap (with_cells rows) (take_more cells i d within) ∙ with_cells-push rows (take i cells) (get_or cells i d)))
+
+pub fits_now : (rows now : List (List ℕ)) (cells : List Cell) (i : ℕ) (d : Cell) → IsPicture rows → All (IsCellIn rows) cells → i < length cells → now ≡ with_cells rows (take i cells) → IsCellIn now (get_or cells i d)
+fits_now rows now cells i d is inside within same =
+    let sizes = with_cells_sizes rows (take i cells) is (All-take (IsCellIn rows) i cells inside) in
+    let at : IsCellIn rows (get_or cells i d) = inside i d within in
+    rw (same, sizes.0, sizes.1) at
+
+pub mapped_fits : (e : Edit) (rows now : List (List ℕ)) (cells : List Cell) (i : ℕ) (d : Cell) → IsPicture rows → All (IsCellIn rows) (map (repainted e) cells) → i < length cells → now ≡ with_cells rows (take i (map (repainted e) cells)) → IsCellIn now (repainted e (get_or cells i d))
+mapped_fits e rows now cells i d is inside within same =
+    rw (get_or-map (repainted e) cells i d d within) at (fits_now rows now (map (repainted e) cells) i d is inside (omega (arith, length-map cells (repainted e))) same)
+
+pub with_one_painted : (e : Edit) (rows now : List (List ℕ)) (cells : List Cell) (i : ℕ) (d : Cell) → i < length cells → now ≡ with_cells rows (take i (map (repainted e) cells)) → with_cell now (get_or cells i d).0 (get_or cells i d).1 (colour_after e (get_or cells i d).0 (get_or cells i d).1 (get_or cells i d).2) ≡ with_cells rows (take (i + 1) (map (repainted e) cells))
+with_one_painted e rows now cells i d within same =
+    ap (λ (c : Cell). with_cell now c.0 c.1 c.2) (sym (get_or-map (repainted e) cells i d d within))
+    ∙ with_one_more rows now (map (repainted e) cells) i d (omega (arith, length-map cells (repainted e))) same

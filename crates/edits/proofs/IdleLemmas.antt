@@ -1,6 +1,6 @@
 -- Edits that leave a document as it is.
-use Rattle.std.proofs.Common.{◌≡◌, ◌≢◌, ℕ, ◌+◌, ◌<◌, ◌≤◌, inl, inr, Bool, true, false, if◌then◌else◌, ◌||◌, not, beq, Option, Some, None, is_some, option_map, List, [], ◌∷◌, ◌++◌, length, length-append, get_or, set, map, replicate, refl, sym, ap, ◌∙◌, arith}
-use Rattle.std.specs.Bool.{MatchBool}
+use Rattle.std.proofs.Common.{◌≡◌, ◌≢◌, ℕ, ◌+◌, ◌<◌, ◌≤◌, inl, inr, Bool, true, false, if◌then◌else◌, ◌||◌, not, Option, Some, None, is_some, option_map, List, [], ◌∷◌, ◌++◌, length, length-append, get_or, set, map, replicate, refl, sym, ap, ◌∙◌, arith}
+use Rattle.std.specs.Bool.{MatchBool, beq}
 use Rattle.std.specs.Prelude.{slice_get, IsTrue, ◌↔◌}
 use Rattle.std.specs.List.{insert, remove, swap, list_any}
 use Rattle.std.proofs.lemmas.Bool.{cases_eq, false_from_ne_true}

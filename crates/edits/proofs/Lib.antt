@@ -4,5 +4,8 @@ pub mod FaultLemmas
 pub mod GridLemmas
 pub mod IdleLemmas
 pub mod LineLemmas
+pub mod MoveLemmas
 pub mod PaintLemmas
+pub mod PartLemmas
 pub mod RevertLemmas
+pub mod ShiftLemmas

@@ -77,7 +77,7 @@ abbrev blanked : Axis → ℕ → ℕ → List (List ℕ) → List (List ℕ)
 blanked Across at w rows = set rows at (replicate w 0)
 blanked Down at w rows = map (λ row. set row at 0) rows
 
-width_of-remove : (h w at : ℕ) (rows : List (List ℕ)) → IsGrid h w rows → at < h → 1 < h → width_of (remove rows at) ≡ w
+pub width_of-remove : (h w at : ℕ) (rows : List (List ℕ)) → IsGrid h w rows → at < h → 1 < h → width_of (remove rows at) ≡ w
 width_of-remove h w at rows is within more =
     elim (cases_lt 0 at) [
       | inl below ↦ ap length (get_or-remove_below rows at [] 0 below (omega (arith, is.row_count))) ∙ is.row_lengths 0 (omega arith)

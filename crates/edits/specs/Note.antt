@@ -94,6 +94,18 @@ abbrev pub with_cells : List (List ℕ) → List Cell → List (List ℕ)
 with_cells rows [] = rows
 with_cells rows (c ∷ cells) = with_cells (with_cell rows c.0 c.1 c.2) cells
 
+-- a cell with what an edit makes of its colour
+abbrev pub repainted : Edit → Cell → Cell
+repainted e c = (c.0, c.1, colour_after e c.0 c.1 c.2)
+
+-- the place lies in the picture
+abbrev pub IsPlaceIn : List (List ℕ) → ℕ × ℕ → Type 0
+IsPlaceIn rows place = (place.0 < length rows) × (place.1 < width_of rows)
+
+-- the cell lies in the picture, and has one of 16 colours
+abbrev pub IsCellIn : List (List ℕ) → Cell → Type 0
+IsCellIn rows c = (c.0 < length rows) × (c.1 < width_of rows) × (c.2 < 16)
+
 -- a given as a cell of the marks
 abbrev pub as_mark : ℕ × ℕ → Cell
 as_mark place = (place.0, place.1, 1)

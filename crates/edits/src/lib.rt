@@ -1,12 +1,15 @@
 //! A designer's edits, why they are refused, and the history of a document.
 #![tactic(auto)]
 
+mod cells;
 mod edit;
 mod entry;
 mod facts;
 mod fault;
 mod idle;
+mod moving;
 mod painting;
+mod parts;
 mod places;
 mod refusal;
 
