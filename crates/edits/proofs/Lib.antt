@@ -3,6 +3,7 @@ pub mod DesignLemmas
 pub mod FaultLemmas
 pub mod GridLemmas
 pub mod IdleLemmas
+pub mod KeptLemmas
 pub mod LineLemmas
 pub mod MoveLemmas
 pub mod PaintLemmas

@@ -7,6 +7,7 @@ mod entry;
 mod facts;
 mod fault;
 mod idle;
+mod kept;
 mod moving;
 mod painting;
 mod parts;

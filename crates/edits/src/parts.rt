@@ -1,10 +1,9 @@
 //! Documents made from another one's parts.
 
-ghost use Rattle.std.specs.Prelude.{◌≡◌, ◌<◌, ◌≤◌, false, length, map, slice_get, IfOk, Some};
+ghost use Rattle.std.specs.Prelude.{◌≡◌, ◌<◌, ◌≤◌, length, map, IfOk};
 ghost use Rattle.std.specs.List.{All};
-ghost use Rattle.picture.specs.declared.rgb.Rgb.{Rgb};
 ghost use Rattle.picture.specs.Document.{AreColoured};
-ghost use Rattle.picture.specs.Palette.{add_fault, set_fault, with_colour, with_triple, without_last};
+ghost use Rattle.picture.specs.Palette.{with_colour, with_triple, without_last};
 ghost use Rattle.picture.specs.Rows.{line_deleted, line_inserted, lines_along, lines_swapped, width_of, with_cell};
 ghost use Rattle.edits.specs.Design.{design, design_of};
 ghost use Rattle.edits.specs.Note.{IsCellIn, repainted, with_cells};
@@ -13,7 +12,7 @@ use crate::cells::{paint_cells, put_cells};
 use crate::edit::Edit;
 use crate::moving::moved_givens;
 use clues::Change;
-use picture::{Axis, Document, LineId};
+use picture::{Axis, Document, LineId, Rgb};
 use std::alloc::AllocError;
 
 /// The document with the cells of a list painted.
@@ -165,5 +164,55 @@ pub(crate) fn unpinned(document: &Document, row: u8, col: u8) -> Result<Document
         palette,
         picture,
         givens,
+    })
+}
+
+/// The document with one colour more.
+pub(crate) fn added(document: &Document, rgb: Rgb) -> Result<Document, AllocError>
+    ensures { IfOk result (λ d. design_of d
+        ≡ design (with_colour document.now.palette rgb) document.now.picture (design_of document.now).marks) }
+{
+    let mut palette = document.palette.copy()?;
+    let picture = document.picture.copy()?;
+    // The edit was lawful, so only memory can be wanting.
+    palette.add(rgb).map_err(|_| AllocError)?;
+    Ok(Document {
+        palette,
+        picture,
+        givens: document.givens,
+    })
+}
+
+/// The document with another colour at a number.
+pub(crate) fn recoloured(document: &Document, colour: u8, rgb: Rgb) -> Result<Document, AllocError>
+    requires { colour < length document.now.palette.triples }
+    ensures { IfOk result (λ d. design_of d
+        ≡ design (with_triple document.now.palette colour rgb) document.now.picture (design_of document.now).marks) }
+{
+    let mut palette = document.palette.copy()?;
+    let picture = document.picture.copy()?;
+    // The edit was lawful, so only memory can be wanting.
+    palette.set(colour, rgb).map_err(|_| AllocError)?;
+    Ok(Document {
+        palette,
+        picture,
+        givens: document.givens,
+    })
+}
+
+/// The document without its last colour, which no cell has.
+pub(crate) fn without_last(document: &Document) -> Result<Document, AllocError>
+    requires more { 1 < length document.now.palette.triples }
+    requires coloured { AreColoured document.now.picture (without_last document.now.palette) }
+    ensures { IfOk result (λ d. design_of d
+        ≡ design (without_last document.now.palette) document.now.picture (design_of document.now).marks) }
+{
+    let mut palette = document.palette.copy()?;
+    let picture = document.picture.copy()?;
+    palette.pop_last();
+    Ok(Document {
+        palette,
+        picture,
+        givens: document.givens,
     })
 }
