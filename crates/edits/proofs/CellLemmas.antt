@@ -171,7 +171,7 @@ pub has_map : (f : Cell → Cell) (cells : List Cell) (c : Cell) → Has cells c
 has_map f [] c h = absurd h
 has_map f (d ∷ cells) c h = elim h [ inl e ↦ inl (ap f e) | inr rest ↦ inr (has_map f cells c rest) ]
 
-has_from_map : (f : Cell → Cell) (cells : List Cell) (c : Cell) → Has (map f cells) c → (d : Cell) × Has cells d × (f d ≡ c)
+pub has_from_map : (f : Cell → Cell) (cells : List Cell) (c : Cell) → Has (map f cells) c → (d : Cell) × Has cells d × (f d ≡ c)
 has_from_map f [] c h = absurd h
 has_from_map f (d ∷ cells) c h =
     elim h [

@@ -9,7 +9,8 @@ use Rattle.picture.specs.declared.rgb.Rgb.{Rgb}
 use Rattle.picture.specs.Palette.{Colours, rgb_eq}
 use Rattle.edits.specs.declared.edit.Edit.{Edit}
 use Rattle.edits.specs.declared.fault.EditFault.{EditFault}
-use Rattle.edits.specs.Design.{Design, design}
+use Rattle.edits.specs.Design.{Design, design, IsDesign}
+use Rattle.edits.specs.Note.{Note, IsEntry, note_for}
 use Rattle.edits.specs.Edit.{edited}
 use Rattle.edits.specs.Fault.{edit_fault, same_design, is_outside, lacks_colour, has_no_room, deletes_last, is_over, is_full, is_there, sets_background}
 
@@ -78,3 +79,8 @@ other_when a b other = false_from_ne_true (same_design a b) (λ same. other ((sa
 
 pub differs : (a b : Design) → same_design a b ≡ false → a ≢ b
 differs a b e same = absurd (cc (e, same_when a b same))
+
+pub entry_of : (d : Design) (e : Edit) (n : Note) → IsDesign d → edit_fault d e ≡ None → n ≡ note_for d e → IsEntry d n
+entry_of d e n is none kept =
+    let same : n.edit ≡ e = ap (λ (m : Note). m.edit) kept in
+    record { is_design = is; lawful = rw same none; kept = rw same kept }

@@ -1,3 +1,4 @@
+pub mod ApplyLemmas
 pub mod CellLemmas
 pub mod DesignLemmas
 pub mod FaultLemmas

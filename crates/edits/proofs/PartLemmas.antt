@@ -1,5 +1,6 @@
 -- Documents made from another one's parts.
-use Rattle.std.proofs.Common.{◌≡◌, ℕ, ◌+◌, ◌<◌, ◌≤◌, List, length, refl, sym, ap, ◌∙◌, arith}
+use Rattle.std.proofs.Common.{◌≡◌, ℕ, ◌+◌, ◌<◌, ◌≤◌, List, length, refl, sym, ap, ◌∙◌, arith, Bool, false}
+use Rattle.std.specs.Prelude.{Result, Ok, Err, OnOk, is_err}
 use Rattle.std.specs.List.{All}
 use Rattle.picture.specs.declared.line_id.Axis.{Axis}
 use Rattle.picture.specs.declared.line_id.Axis.TheVariants.{Across, Down}
@@ -58,3 +59,8 @@ pub changed_inside : (rows now : List (List ℕ)) (cells : List Cell) (givens : 
 changed_inside rows now cells givens is inside same given =
     let sizes = with_cells_sizes rows cells is inside in
     λ i j has. (rw (same, sizes.0) (given i j has).0, rw (same, sizes.1) (given i j has).1)
+
+-- what holds where there is no error
+pub taken : {X E : Type 0} (r : Result X E) (P : Type 0) (is : Bool) → is ≡ is_err r → is ≡ false → OnOk r P → P
+taken (Ok x) P is e none holds = holds
+taken (Err x) P is e none holds = absurd (cc (e, none))

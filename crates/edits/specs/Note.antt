@@ -142,6 +142,12 @@ abbrev pub reverted : Design → Note → Design
 reverted d n =
     design (colours_before n.edit n.triple d.colours) (rows_before n.edit n.cells d.rows) (marks_before n.edit n.givens d.marks)
 
+-- the note is what is kept of a lawful edit of the document
+pub record IsEntry (d : Design) (n : Note) : Type 0 where
+  pub is_design : IsDesign d
+  pub lawful : edit_fault d n.edit ≡ None
+  pub kept : n ≡ note_for d n.edit
+
 -- the edit of the first document is lawful, gives the second, and the note is what is kept of it
 pub record IsStep (before : Design) (n : Note) (after : Design) : Type 0 where
   pub is_design : IsDesign before

@@ -7,18 +7,6 @@ ghost use Rattle.edits.specs.Note.{IsCellIn, repainted, with_cells};
 use crate::edit::Edit;
 use picture::Picture;
 
-/// Gives each of the cells its colour.
-pub(crate) fn put_cells(picture: &mut Picture, cells: &[(u8, u8, u8)])
-    requires { All (IsCellIn picture.old) cells.now }
-    ensures { picture.new ≡ with_cells picture.old cells.now }
-{
-    let _ = picture.height();
-    for cell in cells {
-        let (row, col, colour) = *cell;
-        picture.set(row, col, colour);
-    }
-}
-
 /// Gives each of the cells the colour that an edit makes of its old one.
 pub(crate) fn paint_cells(picture: &mut Picture, edit: &Edit, cells: &[(u8, u8, u8)])
     requires { All (IsCellIn picture.old) (map (repainted edit.now) cells.now) }

@@ -17,3 +17,6 @@ mod refusal;
 pub use edit::Edit;
 pub use entry::Entry;
 pub use fault::EditFault;
+
+#[cfg(test)]
+mod tests;

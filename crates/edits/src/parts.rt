@@ -3,12 +3,12 @@
 ghost use Rattle.std.specs.Prelude.{◌≡◌, ◌<◌, ◌≤◌, length, map, IfOk};
 ghost use Rattle.std.specs.List.{All};
 ghost use Rattle.picture.specs.Document.{AreColoured};
-ghost use Rattle.picture.specs.Palette.{with_colour, with_triple, without_last};
+ghost use Rattle.picture.specs.Palette.{with_colour, with_triple};
 ghost use Rattle.picture.specs.Rows.{line_deleted, line_inserted, lines_along, lines_swapped, width_of, with_cell};
 ghost use Rattle.edits.specs.Design.{design, design_of};
 ghost use Rattle.edits.specs.Note.{IsCellIn, repainted, with_cells};
 
-use crate::cells::{paint_cells, put_cells};
+use crate::cells::paint_cells;
 use crate::edit::Edit;
 use crate::moving::moved_givens;
 use clues::Change;
@@ -29,27 +29,6 @@ pub(crate) fn painted(
     let palette = document.palette.copy()?;
     let mut picture = document.picture.copy()?;
     paint_cells(&mut picture, edit, cells);
-    let _ = document.picture.height();
-    Ok(Document {
-        palette,
-        picture,
-        givens: document.givens,
-    })
-}
-
-/// The document with the cells of a list given back.
-pub(crate) fn with_cells(
-    document: &Document,
-    cells: &[(u8, u8, u8)],
-) -> Result<Document, AllocError>
-    requires cells { All (IsCellIn document.now.picture) cells.now }
-    requires coloured { AreColoured (with_cells document.now.picture cells.now) document.now.palette }
-    ensures { IfOk result (λ d. design_of d
-        ≡ design document.now.palette (with_cells document.now.picture cells.now) (design_of document.now).marks) }
-{
-    let palette = document.palette.copy()?;
-    let mut picture = document.picture.copy()?;
-    put_cells(&mut picture, cells);
     let _ = document.picture.height();
     Ok(Document {
         palette,
@@ -175,7 +154,9 @@ pub(crate) fn added(document: &Document, rgb: Rgb) -> Result<Document, AllocErro
     let mut palette = document.palette.copy()?;
     let picture = document.picture.copy()?;
     // The edit was lawful, so only memory can be wanting.
-    palette.add(rgb).map_err(|_| AllocError)?;
+    if palette.add(rgb).is_err() {
+        return Err(AllocError);
+    }
     Ok(Document {
         palette,
         picture,
@@ -192,24 +173,9 @@ pub(crate) fn recoloured(document: &Document, colour: u8, rgb: Rgb) -> Result<Do
     let mut palette = document.palette.copy()?;
     let picture = document.picture.copy()?;
     // The edit was lawful, so only memory can be wanting.
-    palette.set(colour, rgb).map_err(|_| AllocError)?;
-    Ok(Document {
-        palette,
-        picture,
-        givens: document.givens,
-    })
-}
-
-/// The document without its last colour, which no cell has.
-pub(crate) fn without_last(document: &Document) -> Result<Document, AllocError>
-    requires more { 1 < length document.now.palette.triples }
-    requires coloured { AreColoured document.now.picture (without_last document.now.palette) }
-    ensures { IfOk result (λ d. design_of d
-        ≡ design (without_last document.now.palette) document.now.picture (design_of document.now).marks) }
-{
-    let mut palette = document.palette.copy()?;
-    let picture = document.picture.copy()?;
-    palette.pop_last();
+    if palette.set(colour, rgb).is_err() {
+        return Err(AllocError);
+    }
     Ok(Document {
         palette,
         picture,

@@ -10,38 +10,41 @@ use crate::idle::changes_nothing;
 use crate::places::line_count;
 use picture::{Document, MAX_COLOURS, MAX_SIDE, Palette, Picture};
 
-/// Why an edit of a document is refused, where it is: the first fault in order whose condition holds.
-pub(crate) fn refusal(document: &Document, edit: &Edit) -> Option<EditFault>
-    ensures { result ≡ edit_fault (design_of document.now) edit.now }
-{
-    if is_outside(&document.picture, edit) {
-        return Some(EditFault::Place);
+impl Edit {
+    /// Why the edit of a document is refused, where it is: the first fault in order whose condition holds. It takes no
+    /// memory.
+    pub fn refusal(&self, document: &Document) -> Option<EditFault>
+        ensures { result ≡ edit_fault (design_of document.now) self.now }
+    {
+        if is_outside(&document.picture, self) {
+            return Some(EditFault::Place);
+        }
+        if lacks_colour(&document.palette, self) {
+            return Some(EditFault::Colour);
+        }
+        if has_no_room(&document.picture, self) {
+            return Some(EditFault::TooLarge);
+        }
+        if deletes_last(&document.picture, self) {
+            return Some(EditFault::LastLine);
+        }
+        if is_over(&document.palette, self) {
+            return Some(EditFault::SampleOver);
+        }
+        if is_full(&document.palette, self) {
+            return Some(EditFault::PaletteFull);
+        }
+        if is_there(&document.palette, self) {
+            return Some(EditFault::DuplicateColour);
+        }
+        if sets_background(self) {
+            return Some(EditFault::Background);
+        }
+        if changes_nothing(document, self) {
+            return Some(EditFault::NoChange);
+        }
+        None
     }
-    if lacks_colour(&document.palette, edit) {
-        return Some(EditFault::Colour);
-    }
-    if has_no_room(&document.picture, edit) {
-        return Some(EditFault::TooLarge);
-    }
-    if deletes_last(&document.picture, edit) {
-        return Some(EditFault::LastLine);
-    }
-    if is_over(&document.palette, edit) {
-        return Some(EditFault::SampleOver);
-    }
-    if is_full(&document.palette, edit) {
-        return Some(EditFault::PaletteFull);
-    }
-    if is_there(&document.palette, edit) {
-        return Some(EditFault::DuplicateColour);
-    }
-    if sets_background(edit) {
-        return Some(EditFault::Background);
-    }
-    if changes_nothing(document, edit) {
-        return Some(EditFault::NoChange);
-    }
-    None
 }
 
 // A cell or a line lies outside the picture, or a rectangle has no cell.
