@@ -8,15 +8,17 @@ use Rattle.std.proofs.lemmas.List.Edits.{length-insert, get_or-insert_below, get
 use Rattle.picture.specs.declared.line_id.Axis.{Axis}
 use Rattle.picture.specs.declared.line_id.Axis.TheVariants.{Across, Down}
 use Rattle.picture.specs.Picture.{IsPicture}
-use Rattle.picture.specs.Rows.{width_of, line_along, lines_along, lines_swapped, with_line, without_line}
+use Rattle.picture.specs.Rows.{width_of, line_along, line_of, lines_along, lines_swapped, with_line, without_line}
 use Rattle.clues.specs.declared.places.Places.{Places}
 use Rattle.clues.specs.declared.places.Places.TheVariants.{Kept, Inserted, Deleted, Swapped}
 use Rattle.clues.specs.Places.{exchanged, new_place, count_after, AreAmong, IsNewAt, ChangesLength}
 use Rattle.picture.specs.LineSet.{Lines, no_names}
 use Rattle.clues.specs.Change.{AreMoves, Changes, FollowsSwap, HasSize, IsTouched, IsOldLine, Follows, crossing, line_at, lines_before, lines_after, image_of, moved_along, still}
+use Rattle.clues.proofs.MovedLines.{origin_of-image}
+use Rattle.clues.proofs.ChangedLines.{length-line_along}
 
 -- a list whose items have moved, with an item at a new place
-abbrev edited : {X : Type 0} → Places → X → List X → List X
+abbrev pub edited : {X : Type 0} → Places → X → List X → List X
 edited Kept new xs = xs
 edited (Inserted place) new xs = insert xs place new
 edited (Deleted place) new xs = remove xs place
@@ -92,7 +94,7 @@ exchanged-within first second count at f s h = grind (arith, nat_tests)
 exchanged-exchanged : (first second at : ℕ) → exchanged first second (exchanged first second at) ≡ at
 exchanged-exchanged first second at = grind (arith, nat_tests)
 
-origin : (places : Places) (count at : ℕ) → AreAmong places count → at < count_after places count → (IsNewAt places at → ⊥) → (from : ℕ) × (from < count) × (new_place places from ≡ Some at)
+pub origin : (places : Places) (count at : ℕ) → AreAmong places count → at < count_after places count → (IsNewAt places at → ⊥) → (from : ℕ) × (from < count) × (new_place places from ≡ Some at)
 origin Kept count at among within old = (at, within, refl)
 origin (Inserted place) count at among within old =
     let other : at ≢ place = old in
@@ -121,7 +123,7 @@ same_column f to from width same (row ∷ rows) equal =
     ∙ ap (λ xs. get_or row from 0 ∷ xs) (same_column f to from width same rows (λ i h. equal (suc i) (omega (arith, h))))
 
 -- the line at a new place is the one from the old place
-moved_line : (axis : Axis) (places : Places) (picture : List (List ℕ)) (from to : ℕ) → IsPicture picture → AreAmong places (lines_along axis picture) → from < lines_along axis picture → new_place places from ≡ Some to → line_along axis to (edited_picture axis places picture) ≡ line_along axis from picture
+pub moved_line : (axis : Axis) (places : Places) (picture : List (List ℕ)) (from to : ℕ) → IsPicture picture → AreAmong places (lines_along axis picture) → from < lines_along axis picture → new_place places from ≡ Some to → line_along axis to (edited_picture axis places picture) ≡ line_along axis from picture
 moved_line Across places picture from to is among within e = get_or-edited places (replicate (width_of picture) 0) [] picture from to among within e
 moved_line Down places picture from to is among within e =
     same_column (edited places 0) to from (width_of picture)
@@ -142,7 +144,7 @@ get_or-edited_new (Deleted place) new d xs at among n = absurd n
 get_or-edited_new (Swapped first second) new d xs at among n = absurd n
 
 -- how many lines there are along both axes
-first_row : (places : Places) (picture : List (List ℕ)) → IsPicture picture → AreAmong places (length picture) → 0 < count_after places (length picture) → length (get_or (edited places (replicate (width_of picture) 0) picture) 0 []) ≡ width_of picture
+pub first_row : (places : Places) (picture : List (List ℕ)) → IsPicture picture → AreAmong places (length picture) → 0 < count_after places (length picture) → length (get_or (edited places (replicate (width_of picture) 0) picture) 0 []) ≡ width_of picture
 first_row places picture is among some =
     elim (new_or_old places 0) [
       | inl n ↦ ap length (get_or-edited_new places (replicate (width_of picture) 0) [] picture 0 among n) ∙ length-replicate (width_of picture) 0
@@ -151,7 +153,7 @@ first_row places picture is among some =
           ap length (get_or-edited places (replicate (width_of picture) 0) [] picture from.0 0 among from.1 from.2) ∙ is.rectangular from.0 from.1
     ]
 
-edited-sizes : (axis : Axis) (places : Places) (height width : ℕ) (picture : List (List ℕ)) → HasSize height width picture → AreAmong places (lines_before axis (still height width)) → 0 < lines_after axis (moved_along axis places height width) → (along : Axis) → lines_along along (edited_picture axis places picture) ≡ lines_after along (moved_along axis places height width)
+pub edited-sizes : (axis : Axis) (places : Places) (height width : ℕ) (picture : List (List ℕ)) → HasSize height width picture → AreAmong places (lines_before axis (still height width)) → 0 < lines_after axis (moved_along axis places height width) → (along : Axis) → lines_along along (edited_picture axis places picture) ≡ lines_after along (moved_along axis places height width)
 edited-sizes Across places height width picture has among some Across =
     rw (← has.row_count) (length-edited places (replicate (width_of picture) 0) picture (rw has.row_count among))
 edited-sizes Across places height width picture has among some Down =
@@ -160,6 +162,10 @@ edited-sizes Down places height width picture has among some Across = length-map
 edited-sizes Down places height width picture has among some Down =
     ap length (get_or-map (edited places 0) picture 0 [] [] has.is_picture.has_row)
     ∙ (length-edited places 0 (get_or picture 0 []) (rw has.column_count among) ∙ ap (count_after places) has.column_count)
+
+crossing-crossing : (axis : Axis) → crossing (crossing axis) ≡ axis
+crossing-crossing Across = refl
+crossing-crossing Down = refl
 
 -- a line that crosses two that are exchanged
 swap-same : (xs : List ℕ) (first second : ℕ) → first < length xs → second < length xs → get_or xs first 0 ≡ get_or xs second 0 → swap xs first second ≡ xs
@@ -178,21 +184,31 @@ map-swap f xs first second d in_first in_second =
     ∙ (ap (λ y. set (set (map f xs) first (get_or (map f xs) second 0)) second y) (sym (get_or-map f xs first d 0 in_first))
     ∙ swap_is (map f xs) first second 0 (omega (arith, length-map xs f)) (omega (arith, length-map xs f))))))
 
+crossing_swapped : (axis : Axis) (first second : ℕ) (picture : List (List ℕ)) (at : ℕ) → first < lines_along axis picture → second < lines_along axis picture → at < lines_along (crossing axis) picture → line_along (crossing axis) at (edited_picture axis (Swapped first second) picture) ≡ swap (line_along (crossing axis) at picture) first second
+crossing_swapped Across first second picture at in_first in_second within = map-swap (λ row. get_or row at 0) picture first second [] in_first in_second
+crossing_swapped Down first second picture at in_first in_second within = get_or-map (λ row. swap row first second) picture at [] [] within
+
+-- it stays where both cells are the same, and only there
 crossing_line : (axis : Axis) (first second : ℕ) (picture : List (List ℕ)) (at : ℕ) → IsPicture picture → first < lines_along axis picture → second < lines_along axis picture → at < lines_along (crossing axis) picture → get_or (line_along (crossing axis) at picture) first 0 ≡ get_or (line_along (crossing axis) at picture) second 0 → line_along (crossing axis) at (edited_picture axis (Swapped first second) picture) ≡ line_along (crossing axis) at picture
-crossing_line Across first second picture at is in_first in_second within same =
-    map-swap (λ row. get_or row at 0) picture first second [] in_first in_second
-    ∙ swap-same (map (λ row. get_or row at 0) picture) first second (omega (arith, length-map picture (λ row. get_or row at 0))) (omega (arith, length-map picture (λ row. get_or row at 0))) same
-crossing_line Down first second picture at is in_first in_second within same =
-    let wide = is.rectangular at within in
-    get_or-map (λ row. swap row first second) picture at [] [] within
-    ∙ swap-same (get_or picture at []) first second (omega (arith, wide)) (omega (arith, wide)) same
+crossing_line axis first second picture at is in_first in_second within same =
+    let long : length (line_along (crossing axis) at picture) ≡ lines_along axis picture = length-line_along (crossing axis) at picture is within ∙ ap (λ along. lines_along along picture) (crossing-crossing axis) in
+    crossing_swapped axis first second picture at in_first in_second within
+    ∙ swap-same (line_along (crossing axis) at picture) first second (rw long in_first) (rw long in_second) same
+
+crossing_alike : (axis : Axis) (first second : ℕ) (picture : List (List ℕ)) (at : ℕ) → IsPicture picture → first < lines_along axis picture → second < lines_along axis picture → at < lines_along (crossing axis) picture → line_along (crossing axis) at (edited_picture axis (Swapped first second) picture) ≡ line_along (crossing axis) at picture → get_or (line_along (crossing axis) at picture) first 0 ≡ get_or (line_along (crossing axis) at picture) second 0
+crossing_alike axis first second picture at is in_first in_second within same =
+    let line = line_along (crossing axis) at picture in
+    let long : length line ≡ lines_along axis picture = length-line_along (crossing axis) at picture is within ∙ ap (λ along. lines_along along picture) (crossing-crossing axis) in
+    let moved : get_or (swap line first second) second 0 ≡ get_or line first 0 =
+    rw (exchanged-first first second) at (get_or-swap line first second first 0 (rw long in_first) (rw long in_second)) in
+    sym moved ∙ ap (λ cells. get_or cells second 0) (sym (crossing_swapped axis first second picture at in_first in_second within) ∙ same)
 
 -- lines that are still there
-lines_along-size : (axis : Axis) (height width : ℕ) (picture : List (List ℕ)) → HasSize height width picture → lines_along axis picture ≡ lines_before axis (still height width)
+pub lines_along-size : (axis : Axis) (height width : ℕ) (picture : List (List ℕ)) → HasSize height width picture → lines_along axis picture ≡ lines_before axis (still height width)
 lines_along-size Across height width picture has = has.row_count
 lines_along-size Down height width picture has = has.column_count
 
-image_of-along : (axis : Axis) (places : Places) (height width from to : ℕ) → new_place places from ≡ Some to → image_of (moved_along axis places height width) (line_at axis from) ≡ Some (line_at axis to)
+pub image_of-along : (axis : Axis) (places : Places) (height width from to : ℕ) → new_place places from ≡ Some to → image_of (moved_along axis places height width) (line_at axis from) ≡ Some (line_at axis to)
 image_of-along Across places height width from to e = ap (option_map (line_at Across)) e
 image_of-along Down places height width from to e = ap (option_map (line_at Down)) e
 
@@ -210,6 +226,20 @@ old_line axis places height width picture at has among within old =
     let from = origin places (lines_before axis (still height width)) at among within old in
     let inside : from.0 < lines_along axis picture = rw count from.1 in
     (line_at axis from.0, inside, image_of-along axis places height width from.0 at from.2, moved_line axis places picture from.0 at has.is_picture (rw count among) inside from.2)
+
+pub lines_before-along : (axis : Axis) (places : Places) (height width : ℕ) (picture : List (List ℕ)) → HasSize height width picture → (along : Axis) → lines_along along picture ≡ lines_before along (moved_along axis places height width)
+lines_before-along Across places height width picture has Across = has.row_count
+lines_before-along Across places height width picture has Down = has.column_count
+lines_before-along Down places height width picture has Across = has.row_count
+lines_before-along Down places height width picture has Down = has.column_count
+
+-- a crossing line is its own image, and no other line's
+crossing_is_same : (axis : Axis) (first second height width : ℕ) (picture : List (List ℕ)) (at : ℕ) → IsOldLine (moved_along axis (Swapped first second) height width) picture (edited_picture axis (Swapped first second) picture) (line_at (crossing axis) at) → line_along (crossing axis) at (edited_picture axis (Swapped first second) picture) ≡ line_along (crossing axis) at picture
+crossing_is_same axis first second height width picture at is =
+    let moves = moved_along axis (Swapped first second) height width in
+    let line = line_at (crossing axis) at in
+    let same : is.0 ≡ line = cc (origin_of-image moves is.0 line is.2, origin_of-image moves line line (image_of-crossing axis (Swapped first second) height width at)) in
+    is.3 ∙ ap (line_of picture) same
 
 -- an insertion or a deletion
 untouched_line : (axis along : Axis) (places : Places) (height width : ℕ) (marked : Lines) (picture : List (List ℕ)) (at : ℕ) → ChangesLength places → HasSize height width picture → AreAmong places (lines_before axis (still height width)) → at < lines_after along (moved_along axis places height width) → (IsTouched (record { moves = moved_along axis places height width; marked = marked }) (line_at along at) → ⊥) → IsOldLine (moved_along axis places height width) picture (edited_picture axis places picture) (line_at along at)
@@ -243,10 +273,22 @@ swapped_line Down Across first second height width picture at has among within s
     (line_at Across at, rw has.row_count within, refl, crossing_line Down first second picture at has.is_picture (rw has.column_count among.0) (rw has.column_count among.1) (rw has.row_count within) (same refl))
 swapped_line Down Down first second height width picture at has among within same = old_line Down (Swapped first second) height width picture at has among within (λ n. n)
 
+alike_line : (axis along : Axis) (first second height width : ℕ) (picture : List (List ℕ)) (at : ℕ) → HasSize height width picture → AreAmong (Swapped first second) (lines_before axis (still height width)) → at < lines_after along (moved_along axis (Swapped first second) height width) → along ≡ crossing axis → IsOldLine (moved_along axis (Swapped first second) height width) picture (edited_picture axis (Swapped first second) picture) (line_at along at) → get_or (line_along along at picture) first 0 ≡ get_or (line_along along at picture) second 0
+alike_line Across Across first second height width picture at has among within crosses is = absurd (cc crosses)
+alike_line Across Down first second height width picture at has among within crosses is =
+    crossing_alike Across first second picture at has.is_picture (rw has.row_count among.0) (rw has.row_count among.1) (rw has.column_count within) (crossing_is_same Across first second height width picture at is)
+alike_line Down Across first second height width picture at has among within crosses is =
+    crossing_alike Down first second picture at has.is_picture (rw has.column_count among.0) (rw has.column_count among.1) (rw has.row_count within) (crossing_is_same Down first second height width picture at is)
+alike_line Down Down first second height width picture at has among within crosses is = absurd (cc crosses)
+
 swapped_lines : (axis : Axis) (first second height width : ℕ) (picture : List (List ℕ)) → HasSize height width picture → AreMoves (moved_along axis (Swapped first second) height width) → AreAmong (Swapped first second) (lines_before axis (still height width)) → FollowsSwap axis first second (moved_along axis (Swapped first second) height width) picture (edited_picture axis (Swapped first second) picture)
 swapped_lines axis first second height width picture has moves among =
     let sizes = edited-sizes axis (Swapped first second) height width picture has among (moves.some_after axis) in
-    record { sizes = sizes; alike = λ line within same. swapped_line axis line.axis first second height width picture line.at has among (rw sizes at within) same }
+    record {
+      sizes = record { before = lines_before-along axis (Swapped first second) height width picture has; after = sizes };
+      alike = λ line within same. swapped_line axis line.axis first second height width picture line.at has among (rw sizes at within) same;
+      only = λ line within is crosses. alike_line axis line.axis first second height width picture line.at has among (rw sizes at within) crosses is;
+    }
 
 follows_swap : (axis : Axis) (first second height width : ℕ) (picture : List (List ℕ)) → HasSize height width picture → AreMoves (moved_along axis (Swapped first second) height width) → FollowsSwap axis first second (moved_along axis (Swapped first second) height width) picture (lines_swapped axis first second picture)
 follows_swap Across first second height width picture has moves = swapped_lines Across first second height width picture has moves (moves.among Across)

@@ -1,5 +1,9 @@
+pub mod ChangedLines
 pub mod EditedPictures
+pub mod Insertions
+pub mod LawLemmas
 pub mod LineClues
 pub mod MovedLines
 pub mod RefreshedClues
 pub mod Runs
+pub mod TouchedLines

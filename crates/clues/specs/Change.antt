@@ -6,10 +6,10 @@ use Rattle.picture.specs.declared.line_id.LineId.{LineId}
 use Rattle.picture.specs.declared.picture.TheConstants.{MAX_SIDE}
 use Rattle.picture.specs.LineSet.{Lines, HasName}
 use Rattle.picture.specs.Picture.{IsPicture}
-use Rattle.picture.specs.Rows.{lines_along, line_of, width_of, HasLine}
+use Rattle.picture.specs.Rows.{lines_along, line_of, line_deleted, width_of, HasLine}
 use Rattle.clues.specs.declared.places.Places.{Places}
 use Rattle.clues.specs.declared.places.Places.TheVariants.{Kept}
-use Rattle.clues.specs.Places.{new_place, old_place, count_after, AreAmong, IsNewAt, ChangesLength}
+use Rattle.clues.specs.Places.{new_place, old_place, reversed, count_after, AreAmong, IsNewAt, ChangesLength}
 use Rattle.clues.specs.declared.block.Block.{Block}
 use Rattle.clues.specs.Clue.{clue_of}
 use Rattle.clues.specs.ClueBook.{Clues, clue_at, HasClue}
@@ -84,6 +84,11 @@ pub record AreMoves (moves : Moves) : Type 0 where
   pub fit_after : (axis : Axis) → lines_after axis moves ≤ MAX_SIDE
   pub among : (axis : Axis) → AreAmong (places_along axis moves) (lines_before axis moves)
 
+-- what moves the lines back
+abbrev pub back : Moves → Moves
+back moves =
+    moves_from (lines_after Across moves) (lines_after Down moves) (reversed moves.rows) (reversed moves.columns)
+
 -- the size of a picture
 pub record IsSize (height width : ℕ) : Type 0 where
   pub has_row : 0 < height
@@ -97,6 +102,11 @@ pub record HasSize (height width : ℕ) (picture : List (List ℕ)) : Type 0 whe
   pub row_count : length picture ≡ height
   pub column_count : width_of picture ≡ width
 
+-- two pictures have the sizes before and after
+pub record HaveSizes (moves : Moves) (old new : List (List ℕ)) : Type 0 where
+  pub before : (axis : Axis) → lines_along axis old ≡ lines_before axis moves
+  pub after : (axis : Axis) → lines_along axis new ≡ lines_after axis moves
+
 -- the line of the new picture has the cells of the old line that it is
 abbrev pub IsOldLine : Moves → List (List ℕ) → List (List ℕ) → LineId → Type 0
 IsOldLine moves old new line =
@@ -107,20 +117,43 @@ pub record Follows (change : Changes) (old new : List (List ℕ)) : Type 0 where
   pub sizes : (axis : Axis) → lines_along axis new ≡ lines_after axis change.moves
   pub untouched : (line : LineId) → HasLine new line → (IsTouched change line → ⊥) → IsOldLine change.moves old new line
 
+-- a line of the new picture was not there, or has other cells than the old line that it is
+abbrev pub IsChanged : Moves → List (List ℕ) → List (List ℕ) → LineId → Type 0
+IsChanged moves old new line = HasLine new line × (IsOldLine moves old new line → ⊥)
+
+-- no line is touched that has the cells of the old line that it is
+abbrev pub TouchesChanged : Changes → List (List ℕ) → List (List ℕ) → Type 0
+TouchesChanged change old new =
+    (line : LineId) → HasLine new line → IsTouched change line → IsOldLine change.moves old new line → ⊥
+
+-- The change from one picture to another: it has their sizes, and exactly those lines are touched that were not there,
+-- or have other cells than the old lines that they are.
+pub record IsChangeOf (change : Changes) (old new : List (List ℕ)) : Type 0 where
+  pub sizes : HaveSizes change.moves old new
+  pub follows : Follows change old new
+  pub touched : TouchesChanged change old new
+
+-- the new picture without the line is the old one
+pub record AgreesOff (line : LineId) (old new : List (List ℕ)) : Type 0 where
+  pub has_line : HasLine new line
+  pub off_line : line_deleted new line ≡ old
+
 -- a line that crosses lines of an axis has the same cell in two of them
 abbrev pub CrossesAlike : Axis → ℕ → ℕ → List (List ℕ) → LineId → Type 0
 CrossesAlike axis first second picture line =
     line.axis ≡ crossing axis → slice_index (line_of picture line) first ≡ slice_index (line_of picture line) second
 
--- after an exchange a line has the cells of the old line that it is, unless it crosses the two in different cells
+-- after an exchange exactly those lines have the cells of the old lines that they are which cross the two in the same cells, or don't cross them
 pub record FollowsSwap (axis : Axis) (first second : ℕ) (moves : Moves) (old new : List (List ℕ)) : Type 0 where
-  pub sizes : (along : Axis) → lines_along along new ≡ lines_after along moves
+  pub sizes : HaveSizes moves old new
   pub alike : (line : LineId) → HasLine new line → CrossesAlike axis first second old line → IsOldLine moves old new line
+  pub only : (line : LineId) → HasLine new line → IsOldLine moves old new line → CrossesAlike axis first second old line
 
--- where no line moves, a line with the same cells as before is the old one
+-- where no line moves, exactly those lines are the old ones that have the same cells as before
 pub record FollowsCells (moves : Moves) (old new : List (List ℕ)) : Type 0 where
-  pub sizes : (along : Axis) → lines_along along new ≡ lines_after along moves
+  pub sizes : HaveSizes moves old new
   pub same : (line : LineId) → HasLine new line → line_of new line ≡ line_of old line → IsOldLine moves old new line
+  pub only : (line : LineId) → HasLine new line → IsOldLine moves old new line → line_of new line ≡ line_of old line
 
 -- the line of the new picture is an old line, which has a clue
 abbrev pub HasOldClue : Moves → Clues → LineId → Type 0

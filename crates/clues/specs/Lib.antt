@@ -1,4 +1,5 @@
 pub mod Change
 pub mod Clue
 pub mod ClueBook
+pub mod Laws
 pub mod Places

@@ -3,13 +3,16 @@
 ghost use Rattle.std.specs.Prelude.{◌≡◌, ℕ, ◌<◌, ◌≤◌, ◌⊎◌, ◌↔◌, List, Some, IfNone, IfSome, OnSome, IsTrue};
 ghost use Rattle.picture.specs.declared.line_id.LineId.{LineId};
 ghost use Rattle.picture.specs.LineSet.{no_names};
-ghost use Rattle.picture.specs.Rows.{line_deleted, line_inserted, lines_swapped};
-ghost use Rattle.clues.specs.Change.{AreMoves, Follows, FollowsCells, FollowsSwap, HasSize, IsSize, IsTouched, Stays};
+ghost use Rattle.picture.specs.Picture.{IsPicture};
+ghost use Rattle.picture.specs.Rows.{HasLine, line_deleted, line_inserted, lines_swapped};
+ghost use Rattle.clues.specs.Change.{AgreesOff, AreMoves, Follows, FollowsCells, FollowsSwap, HasSize, HaveSizes};
+ghost use Rattle.clues.specs.Change.{IsChanged, IsChangeOf, IsSize, IsTouched, Stays, TouchesChanged};
 ghost use Rattle.clues.specs.Change.{crossing, image_of, lines_after, lines_before, moved_along, origin_of};
 ghost use Rattle.clues.specs.Change.{places_along, still};
 
+use crate::clue_book::line_count;
 use crate::places::Places;
-use picture::{Axis, LineId, LineSet, MAX_SIDE};
+use picture::{Axis, LineId, LineSet, LineView, MAX_SIDE, Picture};
 use std::marker::Model;
 
 /// Which lines of a picture an edit moves, and which lines of the new picture it touches. A line is touched where
@@ -33,12 +36,13 @@ impl Model for Change {
     ghost invariant = { λ c. AreMoves (moves_from c.height c.width c.rows c.columns) };
 }
 
-#[tactic(auto, using(crate::proofs::MovedLines::moving, crate::proofs::EditedPictures::following))]
+#[tactic(auto, using(crate::proofs::MovedLines::moving, crate::proofs::EditedPictures::following, crate::proofs::ChangedLines::changed, crate::proofs::Insertions::inserting, crate::proofs::TouchedLines::touching))]
 impl Change {
     /// The change of cells alone, in a picture of 1 to 120 rows and columns. Each line stays, and none is touched yet.
     pub fn cells(height: u8, width: u8) -> Change
         requires { IsSize height width }
         ensures moves { result.moves ≡ still height width }
+        ensures are_moves { AreMoves result.moves }
         ensures untouched { (line : LineId) → IsTouched result line → ⊥ }
         ensures lines { (old new : List (List ℕ)) → HasSize height width old → HasSize height width new
             → FollowsCells result.moves old new }
@@ -59,10 +63,15 @@ impl Change {
         requires place { line.at ≤ lines_before line.axis (still height width) }
         requires room { lines_before line.axis (still height width) < MAX_SIDE }
         ensures moves { result.moves ≡ moved_along line.axis (Places.Inserted line.at) height width }
+        ensures are_moves { AreMoves result.moves }
         ensures touched { (other : LineId)
             → IsTouched result other ↔ ((other ≡ line) ⊎ (other.axis ≡ crossing line.axis)) }
         ensures lines { (picture : List (List ℕ)) → HasSize height width picture
             → Follows result picture (line_inserted picture line) }
+        ensures agreeing { (old new : List (List ℕ)) → HasSize height width old → IsPicture new
+            → AgreesOff line old new → IsChangeOf result old new }
+        ensures only_changed { (old new : List (List ℕ)) → IsPicture old → IsPicture new
+            → HaveSizes result.moves old new → TouchesChanged result old new }
     {
         Change::along(line.axis, Places::Inserted(line.at), height, width)
     }
@@ -74,9 +83,14 @@ impl Change {
         requires place { line.at < lines_before line.axis (still height width) }
         requires more { 1 < lines_before line.axis (still height width) }
         ensures moves { result.moves ≡ moved_along line.axis (Places.Deleted line.at) height width }
+        ensures are_moves { AreMoves result.moves }
         ensures touched { (other : LineId) → IsTouched result other ↔ (other.axis ≡ crossing line.axis) }
         ensures lines { (picture : List (List ℕ)) → HasSize height width picture
             → Follows result picture (line_deleted picture line) }
+        ensures exact { (picture : List (List ℕ)) → HasSize height width picture
+            → IsPicture (line_deleted picture line) → IsChangeOf result picture (line_deleted picture line) }
+        ensures only_changed { (old new : List (List ℕ)) → IsPicture old → IsPicture new
+            → HaveSizes result.moves old new → TouchesChanged result old new }
     {
         Change::along(line.axis, Places::Deleted(line.at), height, width)
     }
@@ -88,6 +102,7 @@ impl Change {
         requires first_in { first < lines_before axis (still height width) }
         requires second_in { second < lines_before axis (still height width) }
         ensures moves { result.moves ≡ moved_along axis (Places.Swapped first second) height width }
+        ensures are_moves { AreMoves result.moves }
         ensures untouched { (line : LineId) → IsTouched result line → ⊥ }
         ensures lines { (picture : List (List ℕ)) → HasSize height width picture
             → FollowsSwap axis first second result.moves picture (lines_swapped axis first second picture) }
@@ -121,8 +136,52 @@ impl Change {
         ensures moves { self.new.moves ≡ self.old.moves }
         ensures touched { (other : LineId)
             → IsTouched self.new other ↔ (IsTouched self.old other ⊎ (other ≡ line)) }
+        ensures follows { (old new : List (List ℕ)) → Follows self.old old new → Follows self.new old new }
     {
         self.marked.put(line);
+    }
+
+    /// Touches each line of the new picture that was not there, or whose cells are not those of the old line that it
+    /// is. No memory is taken.
+    pub fn touch_changed(&mut self, old: &Picture, new: &Picture)
+        requires { HaveSizes self.old.moves old.now new.now }
+        ensures moves { self.new.moves ≡ self.old.moves }
+        ensures touched { (line : LineId) → IsTouched self.new line
+            ↔ (IsTouched self.old line ⊎ IsChanged self.old.moves old.now new.now line) }
+        ensures follows { Follows self.new old.now new.now }
+        ensures exact { TouchesChanged self.old old.now new.now → IsChangeOf self.new old.now new.now }
+    {
+        let _ = self.places(Axis::Across);
+        self.touch_along(old, new, Axis::Across);
+        self.touch_along(old, new, Axis::Down);
+    }
+
+    // Touches the changed lines along an axis.
+    fn touch_along(&mut self, old: &Picture, new: &Picture, axis: Axis)
+        requires { HaveSizes self.old.moves old.now new.now }
+        ensures moves { self.new.moves ≡ self.old.moves }
+        ensures touched { (line : LineId) → IsTouched self.new line
+            ↔ (IsTouched self.old line ⊎ ((line.axis ≡ axis) × IsChanged self.old.moves old.now new.now line)) }
+    {
+        for at in 0..line_count(new, axis) {
+            self.touch_if_changed(old, new, LineId { axis, at });
+        }
+    }
+
+    // Touches a line if it is changed.
+    fn touch_if_changed(&mut self, old: &Picture, new: &Picture, line: LineId)
+        requires sizes { HaveSizes self.old.moves old.now new.now }
+        requires line { HasLine new.now line }
+        ensures moves { self.new.moves ≡ self.old.moves }
+        ensures touched { (other : LineId) → IsTouched self.new other
+            ↔ (IsTouched self.old other ⊎ ((other ≡ line) × IsChanged self.old.moves old.now new.now other)) }
+    {
+        let Some(from) = self.kept_from(line) else {
+            return;
+        };
+        if !same_cells(old.line(from), new.line(line)) {
+            self.touch(line);
+        }
     }
 
     /// Which line of the new picture a line of the old one is, if it is still there. No two lines are the same one.
@@ -135,6 +194,21 @@ impl Change {
         ensures moves { AreMoves self.now.moves }
     {
         let at = self.places(line.axis).new_place(line.at)?;
+        Some(LineId {
+            axis: line.axis,
+            at,
+        })
+    }
+
+    /// Which line of the old picture a line of the new one is, if it was there.
+    pub fn origin(&self, line: LineId) -> Option<LineId>
+        requires { line.at < lines_after line.axis self.now.moves }
+        ensures origin { result ≡ origin_of self.now.moves line }
+        ensures image { IfSome result (λ from. image_of self.now.moves from ≡ Some line) }
+        ensures inside { IfSome result (λ from. from.at < lines_before from.axis self.now.moves) }
+        ensures none { IfNone result ((from : LineId) → image_of self.now.moves from ≡ Some line → ⊥) }
+    {
+        let at = self.places(line.axis).old_place(line.at)?;
         Some(LineId {
             axis: line.axis,
             at,
@@ -166,23 +240,12 @@ impl Change {
         ensures origin { IfSome result (λ old. origin_of self.now.moves line ≡ Some old) }
         ensures untouched { OnSome result (IsTouched self.now line → ⊥) }
         ensures touched { IfNone result (IsTouched self.now line) }
+        ensures moves { AreMoves self.now.moves }
     {
         if self.touched(line) {
             return None;
         }
         self.origin(line)
-    }
-
-    // Which line of the old picture a line of the new one is, if it was there.
-    fn origin(&self, line: LineId) -> Option<LineId>
-        requires { line.at < lines_after line.axis self.now.moves }
-        ensures { result ≡ origin_of self.now.moves line }
-    {
-        let at = self.places(line.axis).old_place(line.at)?;
-        Some(LineId {
-            axis: line.axis,
-            at,
-        })
     }
 
     // Where the lines along an axis go.
@@ -205,4 +268,19 @@ fn crossing(axis: Axis) -> Axis
         Axis::Across => Axis::Down,
         Axis::Down => Axis::Across,
     }
+}
+
+// Whether two lines have the same cells.
+fn same_cells(one: LineView<'_>, other: LineView<'_>) -> bool
+    ensures { IsTrue result ↔ (one.entry ≡ other.entry) }
+{
+    if one.len() != other.len() {
+        return false;
+    }
+    for at in 0..one.len() {
+        if one.get(at) != other.get(at) {
+            return false;
+        }
+    }
+    true
 }

@@ -1,10 +1,10 @@
 //! The clues of all lines of a picture.
 
-ghost use Rattle.std.specs.Prelude.{◌≡◌, ◌↔◌, ◌<◌, ◌≤◌, length, IfOk, IsTrue};
+ghost use Rattle.std.specs.Prelude.{◌≡◌, ℕ, ◌↔◌, ◌<◌, ◌≤◌, List, length, IfOk, IsTrue};
 ghost use Rattle.picture.specs.declared.line_id.Axis.{Axis};
 ghost use Rattle.picture.specs.Rows.{line_of, lines_along, HasLine};
 ghost use Rattle.clues.specs.Clue.{clue_of};
-ghost use Rattle.clues.specs.Change.{CanRefresh, CountsClues, EachAlong, IsNewClue, IsOldClue, KeepsClues};
+ghost use Rattle.clues.specs.Change.{CanRefresh, CountsClues, EachAlong, Follows, IsNewClue, IsOldClue, KeepsClues};
 ghost use Rattle.clues.specs.ClueBook.{clue_at, clues_along, clues_from, clues_of, first_clues, HasClue, IsBook};
 
 use crate::counting::clue_of;
@@ -75,7 +75,9 @@ impl ClueBook {
         ensures sizes { IfOk result (λ book. (axis : Axis) → length (clues_along axis book) ≡ lines_along axis picture.now) }
         ensures copied { IfOk result (λ book. KeepsClues change.now self.now book) }
         ensures counted { IfOk result (λ book. CountsClues change.now picture.now book) }
-        ensures value { KeepsClues change.now self.now (clues_of picture.now)
+        ensures stands { KeepsClues change.now self.now (clues_of picture.now)
+            → IfOk result (λ book. book ≡ clues_of picture.now) }
+        ensures value { (old : List (List ℕ)) → self.now ≡ clues_of old → Follows change.now old picture.now
             → IfOk result (λ book. book ≡ clues_of picture.now) }
     {
         let rows = self.refreshed(picture, change, Axis::Across)?;
@@ -167,7 +169,7 @@ fn clues_along(alloc: Global, picture: &Picture, axis: Axis) -> Result<Vec<Clue>
 }
 
 // How many lines a picture has along an axis.
-fn line_count(picture: &Picture, axis: Axis) -> u8
+pub(crate) fn line_count(picture: &Picture, axis: Axis) -> u8
     ensures count { result ≡ lines_along axis picture.now }
     ensures fits { (0 < result) × (result ≤ MAX_SIDE) }
 {

@@ -6,6 +6,7 @@ mod change;
 mod clue;
 mod clue_book;
 mod counting;
+pub mod laws;
 mod matching;
 mod places;
 #[cfg(test)]
@@ -17,3 +18,4 @@ pub use clue::Clue;
 pub use clue_book::ClueBook;
 pub use counting::clue_of;
 pub use matching::without_run;
+pub use places::Places;

@@ -1,6 +1,9 @@
-ghost use Rattle.std.specs.Prelude.{◌≡◌};
+ghost use Rattle.std.specs.Prelude.{◌≡◌, ◌∷◌, [], length, IfOk};
+ghost use Rattle.picture.specs.Rows.{width_of};
+ghost use Rattle.clues.specs.Change.{IsChangeOf};
+ghost use Rattle.clues.specs.ClueBook.{clues_of};
 
-use crate::{Block, Change, Clue, ClueBook, clue_of, without_run};
+use crate::{Block, Change, Clue, ClueBook, clue_of, laws, without_run};
 use picture::{Axis, LineId, Picture};
 use std::alloc::{AllocError, Global};
 use std::test::Fail;
@@ -26,7 +29,9 @@ fn column(at: u8) -> LineId
 }
 
 // `a./.b`
-fn diagonal(alloc: Global) -> Result<Picture, AllocError> {
+fn diagonal(alloc: Global) -> Result<Picture, AllocError>
+    ensures { IfOk result (λ picture. picture ≡ (1 ∷ 0 ∷ []) ∷ (0 ∷ 2 ∷ []) ∷ []) }
+{
     let mut picture = Picture::blank(alloc, 2, 2)?;
     let _ = picture.height();
     picture.set(0, 0, 1);
@@ -99,6 +104,8 @@ fn an_inserted_row_moves_the_later_ones(rt: HostRuntime) {
     let change = Change::insert(1, 2, row(0));
     assert_eq!(rt; change.image(row(0)), Some(row(1)));
     assert_eq!(rt; change.image(column(1)), Some(column(1)));
+    assert_eq!(rt; change.origin(row(1)), Some(row(0)));
+    assert_eq!(rt; change.origin(row(0)), None);
     assert!(rt; !change.stays(Axis::Down, 0));
     assert!(rt; change.stays(Axis::Across, 1));
     assert!(rt; change.touched(row(0)));
@@ -136,6 +143,76 @@ fn a_change_of_cells_moves_no_line(rt: HostRuntime) {
     assert!(rt; !change.touched(row(1)));
 }
 
+// The change from a picture to another one of its size, as a caller learns it from clauses alone.
+fn repainted(old: &Picture, new: &Picture) -> Change
+    requires rows { length new.now ≡ length old.now }
+    requires columns { width_of new.now ≡ width_of old.now }
+    ensures { IsChangeOf result old.now new.now }
+{
+    let _ = new.height();
+    let mut change = Change::cells(old.height(), old.width());
+    change.touch_changed(old, new);
+    change
+}
+
+// The clue book of a picture from that of the one before, as a caller learns it from clauses alone.
+fn refreshed(
+    alloc: Global,
+    old: &Picture,
+    new: &Picture,
+    change: &Change,
+) -> Result<ClueBook, AllocError>
+    requires { IsChangeOf change.now old.now new.now }
+    ensures { IfOk result (λ book. book ≡ clues_of new.now) }
+{
+    laws::untouched_clues_stand();
+    ClueBook::of(alloc, old)?.refresh(new, change)
+}
+
+// `a./.b`, painted `aa/.b`
+#[test]
+fn a_paint_touches_its_row_and_its_column(rt: HostRuntime) -> Result<(), Fail> {
+    let old = diagonal(rt.alloc())?;
+    let _ = old.height();
+    let mut new = old.copy()?;
+    new.set(0, 1, 1);
+    let change = repainted(&old, &new);
+    assert!(rt; change.touched(row(0)));
+    assert!(rt; !change.touched(row(1)));
+    assert!(rt; !change.touched(column(0)));
+    assert!(rt; change.touched(column(1)));
+    let book = refreshed(rt.alloc(), &old, &new, &change)?;
+    assert!(rt; book.has_clues(&new));
+    assert!(rt; !book.has_clues(&old));
+    Ok(())
+}
+
+// `a./.b` with its rows exchanged is `.b/a.`
+#[test]
+fn an_exchange_touches_the_lines_that_cross(rt: HostRuntime) -> Result<(), Fail> {
+    let old = diagonal(rt.alloc())?;
+    let _ = old.height();
+    let mut new = old.copy()?;
+    new.swap_lines(Axis::Across, 0, 1);
+    let mut change = Change::swap(2, 2, Axis::Across, 0, 1);
+    change.touch_changed(&old, &new);
+    assert!(rt; !change.touched(row(0)));
+    assert!(rt; !change.touched(row(1)));
+    assert!(rt; change.touched(column(0)));
+    assert!(rt; change.touched(column(1)));
+    Ok(())
+}
+
+#[test]
+fn the_laws_do_nothing() {
+    laws::clues_are_of_lines();
+    laws::books_are_their_clues();
+    laws::images_are_lines();
+    laws::moves_go_back();
+    laws::untouched_clues_stand();
+    laws::inserted_lines_agree();
+}
+
 // `a.` and, with a row inserted above, `../a.`
 #[test]
 fn a_book_is_refreshed_after_an_insertion(rt: HostRuntime) -> Result<(), Fail> {
@@ -145,6 +222,7 @@ fn a_book_is_refreshed_after_an_insertion(rt: HostRuntime) -> Result<(), Fail> {
     new.set(1, 0, 1);
     let book = ClueBook::of(rt.alloc(), &old)?;
     let _ = old.height();
+    laws::untouched_clues_stand();
     let refreshed = book.refresh(&new, &Change::insert(1, 2, row(0)))?;
     assert!(rt; refreshed.has_clues(&new));
     assert!(rt; !refreshed.has_clues(&old));

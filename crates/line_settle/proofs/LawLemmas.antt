@@ -8,7 +8,7 @@ use Rattle.clues.specs.declared.block.Block.{Block}
 use Rattle.line_settle.specs.declared.line_engine.Outcome.{Outcome}
 use Rattle.line_settle.specs.declared.line_engine.Outcome.TheVariants.{Narrowed, Dead}
 use Rattle.line_settle.specs.Counting.{counted}
-use Rattle.line_settle.specs.Fitting.{Fits, CanHave, IsTighter}
+use Rattle.line_settle.specs.Fitting.{Fits, CanFit, CanHave, IsTighter}
 use Rattle.line_settle.specs.FactSets.{IsWithin, SameShape, Leaves, row_on, col_on}
 use Rattle.line_settle.specs.Narrowing.{Narrows}
 use Rattle.line_settle.specs.Laws.{ClosedLinesHoldWhatTheyForce, CountsAdd, FittingListStays, ForcingIsMonotone, LeastIsUnique, NarrowingTwiceIsOnce, OneLineDecides}
@@ -34,6 +34,9 @@ tighter_have clue left fewer t i k h = record {
   has = h.has;
 }
 
+pub tighter_can_fit : (clue : List Block) (left fewer : List ℕ) → IsTighter left fewer → CanFit clue fewer → CanFit clue left
+tighter_can_fit clue left fewer t f = (f.0, tighter_fits clue left fewer f.0 t f.1)
+
 pub within_tighter : (few many : List (List ℕ)) → IsWithin few many → (line : LineId) → IsTighter (line_of few line) (line_of many line)
 within_tighter few many w line = record {
   same_length = same_line_length few many line w.same_shape;
@@ -44,6 +47,7 @@ within_tighter few many w line = record {
 
 pub forcing_monotone : ForcingIsMonotone
 forcing_monotone = record {
+  fitting = tighter_can_fit;
   possible = tighter_have;
   forced = λ clue left fewer t i k f h. f (tighter_have clue left fewer t i k h);
   lines = within_tighter;
@@ -107,7 +111,7 @@ twice_is_once clue left out again first second n m =
             (λ s. (m.exact i k).1 (have_narrowed clue left out first n i k ((n.exact i k).0 s))),
           )),
       same_outcome second first
-          (λ e. let f = m.fits.0 e in n.fits.1 (f.0, tighter_fits clue left out f.0 t f.1))
+          (λ e. n.fits.1 (tighter_can_fit clue left out t (m.fits.0 e)))
           (λ e. let f = n.fits.0 e in m.fits.1 (f.0, fits_narrowed clue left f.0 out first f.1 n)),
     )
 

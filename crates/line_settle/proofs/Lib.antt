@@ -15,6 +15,7 @@ pub mod FactLemmas
 pub mod BaseLemmas
 pub mod AlongLemmas
 pub mod LawLemmas
+pub mod GivenLemmas
 pub mod ForceLemmas
 pub mod WritingLemmas
 pub mod FittingLemmas

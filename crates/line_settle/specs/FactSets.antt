@@ -1,10 +1,10 @@
 -- Fact sets: for each cell the colours left, as a grid of masks. What is not left is excluded.
-use Rattle.std.specs.Prelude.{◌≡◌, ℕ, ◌*◌, ◌^◌, ◌<◌, ◌≤◌, List, length, slice_index, IsBitSet, ◌↔◌}
+use Rattle.std.specs.Prelude.{◌≡◌, ℕ, ◌-◌, ◌*◌, ◌^◌, ◌<◌, ◌≤◌, List, length, slice_index, IsBitSet, ◌↔◌, replicate}
 use Rattle.picture.specs.declared.line_id.Axis.{Axis}
 use Rattle.picture.specs.declared.line_id.Axis.TheVariants.{Across, Down}
 use Rattle.picture.specs.declared.line_id.LineId.{LineId}
 use Rattle.picture.specs.declared.picture.TheConstants.{MAX_SIDE}
-use Rattle.picture.specs.Rows.{width_of, row_at, cell_at, line_of, HasLine}
+use Rattle.picture.specs.Rows.{width_of, row_at, cell_at, with_cell, line_of, HasLine}
 use Rattle.picture.specs.CellSet.{HasCell}
 use Rattle.clues.specs.declared.block.Block.{Block}
 use Rattle.clues.specs.ClueBook.{Clues, clue_at}
@@ -37,6 +37,14 @@ pub record IsFacts (facts : List (List ℕ)) : Type 0 where
   pub columns_fit : width_of facts ≤ MAX_SIDE
   pub rectangular : (i : ℕ) → i < length facts → length (row_at facts i) ≡ width_of facts
   pub masks : (i j : ℕ) → cell_at facts i j < 2 ^ 16
+
+-- the facts of a size that exclude nothing: all sixteen colours everywhere
+abbrev pub nothing_excluded : ℕ → ℕ → List (List ℕ)
+nothing_excluded height width = replicate height (replicate width (2 ^ 16 - 1))
+
+-- the facts with the picture's colour alone left in a cell
+abbrev pub with_given : List (List ℕ) → List (List ℕ) → ℕ → ℕ → List (List ℕ)
+with_given picture facts row col = with_cell facts row col (2 ^ cell_at picture row col)
 
 -- colour k is left in a cell by the givens alone: it is one of the sixteen, and in a given the picture's
 abbrev pub IsOpen : List ℕ → List (List ℕ) → ℕ → ℕ → ℕ → Type 0

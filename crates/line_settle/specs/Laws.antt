@@ -1,7 +1,9 @@
 -- Laws of fitting and forcing.
-use Rattle.std.specs.Prelude.{◌≡◌, ℕ, ◌+◌, ◌↔◌, List, IsBitSet, slice_index}
+use Rattle.std.specs.Prelude.{◌≡◌, ℕ, ◌+◌, ◌-◌, ◌^◌, ◌<◌, ◌↔◌, List, length, IsBitSet, slice_index}
 use Rattle.picture.specs.declared.line_id.LineId.{LineId}
-use Rattle.picture.specs.Rows.{line_of}
+use Rattle.picture.specs.CellSet.{HasCell, PutsCell}
+use Rattle.picture.specs.Picture.{IsPicture}
+use Rattle.picture.specs.Rows.{width_of, cell_at, line_of}
 use Rattle.clues.specs.declared.block.Block.{Block}
 use Rattle.clues.specs.Clue.{IsClue}
 use Rattle.clues.specs.ClueBook.{Clues}
@@ -9,12 +11,13 @@ use Rattle.line_settle.specs.declared.line_engine.Outcome.{Outcome}
 use Rattle.line_settle.specs.declared.line_engine.Outcome.TheVariants.{Narrowed}
 use Rattle.line_settle.specs.declared.meter.Meter.{Meter}
 use Rattle.line_settle.specs.Counting.{Counts}
-use Rattle.line_settle.specs.Fitting.{Fits, CanHave, Forces, IsTighter}
-use Rattle.line_settle.specs.FactSets.{Gains, IsClosedLine, IsWithin, IsLeast}
+use Rattle.line_settle.specs.Fitting.{Fits, CanFit, CanHave, Forces, IsTighter}
+use Rattle.line_settle.specs.FactSets.{Gains, IsBase, IsClosedLine, IsWithin, IsLeast, nothing_excluded, with_given}
 use Rattle.line_settle.specs.Narrowing.{Narrows}
 
--- with fewer colours left no more is possible, and so no less is forced
+-- with fewer colours left no more lists fit and no more is possible, and so no less is forced
 pub record ForcingIsMonotone : Type 0 where
+  pub fitting : (clue : List Block) (left fewer : List ℕ) → IsTighter left fewer → CanFit clue fewer → CanFit clue left
   pub possible : (clue : List Block) (left fewer : List ℕ) → IsTighter left fewer → (i k : ℕ) → CanHave clue fewer i k → CanHave clue left i k
   pub forced : (clue : List Block) (left fewer : List ℕ) → IsTighter left fewer → (i k : ℕ) → Forces clue left i k → Forces clue fewer i k
   pub lines : (few many : List (List ℕ)) → IsWithin few many → (line : LineId) → IsTighter (line_of few line) (line_of many line)
@@ -49,3 +52,12 @@ pub record ForcingClosesALine : Type 0 where
   pub grows : (clue : List Block) (line : LineId) (old new : List (List ℕ)) (outcome : Outcome) → Gains clue line old new outcome → IsWithin old new
   pub stays_inside : (clue : List Block) (line : LineId) (old new : List (List ℕ)) (outcome : Outcome) → Gains clue line old new outcome → (others : List (List ℕ)) → IsWithin old others → IsClosedLine clue (line_of others line) → IsWithin new others
   pub closes : (clue : List Block) (line : LineId) (old new : List (List ℕ)) (outcome : Outcome) → Gains clue line old new outcome → IsClosedLine clue (line_of new line)
+
+-- The base of givens, cell by cell: in each given the picture's colour alone is left, and elsewhere all sixteen are. It
+-- depends on the cells of a set alone; without givens it excludes nothing, and one given more changes its cell alone.
+pub record BaseIsCellByCell : Type 0 where
+  pub given : (givens : List ℕ) (picture facts : List (List ℕ)) → IsBase givens picture facts → (row col : ℕ) → row < length picture → col < width_of picture → cell_at picture row col < 16 → HasCell givens row col → cell_at facts row col ≡ 2 ^ cell_at picture row col
+  pub free : (givens : List ℕ) (picture facts : List (List ℕ)) → IsBase givens picture facts → (row col : ℕ) → row < length picture → col < width_of picture → (HasCell givens row col → ⊥) → cell_at facts row col ≡ 2 ^ 16 - 1
+  pub one_base : (picture : List (List ℕ)) → IsPicture picture → (givens same : List ℕ) → ((row col : ℕ) → HasCell givens row col ↔ HasCell same row col) → (facts others : List (List ℕ)) → IsBase givens picture facts → IsBase same picture others → facts ≡ others
+  pub none : (picture : List (List ℕ)) → IsPicture picture → (givens : List ℕ) → ((row col : ℕ) → HasCell givens row col → ⊥) → (facts : List (List ℕ)) → IsBase givens picture facts ↔ (facts ≡ nothing_excluded (length picture) (width_of picture))
+  pub one_more : (picture : List (List ℕ)) → IsPicture picture → (givens more : List ℕ) (row col : ℕ) → row < length picture → col < width_of picture → PutsCell givens more row col → (facts : List (List ℕ)) → IsBase givens picture facts → IsBase more picture (with_given picture facts row col)

@@ -1,7 +1,7 @@
-ghost use Rattle.std.specs.Prelude.{◌≡◌, ℕ, ◌^◌, ◌-◌, ◌<◌, ◌≤◌, ◌↔◌, List, length, replicate, IfOk, IsTrue, MatchOption, false};
+ghost use Rattle.std.specs.Prelude.{◌≡◌, ℕ, ◌<◌, ◌≤◌, ◌↔◌, List, length, IfOk, IsTrue, MatchOption, false};
 ghost use Rattle.picture.specs.Rows.{rows_of, width_of, cell_at, with_cell};
 ghost use Rattle.line_settle.specs.Masks.{IsOnly};
-ghost use Rattle.line_settle.specs.FactSets.{AreMasks, IsFacts, Leaves, Excludes, ExcludesAt};
+ghost use Rattle.line_settle.specs.FactSets.{AreMasks, IsFacts, Leaves, Excludes, ExcludesAt, nothing_excluded};
 
 use picture::MAX_SIDE;
 use std::alloc::{AllocError, Global};
@@ -32,7 +32,7 @@ impl Facts {
         requires rows_fit { height ≤ MAX_SIDE }
         requires has_column { 0 < width }
         requires columns_fit { width ≤ MAX_SIDE }
-        ensures value { IfOk result (λ f. f ≡ replicate height (replicate width (2 ^ 16 - 1))) }
+        ensures value { IfOk result (λ f. f ≡ nothing_excluded height width) }
         ensures all_left { IfOk result
             (λ f. (row col k : ℕ) → row < height → col < width → k < 16 → Leaves f row col k) }
     {
@@ -120,8 +120,8 @@ impl Facts {
         only_colour(self.left(row, col))
     }
 
-    // Gives a cell another mask.
-    pub(crate) fn set_left(&mut self, row: u8, col: u8, mask: u16)
+    /// Gives a cell another mask of colours left, in which bit k stands for colour k. So a search puts back what it noted.
+    pub fn set_left(&mut self, row: u8, col: u8, mask: u16)
         requires in_rows { row < length self.old }
         requires in_columns { col < width_of self.old }
         ensures { self.new ≡ with_cell self.old row col mask }

@@ -1,6 +1,7 @@
 //! Laws of the definitions in `specs/`. Each function does nothing, and its contract is the law.
 
 ghost use Rattle.line_settle.specs.Laws.{
+  BaseIsCellByCell,
   ClosedLinesHoldWhatTheyForce,
   CountsAdd,
   FittingListStays,
@@ -11,7 +12,7 @@ ghost use Rattle.line_settle.specs.Laws.{
   OneLineDecides,
 };
 
-/// With fewer colours left, a line forces no less.
+/// With fewer colours left, no more lists fit a line, and it forces no less.
 pub fn forcing_is_monotone()
     ensures { ForcingIsMonotone }
 {}
@@ -39,6 +40,12 @@ pub fn fitting_list_stays()
 /// What a line forces depends on its own masks and its clue alone.
 pub fn one_line_decides()
     ensures { OneLineDecides }
+{}
+
+/// The base of givens leaves the picture's colour alone in each given and all sixteen elsewhere, and so there is one; a
+/// given more changes its own cell alone.
+pub fn base_is_cell_by_cell()
+    ensures { BaseIsCellByCell }
 {}
 
 /// There is one least closed set of facts that holds a base.

@@ -476,6 +476,11 @@ fn facts_are_a_set_of_exclusions(rt: HostRuntime) -> Result<(), Fail> {
     assert_eq!(rt; facts.shown(1, 2), Some(2));
     assert_eq!(rt; copy.left(1, 2), 0b110);
     assert_eq!(rt; facts.left(0, 2), ALL);
+    facts.set_left(1, 2, 0b110);
+    facts.set_left(0, 2, 0b1000);
+    assert_eq!(rt; facts.left(1, 2), 0b110);
+    assert_eq!(rt; facts.shown(0, 2), Some(3));
+    assert_eq!(rt; facts.left(0, 1), ALL);
     Ok(())
 }
 
@@ -573,4 +578,5 @@ fn the_laws_do_nothing() {
     laws::one_line_decides();
     laws::least_is_unique();
     laws::counts_add();
+    laws::base_is_cell_by_cell();
 }

@@ -1,12 +1,13 @@
 -- A cell put into a set of cells or taken out, and how many cells there are.
-use Rattle.std.proofs.Common.{◌≡◌, ℕ, ◌*◌, ◌%◌, ◌^◌, ◌<◌, ◌≤◌, List, length, get_or, set, replicate, refl, subst, inl, inr, arith}
-use Rattle.std.specs.Prelude.{IsBitSet, count_ones, bit_and, bit_or}
+use Rattle.std.proofs.Common.{◌≡◌, ℕ, ◌+◌, ◌*◌, ◌%◌, ◌^◌, ◌<◌, ◌≤◌, List, length, get_or, set, replicate, refl, sym, ap, ◌∙◌, subst, inl, inr, arith}
+use Rattle.std.specs.Prelude.{IsBitSet, ◌↔◌, count_ones, bit_and, bit_or}
 use Rattle.std.specs.Int.{w128, bit_not}
 use Rattle.std.proofs.lemmas.Bool.{cases_lt, cases_eq}
-use Rattle.std.proofs.lemmas.List.{get_or-set_same, get_or-set_other, get_or_past, get_or-replicate}
+use Rattle.std.proofs.lemmas.List.{get_or-set_same, get_or-set_other, get_or_past, get_or-replicate, length-replicate, length-set, set-get_or}
+use Rattle.std.proofs.lemmas.List.Sums.{sum_by-set}
 use Rattle.std.proofs.lemmas.Nat.{ones-le}
-use Rattle.picture.specs.CellSet.{IsCellSet, HasCell, PutsCell, TakesOutCell}
-use Rattle.picture.proofs.BitLemmas.{zero_has_none, cleared, raised, raised_small, cleared_small}
+use Rattle.picture.specs.CellSet.{IsCellSet, HasCell, PutsCell, TakesOutCell, cell_count}
+use Rattle.picture.proofs.BitLemmas.{cleared, raised, raised_small, cleared_small, same_bits, bits_more, bits_fewer}
 
 module _ (masks : List ℕ) (row col : ℕ) (is : IsCellSet masks) (lt : row < length masks) (inside : col < 120) where
   -- one cell taken out of the set
@@ -38,6 +39,7 @@ module _ (masks : List ℕ) (row col : ℕ) (is : IsCellSet masks) (lt : row < l
   -- either way it stays a table
   stays : (mask : ℕ) → mask < 2 ^ 120 → IsCellSet (set masks row mask)
   stays mask small = record {
+    rows = length-set masks row mask ∙ is.rows;
     within = λ r. elim (cases_eq r row) [
       | inl e ↦ rw (e, get_or-set_same masks row mask 0 lt) small
       | inr other ↦ rw (get_or-set_other masks row r mask 0 other) (is.within r)
@@ -50,18 +52,42 @@ module _ (masks : List ℕ) (row col : ℕ) (is : IsCellSet masks) (lt : row < l
   pub stays_less : IsCellSet (set masks row (bit_and (get_or masks row 0) (bit_not w128 (1 * 2 ^ col % 2 ^ 128))))
   stays_less = stays _ (cleared_small (get_or masks row 0) col (is.within row))
 
--- the empty table
-pub empty_none : (r c : ℕ) → HasCell (replicate 120 0) r c → ⊥
-empty_none r c is = zero_has_none c (subst (λ mask. IsBitSet mask c) (none r) is)
-  where
-    none : (r : ℕ) → get_or {A = ℕ} (replicate 120 0) r 0 ≡ 0
-    none r = elim (cases_lt r 120) [
-      | inl lt ↦ get_or-replicate 120 r 0 0 lt
-      | inr past ↦ get_or_past (replicate 120 0) r 0 past
-    ]
+  -- a set that has the cell keeps its table, and any other has one cell more
+  pub known_put : HasCell masks row col → set masks row (bit_or (get_or masks row 0) (1 * 2 ^ col % 2 ^ 128)) ≡ masks
+  known_put has = ap (set masks row) (same_bits _ _ again) ∙ set-get_or masks row 0
+    where
+      again : (k : ℕ) → IsBitSet (bit_or (get_or masks row 0) (1 * 2 ^ col % 2 ^ 128)) k ↔ IsBitSet (get_or masks row 0) k
+      again k =
+          let by = raised (get_or masks row 0) col k inside in
+          ((λ is. elim (by.0 is) [ inl had ↦ had | inr e ↦ subst (IsBitSet (get_or masks row 0)) (sym e) has ]), (λ had. by.1 (inl had)))
 
+  pub more_put : ¬ HasCell masks row col → cell_count (set masks row (bit_or (get_or masks row 0) (1 * 2 ^ col % 2 ^ 128))) ≡ cell_count masks + 1
+  more_put absent =
+      let mask = bit_or (get_or masks row 0) (1 * 2 ^ col % 2 ^ 128) in
+      let more = bits_more col (get_or masks row 0) mask absent (λ k. raised (get_or masks row 0) col k inside) in
+      let counted = sum_by-set count_ones masks row mask 0 lt in
+      omega (arith, more, counted)
+
+  -- a set that does not have the cell keeps its table, and any other has one cell less
+  pub absent_out : ¬ HasCell masks row col → set masks row (bit_and (get_or masks row 0) (bit_not w128 (1 * 2 ^ col % 2 ^ 128))) ≡ masks
+  absent_out absent = ap (set masks row) (same_bits _ _ still) ∙ set-get_or masks row 0
+    where
+      still : (k : ℕ) → IsBitSet (bit_and (get_or masks row 0) (bit_not w128 (1 * 2 ^ col % 2 ^ 128))) k ↔ IsBitSet (get_or masks row 0) k
+      still k =
+          let by = cleared (get_or masks row 0) col k (is.within row) inside in
+          ((λ is. (by.0 is).0), (λ had. by.1 (had, λ e. absent (subst (IsBitSet (get_or masks row 0)) e had))))
+
+  pub fewer_out : HasCell masks row col → cell_count (set masks row (bit_and (get_or masks row 0) (bit_not w128 (1 * 2 ^ col % 2 ^ 128)))) + 1 ≡ cell_count masks
+  fewer_out has =
+      let mask = bit_and (get_or masks row 0) (bit_not w128 (1 * 2 ^ col % 2 ^ 128)) in
+      let fewer = bits_fewer col (get_or masks row 0) mask has (λ k. cleared (get_or masks row 0) col k (is.within row) inside) in
+      let counted = sum_by-set count_ones masks row mask 0 lt in
+      omega (arith, fewer, counted)
+
+-- the empty table
 pub empty_is : IsCellSet (replicate 120 0)
 empty_is = record {
+  rows = length-replicate {A = ℕ} 120 0;
   within = λ r. elim (cases_lt r 120) [
     | inl lt ↦ rw (get_or-replicate {A = ℕ} 120 r 0 0 lt) (omega arith)
     | inr past ↦ rw (get_or_past {X = ℕ} (replicate 120 0) r 0 past) (omega arith)

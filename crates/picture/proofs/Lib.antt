@@ -1,10 +1,14 @@
 pub mod BitLemmas
+pub mod CellSetLaws
 pub mod CellSetLemmas
+pub mod DocumentLaws
 pub mod FlatLemmas
 pub mod GridLemmas
 pub mod LineEditLemmas
 pub mod LineLemmas
+pub mod LineSetLaws
 pub mod LineSetLemmas
 pub mod OrderLemmas
 pub mod PaletteLemmas
+pub mod RoomLemmas
 pub mod WritingLemmas

@@ -20,8 +20,9 @@ pub spaced_last : (cells : List ℕ) (start step count : ℕ) → spaced cells s
 spaced_last cells start step zero = ap (λ k. get_or cells k 0 ∷ []) (omega arith)
 spaced_last cells start step (suc count) = ap (λ (xs : List ℕ). get_or cells start 0 ∷ xs) (spaced_last cells (start + step) step count ∙ ap (λ k. spaced cells (start + step) step count ++ get_or cells k 0 ∷ []) (omega arith))
 
-pub spaced_is_line : (cells : List ℕ) (start step count : ℕ) → IsSpaced cells start step count → IsLine (spaced cells start step count)
-spaced_is_line cells start step count is = record {
+pub spaced_is_line : (cells : List ℕ) (start step count : ℕ) → 0 < count → IsSpaced cells start step count → IsLine (spaced cells start step count)
+spaced_is_line cells start step count some is = record {
+  has_cell = omega (arith, length-spaced cells start step count, some);
   short = omega (arith, length-spaced cells start step count, is.short);
   colours = λ i. elim (cases_lt i count) [
     | inl lt ↦ rw (get_or-spaced cells start step count i lt) (is.colours (start + i * step))

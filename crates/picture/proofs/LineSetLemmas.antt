@@ -1,12 +1,12 @@
--- A name taken out of a set of names, and the table of the set.
-use Rattle.std.proofs.Common.{◌≡◌, ℕ, ◌*◌, ◌%◌, ◌^◌, ◌<◌, refl, sym, ap, ◌∙◌}
-use Rattle.std.specs.Prelude.{IsBitSet, ◌↔◌, bit_and, bit_or}
+-- A name put into a set of names or taken out, and the table of the set.
+use Rattle.std.proofs.Common.{◌≡◌, ℕ, ◌*◌, ◌%◌, ◌^◌, ◌<◌, refl, sym, ap, ◌∙◌, inl, inr}
+use Rattle.std.specs.Prelude.{IsBitSet, ◌⊎◌, ◌↔◌, bit_and, bit_or}
 use Rattle.std.specs.Int.{w128, bit_not}
 use Rattle.picture.specs.declared.line_id.Axis.{Axis}
 use Rattle.picture.specs.declared.line_id.Axis.TheVariants.{Across, Down}
 use Rattle.picture.specs.declared.line_id.LineId.{LineId}
-use Rattle.picture.specs.LineSet.{Lines, IsLineSet, mask_along, TakesOutName}
-use Rattle.picture.proofs.BitLemmas.{cleared, raised_small}
+use Rattle.picture.specs.LineSet.{Lines, IsLineSet, mask_along, PutsName, TakesOutName}
+use Rattle.picture.proofs.BitLemmas.{cleared, raised, raised_small, cleared_small}
 
 -- a name is its axis and its place
 pub same_name : (a b : LineId) → a.axis ≡ b.axis → a.at ≡ b.at → a ≡ b
@@ -43,8 +43,47 @@ column_out lines line is inside down other =
       (λ both. by.1 (both.0, λ p. both.1 (same_name other line (p.0 ∙ sym down) p.1))),
     )
 
-pub row_in_table : (rows columns k : ℕ) → IsLineSet (record { rows = rows; columns = columns }) → k < 120 → IsLineSet (record { rows = bit_or rows (1 * 2 ^ k % 2 ^ 128); columns = columns })
-row_in_table rows columns k is inside = record { rows_within = raised_small rows k is.rows_within inside; columns_within = is.columns_within }
+abbrev bit_in : ℕ → ℕ → ℕ
+bit_in mask k = bit_or mask (1 * 2 ^ k % 2 ^ 128)
 
-pub column_in_table : (rows columns k : ℕ) → IsLineSet (record { rows = rows; columns = columns }) → k < 120 → IsLineSet (record { rows = rows; columns = bit_or columns (1 * 2 ^ k % 2 ^ 128) })
-column_in_table rows columns k is inside = record { rows_within = is.rows_within; columns_within = raised_small columns k is.columns_within inside }
+in_across : (lines : Lines) (k : ℕ) → k < 120 → (axis : Axis) (n : ℕ)
+    → IsBitSet (mask_along axis (record { rows = bit_in lines.rows k; columns = lines.columns })) n ↔ (IsBitSet (mask_along axis lines) n ⊎ ((axis ≡ Across) × (n ≡ k)))
+in_across lines k inside Across n =
+    let by = raised lines.rows k n inside in
+    ((λ h. elim (by.0 h) [ inl had ↦ inl had | inr e ↦ inr (refl, e) ]), (λ either. elim either [ inl had ↦ by.1 (inl had) | inr at ↦ by.1 (inr at.1) ]))
+in_across lines k inside Down n = ((λ h. inl h), (λ either. elim either [ inl had ↦ had | inr at ↦ let e = at.0 in absurd (cc) ]))
+
+in_down : (lines : Lines) (k : ℕ) → k < 120 → (axis : Axis) (n : ℕ)
+    → IsBitSet (mask_along axis (record { rows = lines.rows; columns = bit_in lines.columns k })) n ↔ (IsBitSet (mask_along axis lines) n ⊎ ((axis ≡ Down) × (n ≡ k)))
+in_down lines k inside Across n = ((λ h. inl h), (λ either. elim either [ inl had ↦ had | inr at ↦ let e = at.0 in absurd (cc) ]))
+in_down lines k inside Down n =
+    let by = raised lines.columns k n inside in
+    ((λ h. elim (by.0 h) [ inl had ↦ inl had | inr e ↦ inr (refl, e) ]), (λ either. elim either [ inl had ↦ by.1 (inl had) | inr at ↦ by.1 (inr at.1) ]))
+
+pub row_in : (lines : Lines) (line : LineId) → line.at < 120 → line.axis ≡ Across → PutsName lines (record { rows = bit_in lines.rows line.at; columns = lines.columns }) line
+row_in lines line inside across other =
+    let by = in_across lines line.at inside other.axis other.at in (
+      (λ h. elim (by.0 h) [ inl had ↦ inl had | inr p ↦ inr (same_name other line (p.0 ∙ sym across) p.1) ]),
+      (λ either. elim either [ inl had ↦ by.1 (inl had) | inr e ↦ by.1 (inr (ap (λ l. l.axis) e ∙ across, ap (λ l. l.at) e)) ]),
+    )
+
+pub column_in : (lines : Lines) (line : LineId) → line.at < 120 → line.axis ≡ Down → PutsName lines (record { rows = lines.rows; columns = bit_in lines.columns line.at }) line
+column_in lines line inside down other =
+    let by = in_down lines line.at inside other.axis other.at in (
+      (λ h. elim (by.0 h) [ inl had ↦ inl had | inr p ↦ inr (same_name other line (p.0 ∙ sym down) p.1) ]),
+      (λ either. elim either [ inl had ↦ by.1 (inl had) | inr e ↦ by.1 (inr (ap (λ l. l.axis) e ∙ down, ap (λ l. l.at) e)) ]),
+    )
+
+-- either way the set keeps its table
+module _ (lines : Lines) (k : ℕ) (is : IsLineSet lines) where
+  pub row_in_table : k < 120 → IsLineSet (record { rows = bit_in lines.rows k; columns = lines.columns })
+  row_in_table inside = record { rows_within = raised_small lines.rows k is.rows_within inside; columns_within = is.columns_within }
+
+  pub column_in_table : k < 120 → IsLineSet (record { rows = lines.rows; columns = bit_in lines.columns k })
+  column_in_table inside = record { rows_within = is.rows_within; columns_within = raised_small lines.columns k is.columns_within inside }
+
+  pub row_out_table : IsLineSet (record { rows = bit_out lines.rows k; columns = lines.columns })
+  row_out_table = record { rows_within = cleared_small lines.rows k is.rows_within; columns_within = is.columns_within }
+
+  pub column_out_table : IsLineSet (record { rows = lines.rows; columns = bit_out lines.columns k })
+  column_out_table = record { rows_within = is.rows_within; columns_within = cleared_small lines.columns k is.columns_within }

@@ -16,7 +16,7 @@ use Rattle.picture.proofs.PaletteLemmas.{same_rgb}
 use Rattle.picture.proofs.FlatLemmas.{cell_at_small}
 use Rattle.picture.proofs.GridLemmas.{every_append, every_map, every_at_all, all_of_each, concat-rows_of}
 
-same : (t : Rgb) → rgb_eq t t ≡ true
+pub same : (t : Rgb) → rgb_eq t t ≡ true
 same t = rw (eq-eqb t.r t.r refl, eq-eqb t.g t.g refl, eq-eqb t.b t.b refl) refl
 
 any_front : (t : Rgb) (xs ys : List Rgb) → list_any (rgb_eq t) xs ≡ true → list_any (rgb_eq t) (xs ++ ys) ≡ true
@@ -114,7 +114,7 @@ none_before : (place : Option ℕ) → None ≡ option_map (λ k. k + 1) place �
 none_before (Some k) none = absurd (cc)
 none_before None none = refl
 
-absent : (t : Rgb) (xs : List Rgb) → None ≡ place_of t xs → list_any (rgb_eq t) xs ≡ false
+pub absent : (t : Rgb) (xs : List Rgb) → None ≡ place_of t xs → list_any (rgb_eq t) xs ≡ false
 absent t [] none = refl
 absent t (x ∷ xs) none = elim (cases_Bool (rgb_eq t x)) [
   | inl e ↦ let some = rw e at none in absurd (cc)

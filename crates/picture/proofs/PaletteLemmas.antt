@@ -30,7 +30,7 @@ position-place_of rgb (t ∷ triples) = by (rgb_eq rgb t) (position-place_of rgb
     by true e = let some : 0 < suc (length triples) = omega arith in rw (lt-ltb 0 (suc (length triples)) some) refl
     by false e = later place (length triples) ∙ ap (option_map (λ k. k + 1)) e
 
-not_full : (n : ℕ) → n < 16 → nat_le 16 n ≡ false
+pub not_full : (n : ℕ) → n < 16 → nat_le 16 n ≡ false
 not_full n room = grind (arith, nat_tests)
 
 pub stands_twice : (colours : Colours) (rgb : Rgb) → length colours.triples < 16 → list_any (rgb_eq rgb) colours.triples ≡ true → add_fault colours rgb ≡ Some Duplicate
@@ -50,14 +50,14 @@ same_rgb a b e = by (eqb a.r b.r) refl (eqb a.g b.g) refl (eqb a.b b.b) refl e
     by true p false q z r isnt = absurd (false≢true isnt)
     by false p y q z r isnt = absurd (false≢true isnt)
 
-rgb_eq-sym : (a b : Rgb) → rgb_eq a b ≡ false → rgb_eq b a ≡ false
+pub rgb_eq-sym : (a b : Rgb) → rgb_eq a b ≡ false → rgb_eq b a ≡ false
 rgb_eq-sym a b isnt = by (rgb_eq b a) refl
   where
     by : (x : Bool) → rgb_eq b a ≡ x → x ≡ false
     by false e = refl
     by true e = let same = same_rgb b a e in absurd (false≢true (sym isnt ∙ subst (λ t. rgb_eq t b ≡ true) same (subst (λ t. rgb_eq b t ≡ true) (sym same) e)))
 
-at_each : (P : Rgb → Type 0) (triples : List Rgb) (k : ℕ) (d : Rgb) → k < length triples → AllByRecursion P triples → P (get_or triples k d)
+pub at_each : (P : Rgb → Type 0) (triples : List Rgb) (k : ℕ) (d : Rgb) → k < length triples → AllByRecursion P triples → P (get_or triples k d)
 at_each P [] k d lt all = absurd (omega (arith, lt))
 at_each P (t ∷ triples) zero d lt all = all.0
 at_each P (t ∷ triples) (suc k) d lt all = at_each P triples k d (omega (arith, lt)) all.1
@@ -76,7 +76,7 @@ none_equal rgb [] all = refl
 none_equal rgb (t ∷ triples) all = rw all.0 (none_equal rgb triples all.1)
 
 -- a colour that stands at k stands nowhere else
-at_no_other : (rgb d : Rgb) (triples : List Rgb) (k : ℕ) → k < length triples → IsDistinct rgb_eq triples → rgb_eq (get_or triples k d) rgb ≡ true → list_any (rgb_eq rgb) (remove triples k) ≡ false
+pub at_no_other : (rgb d : Rgb) (triples : List Rgb) (k : ℕ) → k < length triples → IsDistinct rgb_eq triples → rgb_eq (get_or triples k d) rgb ≡ true → list_any (rgb_eq rgb) (remove triples k) ≡ false
 at_no_other rgb d [] k lt distinct at = absurd (omega (arith, lt))
 at_no_other rgb d (t ∷ triples) zero lt distinct at =
     none_equal rgb triples (subst (λ u. AllByRecursion (λ y. rgb_eq u y ≡ false) triples) (same_rgb t rgb at) (IsDistinct-head rgb_eq t triples distinct))

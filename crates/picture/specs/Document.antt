@@ -1,8 +1,9 @@
 -- What is said of documents: each cell has a colour of the palette, and the ordered form.
-use Rattle.std.specs.Prelude.{ℕ, ◌<◌, List, [], ◌∷◌, ◌++◌, length, map, unwrap_or, slice_index_or, if◌then◌else◌}
+use Rattle.std.specs.Prelude.{ℕ, ◌<◌, List, [], ◌∷◌, ◌++◌, length, map, unwrap_or, if◌then◌else◌}
 use Rattle.std.specs.List.{list_any, flat_map}
 use Rattle.picture.specs.declared.rgb.Rgb.{Rgb}
-use Rattle.picture.specs.Palette.{Colours, rgb_eq, place_of}
+use Rattle.picture.specs.Palette.{Colours, rgb_eq, place_of, triple_at}
+pub use Rattle.picture.specs.Palette.{first_of}
 use Rattle.picture.specs.Rows.{width_of, cell_at}
 use Rattle.picture.specs.CellSet.{HasCell}
 
@@ -20,13 +21,9 @@ pub record Content : Type 0 where
   pub rows : List (List ℕ)
   pub givens : List ℕ
 
--- the background of a list of colours
-abbrev pub first_of : List Rgb → Rgb
-first_of triples = slice_index_or triples 0 (record { r = 0; g = 0; b = 0 })
-
 -- the triples of a list of cells
 abbrev pub triples_of : List Rgb → List ℕ → List Rgb
-triples_of triples cells = map (λ k. slice_index_or triples k (first_of triples)) cells
+triples_of triples cells = map (triple_at triples) cells
 
 -- what a picture shows: the triple of each cell
 abbrev pub rows_shown : List Rgb → List (List ℕ) → List (List Rgb)

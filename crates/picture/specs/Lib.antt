@@ -1,6 +1,7 @@
 pub mod CellSet
 pub mod Content
 pub mod Document
+pub mod Laws
 pub mod Line
 pub mod LineSet
 pub mod Palette

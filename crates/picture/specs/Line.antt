@@ -7,8 +7,9 @@ abbrev pub spaced : List ℕ → ℕ → ℕ → ℕ → List ℕ
 spaced cells start step zero = []
 spaced cells start step (suc count) = slice_index cells start ∷ spaced cells (start + step) step count
 
--- what callers know of a line: at most 120 cells, each with one of 16 colours
+-- what callers know of a line: at least one cell and no more than a picture's side, each with one of the colours
 pub record IsLine (line : List ℕ) : Type 0 where
+  pub has_cell : 0 < length line
   pub short : length line ≤ MAX_SIDE
   pub colours : (i : ℕ) → slice_index line i < MAX_COLOURS
 

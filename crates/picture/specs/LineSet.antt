@@ -3,15 +3,16 @@ use Rattle.std.specs.Prelude.{◌≡◌, ℕ, ◌+◌, ◌<◌, ◌^◌, ◌⊎�
 use Rattle.picture.specs.declared.line_id.Axis.{Axis}
 use Rattle.picture.specs.declared.line_id.Axis.TheVariants.{Across, Down}
 use Rattle.picture.specs.declared.line_id.LineId.{LineId}
+use Rattle.picture.specs.declared.picture.TheConstants.{MAX_SIDE}
 
 pub record Lines : Type 0 where
   pub rows : ℕ
   pub columns : ℕ
 
--- each axis has 120 names
+-- each axis has a name for each line that a picture can have
 pub record IsLineSet (lines : Lines) : Type 0 where
-  pub rows_within : lines.rows < 2 ^ 120
-  pub columns_within : lines.columns < 2 ^ 120
+  pub rows_within : lines.rows < 2 ^ MAX_SIDE
+  pub columns_within : lines.columns < 2 ^ MAX_SIDE
 
 abbrev pub mask_along : Axis → Lines → ℕ
 mask_along Across lines = lines.rows
@@ -26,7 +27,7 @@ PutsName old new line = (other : LineId) → HasName new other ↔ (HasName old 
 
 -- new has the names of old but for this one
 abbrev pub TakesOutName : Lines → Lines → LineId → Type 0
-TakesOutName old new line = (other : LineId) → HasName new other ↔ (HasName old other × (other ≡ line → ⊥))
+TakesOutName old new line = (other : LineId) → HasName new other ↔ (HasName old other × ¬ (other ≡ line))
 
 -- how many names there are
 abbrev pub name_count : Lines → ℕ

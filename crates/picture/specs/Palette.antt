@@ -1,5 +1,5 @@
 -- A palette as its maxval and its colours, and what can be added to it.
-use Rattle.std.specs.Prelude.{ℕ, ◌+◌, ◌-◌, ◌<◌, ◌≤◌, Bool, ◌&&◌, List, [], ◌∷◌, ◌++◌, length, take, remove, slice_set, Option, None, Some, nat_le, ◌==◌, if◌then◌else◌, IsTrue}
+use Rattle.std.specs.Prelude.{◌≡◌, ℕ, ◌+◌, ◌-◌, ◌<◌, ◌≤◌, Bool, ◌&&◌, List, [], ◌∷◌, ◌++◌, length, take, remove, slice_set, slice_index_or, Option, None, Some, nat_le, ◌==◌, if◌then◌else◌, IsTrue}
 use Rattle.std.specs.List.{list_any, AllByRecursion, IsDistinct}
 use Rattle.std.specs.Option.{option_map}
 use Rattle.picture.specs.declared.rgb.Rgb.{Rgb}
@@ -18,6 +18,14 @@ rgb_eq a b = (a.r == b.r) && ((a.g == b.g) && (a.b == b.b))
 -- no sample of the colour is above the maxval
 abbrev pub fits : ℕ → Rgb → Bool
 fits maxval rgb = nat_le rgb.r maxval && (nat_le rgb.g maxval && nat_le rgb.b maxval)
+
+-- the background of a list of colours
+abbrev pub first_of : List Rgb → Rgb
+first_of triples = slice_index_or triples 0 (record { r = 0; g = 0; b = 0 })
+
+-- the colour with a number, in a list of colours that has it
+abbrev pub triple_at : List Rgb → ℕ → Rgb
+triple_at triples k = slice_index_or triples k (first_of triples)
 
 -- the number of a colour in a list of colours
 abbrev pub place_of : Rgb → List Rgb → Option ℕ
@@ -69,3 +77,15 @@ pub record IsPalette (colours : Colours) : Type 0 where
   pub colours_fit : length colours.triples ≤ MAX_COLOURS
   pub distinct : IsDistinct rgb_eq colours.triples
   pub samples_fit : AllByRecursion (λ rgb. IsTrue (fits colours.maxval rgb)) colours.triples
+
+-- the colours are some of another palette's, under the same maxval
+pub record AreAmong (known all : Colours) : Type 0 where
+  pub maxval : known.maxval ≡ all.maxval
+  pub each : AllByRecursion (λ rgb. IsTrue (list_any (rgb_eq rgb) all.triples)) known.triples
+
+-- one more colour and those there are are all some palette's
+pub record HasPlaceFor (known : Colours) (rgb : Rgb) : Type 0 where
+  pub all : Colours
+  pub palette : IsPalette all
+  pub among : AreAmong known all
+  pub there : IsTrue (list_any (rgb_eq rgb) all.triples)

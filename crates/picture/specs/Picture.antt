@@ -3,7 +3,7 @@ use Rattle.std.specs.Prelude.{◌≡◌, ℕ, ◌+◌, ◌*◌, ◌<◌, ◌≤�
 use Rattle.picture.specs.declared.picture.TheConstants.{MAX_SIDE, MAX_COLOURS}
 use Rattle.picture.specs.Rows.{width_of, row_at, cell_at}
 
--- what every picture is: 1 to 120 rows of 1 to 120 cells, each with one of 16 colours
+-- what every picture is: at least one row and one column and no more than MAX_SIDE, each cell with one of the colours
 pub record IsPicture (rows : List (List ℕ)) : Type 0 where
   pub has_row : 0 < length rows
   pub rows_fit : length rows ≤ MAX_SIDE

@@ -3,6 +3,7 @@
 
 mod cell_set;
 mod document;
+pub mod laws;
 mod line_edits;
 mod line_id;
 mod line_set;

@@ -9,6 +9,9 @@ ghost use Rattle.picture.specs.Rows.{rows_of, with_line, without_line, lines_swa
 use crate::picture::MAX_SIDE;
 use std::alloc::AllocError;
 
+// How many cells a row has at the most.
+const MOST_CELLS: usize = MAX_SIDE as usize;
+
 /// Puts a row of background at a place. After a fault the cells are as before.
 pub(crate) fn insert_row(cells: &mut Vec<u8>, width: usize, at: usize) -> Result<(), AllocError>
     requires place { at * width ≤ vec_len cells.old }
@@ -86,11 +89,11 @@ pub(crate) fn swap_rows(cells: &mut [u8], width: usize, i: usize, j: usize)
 }
 
 // The cells of a row, and zeros behind them.
-fn row_copy(row: &[u8]) -> [u8; 120]
+fn row_copy(row: &[u8]) -> [u8; MOST_CELLS]
     requires { length row.now ≤ MAX_SIDE }
     ensures { take (length row.now) result ≡ row.now }
 {
-    let mut copy = [0; 120];
+    let mut copy = [0; MOST_CELLS];
     copy[..row.len()].copy_from_slice(row);
     copy
 }

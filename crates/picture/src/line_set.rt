@@ -1,13 +1,13 @@
 //! A set of names of rows and columns, in a fixed table.
 
-ghost use Rattle.std.specs.Prelude.{◌≡◌, ◌<◌, ◌↔◌, IsTrue};
-ghost use Rattle.picture.specs.LineSet.{HasName, PutsName, TakesOutName, name_count, no_names};
+ghost use Rattle.std.specs.Prelude.{◌≡◌, ◌+◌, ◌<◌, ◌↔◌, IsTrue};
+ghost use Rattle.picture.specs.LineSet.{IsLineSet, HasName, PutsName, TakesOutName, name_count, no_names};
 
 use crate::line_id::{Axis, LineId};
 use crate::picture::MAX_SIDE;
 use std::marker::Model;
 
-/// A set of the 240 names of rows and columns, each at a place from 0 to 119. It takes no memory beside itself.
+/// A set of names of rows and columns, each at a place below `MAX_SIDE`. It takes no memory beside itself.
 #[derive(Clone, Copy)]
 pub struct LineSet {
     rows: u128,
@@ -29,7 +29,10 @@ impl Model for LineSet {
 impl LineSet {
     /// The set without a name.
     pub fn empty() -> LineSet
-        ensures { result ≡ no_names }
+        ensures value { result ≡ no_names }
+        ensures set { IsLineSet result }
+        ensures none { (line : LineId) → ¬ HasName result line }
+        ensures count { name_count result ≡ 0 }
     {
         LineSet {
             rows: 0,
@@ -40,7 +43,8 @@ impl LineSet {
     /// Whether the set has a name.
     pub fn has(&self, line: LineId) -> bool
         requires { line.at < MAX_SIDE }
-        ensures { IsTrue result ↔ HasName self.now line }
+        ensures value { IsTrue result ↔ HasName self.now line }
+        ensures set { IsLineSet self.now }
     {
         let mask = match line.axis {
             Axis::Across => self.rows,
@@ -49,10 +53,13 @@ impl LineSet {
         mask & (1 << line.at) != 0
     }
 
-    /// Puts a name into the set, which may have it already.
+    /// Puts a name into the set. A set that has it already stays as it is.
     pub fn put(&mut self, line: LineId)
         requires { line.at < MAX_SIDE }
-        ensures { PutsName self.old self.new line }
+        ensures members { PutsName self.old self.new line }
+        ensures set { IsLineSet self.new }
+        ensures known { HasName self.old line → self.new ≡ self.old }
+        ensures more { ¬ HasName self.old line → name_count self.new ≡ name_count self.old + 1 }
     {
         match line.axis {
             Axis::Across => self.rows |= 1 << line.at,
@@ -60,10 +67,13 @@ impl LineSet {
         }
     }
 
-    /// Takes a name out of the set, where the set has it.
+    /// Takes a name out of the set. A set that does not have it stays as it is.
     pub fn take_out(&mut self, line: LineId)
         requires { line.at < MAX_SIDE }
-        ensures { TakesOutName self.old self.new line }
+        ensures members { TakesOutName self.old self.new line }
+        ensures set { IsLineSet self.new }
+        ensures absent { ¬ HasName self.old line → self.new ≡ self.old }
+        ensures fewer { HasName self.old line → name_count self.new + 1 ≡ name_count self.old }
     {
         match line.axis {
             Axis::Across => self.rows &= !(1 << line.at),
@@ -73,14 +83,16 @@ impl LineSet {
 
     /// How many names the set has.
     pub fn len(&self) -> usize
-        ensures { result ≡ name_count self.now }
+        ensures value { result ≡ name_count self.now }
+        ensures set { IsLineSet self.now }
     {
         self.rows.count_ones() as usize + self.columns.count_ones() as usize
     }
 
     /// Whether the set has no name.
     pub fn is_empty(&self) -> bool
-        ensures { IsTrue result ↔ (name_count self.now ≡ 0) }
+        ensures value { IsTrue result ↔ (self.now ≡ no_names) }
+        ensures set { IsLineSet self.now }
     {
         self.len() == 0
     }

@@ -1,6 +1,6 @@
 //! A row or a column, borrowed from a picture. Nothing is copied.
 
-ghost use Rattle.std.specs.Prelude.{◌≡◌, ℕ, ◌+◌, ◌*◌, ◌-◌, ◌<◌, ◌≤◌, ◌↔◌, List, length, slice_index, IsTrue};
+ghost use Rattle.std.specs.Prelude.{◌≡◌, ℕ, ◌+◌, ◌*◌, ◌-◌, ◌<◌, ◌≤◌, List, length, slice_index, IsFalse};
 ghost use Rattle.std.specs.Iterator.{YieldsFirst, YieldsLast, item_count};
 ghost use Rattle.picture.specs.Line.{spaced, IsLine, IsSpaced};
 
@@ -20,14 +20,15 @@ impl<'a> Model for LineView<'a> {
 
     ghost view = { λ v. spaced v.cells.now v.start v.step v.count };
 
-    ghost invariant = { λ v. IsSpaced v.cells.now v.start v.step v.count };
+    ghost invariant = { λ v. (0 < v.count) × IsSpaced v.cells.now v.start v.step v.count };
 }
 
 #[tactic(auto, using(crate::proofs::LineLemmas::spacing))]
 impl<'a> LineView<'a> {
     // The cells at `start`, `start + step` and so on.
     pub(crate) fn new(cells: &'a [u8], start: usize, step: usize, count: usize) -> LineView<'a>
-        requires { IsSpaced cells.now start step count }
+        requires some { 0 < count }
+        requires spaced { IsSpaced cells.now start step count }
         ensures { result ≡ spaced cells.now start step count }
     {
         LineView {
@@ -38,7 +39,7 @@ impl<'a> LineView<'a> {
         }
     }
 
-    /// How many cells the line has, from 1 to 120.
+    /// How many cells the line has, from 1 to `MAX_SIDE`.
     pub fn len(&self) -> usize
         ensures value { result ≡ length self.now }
         ensures line { IsLine self.now }
@@ -46,9 +47,9 @@ impl<'a> LineView<'a> {
         self.count
     }
 
-    /// Whether the line has no cell.
+    /// Whether the line has no cell, which is never so.
     pub fn is_empty(&self) -> bool
-        ensures { IsTrue result ↔ (length self.now ≡ 0) }
+        ensures { IsFalse result }
     {
         self.count == 0
     }

@@ -1,10 +1,10 @@
 //! The colours of a picture, by their numbers.
 
-ghost use Rattle.std.specs.Prelude.{◌≡◌, ◌<◌, ◌↔◌, [], ◌∷◌, true, false, length, slice_get, IfOk, IfErr, OnOk, OnErr, IsTrue};
+ghost use Rattle.std.specs.Prelude.{◌≡◌, ◌<◌, [], ◌∷◌, true, false, length, slice_get, IfOk, IfErr, IsOk, OnOk, OnErr, IsFalse};
 ghost use Rattle.std.specs.List.{list_any};
 ghost use Rattle.picture.specs.declared.palette.PaletteFault.TheVariants.{Memory};
-ghost use Rattle.picture.specs.Palette.{place_of, with_colour, with_triple, without_last, only_background, start_fault, add_fault, set_fault, stands_elsewhere, rgb_eq, fits, IsPalette};
-ghost use Rattle.picture.specs.Document.{first_of, with_seen, number_among};
+ghost use Rattle.picture.specs.Palette.{first_of, triple_at, place_of, with_colour, with_triple, without_last, only_background, start_fault, add_fault, set_fault, stands_elsewhere, rgb_eq, fits, IsPalette, HasPlaceFor};
+ghost use Rattle.picture.specs.Document.{with_seen, number_among};
 ghost use Rattle.picture.specs.Reading.{Refuses};
 
 use crate::picture::MAX_COLOURS;
@@ -92,7 +92,7 @@ impl Palette {
 
     /// Whether there is no colour, which is never so.
     pub fn is_empty(&self) -> bool
-        ensures { IsTrue result ↔ (length self.now.triples ≡ 0) }
+        ensures { IsFalse result }
     {
         self.colours.is_empty()
     }
@@ -100,7 +100,8 @@ impl Palette {
     /// The colour with a number.
     pub fn rgb(&self, number: u8) -> Rgb
         requires { number < length self.now.triples }
-        ensures value { slice_get self.now.triples number ≡ Some result }
+        ensures value { result ≡ triple_at self.now.triples number }
+        ensures stands { slice_get self.now.triples number ≡ Some result }
         ensures palette { IsPalette self.now }
     {
         self.colours.as_slice()[number as usize]
@@ -136,11 +137,13 @@ impl Palette {
         Ok(number)
     }
 
-    /// Gives a number another colour. A number keeps the colour it has already, but for the background, which is refused. After a fault the palette is as before.
+    /// Gives a number another colour. A number above 0 may get the colour that it has: then nothing changes and no
+    /// memory is wanted. The background's number is refused. After a fault the palette is as before.
     pub fn set(&mut self, number: u8, rgb: Rgb) -> Result<(), PaletteFault>
         requires { number < length self.old.triples }
         ensures ok { OnOk result (self.new ≡ with_triple self.old number rgb) }
         ensures fault { Refuses PaletteFault.Memory result (set_fault self.old number rgb) }
+        ensures same { 0 < number → triple_at self.old.triples number ≡ rgb → IsOk result × (self.new ≡ self.old) }
         ensures err { OnErr result (self.new ≡ self.old) }
     {
         if self.stands_elsewhere(number, rgb) {
@@ -160,7 +163,8 @@ impl Palette {
 
     // A palette with the same maxval and the background alone.
     pub(crate) fn background_alone(&self) -> Result<Palette, AllocError>
-        ensures { IfOk result (λ p. p ≡ only_background self.now.maxval (first_of self.now.triples)) }
+        ensures value { IfOk result (λ p. p ≡ only_background self.now.maxval (first_of self.now.triples)) }
+        ensures palette { IsPalette self.now }
     {
         let mut colours = IndexSet::new(*self.colours.allocator());
         colours.insert(self.rgb(0))?;
@@ -170,8 +174,10 @@ impl Palette {
         })
     }
 
-    // The number of a colour, which is added where the palette does not have it. The caller's colours are no more than 16 and have no sample above the maxval, so only memory can be wanting.
+    // The number of a colour, which is added where the palette does not have it. All come from some palette, so there
+    // is room for it, and only memory can be wanting.
     pub(crate) fn number_for(&mut self, rgb: Rgb) -> Result<u8, AllocError>
+        requires { HasPlaceFor self.old rgb }
         ensures palette { OnOk result (self.new ≡ with_seen self.old (rgb ∷ [])) }
         ensures number { IfOk result (λ number. number ≡ number_among self.new.triples rgb) }
     {
@@ -179,7 +185,10 @@ impl Palette {
             Some(number) => Ok(number),
             None => match self.add(rgb) {
                 Ok(number) => Ok(number),
-                Err(_) => Err(AllocError),
+                Err(fault) => {
+                    prove!(fault == PaletteFault::Memory);
+                    Err(AllocError)
+                }
             },
         }
     }
@@ -187,7 +196,8 @@ impl Palette {
     /// Whether another number than this one has the colour.
     pub fn stands_elsewhere(&self, number: u8, rgb: Rgb) -> bool
         requires { number < length self.now.triples }
-        ensures { result ≡ stands_elsewhere self.now.triples number rgb }
+        ensures value { result ≡ stands_elsewhere self.now.triples number rgb }
+        ensures palette { IsPalette self.now }
     {
         self.colours.as_slice()[number as usize] != rgb && self.colours.contains(&rgb)
     }

@@ -4,6 +4,7 @@ ghost use Rattle.std.specs.Prelude.{◌≡◌, ℕ, ◌*◌, ◌<◌, ◌≤◌,
 ghost use Rattle.std.specs.List.{flat_map};
 ghost use Rattle.picture.specs.Rows.{rows_of, width_of, cell_at, with_cell, line_of, lines_along, HasLine, line_inserted, line_deleted, lines_swapped};
 ghost use Rattle.picture.specs.Picture.{IsPicture, AreCells};
+ghost use Rattle.picture.specs.Palette.{AreAmong};
 ghost use Rattle.picture.specs.Document.{AreColoured, triples_of, with_seen, number_among, renumbered_rows};
 
 use crate::line_edits;
@@ -37,7 +38,7 @@ impl Model for Picture {
 
 #[tactic(auto, using(crate::proofs::FlatLemmas::flat))]
 impl Picture {
-    /// A picture that is all background, of 1 to 120 rows and columns.
+    /// A picture that is all background, of 1 to `MAX_SIDE` rows and columns.
     pub fn blank(alloc: Global, height: u8, width: u8) -> Result<Picture, AllocError>
         requires has_row { 0 < height }
         requires rows_fit { height ≤ MAX_SIDE }
@@ -185,7 +186,8 @@ impl Picture {
         colours: &Palette,
         palette: &mut Palette,
     ) -> Result<Picture, AllocError>
-        requires { AreColoured self.now colours.now }
+        requires coloured { AreColoured self.now colours.now }
+        requires among { AreAmong palette.old colours.now }
         ensures palette { OnOk result (palette.new ≡ with_seen palette.old (flat_map (triples_of colours.now.triples) self.now)) }
         ensures rows { IfOk result (λ p. p ≡ renumbered_rows palette.new.triples colours.now.triples self.now) }
         ensures coloured { IfOk result (λ p. AreColoured p palette.new) }
@@ -213,7 +215,8 @@ fn numbers_for(
     colours: &Palette,
     palette: &mut Palette,
 ) -> Result<Vec<u8>, AllocError>
-    requires { EachIndex cells.now (λ k. slice_index cells.now k < length colours.now.triples) }
+    requires coloured { EachIndex cells.now (λ k. slice_index cells.now k < length colours.now.triples) }
+    requires among { AreAmong palette.old colours.now }
     ensures palette { OnOk result (palette.new ≡ with_seen palette.old (triples_of colours.now.triples cells.now)) }
     ensures numbers { IfOk result (λ numbers. numbers.items ≡ map (number_among palette.new.triples) (triples_of colours.now.triples cells.now)) }
 {

@@ -1,16 +1,14 @@
 -- What two writes after each other have appended.
-use Rattle.std.proofs.Common.{◌≡◌, ℕ, ◌+◌, ◌<◌, ◌≤◌, List, [], ◌∷◌, ◌++◌, take, drop, get_or, length, Option, Some, sym, ap, ◌∙◌, subst, arith, inl, inr}
+use Rattle.std.proofs.Common.{◌≡◌, ℕ, ◌+◌, ◌<◌, ◌≤◌, List, [], ◌∷◌, ◌++◌, take, drop, get_or, length, Option, sym, ap, ◌∙◌, subst, arith, inl, inr}
 use Rattle.std.proofs.lemmas.Bool.{cases_lt}
 use Rattle.std.proofs.lemmas.List.{take-append-le, take_all, take_more, take-append-drop, append-nil}
 use Rattle.std.proofs.lemmas.Result.{on_err_weaker}
 use Rattle.std.proofs.Math.Seq.{take-append_seam, take-append-add}
-use Rattle.std.specs.Prelude.{Result, OnErr, slice_get, codes}
+use Rattle.std.specs.Prelude.{Result, OnErr, codes}
 use Rattle.std.specs.List.{flat_map}
 use Rattle.std.proofs.lemmas.List.Concat.{flat_map-append}
-use Rattle.std.proofs.lemmas.Option.{get_or_from_slice_get}
 use Rattle.picture.specs.declared.rgb.Rgb.{Rgb}
-use Rattle.picture.specs.Document.{first_of}
-use Rattle.ppm_text.specs.Text.{triple_text, cell_text, row_text, rows_text, header_text}
+use Rattle.ppm_text.specs.Text.{cell_text, row_text, rows_text, header_text}
 use Rattle.std.proofs.KnownBytes.{Appends-trans, Appends-nil}
 use Rattle.std.specs.Io.KnownBytes.{Appends}
 use Rattle.picture.specs.Writing.{AppendsFront}
@@ -35,12 +33,6 @@ pub last_front : {T E : Type 0} (r : Result T E) (a b c : Option (List ℕ)) (x 
 last_front r a b c x y first h = on_err_weaker r (second_front a b c x y first) h
 
 pub ruleset sending = (both_sent, first_front, second_front, middle_front, last_front)
-
--- a colour that the palette has at a number
-pub looked_up : (triples : List Rgb) (number : ℕ) (rgb : Rgb) → slice_get triples number ≡ Some rgb → cell_text triples number ≡ triple_text rgb
-looked_up triples number rgb h = ap triple_text (get_or_from_slice_get triples number rgb (first_of triples) h)
-
-pub ruleset cell_lookup = (looked_up)
 
 -- one piece more of a text in pieces
 pieces_more : {X : Type 0} (piece : X → List ℕ) (xs : List X) (i : ℕ) (d : X) → i < length xs → flat_map piece (take (i + 1) xs) ≡ flat_map piece (take i xs) ++ piece (get_or xs i d)

@@ -1,9 +1,10 @@
 -- The one text that is written for a picture.
-use Rattle.std.specs.Prelude.{ℕ, List, [], ◌∷◌, ◌++◌, length, codes, decimal, slice_index_or}
+use Rattle.std.specs.Prelude.{ℕ, List, [], ◌∷◌, ◌++◌, length, codes, decimal}
 use Rattle.std.specs.List.{flat_map}
 use Rattle.picture.specs.declared.rgb.Rgb.{Rgb}
 use Rattle.picture.specs.Rows.{width_of}
-use Rattle.picture.specs.Document.{Content, first_of}
+use Rattle.picture.specs.Palette.{triple_at}
+use Rattle.picture.specs.Document.{Content}
 
 -- a number, and the byte that closes it
 abbrev pub number_text : ℕ → ℕ → List ℕ
@@ -15,7 +16,7 @@ triple_text rgb = number_text rgb.r 32 ++ (number_text rgb.g 32 ++ number_text r
 
 -- a cell, by the colours of the palette
 abbrev pub cell_text : List Rgb → ℕ → List ℕ
-cell_text triples number = triple_text (slice_index_or triples number (first_of triples))
+cell_text triples number = triple_text (triple_at triples number)
 
 -- the cells of a row from the left
 abbrev pub row_text : List Rgb → List ℕ → List ℕ

@@ -36,7 +36,6 @@ fn send_triple<W: Write>(rgb: Rgb, writer: &mut W) -> Result<(), WriteFault>
     send_number(rgb.b, b'\n', writer)
 }
 
-#[tactic(auto, using(crate::proofs::Sending::cell_lookup))]
 // Writes a cell.
 fn send_cell<W: Write>(
     document: &Document,

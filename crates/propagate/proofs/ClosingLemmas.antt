@@ -1,6 +1,5 @@
 -- One line after another evaluated: what stays true, and what it comes to.
 use Rattle.std.proofs.Common.{◌≡◌, ◌≢◌, ℕ, ◌<◌, List, length, get_or, refl, sym, ap, subst, ◌∙◌, arith, ◌⊎◌, inl, inr}
-use Rattle.std.specs.Prelude.{IsBitSet}
 use Rattle.std.proofs.lemmas.Bool.{cases_eq, cases_lt}
 use Rattle.std.proofs.lemmas.List.{get_or_past}
 use Rattle.picture.specs.declared.line_id.Axis.{Axis}
@@ -13,31 +12,26 @@ use Rattle.clues.specs.ClueBook.{Clues, clue_at}
 use Rattle.line_settle.specs.declared.line_engine.Outcome.{Outcome}
 use Rattle.line_settle.specs.declared.line_engine.Outcome.TheVariants.{Narrowed, Dead}
 use Rattle.line_settle.specs.Fitting.{CanFit}
-use Rattle.line_settle.specs.FactSets.{IsFacts, IsClosed, IsWithin, SameShape, Gains, IsOn, row_on, col_on}
+use Rattle.line_settle.specs.FactSets.{IsFacts, IsClosed, IsWithin, SameShape, Gains, row_on, col_on}
 use Rattle.line_settle.proofs.GridLemmas.{cell_on}
 use Rattle.line_settle.proofs.AlongLemmas.{place_on, same_line_length, same_has_line, shape_refl, shape_trans, shape_sym, same_list}
-use Rattle.line_settle.proofs.LawLemmas.{tighter_fits, tighter_have, within_tighter, narrowed_tighter, fits_narrowed, have_narrowed}
-use Rattle.propagate.specs.Closing.{AreClosable, AreLinesOf, IsSettledLine, SettledOutside, Closes, other_axis, crossing_at, CrossesChange, PutsCrossing}
+use Rattle.line_settle.proofs.LawLemmas.{tighter_fits, within_tighter, fits_narrowed}
+use Rattle.line_settle.proofs.ForceLemmas.{on_or_not, gains_grows, gains_inside, gains_closes}
+use Rattle.propagate.specs.Closing.{AreClosable, IsQuietLine, QuietOutside, Closes, other_axis, crossing_at, CrossesChange, PutsCrossing}
+use Rattle.propagate.specs.LineNames.{AreLinesOf}
 use Rattle.propagate.proofs.NameLemmas.{cases_line, none_has}
 
 -- ---- cells on a line
 
-on_cases : (axis : Axis) (at row col : ℕ) → ((i : ℕ) × (row ≡ row_on axis at i) × (col ≡ col_on axis at i)) ⊎ (((i : ℕ) × (row ≡ row_on axis at i) × (col ≡ col_on axis at i)) → ⊥)
-on_cases Across at row col = elim (cases_eq row at) [ inl e ↦ inl (col, e, refl) | inr d ↦ inr (λ p. d p.1) ]
-on_cases Down at row col = elim (cases_eq col at) [ inl e ↦ inl (row, refl, e) | inr d ↦ inr (λ p. d p.2) ]
-
-on_or_not : (line : LineId) (row col : ℕ) → IsOn line row col ⊎ (IsOn line row col → ⊥)
-on_or_not line row col = on_cases line.axis line.at row col
-
 at_on : (facts : List (List ℕ)) (line : LineId) (row col i : ℕ) → row ≡ row_on line.axis line.at i → col ≡ col_on line.axis line.at i → cell_at facts row col ≡ get_or (line_of facts line) i 0
 at_on facts line row col i r c = ap (λ n. cell_at facts n col) r ∙ (ap (λ n. cell_at facts (row_on line.axis line.at i) n) c ∙ sym (cell_on facts line i))
 
--- a cell that two lines share
-meets : (a b : Axis) (at bt i j : ℕ) → row_on b bt j ≡ row_on a at i → col_on b bt j ≡ col_on a at i → ((b ≡ a) × (bt ≡ at)) ⊎ ((b ≡ other_axis a) × (i ≡ bt))
-meets Across Across at bt i j r c = inl (refl, r)
-meets Across Down at bt i j r c = inr (refl, sym c)
-meets Down Across at bt i j r c = inr (refl, sym r)
-meets Down Down at bt i j r c = inl (refl, c)
+-- two lines that share a cell are one line, or they cross there
+shared_cell : (a b : Axis) (at bt i j : ℕ) → row_on b bt j ≡ row_on a at i → col_on b bt j ≡ col_on a at i → ((b ≡ a) × (bt ≡ at)) ⊎ ((b ≡ other_axis a) × (i ≡ bt))
+shared_cell Across Across at bt i j r c = inl (refl, r)
+shared_cell Across Down at bt i j r c = inr (refl, sym c)
+shared_cell Down Across at bt i j r c = inr (refl, sym r)
+shared_cell Down Down at bt i j r c = inl (refl, c)
 
 within_refl : (a : List (List ℕ)) → IsWithin a a
 within_refl a = record { same_shape = shape_refl a; leaves = λ r c k s. s }
@@ -48,32 +42,8 @@ within_trans a b c x y = record { same_shape = shape_trans x.same_shape y.same_s
 -- ---- one line evaluated
 
 module _ (clues : Clues) (line : LineId) (old new : List (List ℕ)) (outcome : Outcome) (has : HasLine old line) (g : Gains (clue_at clues line) line old new outcome) where
-  pub gains_within : IsWithin old new
-  gains_within = record {
-    same_shape = g.same_shape;
-    leaves = λ row col k s.
-        let P : ℕ → Type 0 = λ m. IsBitSet m k in
-        elim (on_or_not line row col) [
-          | inl on ↦
-              let t = narrowed_tighter (clue_at clues line) (line_of old line) (line_of new line) outcome g.narrows in
-              subst P (sym (at_on old line row col on.0 on.1 on.2)) (t.leaves on.0 k (subst P (at_on new line row col on.0 on.1 on.2) s))
-          | inr off ↦ subst P (g.elsewhere row col off) s
-        ];
-  }
-
   pub stays_inside : (others : List (List ℕ)) → IsClosed clues others → IsWithin old others → IsWithin new others
-  stays_inside others closed w = record {
-    same_shape = shape_trans (shape_sym g.same_shape) w.same_shape;
-    leaves = λ row col k s.
-        let P : ℕ → Type 0 = λ m. IsBitSet m k in
-        elim (on_or_not line row col) [
-          | inl on ↦
-              let can = closed line (same_has_line old others line w.same_shape has) on.0 k (subst P (at_on others line row col on.0 on.1 on.2) s) in
-              let may = tighter_have (clue_at clues line) (line_of old line) (line_of others line) (within_tighter old others w line) on.0 k can in
-              subst P (sym (at_on new line row col on.0 on.1 on.2)) ((g.narrows.exact on.0 k).1 may)
-          | inr off ↦ subst P (sym (g.elsewhere row col off)) (w.leaves row col k s)
-        ];
-  }
+  stays_inside others closed w = gains_inside (clue_at clues line) line old new outcome g others w (closed line (same_has_line old others line w.same_shape has))
 
   pub dead_stays : outcome ≡ Dead → (others : List (List ℕ)) → IsWithin old others → CanFit (clue_at clues line) (line_of others line) → ⊥
   dead_stays e others w f =
@@ -82,12 +52,12 @@ module _ (clues : Clues) (line : LineId) (old new : List (List ℕ)) (outcome : 
       let x : Dead ≡ Narrowed = sym e ∙ n in
       absurd cc
 
-  pub settled_here : outcome ≡ Narrowed → IsSettledLine (clue_at clues line) (line_of new line)
-  settled_here e =
+  pub quiet_here : outcome ≡ Narrowed → IsQuietLine (clue_at clues line) (line_of new line)
+  quiet_here e =
       let n = g.narrows in
       let f = n.fits.0 e in
       record {
-        closed = λ i k s. have_narrowed (clue_at clues line) (line_of old line) (line_of new line) outcome n i k ((n.exact i k).0 s);
+        closed = gains_closes (clue_at clues line) line old new outcome g;
         fits = (f.0, fits_narrowed (clue_at clues line) (line_of old line) f.0 (line_of new line) outcome f.1 n);
       }
 
@@ -111,7 +81,7 @@ module _ (clues : Clues) (line : LineId) (old new : List (List ℕ)) (outcome : 
       let row = row_on other.axis other.at j in
       let col = col_on other.axis other.at j in
       let same : cell_at new row col ≡ cell_at old row col = elim (on_or_not line row col) [
-        | inl on ↦ elim (meets line.axis other.axis line.at other.at on.0 j on.1 on.2) [
+        | inl on ↦ elim (shared_cell line.axis other.axis line.at other.at on.0 j on.1 on.2) [
           | inl m ↦ absurd (d (same_name other line m.0 m.1))
           | inr m ↦ unchanged_cell other d n row col on.0 on.1 on.2 m.0 m.1
         ]
@@ -119,12 +89,12 @@ module _ (clues : Clues) (line : LineId) (old new : List (List ℕ)) (outcome : 
       ] in
       cell_on new other j ∙ (same ∙ sym (cell_on old other j)))
 
-  pub settled_after : (agenda rest after : Lines) → outcome ≡ Narrowed → SettledOutside clues old agenda → TakesOutName agenda rest line → PutsCrossing line (line_of old line) (line_of new line) (length (line_of old line)) rest after → SettledOutside clues new after
-  settled_after agenda rest after e s t p other h not = elim (cases_line other line) [
-    | inl same ↦ let P : LineId → Type 0 = λ x. IsSettledLine (clue_at clues x) (line_of new x) in subst P (sym same) (settled_here e)
+  pub quiet_after : (agenda rest after : Lines) → outcome ≡ Narrowed → QuietOutside clues old agenda → TakesOutName agenda rest line → PutsCrossing line (line_of old line) (line_of new line) (length (line_of old line)) rest after → QuietOutside clues new after
+  quiet_after agenda rest after e s t p other h not = elim (cases_line other line) [
+    | inl same ↦ let P : LineId → Type 0 = λ x. IsQuietLine (clue_at clues x) (line_of new x) in subst P (sym same) (quiet_here e)
     | inr d ↦
         let before = s other (same_has_line new old other (shape_sym g.same_shape) h) (λ m. not ((p.names other).1 (inl ((t other).1 (m, d))))) in
-        let P : List ℕ → Type 0 = λ left. IsSettledLine (clue_at clues other) left in
+        let P : List ℕ → Type 0 = λ left. IsQuietLine (clue_at clues other) left in
         subst P (sym (unchanged_line other d (λ x. not ((p.names other).1 (inr x))))) before
   ]
 
@@ -143,16 +113,16 @@ lines_after line old new agenda rest after is has shape of t p other h = same_ha
 
 -- ---- while lines are evaluated
 
--- the facts so far lie between the base and every closed facts that hold it, and each line that does not wait is settled
+-- the facts so far lie between the base and every closed facts that hold it, and each line that does not wait is quiet
 pub record Closing (clues : Clues) (longest : ℕ) (base facts : List (List ℕ)) (agenda : Lines) : Type 0 where
   pub closable : AreClosable clues longest facts
   pub lines : AreLinesOf facts agenda
-  pub settled : SettledOutside clues facts agenda
+  pub quiet : QuietOutside clues facts agenda
   pub holds : IsWithin base facts
   pub inside : (others : List (List ℕ)) → IsClosed clues others → IsWithin base others → IsWithin facts others
 
-pub closing_starts : (clues : Clues) (longest : ℕ) (base : List (List ℕ)) (dirty : Lines) → AreClosable clues longest base → AreLinesOf base dirty → SettledOutside clues base dirty → Closing clues longest base base dirty
-closing_starts clues longest base dirty c l s = record { closable = c; lines = l; settled = s; holds = within_refl base; inside = λ others closed w. w }
+pub closing_starts : (clues : Clues) (longest : ℕ) (base : List (List ℕ)) (dirty : Lines) → AreClosable clues longest base → AreLinesOf base dirty → QuietOutside clues base dirty → Closing clues longest base base dirty
+closing_starts clues longest base dirty c l s = record { closable = c; lines = l; quiet = s; holds = within_refl base; inside = λ others closed w. w }
 
 same_sizes : (clues : Clues) (longest : ℕ) (old new : List (List ℕ)) → SameShape old new → AreClosable clues longest old → AreClosable clues longest new
 same_sizes clues longest old new s c =
@@ -170,8 +140,8 @@ closing_goes_on clues longest base old new agenda rest after line outcome c h t 
     record {
       closable = same_sizes clues longest old new g.same_shape c.closable;
       lines = lines_after line old new agenda rest after is has g.same_shape c.lines t p;
-      settled = settled_after clues line old new outcome has g agenda rest after e c.settled t p;
-      holds = within_trans base old new c.holds (gains_within clues line old new outcome has g);
+      quiet = quiet_after clues line old new outcome has g agenda rest after e c.quiet t p;
+      holds = within_trans base old new c.holds (gains_grows (clue_at clues line) line old new outcome g);
       inside = λ others closed w. stays_inside clues line old new outcome has g others closed (c.inside others closed w);
     }
 
@@ -179,7 +149,7 @@ pub closing_dies : (clues : Clues) (longest : ℕ) (base old new : List (List �
 closing_dies clues longest base old new agenda line outcome c h g e =
     let has = c.lines line h in
     record {
-      holds = within_trans base old new c.holds (gains_within clues line old new outcome has g);
+      holds = within_trans base old new c.holds (gains_grows (clue_at clues line) line old new outcome g);
       inside = λ others closed w. stays_inside clues line old new outcome has g others closed (c.inside others closed w);
       least = λ n. (let x : Dead ≡ Narrowed = sym e ∙ n in absurd cc);
       fits = λ n. (let x : Dead ≡ Narrowed = sym e ∙ n in absurd cc);
@@ -192,7 +162,7 @@ closing_dies clues longest base old new agenda line outcome c h g e =
 
 pub closing_ends : (clues : Clues) (longest : ℕ) (base facts : List (List ℕ)) (agenda : Lines) (outcome : Outcome) → Closing clues longest base facts agenda → agenda ≡ no_names → outcome ≡ Narrowed → Closes clues base facts outcome
 closing_ends clues longest base facts agenda outcome c none e =
-    let all : (line : LineId) → HasLine facts line → IsSettledLine (clue_at clues line) (line_of facts line) = λ line has. c.settled line has (λ h. none_has line (let P : Lines → Type 0 = λ x. HasName x line in subst P none h)) in
+    let all : (line : LineId) → HasLine facts line → IsQuietLine (clue_at clues line) (line_of facts line) = λ line has. c.quiet line has (λ h. none_has line (let P : Lines → Type 0 = λ x. HasName x line in subst P none h)) in
     record {
       holds = c.holds;
       inside = c.inside;

@@ -21,19 +21,15 @@ pub record AreClosable (clues : Clues) (longest : ℕ) (facts : List (List ℕ))
   pub wide : width_of facts ≤ longest
   pub tall : length facts ≤ longest
 
--- the names in a set are names of the facts' lines
-abbrev pub AreLinesOf : List (List ℕ) → Lines → Type 0
-AreLinesOf facts lines = (line : LineId) → HasName lines line → HasLine facts line
-
--- a line forces nothing new, and some list fits it
-pub record IsSettledLine (clue : List Block) (left : List ℕ) : Type 0 where
+-- a quiet line: it forces nothing new, and some list fits it
+pub record IsQuietLine (clue : List Block) (left : List ℕ) : Type 0 where
   pub closed : IsClosedLine clue left
   pub fits : CanFit clue left
 
--- each line but those of a set is settled
-abbrev pub SettledOutside : Clues → List (List ℕ) → Lines → Type 0
-SettledOutside clues facts lines =
-    (line : LineId) → HasLine facts line → (HasName lines line → ⊥) → IsSettledLine (clue_at clues line) (line_of facts line)
+-- each line but those of a set is quiet
+abbrev pub QuietOutside : Clues → List (List ℕ) → Lines → Type 0
+QuietOutside clues facts lines =
+    (line : LineId) → HasLine facts line → (HasName lines line → ⊥) → IsQuietLine (clue_at clues line) (line_of facts line)
 
 -- some list fits each line
 abbrev pub EachFits : Clues → List (List ℕ) → Type 0

@@ -1,4 +1,6 @@
 pub mod Agenda
 pub mod Closing
+pub mod Filling
+pub mod LineNames
 pub mod Settling
 pub mod Laws

@@ -1,8 +1,6 @@
 -- The least closed facts, found afresh from a base.
-use Rattle.std.specs.Prelude.{◌≡◌, ℕ, ◌↔◌, List, Result, Ok, Err}
-use Rattle.picture.specs.declared.line_id.LineId.{LineId}
-use Rattle.picture.specs.LineSet.{Lines, HasName}
-use Rattle.picture.specs.Rows.{HasLine}
+use Rattle.std.specs.Prelude.{◌≡◌, ℕ, List, Result, Ok, Err}
+use Rattle.picture.specs.LineSet.{Lines}
 use Rattle.clues.specs.ClueBook.{Clues}
 use Rattle.line_settle.specs.declared.line_engine.Outcome.TheVariants.{Narrowed, Dead}
 use Rattle.line_settle.specs.declared.meter.Meter.{Meter}
@@ -10,16 +8,13 @@ use Rattle.line_settle.specs.FactSets.{IsLeast}
 use Rattle.propagate.specs.declared.fault.CloseFault.{CloseFault}
 use Rattle.propagate.specs.declared.fault.CloseFault.TheVariants as fault
 use Rattle.propagate.specs.Closing.{EachFits, HasDeadLine, Works}
+use Rattle.propagate.specs.LineNames.{AllLines}
 
 -- the least closed facts, under which some list fits each line; or there is a line that no list fits
 abbrev pub Settles : Clues → List (List ℕ) → Result (List (List ℕ)) CloseFault → Type 0
 Settles clues base (Ok facts) = IsLeast clues base facts × EachFits clues facts
 Settles clues base (Err fault.Dead) = HasDeadLine clues base
 Settles clues base (Err fault.Memory) = Unit {0}
-
--- the lines of the facts, by their names
-abbrev pub AllLines : List (List ℕ) → Lines → Type 0
-AllLines facts lines = (line : LineId) → HasName lines line ↔ HasLine facts line
 
 -- The work is that of closing with all lines waiting. Where memory is wanting, none was done.
 abbrev pub SettlingWorks : Clues → List (List ℕ) → Result (List (List ℕ)) CloseFault → Meter → Meter → ℕ → ℕ → Type 0

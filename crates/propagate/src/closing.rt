@@ -3,19 +3,20 @@ ghost use Rattle.picture.specs.Rows.{line_of, HasLine};
 ghost use Rattle.clues.specs.ClueBook.{clue_at};
 ghost use Rattle.line_settle.specs.Counting.{Counts};
 ghost use Rattle.line_settle.specs.FactSets.{Gains, IsFacts};
-ghost use Rattle.propagate.specs.Closing.{AreClosable, AreLinesOf, Closes, PutsCrossing, SettledOutside, Works};
+ghost use Rattle.propagate.specs.Closing.{AreClosable, Closes, PutsCrossing, QuietOutside, Works};
+ghost use Rattle.propagate.specs.LineNames.{AreLinesOf};
 
 use crate::agenda::Agenda;
 use crate::crossing::{put_crossing, put_lines};
 use clues::ClueBook;
 use line_settle::{Facts, LineEngine, Meter, Outcome, force};
-use picture::{LineId, LineSet};
+use picture::{LineId, LineSet, MAX_SIDE};
 
 // No line has more cells.
-const MOST_CELLS: usize = 120;
+const MOST_CELLS: usize = MAX_SIDE as usize;
 
 /// Excludes in the facts what any line forces, until no line forces more. Every line that is not in `dirty` has to be
-/// settled already: it forces nothing new, and some list fits it. Narrowed leaves the least closed facts that hold the
+/// quiet already: it forces nothing new, and some list fits it. Narrowed leaves the least closed facts that hold the
 /// ones handed in. Dead says that under these some line has no list that fits; what then stands is for throwing away.
 /// The lines that the agenda had are forgotten. No memory is taken.
 pub fn close_facts<E: LineEngine, A: Agenda>(
@@ -28,7 +29,7 @@ pub fn close_facts<E: LineEngine, A: Agenda>(
 ) -> Outcome
     requires closable { AreClosable book.now (E.longest engine.old) facts.old }
     requires lines { AreLinesOf facts.old dirty.now }
-    requires settled { SettledOutside book.now facts.old dirty.now }
+    requires quiet { QuietOutside book.now facts.old dirty.now }
     ensures closes { Closes book.now facts.old facts.new result }
     ensures works { Works book.now dirty.now facts.old facts.new result meter.old meter.new (E.calls engine.old) (E.calls engine.new) }
     ensures same_longest { E.longest engine.new ≡ E.longest engine.old }

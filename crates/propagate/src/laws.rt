@@ -1,14 +1,23 @@
-//! Laws of the least closed facts. Each function does nothing, and its contract is the law.
+//! Laws of the least closed facts, and of pictures that facts allow. Each function does nothing, and its contract is
+//! the law.
 
-ghost use Rattle.propagate.specs.Laws.{LeastIsOne, PictureStays};
-
-/// Two least closed facts that hold one base are the same, whichever engine and agenda found them.
-pub fn least_is_one()
-    ensures { LeastIsOne }
-{}
+ghost use Rattle.propagate.specs.Laws.{ClosingKeepsFillings, OnlyIsClosed, PictureStays};
 
 #[tactic(auto, using(crate::proofs::PictureLemmas::laws))]
 /// Line logic never excludes the colours of a picture that has the clues, where the base doesn't.
 pub fn picture_stays()
     ensures { PictureStays }
+{}
+
+#[tactic(auto, using(crate::proofs::PictureLemmas::laws))]
+/// The facts that leave a picture alone are closed for its clues.
+pub fn only_is_closed()
+    ensures { OnlyIsClosed }
+{}
+
+#[tactic(auto, using(crate::proofs::PictureLemmas::laws))]
+/// The pictures with the clues that the facts handed to `close_facts` allow are those that the facts it leaves allow,
+/// and where it answers Dead there is none. The same holds of the least closed facts.
+pub fn closing_keeps_fillings()
+    ensures { ClosingKeepsFillings }
 {}

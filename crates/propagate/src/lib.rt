@@ -7,6 +7,7 @@ mod crossing;
 mod fault;
 mod in_order;
 pub mod laws;
+mod line_names;
 mod newest_first;
 mod settling;
 
@@ -14,6 +15,7 @@ pub use agenda::Agenda;
 pub use closing::close_facts;
 pub use fault::CloseFault;
 pub use in_order::InOrder;
+pub use line_names::all_lines;
 pub use newest_first::NewestFirst;
 pub use settling::settle_afresh;
 

@@ -1,9 +1,9 @@
 ghost use Rattle.std.specs.Prelude.{◌<◌};
 
-use crate::{Agenda, CloseFault, InOrder, NewestFirst, settle_afresh};
+use crate::{Agenda, CloseFault, InOrder, NewestFirst, all_lines, laws, settle_afresh};
 use clues::{Block, Clue, ClueBook};
 use line_settle::{Facts, LineEngine, Meter, PlainEngine};
-use picture::Picture;
+use picture::{Axis, LineId, Picture};
 use std::alloc::Global;
 use std::process::Abort;
 use std::test::Fail;
@@ -112,6 +112,19 @@ fn a_base_is_held(rt: HostRuntime) -> Result<(), Fail> {
     let settled = settle(&rt, alloc, &mut InOrder::make(), &book, &base)??;
     shows(&rt, &settled, &[2, 1, 1, 2]);
     shows(&rt, &base, &[2, 0xffff, 0xffff, 0xffff]);
+    Ok(())
+}
+
+#[test]
+fn all_lines_are_rows_and_columns(rt: HostRuntime) -> Result<(), Fail> {
+    let lines = all_lines(&Facts::none(rt.alloc(), 2, 3)?);
+    assert_eq!(rt; lines.len(), 5);
+    for axis in [Axis::Across, Axis::Down] {
+        for at in 0..120 {
+            let among = at < 2 || at == 2 && axis == Axis::Down;
+            assert_eq!(rt; lines.has(LineId { axis, at }), among);
+        }
+    }
     Ok(())
 }
 
@@ -227,4 +240,11 @@ fn small_pictures_agree_with_a_listing(rt: HostRuntime) -> Result<(), Fail> {
         row(&rt, rt.alloc(), 3, 3, &cells, &listed_facts(&cells))?;
     }
     Ok(())
+}
+
+#[test]
+fn the_laws_do_nothing() {
+    laws::picture_stays();
+    laws::only_is_closed();
+    laws::closing_keeps_fillings();
 }

@@ -1,5 +1,6 @@
 use Rattle.std.proofs.Common.{ℕ, refl, sym, ◌∙◌, subst}
-use Rattle.propagate.proofs.ClosingLemmas.{Closing, closing_dies, closing_ends, closing_goes_on, gains_within}
+use Rattle.line_settle.proofs.ForceLemmas.{gains_grows}
+use Rattle.propagate.proofs.ClosingLemmas.{Closing, closing_dies, closing_ends, closing_goes_on}
 use Rattle.propagate.proofs.WorkLemmas.{working_dies, working_goes_on, less_to_do}
 use Rattle.propagate.proofs.closing.close_facts.Goals as goal
 
@@ -19,7 +20,7 @@ loop-line-smaller g c =
     let s = c.in-Some.ensures in
     let e = c.in-Narrowed.ensures in
     let has = i.closing.lines c.in-Some.line s.0 in
-    less_to_do _ _ _ _ _ _ e.facts has (gains_within _ _ _ _ _ has e.gains) s.0 s.1 e.puts
+    less_to_do _ _ _ _ _ _ e.facts has (gains_grows _ _ _ _ _ e.gains) s.0 s.1 e.puts
 
 pub loop-line-preserved : goal.loop-line-preserved
 loop-line-preserved g c =

@@ -2,10 +2,10 @@ use Rattle.std.proofs.Common.{◌∙◌}
 use Rattle.picture.proofs.OrderLemmas.{cells_coloured, seen_in_rows, are_numbers, rows_renumbered, numbers_coloured}
 use Rattle.picture.proofs.picture.Picture.renumbered.Goals as goal
 
-pub numbers_for-requires : goal.numbers_for-requires
-numbers_for-requires c =
+pub numbers_for-requires-clause-coloured : goal.numbers_for-requires-clause-coloured
+numbers_for-requires-clause-coloured c =
     let p = c.self.inside in
-    λ k lt. cells_coloured p.height p.width p.cells.items c.args.self.now c.self.view_is c.self.invariant c.args.colours.now.triples c.deref.result.now c.deref.ensures.value _ c.len.ensures.palette.has_background c.requires k
+    λ k lt. cells_coloured p.height p.width p.cells.items c.args.self.now c.self.view_is c.self.invariant c.args.colours.now.triples c.deref.result.now c.deref.ensures.value _ c.len.ensures.palette.has_background c.requires.coloured k
 
 pub from_cells-requires : goal.from_cells-requires
 from_cells-requires c =

@@ -1,5 +1,5 @@
 use Rattle.std.proofs.Common.{sym, ◌∙◌, arith}
-use Rattle.propagate.proofs.NameLemmas.{take_within, no_name_is_empty}
+use Rattle.propagate.proofs.NameLemmas.{no_name_is_empty}
 use Rattle.propagate.proofs.in_order.InOrderAgenda.take.Goals as goal
 
 pub returns-in-None : goal.returns-in-None
@@ -8,4 +8,4 @@ returns-in-None c =
     (sym c.self.view_is ∙ e, sym c.self.view_is ∙ e)
 
 pub invariant_of-self : goal.invariant_of-self
-invariant_of-self c = (take_within _ _ _ c.self.invariant.0 c.take_out.ensures, (let l = c.in-Some.ensures.0 in omega arith))
+invariant_of-self c = (c.take_out.ensures.set, (let l = c.in-Some.ensures.0 in omega arith))

@@ -21,4 +21,4 @@ take_out-requires c =
     name_below _ _ c.self.invariant.within (c.self.invariant.members (c.self.inside.len - 1) below)
 
 pub invariant_of-self : goal.invariant_of-self
-invariant_of-self c = popped_one _ _ _ _ c.self.invariant c.if-self-eq0.false c.take_out.ensures
+invariant_of-self c = popped_one _ _ _ _ c.self.invariant c.if-self-eq0.false c.take_out.ensures.members

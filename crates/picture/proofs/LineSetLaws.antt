@@ -1,0 +1,137 @@
+-- Sets of names of lines as sets: which are one, and what their counts say.
+use Rattle.std.proofs.Common.{◌≡◌, ℕ, ◌+◌, ◌^◌, ◌<◌, refl, sym, ap, ◌∙◌, subst, inl, inr, arith}
+use Rattle.std.specs.Prelude.{IsBitSet, ◌⊎◌, count_ones}
+use Rattle.std.proofs.lemmas.Bool.{cases_eq}
+use Rattle.std.proofs.lemmas.Nat.{zero_from_ones, ones_le_self}
+use Rattle.picture.specs.declared.line_id.Axis.{Axis}
+use Rattle.picture.specs.declared.line_id.Axis.TheVariants.{Across, Down}
+use Rattle.picture.specs.declared.line_id.LineId.{LineId}
+use Rattle.picture.specs.LineSet.{Lines, IsLineSet, mask_along, HasName, PutsName, TakesOutName, name_count, no_names}
+use Rattle.picture.specs.Laws.{SameNamesAreEqual, NamesAreMembers, NamesComeBack}
+use Rattle.picture.proofs.BitLemmas.{zero_has_none, bit_or_not, bit_below, same_bits, same_bits_below, bits_more}
+use Rattle.picture.proofs.LineSetLemmas.{same_name}
+
+across : ℕ → LineId
+across at = record { axis = Across; at = at }
+
+down : ℕ → LineId
+down at = record { axis = Down; at = at }
+
+same_masks : (one other : Lines) → one.rows ≡ other.rows → one.columns ≡ other.columns → one ≡ other
+same_masks one other rows columns = λ i. record { rows = rows i; columns = columns i }
+
+pub same_names : SameNamesAreEqual
+unfolding across down
+same_names one other is_one is_other same =
+    same_masks one other (same_bits_below 120 one.rows other.rows is_one.rows_within is_other.rows_within (λ k. same (across k)))
+    (same_bits_below 120 one.columns other.columns is_one.columns_within is_other.columns_within (λ k. same (down k)))
+
+small_along : (lines : Lines) → IsLineSet lines → (axis : Axis) → mask_along axis lines < 2 ^ 120
+small_along lines is Across = is.rows_within
+small_along lines is Down = is.columns_within
+
+name_in_none : (line : LineId) → ¬ HasName no_names line
+name_in_none line has = zero_has_none line.at (subst (λ mask. IsBitSet mask line.at) (none line.axis) has)
+  where
+    none : (axis : Axis) → mask_along axis no_names ≡ 0
+    none Across = refl
+    none Down = refl
+
+pub no_names_counted : name_count no_names ≡ 0
+no_names_counted = let each = ones_le_self 0 in omega (arith, each)
+
+none_when_zero : (lines : Lines) → name_count lines ≡ 0 → lines ≡ no_names
+none_when_zero lines none =
+    let rows : lines.rows ≡ 0 = zero_from_ones lines.rows (omega arith) in
+    let columns : lines.columns ≡ 0 = zero_from_ones lines.columns (omega arith) in
+    same_masks lines no_names rows columns
+
+pub members : NamesAreMembers
+members = record {
+  decided = λ lines line. bit_or_not (mask_along line.axis lines) line.at;
+  inside = λ lines line is has. bit_below (mask_along line.axis lines) 120 line.at (small_along lines is line.axis) has;
+  empty = name_in_none;
+  counted = λ lines. (none_when_zero lines, λ e. ap name_count e ∙ no_names_counted);
+}
+
+same_axis : (a b : Axis) → (a ≡ b) ⊎ ¬ (a ≡ b)
+same_axis Across Across = inl refl
+same_axis Across Down = inr (λ e. cc)
+same_axis Down Across = inr (λ e. cc)
+same_axis Down Down = inl refl
+
+-- two names are one or not
+cases_name : (a b : LineId) → (a ≡ b) ⊎ ¬ (a ≡ b)
+cases_name a b = elim (same_axis a.axis b.axis) [
+  | inl x ↦ elim (cases_eq a.at b.at) [
+    | inl y ↦ inl (same_name a b x y)
+    | inr other ↦ inr (λ e. other (ap (λ line. line.at) e))
+  ]
+  | inr other ↦ inr (λ e. other (ap (λ line. line.axis) e))
+]
+
+pub come_back : NamesComeBack
+come_back = record {
+  put_first = λ old with_it new line is_old is_new absent puts takes.
+      same_names new old is_new is_old (λ other _. (
+        (λ has. let both = (takes other).0 has in elim ((puts other).0 both.0) [ inl had ↦ had | inr e ↦ absurd (both.1 e) ]),
+        (λ had. (takes other).1 ((puts other).1 (inl had), λ e. absent (subst (HasName old) e had))),
+      ));
+  taken_first = λ old without_it new line is_old is_new had takes puts.
+      same_names new old is_new is_old (λ other _. (
+        (λ has. elim ((puts other).0 has) [ inl kept ↦ ((takes other).0 kept).0 | inr e ↦ subst (HasName old) (sym e) had ]),
+        (λ was. elim (cases_name other line) [ inl e ↦ (puts other).1 (inr e) | inr differs ↦ (puts other).1 (inl ((takes other).1 (was, differs))) ]),
+      ));
+}
+
+-- ---- how many names there are
+
+put_at : (axis : Axis) (at : ℕ) (old new : Lines) → PutsName old new (record { axis = axis; at = at }) → ¬ HasName old (record { axis = axis; at = at }) → name_count new ≡ name_count old + 1
+unfolding across down
+put_at Across at old new puts absent =
+    let rows = bits_more at old.rows new.rows absent (λ i. (
+      (λ is. elim ((puts (across i)).0 is) [ inl had ↦ inl had | inr e ↦ inr (ap (λ (line : LineId). line.at) e) ]),
+      (λ either. elim either [ inl had ↦ (puts (across i)).1 (inl had) | inr e ↦ (puts (across i)).1 (inr (ap across e)) ]),
+    )) in
+    let columns = same_bits new.columns old.columns (λ i. (
+      (λ is. elim ((puts (down i)).0 is) [ inl had ↦ had | inr e ↦ let x : Down ≡ Across = ap (λ (line : LineId). line.axis) e in absurd cc ]),
+      (λ had. (puts (down i)).1 (inl had)),
+    )) in
+    omega (arith, rows, ap count_ones columns)
+put_at Down at old new puts absent =
+    let columns = bits_more at old.columns new.columns absent (λ i. (
+      (λ is. elim ((puts (down i)).0 is) [ inl had ↦ inl had | inr e ↦ inr (ap (λ (line : LineId). line.at) e) ]),
+      (λ either. elim either [ inl had ↦ (puts (down i)).1 (inl had) | inr e ↦ (puts (down i)).1 (inr (ap down e)) ]),
+    )) in
+    let rows = same_bits new.rows old.rows (λ i. (
+      (λ is. elim ((puts (across i)).0 is) [ inl had ↦ had | inr e ↦ let x : Across ≡ Down = ap (λ (line : LineId). line.axis) e in absurd cc ]),
+      (λ had. (puts (across i)).1 (inl had)),
+    )) in
+    omega (arith, columns, ap count_ones rows)
+
+module _ (old new : Lines) (line : LineId) where
+  pub more_put : PutsName old new line → ¬ HasName old line → name_count new ≡ name_count old + 1
+  more_put puts absent = put_at line.axis line.at old new puts absent
+
+  pub fewer_out : TakesOutName old new line → HasName old line → name_count new + 1 ≡ name_count old
+  fewer_out takes has = sym (put_at line.axis line.at new old back (λ is. ((takes line).0 is).1 refl))
+    where
+      back : PutsName new old line
+      back other = (
+        (λ is. elim (cases_name other line) [ inl e ↦ inr e | inr differs ↦ inl ((takes other).1 (is, differs)) ]),
+        (λ either. elim either [ inl is ↦ ((takes other).0 is).0 | inr e ↦ subst (HasName old) (sym e) has ]),
+      )
+
+  pub known_put : IsLineSet old → IsLineSet new → PutsName old new line → HasName old line → new ≡ old
+  known_put is_old is_new puts has = same_names new old is_new is_old (λ other _. (
+    (λ is. elim ((puts other).0 is) [ inl had ↦ had | inr e ↦ subst (HasName old) (sym e) has ]),
+    (λ had. (puts other).1 (inl had)),
+  ))
+
+  pub absent_out : IsLineSet old → IsLineSet new → TakesOutName old new line → ¬ HasName old line → new ≡ old
+  absent_out is_old is_new takes absent = same_names new old is_new is_old (λ other _. (
+    (λ is. ((takes other).0 is).0),
+    (λ had. (takes other).1 (had, λ e. absent (subst (HasName old) e had))),
+  ))
+
+pub ruleset laws = (same_names, members, come_back)

@@ -1,0 +1,9 @@
+use Rattle.std.proofs.Common.{sym, ◌∙◌}
+use Rattle.std.proofs.lemmas.Bool.{eqb-true, eq-eqb}
+use Rattle.picture.proofs.CellSetLaws.{members}
+use Rattle.picture.proofs.cell_set.CellSet.is_empty.Goals as goal
+
+pub returns-clause-value : goal.returns-clause-value
+returns-clause-value c =
+    let by = members.counted c.args.self.now c.len.ensures.set in
+    ((λ t. by.0 (sym c.len.ensures.value ∙ eqb-true _ _ t)), (λ e. eq-eqb _ _ (c.len.ensures.value ∙ by.1 e)))
