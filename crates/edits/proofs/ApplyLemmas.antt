@@ -71,11 +71,11 @@ module _ (d : Design) (e : Edit) (is : IsDesign d) (is_lawful : IsLawful d e) wh
   cells_fit p =
       all_has (IsCellIn d.rows) (map (repainted e) (changed_cells e d.rows))
       (λ c has.
-          let of = has_from_map (repainted e) (changed_cells e d.rows) c has in
-          let was = changed_from e d.rows of.0 of.1 in
-          let old : of.0.2 < length d.colours.triples = rw (← was.2) (is.is_coloured of.0.0 of.0.1) in
-          let small : colour_after e of.0.0 of.0.1 of.0.2 < 16 = omega (arith, is.is_palette.colours_fit, p.fits d.colours of.0.0 of.0.1 of.0.2 is_lawful.coloured old) in
-          subst (IsCellIn d.rows) of.2 (was.0, was.1, small))
+      let of = has_from_map (repainted e) (changed_cells e d.rows) c has in
+      let was = changed_from e d.rows of.0 of.1 in
+      let old : of.0.2 < length d.colours.triples = rw (← was.2) (is.is_coloured of.0.0 of.0.1) in
+      let small : colour_after e of.0.0 of.0.1 of.0.2 < 16 = omega (arith, is.is_palette.colours_fit, p.fits d.colours of.0.0 of.0.1 of.0.2 is_lawful.coloured old) in
+      subst (IsCellIn d.rows) of.2 (was.0, was.1, small))
 
   pub painted_gives : Paints e → design d.colours (with_cells d.rows (map (repainted e) (changed_cells e d.rows))) d.marks ≡ edited d e
   painted_gives p = ap (λ r. design d.colours r d.marks) (paints_cells e d.rows is.is_picture) ∙ sym (p.gives d)

@@ -151,20 +151,20 @@ pub painted_unchanged : (e : Edit) (rows : List (List ℕ)) → IsPicture rows �
 painted_unchanged e rows is none =
     grid_same (length rows) (width_of rows) (λ i j. colour_after e i j (cell_at rows i j)) rows (picture_is_grid rows is)
     (λ i j in_rows in_columns.
-        elim (cases_eq (colour_after e i j (cell_at rows i j)) (cell_at rows i j)) [
-          | inl same ↦ same
-          | inr other ↦ absurd (rw none at (changed_has e rows i j in_rows in_columns other))
-        ])
+    elim (cases_eq (colour_after e i j (cell_at rows i j)) (cell_at rows i j)) [
+      | inl same ↦ same
+      | inr other ↦ absurd (rw none at (changed_has e rows i j in_rows in_columns other))
+    ])
 
 pub unchanged_painted : (e : Edit) (rows : List (List ℕ)) → painted e rows ≡ rows → changed_cells e rows ≡ []
 unchanged_painted e rows same =
     joined_gap (changed_in_row e rows) 0 (length rows) (omega arith)
     (λ i _ in_rows.
-        joined_gap (changed_cell e rows i) 0 (width_of rows) (omega arith)
-        (λ j _ in_columns.
-            unchanged_cell e rows i j
-            (sym (cell_at-grid (length rows) (width_of rows) (λ i j. colour_after e i j (cell_at rows i j)) i j in_rows in_columns) ∙ ap (λ r. cell_at r i j) same))
-        ∙ joined_none (changed_cell e rows i))
+    joined_gap (changed_cell e rows i) 0 (width_of rows) (omega arith)
+    (λ j _ in_columns.
+    unchanged_cell e rows i j
+    (sym (cell_at-grid (length rows) (width_of rows) (λ i j. colour_after e i j (cell_at rows i j)) i j in_rows in_columns) ∙ ap (λ r. cell_at r i j) same))
+    ∙ joined_none (changed_cell e rows i))
     ∙ joined_none (changed_in_row e rows)
 
 pub has_map : (f : Cell → Cell) (cells : List Cell) (c : Cell) → Has cells c → Has (map f cells) (f c)
@@ -187,16 +187,16 @@ paints_cells e rows is =
     let value : ℕ → ℕ → ℕ = λ i j. colour_after e i j (cell_at rows i j) in
     with_cells_give h w (map (repainted e) (changed_cells e rows)) rows (painted e rows) (picture_is_grid rows is) (grid_is_grid h w value)
     (λ c has.
-        let of = has_from_map (repainted e) (changed_cells e rows) c has in
-        let was = changed_from e rows of.0 of.1 in
-        subst (λ (d : Cell). (d.0 < h) × (d.1 < w) × (cell_at (painted e rows) d.0 d.1 ≡ d.2)) of.2
-        (was.0, was.1, cell_at-grid h w value of.0.0 of.0.1 was.0 was.1 ∙ ap (λ x. colour_after e of.0.0 of.0.1 x) was.2))
+    let of = has_from_map (repainted e) (changed_cells e rows) c has in
+    let was = changed_from e rows of.0 of.1 in
+    subst (λ (d : Cell). (d.0 < h) × (d.1 < w) × (cell_at (painted e rows) d.0 d.1 ≡ d.2)) of.2
+    (was.0, was.1, cell_at-grid h w value of.0.0 of.0.1 was.0 was.1 ∙ ap (λ x. colour_after e of.0.0 of.0.1 x) was.2))
     (λ i j in_rows in_columns.
-        let after = cell_at-grid h w value i j in_rows in_columns in
-        elim (cases_eq (colour_after e i j (cell_at rows i j)) (cell_at rows i j)) [
-          | inl same ↦ inl (sym (after ∙ same))
-          | inr other ↦ inr (rw after (has_map (repainted e) (changed_cells e rows) (i, j, cell_at rows i j) (changed_has e rows i j in_rows in_columns other)))
-        ])
+    let after = cell_at-grid h w value i j in_rows in_columns in
+    elim (cases_eq (colour_after e i j (cell_at rows i j)) (cell_at rows i j)) [
+      | inl same ↦ inl (sym (after ∙ same))
+      | inr other ↦ inr (rw after (has_map (repainted e) (changed_cells e rows) (i, j, cell_at rows i j) (changed_has e rows i j in_rows in_columns other)))
+    ])
 
 pub gives_cells_back : (e : Edit) (rows : List (List ℕ)) → IsPicture rows → with_cells (painted e rows) (changed_cells e rows) ≡ rows
 gives_cells_back e rows is =
@@ -206,11 +206,11 @@ gives_cells_back e rows is =
     with_cells_give h w (changed_cells e rows) (painted e rows) rows (grid_is_grid h w value) (picture_is_grid rows is)
     (λ c has. let was = changed_from e rows c has in (was.0, was.1, was.2))
     (λ i j in_rows in_columns.
-        let after = cell_at-grid h w value i j in_rows in_columns in
-        elim (cases_eq (colour_after e i j (cell_at rows i j)) (cell_at rows i j)) [
-          | inl same ↦ inl (after ∙ same)
-          | inr other ↦ inr (changed_has e rows i j in_rows in_columns other)
-        ])
+    let after = cell_at-grid h w value i j in_rows in_columns in
+    elim (cases_eq (colour_after e i j (cell_at rows i j)) (cell_at rows i j)) [
+      | inl same ↦ inl (after ∙ same)
+      | inr other ↦ inr (changed_has e rows i j in_rows in_columns other)
+    ])
 
 -- what is true of all that a list has
 has_at : {X : Type 0} (xs : List X) (k : ℕ) (d : X) → k < length xs → Has xs (get_or xs k d)

@@ -71,30 +71,30 @@ pinned_marks h w old new row col in_rows in_columns puts =
     let is = grid_is_grid h w (mark_at old) in
     grid_same h w (mark_at new) (with_cell (marks_of h w old) row col 1) (with_cell_is_grid h w (marks_of h w old) row col 1 is in_rows)
     (λ i j i_in j_in.
-        let off = λ (other : (i ≡ row) × (j ≡ col) → ⊥). mark_same old new i j ((λ has. elim ((puts i j).0 has) [ inl had ↦ had | inr at ↦ absurd (other at) ]), (λ had. (puts i j).1 (inl had))) in
-        elim (cases_eq i row) [
-          | inl e ↦
-              elim (cases_eq j col) [
-                | inl f ↦ mark_has new i j ((puts i j).1 (inr (e, f))) ∙ sym (ap (λ a. cell_at (with_cell (marks_of h w old) row col 1) a j) e ∙ (ap (cell_at (with_cell (marks_of h w old) row col 1) row) f ∙ cell_at-with_same h w (marks_of h w old) row col 1 is in_rows in_columns))
-                | inr g ↦ off (λ at. g at.1) ∙ sym (ap (λ a. cell_at (with_cell (marks_of h w old) row col 1) a j) e ∙ (cell_at-with_column h w (marks_of h w old) row col 1 j is in_rows g ∙ (ap (λ a. cell_at (marks_of h w old) a j) (sym e) ∙ cell_at-grid h w (mark_at old) i j i_in j_in)))
-              ]
-          | inr g ↦ off (λ at. g at.0) ∙ sym (cell_at-with_row (marks_of h w old) row col 1 i j g ∙ cell_at-grid h w (mark_at old) i j i_in j_in)
-        ])
+    let off = λ (other : (i ≡ row) × (j ≡ col) → ⊥). mark_same old new i j ((λ has. elim ((puts i j).0 has) [ inl had ↦ had | inr at ↦ absurd (other at) ]), (λ had. (puts i j).1 (inl had))) in
+    elim (cases_eq i row) [
+      | inl e ↦
+          elim (cases_eq j col) [
+            | inl f ↦ mark_has new i j ((puts i j).1 (inr (e, f))) ∙ sym (ap (λ a. cell_at (with_cell (marks_of h w old) row col 1) a j) e ∙ (ap (cell_at (with_cell (marks_of h w old) row col 1) row) f ∙ cell_at-with_same h w (marks_of h w old) row col 1 is in_rows in_columns))
+            | inr g ↦ off (λ at. g at.1) ∙ sym (ap (λ a. cell_at (with_cell (marks_of h w old) row col 1) a j) e ∙ (cell_at-with_column h w (marks_of h w old) row col 1 j is in_rows g ∙ (ap (λ a. cell_at (marks_of h w old) a j) (sym e) ∙ cell_at-grid h w (mark_at old) i j i_in j_in)))
+          ]
+      | inr g ↦ off (λ at. g at.0) ∙ sym (cell_at-with_row (marks_of h w old) row col 1 i j g ∙ cell_at-grid h w (mark_at old) i j i_in j_in)
+    ])
 
 pub unpinned_marks : (h w : ℕ) (old new : List ℕ) (row col : ℕ) → row < h → col < w → TakesOutCell old new row col → marks_of h w new ≡ with_cell (marks_of h w old) row col 0
 unpinned_marks h w old new row col in_rows in_columns takes =
     let is = grid_is_grid h w (mark_at old) in
     grid_same h w (mark_at new) (with_cell (marks_of h w old) row col 0) (with_cell_is_grid h w (marks_of h w old) row col 0 is in_rows)
     (λ i j i_in j_in.
-        let off = λ (other : (i ≡ row) × (j ≡ col) → ⊥). mark_same old new i j ((λ has. ((takes i j).0 has).0), (λ had. (takes i j).1 (had, other))) in
-        elim (cases_eq i row) [
-          | inl e ↦
-              elim (cases_eq j col) [
-                | inl f ↦ mark_none new i j (λ has. ((takes i j).0 has).1 (e, f)) ∙ sym (ap (λ a. cell_at (with_cell (marks_of h w old) row col 0) a j) e ∙ (ap (cell_at (with_cell (marks_of h w old) row col 0) row) f ∙ cell_at-with_same h w (marks_of h w old) row col 0 is in_rows in_columns))
-                | inr g ↦ off (λ at. g at.1) ∙ sym (ap (λ a. cell_at (with_cell (marks_of h w old) row col 0) a j) e ∙ (cell_at-with_column h w (marks_of h w old) row col 0 j is in_rows g ∙ (ap (λ a. cell_at (marks_of h w old) a j) (sym e) ∙ cell_at-grid h w (mark_at old) i j i_in j_in)))
-              ]
-          | inr g ↦ off (λ at. g at.0) ∙ sym (cell_at-with_row (marks_of h w old) row col 0 i j g ∙ cell_at-grid h w (mark_at old) i j i_in j_in)
-        ])
+    let off = λ (other : (i ≡ row) × (j ≡ col) → ⊥). mark_same old new i j ((λ has. ((takes i j).0 has).0), (λ had. (takes i j).1 (had, other))) in
+    elim (cases_eq i row) [
+      | inl e ↦
+          elim (cases_eq j col) [
+            | inl f ↦ mark_none new i j (λ has. ((takes i j).0 has).1 (e, f)) ∙ sym (ap (λ a. cell_at (with_cell (marks_of h w old) row col 0) a j) e ∙ (ap (cell_at (with_cell (marks_of h w old) row col 0) row) f ∙ cell_at-with_same h w (marks_of h w old) row col 0 is in_rows in_columns))
+            | inr g ↦ off (λ at. g at.1) ∙ sym (ap (λ a. cell_at (with_cell (marks_of h w old) row col 0) a j) e ∙ (cell_at-with_column h w (marks_of h w old) row col 0 j is in_rows g ∙ (ap (λ a. cell_at (marks_of h w old) a j) (sym e) ∙ cell_at-grid h w (mark_at old) i j i_in j_in)))
+          ]
+      | inr g ↦ off (λ at. g at.0) ∙ sym (cell_at-with_row (marks_of h w old) row col 0 i j g ∙ cell_at-grid h w (mark_at old) i j i_in j_in)
+    ])
 
 -- a document from its parts
 pub assembled : (p p' : Colours) (r r' : List (List ℕ)) (g : List ℕ) (m : List (List ℕ)) → p' ≡ p → r' ≡ r → marks_of (length r) (width_of r) g ≡ m → design p' r' (marks_of (length r') (width_of r') g) ≡ design p r m

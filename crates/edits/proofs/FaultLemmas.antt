@@ -83,4 +83,4 @@ differs a b e same = absurd (cc (e, same_when a b same))
 pub entry_of : (d : Design) (e : Edit) (n : Note) → IsDesign d → edit_fault d e ≡ None → n ≡ note_for d e → IsEntry d n
 entry_of d e n is none kept =
     let same : n.edit ≡ e = ap (λ (m : Note). m.edit) kept in
-    record { is_design = is; lawful = rw same none; kept = rw same kept }
+    record { is_design = is; lawful = ap (edit_fault d) same ∙ none; kept = kept ∙ ap (note_for d) (sym same) }

@@ -37,9 +37,9 @@ pub same_grid : (h w : ℕ) (a b : List (List ℕ)) → IsGrid h w a → IsGrid 
 same_grid h w a b is_a is_b same =
     ext_get_or [] a b (is_a.row_count ∙ sym is_b.row_count)
     (λ i within.
-        let inside : i < h = omega (arith, is_a.row_count) in
-        ext_get_or 0 (get_or a i []) (get_or b i []) (is_a.row_lengths i inside ∙ sym (is_b.row_lengths i inside))
-        (λ j in_row. same i j inside (omega (arith, is_a.row_lengths i inside))))
+    let inside : i < h = omega (arith, is_a.row_count) in
+    ext_get_or 0 (get_or a i []) (get_or b i []) (is_a.row_lengths i inside ∙ sym (is_b.row_lengths i inside))
+    (λ j in_row. same i j inside (omega (arith, is_a.row_lengths i inside))))
 
 pub grid_same : (h w : ℕ) (value : ℕ → ℕ → ℕ) (rows : List (List ℕ)) → IsGrid h w rows → ((i j : ℕ) → i < h → j < w → value i j ≡ cell_at rows i j) → grid h w value ≡ rows
 grid_same h w value rows is same =

@@ -70,16 +70,20 @@ lines_along-deleted Down at h w rows is some lt =
 pub insert_idle : (d : Design) (line : LineId) (marks : List (List ℕ)) → IsDesign d → line.at ≤ lines_along line.axis d.rows → false ≡ same_design (design d.colours (with_line line.axis line.at d.rows) marks) d
 insert_idle d line marks is le =
     sym (other_when _ d (λ same.
-        absurd (omega (arith,
-          lines_along-inserted line.axis line.at (length d.rows) (width_of d.rows) d.rows (picture_is_grid d.rows is.is_picture) is.is_picture.has_row (rw (← size_of_lines line.axis d.rows) le),
-          ap (λ (x : Design). lines_along line.axis x.rows) same))))
+    absurd (omega (
+      arith,
+      lines_along-inserted line.axis line.at (length d.rows) (width_of d.rows) d.rows (picture_is_grid d.rows is.is_picture) is.is_picture.has_row (rw (← size_of_lines line.axis d.rows) le),
+      ap (λ (x : Design). lines_along line.axis x.rows) same,
+    ))))
 
 pub delete_idle : (d : Design) (line : LineId) (marks : List (List ℕ)) → IsDesign d → line.at < lines_along line.axis d.rows → false ≡ same_design (design d.colours (without_line line.axis line.at d.rows) marks) d
 delete_idle d line marks is lt =
     sym (other_when _ d (λ same.
-        absurd (omega (arith,
-          lines_along-deleted line.axis line.at (length d.rows) (width_of d.rows) d.rows (picture_is_grid d.rows is.is_picture) is.is_picture.has_row (rw (← size_of_lines line.axis d.rows) lt),
-          ap (λ (x : Design). lines_along line.axis x.rows) same))))
+    absurd (omega (
+      arith,
+      lines_along-deleted line.axis line.at (length d.rows) (width_of d.rows) d.rows (picture_is_grid d.rows is.is_picture) is.is_picture.has_row (rw (← size_of_lines line.axis d.rows) lt),
+      ap (λ (x : Design). lines_along line.axis x.rows) same,
+    ))))
 
 -- lines exchanged
 swap_same : {X : Type 0} (xs : List X) (i j : ℕ) (d : X) → i < length xs → j < length xs → get_or xs i d ≡ get_or xs j d → swap xs i j ≡ xs
@@ -87,10 +91,10 @@ swap_same xs i j d in_i in_j same =
     let is = swapped_from_swap xs (swap xs i j) i j d in_i in_j refl in
     ext_get_or d (swap xs i j) xs (length-swap xs i j)
     (λ k within.
-        elim (cases_eq k i) [
-          | inl e ↦ rw e (is.0 ∙ sym same)
-          | inr not_i ↦ elim (cases_eq k j) [ inl e ↦ rw e (is.1 ∙ same) | inr not_j ↦ is.2 k not_i not_j ]
-        ])
+    elim (cases_eq k i) [
+      | inl e ↦ rw e (is.0 ∙ sym same)
+      | inr not_i ↦ elim (cases_eq k j) [ inl e ↦ rw e (is.1 ∙ same) | inr not_j ↦ is.2 k not_i not_j ]
+    ])
 
 pub alike_swapped : (axis : Axis) (first second h w : ℕ) (rows : List (List ℕ)) → IsGrid h w rows → 0 < h → first < size_along axis h w → second < size_along axis h w → ((k : ℕ) → k < cells_along axis rows → SameAt axis first second rows k) → lines_swapped axis first second rows ≡ rows
 alike_swapped Across first second h w rows is some f s alike =
@@ -100,10 +104,10 @@ alike_swapped Across first second h w rows is some f s alike =
 alike_swapped Down first second h w rows is some f s alike =
     ext_get_or [] (map (λ row. swap row first second) rows) rows (length-map rows (λ row. swap row first second))
     (λ k within.
-        let in_rows : k < length rows = omega (arith, length-map rows (λ row. swap row first second)) in
-        let wide = is.row_lengths k (omega (arith, is.row_count)) in
-        get_or-map (λ row. swap row first second) rows k [] [] in_rows
-        ∙ swap_same (get_or rows k []) first second 0 (omega (arith, wide)) (omega (arith, wide)) (alike k in_rows))
+    let in_rows : k < length rows = omega (arith, length-map rows (λ row. swap row first second)) in
+    let wide = is.row_lengths k (omega (arith, is.row_count)) in
+    get_or-map (λ row. swap row first second) rows k [] [] in_rows
+    ∙ swap_same (get_or rows k []) first second 0 (omega (arith, wide)) (omega (arith, wide)) (alike k in_rows))
 
 swapped_cell : (axis : Axis) (first second h w : ℕ) (rows : List (List ℕ)) (k : ℕ) → IsGrid h w rows → 0 < h → first < size_along axis h w → second < size_along axis h w → k < cells_along axis rows → cell_at (lines_swapped axis first second rows) (place_on axis first k).0 (place_on axis first k).1 ≡ cell_at rows (place_on axis second k).0 (place_on axis second k).1
 swapped_cell Across first second h w rows k is some f s within =
@@ -139,9 +143,10 @@ swap_idle d axis first second false is f s other =
     let f' : first < size_along axis h w = rw (← size_of_lines axis d.rows) f in
     let s' : second < size_along axis h w = rw (← size_of_lines axis d.rows) s in
     let long = cells_along-same axis d.rows d.marks h w grid is.marks_fit is.is_picture.has_row in
-    sym (other_when _ d (λ same. other (λ k within.
-        (swapped_alike axis first second h w d.rows grid is.is_picture.has_row f' s' (ap (λ (x : Design). x.rows) same) k within,
-          swapped_alike axis first second h w d.marks is.marks_fit is.is_picture.has_row f' s' (ap (λ (x : Design). x.marks) same) k (rw (← long) within)))))
+    sym (other_when _ d (λ same. other (λ k within. (
+      swapped_alike axis first second h w d.rows grid is.is_picture.has_row f' s' (ap (λ (x : Design). x.rows) same) k within,
+      swapped_alike axis first second h w d.marks is.marks_fit is.is_picture.has_row f' s' (ap (λ (x : Design). x.marks) same) k (rw (← long) within),
+    ))))
 
 -- colours
 pub add_idle : (d : Design) (rgb : Rgb) → false ≡ same_design (design (with_colour d.colours rgb) d.rows d.marks) d

@@ -31,14 +31,14 @@ swap-swap xs i j d in_i in_j =
     let twice = swapped_from_swap ys (swap ys i j) i j d (omega (arith, length-swap xs i j)) (omega (arith, length-swap xs i j)) refl in
     ext_get_or d (swap ys i j) xs (length-swap ys i j ∙ length-swap xs i j)
     (λ k within.
-        elim (cases_eq k i) [
-          | inl e ↦ rw e (twice.0 ∙ once.1)
-          | inr not_i ↦
-              elim (cases_eq k j) [
-                | inl e ↦ rw e (twice.1 ∙ once.0)
-                | inr not_j ↦ twice.2 k not_i not_j ∙ once.2 k not_i not_j
-              ]
-        ])
+    elim (cases_eq k i) [
+      | inl e ↦ rw e (twice.0 ∙ once.1)
+      | inr not_i ↦
+          elim (cases_eq k j) [
+            | inl e ↦ rw e (twice.1 ∙ once.0)
+            | inr not_j ↦ twice.2 k not_i not_j ∙ once.2 k not_i not_j
+          ]
+    ])
 
 map_back : (f g : List ℕ → List ℕ) (width : ℕ) → ((row : List ℕ) → length row ≡ width → f (g row) ≡ row) → (rows : List (List ℕ)) → ((i : ℕ) → i < length rows → length (get_or rows i []) ≡ width) → map f (map g rows) ≡ rows
 map_back f g width back [] equal = refl
@@ -148,18 +148,18 @@ gives_line_back axis at h w rows is some within more =
     rw (insert_delete axis at h w rows is within more)
     (with_cells_give h w (cells_of_line rows (line_at axis at)) (blanked axis at w rows) rows (blanked_is_grid axis at h w rows is within) is
     (λ c has.
-        let from = joined_from (λ k. cell_on rows (place_on axis at k) ∷ []) (cells_along axis rows) c has in
-        let e : cell_on rows (place_on axis at from.0) ≡ c = elim from.2 [ inl same ↦ same | inr none ↦ absurd none ] in
-        let inside = place_on_line axis at h w from.0 within (omega (arith, from.1, cells_along_is axis h w rows is some)) in
-        subst (λ (d : Cell). (d.0 < h) × (d.1 < w) × (cell_at rows d.0 d.1 ≡ d.2)) e (inside.0, inside.1, refl))
+    let from = joined_from (λ k. cell_on rows (place_on axis at k) ∷ []) (cells_along axis rows) c has in
+    let e : cell_on rows (place_on axis at from.0) ≡ c = elim from.2 [ inl same ↦ same | inr none ↦ absurd none ] in
+    let inside = place_on_line axis at h w from.0 within (omega (arith, from.1, cells_along_is axis h w rows is some)) in
+    subst (λ (d : Cell). (d.0 < h) × (d.1 < w) × (cell_at rows d.0 d.1 ≡ d.2)) e (inside.0, inside.1, refl))
     (λ i j in_rows in_columns.
-        elim (cases_eq (along_line axis i j) at) [
-          | inl on ↦
-              let k = along_line (crossing axis) i j in
-              let within_line : k < cells_along axis rows = omega (arith, cells_along_is axis h w rows is some, position_within axis h w i j in_rows in_columns) in
-              inr (joined_has (λ k. cell_on rows (place_on axis at k) ∷ []) (cells_along axis rows) k (i, j, cell_at rows i j) within_line (inl (ap (cell_on rows) (place_on_position axis at i j on))))
-          | inr off ↦ inl (blanked_off axis at h w rows i j is in_rows off)
-        ]))
+    elim (cases_eq (along_line axis i j) at) [
+      | inl on ↦
+          let k = along_line (crossing axis) i j in
+          let within_line : k < cells_along axis rows = omega (arith, cells_along_is axis h w rows is some, position_within axis h w i j in_rows in_columns) in
+          inr (joined_has (λ k. cell_on rows (place_on axis at k) ∷ []) (cells_along axis rows) k (i, j, cell_at rows i j) within_line (inl (ap (cell_on rows) (place_on_position axis at i j on))))
+      | inr off ↦ inl (blanked_off axis at h w rows i j is in_rows off)
+    ]))
 
 -- its givens given back
 has_as_mark : (places : List (ℕ × ℕ)) (place : ℕ × ℕ) → Has places place → Has (map as_mark places) (as_mark place)
@@ -187,26 +187,26 @@ gives_givens_back axis at h w marks is are some within more =
     rw (insert_delete axis at h w marks is within more)
     (with_cells_give h w (map as_mark (givens_of_line marks (line_at axis at))) (blanked axis at w marks) marks (blanked_is_grid axis at h w marks is within) is
     (λ c has.
-        let of = from_as_mark (givens_of_line marks (line_at axis at)) c has in
-        let from = joined_from (λ k. given_on marks (place_on axis at k)) (cells_along axis marks) of.0 of.1 in
-        let p = place_on axis at from.0 in
-        let given = given_from (cell_at marks p.0 p.1 == 0) p of.0 from.2 in
-        let inside = place_on_line axis at h w from.0 within (omega (arith, from.1, cells_along_is axis h w marks is some)) in
-        let one : cell_at marks p.0 p.1 ≡ 1 = omega (arith, are p.0 p.1, eqb-false (cell_at marks p.0 p.1) 0 given.0) in
-        subst (λ (d : Cell). (d.0 < h) × (d.1 < w) × (cell_at marks d.0 d.1 ≡ d.2)) (ap as_mark given.1 ∙ of.2) (inside.0, inside.1, one))
+    let of = from_as_mark (givens_of_line marks (line_at axis at)) c has in
+    let from = joined_from (λ k. given_on marks (place_on axis at k)) (cells_along axis marks) of.0 of.1 in
+    let p = place_on axis at from.0 in
+    let given = given_from (cell_at marks p.0 p.1 == 0) p of.0 from.2 in
+    let inside = place_on_line axis at h w from.0 within (omega (arith, from.1, cells_along_is axis h w marks is some)) in
+    let one : cell_at marks p.0 p.1 ≡ 1 = omega (arith, are p.0 p.1, eqb-false (cell_at marks p.0 p.1) 0 given.0) in
+    subst (λ (d : Cell). (d.0 < h) × (d.1 < w) × (cell_at marks d.0 d.1 ≡ d.2)) (ap as_mark given.1 ∙ of.2) (inside.0, inside.1, one))
     (λ i j in_rows in_columns.
-        elim (cases_eq (along_line axis i j) at) [
-          | inl on ↦
-              elim (cases_eq (cell_at marks i j) 0) [
-                | inl none ↦ inl (blanked_on axis at h w marks i j is in_rows in_columns on ∙ sym none)
-                | inr some_here ↦
-                    let k = along_line (crossing axis) i j in
-                    let within_line : k < cells_along axis marks = omega (arith, cells_along_is axis h w marks is some, position_within axis h w i j in_rows in_columns) in
-                    let place = place_on_position axis at i j on in
-                    let one : cell_at marks i j ≡ 1 = omega (arith, are i j, some_here) in
-                    let here : Has (given_on marks (i, j)) (i, j) = given_has (cell_at marks i j == 0) (i, j) (ne_eqb (cell_at marks i j) 0 some_here) in
-                    let there : Has (given_on marks (place_on axis at k)) (i, j) = subst (λ (p : ℕ × ℕ). Has (given_on marks p) (i, j)) (sym place) here in
-                    inr (rw one (has_as_mark (givens_of_line marks (line_at axis at)) (i, j) (joined_has (λ k. given_on marks (place_on axis at k)) (cells_along axis marks) k (i, j) within_line there)))
-              ]
-          | inr off ↦ inl (blanked_off axis at h w marks i j is in_rows off)
-        ]))
+    elim (cases_eq (along_line axis i j) at) [
+      | inl on ↦
+          elim (cases_eq (cell_at marks i j) 0) [
+            | inl none ↦ inl (blanked_on axis at h w marks i j is in_rows in_columns on ∙ sym none)
+            | inr some_here ↦
+                let k = along_line (crossing axis) i j in
+                let within_line : k < cells_along axis marks = omega (arith, cells_along_is axis h w marks is some, position_within axis h w i j in_rows in_columns) in
+                let place = place_on_position axis at i j on in
+                let one : cell_at marks i j ≡ 1 = omega (arith, are i j, some_here) in
+                let here : Has (given_on marks (i, j)) (i, j) = given_has (cell_at marks i j == 0) (i, j) (ne_eqb (cell_at marks i j) 0 some_here) in
+                let there : Has (given_on marks (place_on axis at k)) (i, j) = subst (λ (p : ℕ × ℕ). Has (given_on marks p) (i, j)) (sym place) here in
+                inr (rw one (has_as_mark (givens_of_line marks (line_at axis at)) (i, j) (joined_has (λ k. given_on marks (place_on axis at k)) (cells_along axis marks) k (i, j) within_line there)))
+          ]
+      | inr off ↦ inl (blanked_off axis at h w marks i j is in_rows off)
+    ]))

@@ -56,8 +56,9 @@ row_moved old now back width row col moved end = record {
 }
 
 pub all_moved : (old now : List ℕ) (back : Moves) (height width row : ℕ) → row ≡ height → AreMovedTo old now back width row 0 → AreMoved old now back height width
-all_moved old now back height width row end moved =
-    ((λ i j has. (elim (moved.so_far i j has) [ inl above ↦ omega arith | inr here ↦ absurd (omega (arith, here.1)) ], (moved.only i j has).0, (moved.only i j has).1)),
-      (λ i j in_rows in_columns given. moved.all i j (omega arith) in_columns given))
+all_moved old now back height width row end moved = (
+  (λ i j has. (elim (moved.so_far i j has) [ inl above ↦ omega arith | inr here ↦ absurd (omega (arith, here.1)) ], (moved.only i j has).0, (moved.only i j has).1)),
+  (λ i j in_rows in_columns given. moved.all i j (omega arith) in_columns given),
+)
 
 pub ruleset moving = (none_moved, cell_put, cell_left, row_moved, all_moved)

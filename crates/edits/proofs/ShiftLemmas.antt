@@ -119,12 +119,12 @@ pub moved_marks : (old new : List ℕ) (back : Moves) (h w : ℕ) (target : List
 moved_marks old new back h w target moved is same =
     grid_same h w (mark_at new) target is
     (λ i j in_rows in_columns.
-        elim (cases_eq (mark_before old back i j) 1) [
-          | inl one ↦ mark_has new i j (moved.1 i j in_rows in_columns one) ∙ (sym one ∙ sym (same i j in_rows in_columns))
-          | inr other ↦
-              let none : mark_before old back i j ≡ 0 = omega (arith, other, mark_where_small old (new_place back.rows i) (new_place back.columns j)) in
-              mark_none new i j (λ has. other (moved.0 i j has).2) ∙ (sym none ∙ sym (same i j in_rows in_columns))
-        ])
+    elim (cases_eq (mark_before old back i j) 1) [
+      | inl one ↦ mark_has new i j (moved.1 i j in_rows in_columns one) ∙ (sym one ∙ sym (same i j in_rows in_columns))
+      | inr other ↦
+          let none : mark_before old back i j ≡ 0 = omega (arith, other, mark_where_small old (new_place back.rows i) (new_place back.columns j)) in
+          mark_none new i j (λ has. other (moved.0 i j has).2) ∙ (sym none ∙ sym (same i j in_rows in_columns))
+    ])
 
 -- rows that have moved
 across : (givens new : List ℕ) (back : Moves) (h w h' w' : ℕ) (target : List (List ℕ)) (place : ℕ → Option ℕ) → length target ≡ h' → w' ≡ w → ((k : ℕ) → k < h' → get_or target k [] ≡ item_from (marks_of h w givens) (replicate w 0) [] (place k)) → ((k q : ℕ) → k < h' → place k ≡ Some q → q < h) → ((i j : ℕ) → mark_before givens back i j ≡ mark_where givens (option_map (line_at Across) (place i)) (Some (line_at Down j))) → AreMoved givens new back h' w' → marks_of h' w' new ≡ target
@@ -135,8 +135,8 @@ across givens new back h w h' w' target place count wide rows inside leads moved
       row_lengths = λ i in_rows. ap length (rows i in_rows) ∙ (row_length h w (marks_of h w givens) (replicate w 0) (place i) (grid_is_grid h w (mark_at givens)) (length-replicate w 0) (λ q e. inside i q in_rows e) ∙ sym wide);
     })
     (λ i j in_rows in_columns.
-        ap (λ row. get_or row j 0) (rows i in_rows)
-        ∙ (row_mark givens h w (replicate w 0) (place i) j (replicate_zero w j) (λ q e. inside i q in_rows e) (omega (arith, wide)) ∙ sym (leads i j)))
+    ap (λ row. get_or row j 0) (rows i in_rows)
+    ∙ (row_mark givens h w (replicate w 0) (place i) j (replicate_zero w j) (λ q e. inside i q in_rows e) (omega (arith, wide)) ∙ sym (leads i j)))
 
 -- columns that have moved
 down : (givens new : List ℕ) (back : Moves) (h w h' w' : ℕ) (f : List ℕ → List ℕ) (place : ℕ → Option ℕ) → h' ≡ h → ((row : List ℕ) → length row ≡ w → length (f row) ≡ w') → ((row : List ℕ) (k : ℕ) → length row ≡ w → get_or (f row) k 0 ≡ item_from row 0 0 (place k)) → ((k q : ℕ) → k < w' → place k ≡ Some q → q < w) → ((i j : ℕ) → mark_before givens back i j ≡ mark_where givens (Some (line_at Across i)) (option_map (line_at Down) (place j))) → AreMoved givens new back h' w' → marks_of h' w' new ≡ map f (marks_of h w givens)
@@ -149,9 +149,9 @@ down givens new back h w h' w' f place high wide cells inside leads moved =
       row_lengths = λ i in_rows. ap length (get_or-map f m i [] [] (omega (arith, is.row_count, high))) ∙ wide (get_or m i []) (is.row_lengths i (omega (arith, high)));
     })
     (λ i j in_rows in_columns.
-        ap (λ row. get_or row j 0) (get_or-map f m i [] [] (omega (arith, is.row_count, high)))
-        ∙ (cells (get_or m i []) j (is.row_lengths i (omega (arith, high)))
-        ∙ (place_mark givens h w i (place j) (omega (arith, high)) (λ q e. inside j q in_columns e) ∙ sym (leads i j))))
+    ap (λ row. get_or row j 0) (get_or-map f m i [] [] (omega (arith, is.row_count, high)))
+    ∙ (cells (get_or m i []) j (is.row_lengths i (omega (arith, high)))
+    ∙ (place_mark givens h w i (place j) (omega (arith, high)) (λ q e. inside j q in_columns e) ∙ sym (leads i j))))
 
 marks_wide : (h w : ℕ) (givens : List ℕ) → 0 < h → width_of (marks_of h w givens) ≡ w
 marks_wide h w givens some = (grid_is_grid h w (mark_at givens)).row_lengths 0 some
@@ -221,9 +221,10 @@ deleted_sizes Down at rows is lt more =
 
 pub swapped_sizes : (axis : Axis) (first second : ℕ) (rows : List (List ℕ)) → IsPicture rows → first < lines_along axis rows → second < lines_along axis rows → (lines_along axis (lines_swapped axis first second rows) ≡ lines_along axis rows) × (cells_along axis (lines_swapped axis first second rows) ≡ cells_along axis rows)
 swapped_sizes Across first second rows is f s =
-    let grid = picture_is_grid rows is in
-    (length-swap rows first second,
-      ap length (swap_item rows first second [] [] 0 f s) ∙ row_length (length rows) (width_of rows) rows (replicate (width_of rows) 0) (new_place (Swapped first second) 0) grid (length-replicate (width_of rows) 0) (λ q e. swapped_from first second (length rows) 0 q f s is.has_row e))
+    let grid = picture_is_grid rows is in (
+      length-swap rows first second,
+      ap length (swap_item rows first second [] [] 0 f s) ∙ row_length (length rows) (width_of rows) rows (replicate (width_of rows) 0) (new_place (Swapped first second) 0) grid (length-replicate (width_of rows) 0) (λ q e. swapped_from first second (length rows) 0 q f s is.has_row e),
+    )
 swapped_sizes Down first second rows is f s =
     (ap length (get_or-map (λ row. swap row first second) rows 0 [] [] is.has_row) ∙ length-swap (get_or rows 0 []) first second, length-map rows (λ row. swap row first second))
 

@@ -6,7 +6,11 @@ use picture::{Axis, LineId, Rgb};
 #[derive(Clone, Copy, Debug, PartialEq, Eq)]
 pub enum Edit {
     /// Gives a cell a colour.
-    Paint { row: u8, col: u8, colour: u8 },
+    Paint {
+        row: u8,
+        col: u8,
+        colour: u8,
+    },
     /// Gives each cell of a rectangle, its corners included, a colour.
     Fill {
         top: u8,
@@ -16,19 +20,41 @@ pub enum Edit {
         colour: u8,
     },
     /// Gives each cell of one colour another colour.
-    Recolour { source: u8, target: u8 },
+    Recolour {
+        source: u8,
+        target: u8,
+    },
     /// Puts a line of background at a place, which may be the one behind the last line. Later lines move up by one.
-    InsertLine { line: LineId },
+    InsertLine {
+        line: LineId,
+    },
     /// Takes a line out. Later lines move down by one.
-    DeleteLine { line: LineId },
+    DeleteLine {
+        line: LineId,
+    },
     /// Exchanges two lines of an axis.
-    SwapLines { axis: Axis, first: u8, second: u8 },
+    SwapLines {
+        axis: Axis,
+        first: u8,
+        second: u8,
+    },
     /// Adds a colour to the palette, with the next number.
-    AddColour { rgb: Rgb },
+    AddColour {
+        rgb: Rgb,
+    },
     /// Gives a number of the palette another colour.
-    SetColour { colour: u8, rgb: Rgb },
+    SetColour {
+        colour: u8,
+        rgb: Rgb,
+    },
     /// Makes a cell a given: its colour is printed as part of the puzzle.
-    Pin { row: u8, col: u8 },
+    Pin {
+        row: u8,
+        col: u8,
+    },
     /// Makes a given an ordinary cell again.
-    Unpin { row: u8, col: u8 },
+    Unpin {
+        row: u8,
+        col: u8,
+    },
 }

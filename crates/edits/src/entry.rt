@@ -5,9 +5,7 @@ ghost use Rattle.std.specs.Prelude.{◌≡◌, None, IfOk};
 use crate::edit::Edit;
 use crate::facts::know;
 use crate::kept::{kept_cells, kept_givens, kept_triple};
-use crate::parts::{
-    added, deleted, inserted, painted, pinned, recoloured, swapped, unpinned,
-};
+use crate::parts::{added, deleted, inserted, painted, pinned, recoloured, swapped, unpinned};
 use picture::{Document, Rgb};
 use std::alloc::{AllocError, Global};
 

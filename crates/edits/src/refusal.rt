@@ -143,9 +143,7 @@ fn is_there(palette: &Palette, edit: &Edit) -> bool
 {
     match *edit {
         Edit::AddColour { rgb } => palette.number_of(rgb).is_some(),
-        Edit::SetColour { colour, rgb } => {
-            palette.stands_elsewhere(colour, rgb)
-        }
+        Edit::SetColour { colour, rgb } => { palette.stands_elsewhere(colour, rgb) }
         _ => false,
     }
 }
@@ -156,4 +154,3 @@ fn sets_background(edit: &Edit) -> bool
 {
     matches!(*edit, Edit::SetColour { colour: 0, .. })
 }
-

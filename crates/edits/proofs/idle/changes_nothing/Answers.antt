@@ -15,9 +15,9 @@ returns-in-Paint c =
     idle ∙ ap (λ x. same_design x d) (sym (elim c.in-Paint.is [
       | inl p ↦ edited_paint d c.args.edit.now p.0 p.1 p.2 p.3
       | inr o ↦ elim o [
-          | inl f ↦ edited_fill d c.args.edit.now f.0 f.1 f.2 f.3 f.4 f.5
-          | inr r ↦ edited_recolour d c.args.edit.now r.0 r.1 r.2
-        ]
+        | inl f ↦ edited_fill d c.args.edit.now f.0 f.1 f.2 f.3 f.4 f.5
+        | inr r ↦ edited_recolour d c.args.edit.now r.0 r.1 r.2
+      ]
     ]))
 
 pub returns-in-SwapLines : goal.returns-in-SwapLines
@@ -31,7 +31,7 @@ pub returns-in-SetColour : goal.returns-in-SetColour
 returns-in-SetColour c =
     let coloured = rw c.in-SetColour.is at c.requires.coloured in
     let within : c.in-SetColour.colour < length c.args.document.now.palette.triples = grind (arith, nat_tests, coloured) in
-    rw c.in-SetColour.is (set_idle (design_of c.args.document.now) c.in-SetColour.colour c.in-SetColour.rgb c.rgb.result c.eq.result within c.rgb.ensures.value c.eq.ensures)
+    rw c.in-SetColour.is (set_idle (design_of c.args.document.now) c.in-SetColour.colour c.in-SetColour.rgb c.rgb.result c.eq.result within c.rgb.ensures.stands c.eq.ensures)
 
 pub returns-in-Pin : goal.returns-in-Pin
 returns-in-Pin c =
@@ -52,10 +52,10 @@ returns-in-InsertLine c =
           let le : i.0.at ≤ lines_along i.0.axis c.args.document.now.picture = grind (arith, nat_tests, inside) in
           rw i.1 (insert_idle d i.0 _ c.know.ensures le)
       | inr o ↦ elim o [
-          | inl x ↦
-              let inside = rw x.1 at c.requires.inside in
-              let lt : x.0.at < lines_along x.0.axis c.args.document.now.picture = grind (arith, nat_tests, inside) in
-              rw x.1 (delete_idle d x.0 _ c.know.ensures lt)
-          | inr a ↦ rw a.1 (add_idle d a.0)
-        ]
+        | inl x ↦
+            let inside = rw x.1 at c.requires.inside in
+            let lt : x.0.at < lines_along x.0.axis c.args.document.now.picture = grind (arith, nat_tests, inside) in
+            rw x.1 (delete_idle d x.0 _ c.know.ensures lt)
+        | inr a ↦ rw a.1 (add_idle d a.0)
+      ]
     ]
