@@ -13,7 +13,6 @@ const WHITE: Rgb = Rgb {
 
 const BLACK: Rgb = Rgb { r: 0, g: 0, b: 0 };
 
-
 fn row(at: u8) -> LineId {
     LineId {
         axis: Axis::Across,
