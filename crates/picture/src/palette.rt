@@ -193,8 +193,8 @@ impl Palette {
         }
     }
 
-    // Whether another number than this one has the colour.
-    fn stands_elsewhere(&self, number: u8, rgb: Rgb) -> bool
+    /// Whether another number than this one has the colour.
+    pub fn stands_elsewhere(&self, number: u8, rgb: Rgb) -> bool
         requires { number < length self.now.triples }
         ensures value { result ≡ stands_elsewhere self.now.triples number rgb }
         ensures palette { IsPalette self.now }

@@ -1,0 +1,107 @@
+-- What a lawful edit asks of the parts that make its document.
+use Rattle.std.proofs.Common.{◌≡◌, ◌≢◌, ℕ, ◌+◌, ◌<◌, ◌≤◌, ◌⊎◌, inl, inr, Bool, true, false, List, [], ◌∷◌, length, map, refl, sym, ap, subst, ◌∙◌, arith}
+use Rattle.std.specs.List.{All}
+use Rattle.std.proofs.lemmas.Bool.{cases_lt}
+use Rattle.std.proofs.lemmas.Bool.Decides.{nat_tests}
+use Rattle.picture.specs.declared.line_id.Axis.{Axis}
+use Rattle.picture.specs.declared.line_id.LineId.{LineId}
+use Rattle.picture.specs.declared.rgb.Rgb.{Rgb}
+use Rattle.picture.specs.Palette.{Colours}
+use Rattle.picture.specs.Picture.{IsPicture}
+use Rattle.picture.specs.Document.{AreColoured}
+use Rattle.picture.specs.Rows.{cell_at, width_of, lines_along, line_inserted, line_deleted, lines_swapped}
+use Rattle.edits.specs.declared.edit.Edit.{Edit}
+use Rattle.edits.specs.declared.edit.Edit.TheVariants.{Paint, Fill, Recolour, InsertLine, DeleteLine, SwapLines, AddColour, SetColour, Pin, Unpin}
+use Rattle.edits.specs.Design.{Design, design, IsDesign, grid}
+use Rattle.edits.specs.Edit.{colour_after, edited, painted}
+use Rattle.edits.specs.Fault.{lacks_colour}
+use Rattle.edits.specs.Note.{Cell, IsCellIn, cells_kept, changed_cells, repainted, with_cells}
+use Rattle.edits.proofs.CellLemmas.{Has, all_has, changed_from, has_from_map, paints_cells}
+use Rattle.edits.proofs.GridLemmas.{cell_at-grid, cell_at-past_rows, cell_at-past_columns, grid_is_grid, length-grid}
+use Rattle.edits.proofs.FaultLemmas.{IsLawful}
+use Rattle.edits.proofs.RevertLemmas.{not_in}
+use Rattle.edits.proofs.ShiftLemmas.{inserted_below_bound, deleted_below_bound, swapped_below_bound}
+
+-- edits that paint cells and do nothing else
+pub record Paints (e : Edit) : Type 0 where
+  pub kept : (rows : List (List ℕ)) → cells_kept rows e ≡ changed_cells e rows
+  pub gives : (d : Design) → edited d e ≡ design d.colours (painted e d.rows) d.marks
+  pub fits : (colours : Colours) (i j x : ℕ) → lacks_colour colours e ≡ false → x < length colours.triples → colour_after e i j x < length colours.triples
+
+paint_fits : (colours : Colours) (row col colour i j x : ℕ) → lacks_colour colours (Paint row col colour) ≡ false → x < length colours.triples → colour_after (Paint row col colour) i j x < length colours.triples
+paint_fits colours row col colour i j x has small = grind (arith, nat_tests)
+
+fill_fits : (colours : Colours) (top left bottom right colour i j x : ℕ) → lacks_colour colours (Fill top left bottom right colour) ≡ false → x < length colours.triples → colour_after (Fill top left bottom right colour) i j x < length colours.triples
+fill_fits colours top left bottom right colour i j x has small = grind (arith, nat_tests)
+
+recolour_fits : (colours : Colours) (source target i j x : ℕ) → lacks_colour colours (Recolour source target) ≡ false → x < length colours.triples → colour_after (Recolour source target) i j x < length colours.triples
+recolour_fits colours source target i j x has small = grind (arith, nat_tests)
+
+paint_paints : (row col colour : ℕ) → Paints (Paint row col colour)
+paint_paints row col colour = record { kept = λ rows. refl; gives = λ d. refl; fits = λ colours i j x has small. paint_fits colours row col colour i j x has small }
+
+fill_paints : (top left bottom right colour : ℕ) → Paints (Fill top left bottom right colour)
+fill_paints top left bottom right colour = record { kept = λ rows. refl; gives = λ d. refl; fits = λ colours i j x has small. fill_fits colours top left bottom right colour i j x has small }
+
+recolour_paints : (source target : ℕ) → Paints (Recolour source target)
+recolour_paints source target = record { kept = λ rows. refl; gives = λ d. refl; fits = λ colours i j x has small. recolour_fits colours source target i j x has small }
+
+pub paints : (e : Edit) → ((row : ℕ) × (col : ℕ) × (colour : ℕ) × (e ≡ Paint row col colour)) ⊎ (((top : ℕ) × (left : ℕ) × (bottom : ℕ) × (right : ℕ) × (colour : ℕ) × (e ≡ Fill top left bottom right colour)) ⊎ ((source : ℕ) × (target : ℕ) × (e ≡ Recolour source target))) → Paints e
+paints e (inl p) = subst Paints (sym p.3) (paint_paints p.0 p.1 p.2)
+paints e (inr (inl f)) = subst Paints (sym f.5) (fill_paints f.0 f.1 f.2 f.3 f.4)
+paints e (inr (inr r)) = subst Paints (sym r.2) (recolour_paints r.0 r.1)
+
+module _ (d : Design) (e : Edit) (is : IsDesign d) (is_lawful : IsLawful d e) where
+  pub painted_coloured : Paints e → AreColoured (painted e d.rows) d.colours
+  painted_coloured p = λ i j.
+      let h = length d.rows in
+      let w = width_of d.rows in
+      let value : ℕ → ℕ → ℕ = λ i j. colour_after e i j (cell_at d.rows i j) in
+      let some : 0 < length d.colours.triples = is.is_palette.has_background in
+      elim (cases_lt i h) [
+        | inl in_rows ↦
+            elim (cases_lt j w) [
+              | inl in_columns ↦ rw (cell_at-grid h w value i j in_rows in_columns) (p.fits d.colours i j (cell_at d.rows i j) is_lawful.coloured (is.is_coloured i j))
+              | inr past ↦ rw (cell_at-past_columns h w (painted e d.rows) i j (grid_is_grid h w value) past) some
+            ]
+        | inr past ↦ rw (cell_at-past_rows (painted e d.rows) i j (omega (arith, length-grid h w value))) some
+      ]
+
+  pub cells_fit : Paints e → All (IsCellIn d.rows) (map (repainted e) (changed_cells e d.rows))
+  cells_fit p =
+      all_has (IsCellIn d.rows) (map (repainted e) (changed_cells e d.rows))
+      (λ c has.
+      let of = has_from_map (repainted e) (changed_cells e d.rows) c has in
+      let was = changed_from e d.rows of.0 of.1 in
+      let old : of.0.2 < length d.colours.triples = rw (← was.2) (is.is_coloured of.0.0 of.0.1) in
+      let small : colour_after e of.0.0 of.0.1 of.0.2 < 16 = omega (arith, is.is_palette.colours_fit, p.fits d.colours of.0.0 of.0.1 of.0.2 is_lawful.coloured old) in
+      subst (IsCellIn d.rows) of.2 (was.0, was.1, small))
+
+  pub painted_gives : Paints e → design d.colours (with_cells d.rows (map (repainted e) (changed_cells e d.rows))) d.marks ≡ edited d e
+  painted_gives p = ap (λ r. design d.colours r d.marks) (paints_cells e d.rows is.is_picture) ∙ sym (p.gives d)
+
+-- lines inserted, deleted and exchanged
+pub insert_fits : (d : Design) (line : LineId) → IsDesign d → IsLawful d (InsertLine line) → (line.at ≤ lines_along line.axis d.rows) × (lines_along line.axis d.rows < 120) × AreColoured (line_inserted d.rows line) d.colours
+insert_fits d line is is_lawful =
+    let place : line.at ≤ lines_along line.axis d.rows = grind (arith, nat_tests, is_lawful.inside) in
+    (place, grind (arith, nat_tests, is_lawful.room), inserted_below_bound line.axis line.at (length d.colours.triples) d.rows is.is_picture place is.is_palette.has_background is.is_coloured)
+
+pub delete_fits : (d : Design) (line : LineId) → IsDesign d → IsLawful d (DeleteLine line) → (line.at < lines_along line.axis d.rows) × (1 < lines_along line.axis d.rows) × AreColoured (line_deleted d.rows line) d.colours
+delete_fits d line is is_lawful =
+    let place : line.at < lines_along line.axis d.rows = grind (arith, nat_tests, is_lawful.inside) in
+    (place, grind (arith, nat_tests, is_lawful.others), deleted_below_bound line.axis line.at (length d.colours.triples) d.rows is.is_picture place is.is_palette.has_background is.is_coloured)
+
+pub swap_fits : (d : Design) (axis : Axis) (first second : ℕ) → IsDesign d → IsLawful d (SwapLines axis first second) → (first < lines_along axis d.rows) × (second < lines_along axis d.rows) × AreColoured (lines_swapped axis first second d.rows) d.colours
+swap_fits d axis first second is is_lawful =
+    let f : first < lines_along axis d.rows = grind (arith, nat_tests, is_lawful.inside) in
+    let s : second < lines_along axis d.rows = grind (arith, nat_tests, is_lawful.inside) in
+    (f, s, swapped_below_bound axis first second (length d.colours.triples) d.rows is.is_picture f s is.is_palette.has_background is.is_coloured)
+
+pub set_fits : (d : Design) (colour : ℕ) (rgb : Rgb) → IsLawful d (SetColour colour rgb) → colour < length d.colours.triples
+set_fits d colour rgb is_lawful = grind (arith, nat_tests, is_lawful.coloured)
+
+pub pin_fits : (d : Design) (row col : ℕ) → IsLawful d (Pin row col) → (row < length d.rows) × (col < width_of d.rows)
+pin_fits d row col is_lawful = not_in d.rows row col is_lawful.inside
+
+pub unpin_fits : (d : Design) (row col : ℕ) → IsLawful d (Unpin row col) → (row < length d.rows) × (col < width_of d.rows)
+unpin_fits d row col is_lawful = not_in d.rows row col is_lawful.inside

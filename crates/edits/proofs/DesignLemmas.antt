@@ -1,0 +1,105 @@
+-- The marks of a set of givens.
+use Rattle.std.proofs.Common.{◌≡◌, ◌≢◌, ℕ, ◌^◌, ◌<◌, ◌≤◌, ◌↔◌, inl, inr, Bool, true, false, cond, eqb, List, length, get_or, refl, sym, ap, ◌∙◌, arith}
+use Rattle.std.specs.Prelude.{IsBitSet, bit_and}
+use Rattle.std.proofs.lemmas.Bool.{cases_lt, cases_eq, eq-eqb, ne_eqb}
+use Rattle.picture.specs.CellSet.{HasCell, PutsCell, TakesOutCell}
+use Rattle.picture.specs.Palette.{IsPalette}
+use Rattle.picture.specs.Picture.{IsPicture}
+use Rattle.picture.specs.Document.{AreColoured}
+use Rattle.picture.specs.Palette.{Colours}
+use Rattle.picture.specs.Rows.{cell_at, width_of, with_cell}
+use Rattle.edits.specs.Design.{Design, IsDesign, design, grid, mark_at, marks_of}
+use Rattle.edits.proofs.GridLemmas.{grid_is_grid, grid_same, with_cell_is_grid, cell_at-with_same, cell_at-with_row, cell_at-with_column, cell_at-grid, cell_at-past_rows, cell_at-past_columns, length-grid}
+
+pub mark_small : (b : Bool) → cond b 0 1 < 2
+mark_small true = omega arith
+mark_small false = omega arith
+
+pub marks_small : (h w : ℕ) (givens : List ℕ) (i j : ℕ) → cell_at (marks_of h w givens) i j < 2
+marks_small h w givens i j =
+    elim (cases_lt i h) [
+      | inl in_rows ↦
+          elim (cases_lt j w) [
+            | inl in_columns ↦ rw (cell_at-grid h w (mark_at givens) i j in_rows in_columns) (mark_small (eqb (bit_and (get_or givens i 0) (2 ^ j)) 0))
+            | inr past ↦ omega (arith, cell_at-past_columns h w (marks_of h w givens) i j (grid_is_grid h w (mark_at givens)) past)
+          ]
+      | inr past ↦ omega (arith, cell_at-past_rows (marks_of h w givens) i j (omega (arith, length-grid h w (mark_at givens))))
+    ]
+
+-- a mark is 1 where the set has the cell
+pub mark_has : (givens : List ℕ) (i j : ℕ) → HasCell givens i j → mark_at givens i j ≡ 1
+mark_has givens i j has = rw (ne_eqb (bit_and (get_or givens i 0) (2 ^ j)) 0 has) refl
+
+pub mark_none : (givens : List ℕ) (i j : ℕ) → (HasCell givens i j → ⊥) → mark_at givens i j ≡ 0
+mark_none givens i j none =
+    elim (cases_eq (bit_and (get_or givens i 0) (2 ^ j)) 0) [
+      | inl e ↦ rw (eq-eqb (bit_and (get_or givens i 0) (2 ^ j)) 0 e) refl
+      | inr some ↦ absurd (none some)
+    ]
+
+pub has_mark : (givens : List ℕ) (i j : ℕ) → mark_at givens i j ≡ 1 → HasCell givens i j
+has_mark givens i j one = λ e. absurd (omega (arith, one, rw (eq-eqb (bit_and (get_or givens i 0) (2 ^ j)) 0 e) at one))
+
+pub mark_is_given : (h w : ℕ) (givens : List ℕ) (i j : ℕ) → i < h → j < w → HasCell givens i j → cell_at (marks_of h w givens) i j ≡ 1
+mark_is_given h w givens i j in_rows in_columns has = cell_at-grid h w (mark_at givens) i j in_rows in_columns ∙ mark_has givens i j has
+
+pub given_is_marked : (h w : ℕ) (givens : List ℕ) (i j : ℕ) → i < h → j < w → cell_at (marks_of h w givens) i j ≡ 1 → HasCell givens i j
+given_is_marked h w givens i j in_rows in_columns one = has_mark givens i j (sym (cell_at-grid h w (mark_at givens) i j in_rows in_columns) ∙ one)
+
+pub is_design : (colours : Colours) (rows : List (List ℕ)) (givens : List ℕ) → IsPalette colours → IsPicture rows → AreColoured rows colours → IsDesign (design colours rows (marks_of (length rows) (width_of rows) givens))
+is_design colours rows givens palette picture coloured = record {
+  is_palette = palette;
+  is_picture = picture;
+  is_coloured = coloured;
+  are_marks = marks_small (length rows) (width_of rows) givens;
+  marks_fit = grid_is_grid (length rows) (width_of rows) (mark_at givens);
+}
+
+-- sets that have a cell alike have the same mark there
+pub mark_same : (old new : List ℕ) (i j : ℕ) → HasCell new i j ↔ HasCell old i j → mark_at new i j ≡ mark_at old i j
+mark_same old new i j alike =
+    elim (cases_eq (mark_at old i j) 1) [
+      | inl one ↦ mark_has new i j (alike.1 (has_mark old i j one)) ∙ sym one
+      | inr other ↦
+          mark_none new i j (λ has. other (mark_has old i j (alike.0 has)))
+          ∙ sym (mark_none old i j (λ has. other (mark_has old i j has)))
+    ]
+
+-- a given more, or less
+pub pinned_marks : (h w : ℕ) (old new : List ℕ) (row col : ℕ) → row < h → col < w → PutsCell old new row col → marks_of h w new ≡ with_cell (marks_of h w old) row col 1
+pinned_marks h w old new row col in_rows in_columns puts =
+    let is = grid_is_grid h w (mark_at old) in
+    grid_same h w (mark_at new) (with_cell (marks_of h w old) row col 1) (with_cell_is_grid h w (marks_of h w old) row col 1 is in_rows)
+    (λ i j i_in j_in.
+    let off = λ (other : (i ≡ row) × (j ≡ col) → ⊥). mark_same old new i j ((λ has. elim ((puts i j).0 has) [ inl had ↦ had | inr at ↦ absurd (other at) ]), (λ had. (puts i j).1 (inl had))) in
+    elim (cases_eq i row) [
+      | inl e ↦
+          elim (cases_eq j col) [
+            | inl f ↦ mark_has new i j ((puts i j).1 (inr (e, f))) ∙ sym (ap (λ a. cell_at (with_cell (marks_of h w old) row col 1) a j) e ∙ (ap (cell_at (with_cell (marks_of h w old) row col 1) row) f ∙ cell_at-with_same h w (marks_of h w old) row col 1 is in_rows in_columns))
+            | inr g ↦ off (λ at. g at.1) ∙ sym (ap (λ a. cell_at (with_cell (marks_of h w old) row col 1) a j) e ∙ (cell_at-with_column h w (marks_of h w old) row col 1 j is in_rows g ∙ (ap (λ a. cell_at (marks_of h w old) a j) (sym e) ∙ cell_at-grid h w (mark_at old) i j i_in j_in)))
+          ]
+      | inr g ↦ off (λ at. g at.0) ∙ sym (cell_at-with_row (marks_of h w old) row col 1 i j g ∙ cell_at-grid h w (mark_at old) i j i_in j_in)
+    ])
+
+pub unpinned_marks : (h w : ℕ) (old new : List ℕ) (row col : ℕ) → row < h → col < w → TakesOutCell old new row col → marks_of h w new ≡ with_cell (marks_of h w old) row col 0
+unpinned_marks h w old new row col in_rows in_columns takes =
+    let is = grid_is_grid h w (mark_at old) in
+    grid_same h w (mark_at new) (with_cell (marks_of h w old) row col 0) (with_cell_is_grid h w (marks_of h w old) row col 0 is in_rows)
+    (λ i j i_in j_in.
+    let off = λ (other : (i ≡ row) × (j ≡ col) → ⊥). mark_same old new i j ((λ has. ((takes i j).0 has).0), (λ had. (takes i j).1 (had, other))) in
+    elim (cases_eq i row) [
+      | inl e ↦
+          elim (cases_eq j col) [
+            | inl f ↦ mark_none new i j (λ has. ((takes i j).0 has).1 (e, f)) ∙ sym (ap (λ a. cell_at (with_cell (marks_of h w old) row col 0) a j) e ∙ (ap (cell_at (with_cell (marks_of h w old) row col 0) row) f ∙ cell_at-with_same h w (marks_of h w old) row col 0 is in_rows in_columns))
+            | inr g ↦ off (λ at. g at.1) ∙ sym (ap (λ a. cell_at (with_cell (marks_of h w old) row col 0) a j) e ∙ (cell_at-with_column h w (marks_of h w old) row col 0 j is in_rows g ∙ (ap (λ a. cell_at (marks_of h w old) a j) (sym e) ∙ cell_at-grid h w (mark_at old) i j i_in j_in)))
+          ]
+      | inr g ↦ off (λ at. g at.0) ∙ sym (cell_at-with_row (marks_of h w old) row col 0 i j g ∙ cell_at-grid h w (mark_at old) i j i_in j_in)
+    ])
+
+-- a document from its parts
+pub assembled : (p p' : Colours) (r r' : List (List ℕ)) (g : List ℕ) (m : List (List ℕ)) → p' ≡ p → r' ≡ r → marks_of (length r) (width_of r) g ≡ m → design p' r' (marks_of (length r') (width_of r') g) ≡ design p r m
+assembled p p' r r' g m same_palette same_rows same_marks =
+    ap (λ x. design x r' (marks_of (length r') (width_of r') g)) same_palette
+    ∙ (ap (λ x. design p x (marks_of (length x) (width_of x) g)) same_rows ∙ ap (λ x. design p r x) same_marks)
+
+pub ruleset marking = (mark_is_given, given_is_marked, is_design)

@@ -1,0 +1,86 @@
+-- What a lawful edit meets, and when two documents are the same.
+use Rattle.std.proofs.Common.{◌≡◌, ◌≢◌, ℕ, ◌<◌, ◌≤◌, Bool, true, false, cond, not, ◌&&◌, ◌||◌, Option, Some, None, List, length, eqb, refl, sym, ap, ◌∙◌, arith}
+use Rattle.std.specs.Bool.{Decides}
+use Rattle.std.specs.Cmp.Lexicographic.{pointwise}
+use Rattle.std.proofs.lemmas.Bool.{and_parts, and_from, false_from_ne_true}
+use Rattle.std.proofs.lemmas.Bool.Decides.{Decides-eqb, Decides-and, Decides-like}
+use Rattle.std.proofs.lemmas.Slice.Eq.{slice_eq-Decides}
+use Rattle.picture.specs.declared.rgb.Rgb.{Rgb}
+use Rattle.picture.specs.Palette.{Colours, rgb_eq}
+use Rattle.edits.specs.declared.edit.Edit.{Edit}
+use Rattle.edits.specs.declared.fault.EditFault.{EditFault}
+use Rattle.edits.specs.Design.{Design, design, IsDesign}
+use Rattle.edits.specs.Note.{Note, IsEntry, note_for}
+use Rattle.edits.specs.Edit.{edited}
+use Rattle.edits.specs.Fault.{edit_fault, same_design, is_outside, lacks_colour, has_no_room, deletes_last, is_over, is_full, is_there, sets_background}
+
+-- the conditions of faults, of which none holds
+pub record IsLawful (d : Design) (e : Edit) : Type 0 where
+  pub inside : is_outside d.rows e ≡ false
+  pub coloured : lacks_colour d.colours e ≡ false
+  pub room : has_no_room d.rows e ≡ false
+  pub others : deletes_last d.rows e ≡ false
+  pub in_range : is_over d.colours e ≡ false
+  pub not_full : is_full d.colours e ≡ false
+  pub not_there : is_there d.colours e ≡ false
+  pub no_background : sets_background e ≡ false
+  pub changes : same_design (edited d e) d ≡ false
+
+passes : (b : Bool) (f : EditFault) (rest : Option EditFault) → cond b (Some f) rest ≡ None → (b ≡ false) × (rest ≡ None)
+passes true f rest e = absurd (cc e)
+passes false f rest e = (refl, e)
+
+pub lawful : (d : Design) (e : Edit) → edit_fault d e ≡ None → IsLawful d e
+lawful d e none =
+    let a = passes _ _ _ none in
+    let b = passes _ _ _ a.1 in
+    let c = passes _ _ _ b.1 in
+    let g = passes _ _ _ c.1 in
+    let h = passes _ _ _ g.1 in
+    let i = passes _ _ _ h.1 in
+    let j = passes _ _ _ i.1 in
+    let k = passes _ _ _ j.1 in
+    let l = passes _ _ _ k.1 in
+    record { inside = a.0; coloured = b.0; room = c.0; others = g.0; in_range = h.0; not_full = i.0; not_there = j.0; no_background = k.0; changes = l.0 }
+
+-- tests of sameness
+same_rgb : (a b : Rgb) → a.r ≡ b.r → a.g ≡ b.g → a.b ≡ b.b → a ≡ b
+same_rgb a b r g bl =
+    ap (λ x. record { r = x; g = a.g; b = a.b }) r ∙ (ap (λ x. record { r = b.r; g = x; b = a.b }) g ∙ ap (λ x. record { r = b.r; g = b.g; b = x }) bl)
+
+pub rgb_decides : (a b : Rgb) → Decides (rgb_eq a b) (a ≡ b)
+rgb_decides a b =
+    Decides-like (rgb_eq a b) (λ same. same_rgb a b same.0 same.1.0 same.1.1) (λ e. (ap (λ (c : Rgb). c.r) e, (ap (λ (c : Rgb). c.g) e, ap (λ (c : Rgb). c.b) e)))
+    (Decides-and (eqb a.r b.r) (eqb a.g b.g && eqb a.b b.b) (Decides-eqb a.r b.r) (Decides-and (eqb a.g b.g) (eqb a.b b.b) (Decides-eqb a.g b.g) (Decides-eqb a.b b.b)))
+
+rows_decide : (a b : List (List ℕ)) → Decides (pointwise (pointwise eqb) a b) (a ≡ b)
+rows_decide a b = slice_eq-Decides (λ x y. slice_eq-Decides Decides-eqb x y (pointwise eqb x y) refl) a b (pointwise (pointwise eqb) a b) refl
+
+same_colours : (a b : Colours) → a.maxval ≡ b.maxval → a.triples ≡ b.triples → a ≡ b
+same_colours a b maxval triples = ap (λ m. record { maxval = m; triples = a.triples }) maxval ∙ ap (λ t. record { maxval = b.maxval; triples = t }) triples
+
+pub same_parts : (a b : Design) → a.colours ≡ b.colours → a.rows ≡ b.rows → a.marks ≡ b.marks → a ≡ b
+same_parts a b colours rows marks =
+    ap (λ c. design c a.rows a.marks) colours ∙ (ap (λ r. design b.colours r a.marks) rows ∙ ap (λ m. design b.colours b.rows m) marks)
+
+pub same_design_decides : (a b : Design) → Decides (same_design a b) (a ≡ b)
+same_design_decides a b =
+    let triples = slice_eq-Decides rgb_decides a.colours.triples b.colours.triples (pointwise rgb_eq a.colours.triples b.colours.triples) refl in
+    Decides-like (same_design a b)
+    (λ same. same_parts a b (same_colours a.colours b.colours same.0.0 same.0.1) same.1.0 same.1.1)
+    (λ e. ((ap (λ (d : Design). d.colours.maxval) e, ap (λ (d : Design). d.colours.triples) e), (ap (λ (d : Design). d.rows) e, ap (λ (d : Design). d.marks) e)))
+    (Decides-and _ _ (Decides-and _ _ (Decides-eqb a.colours.maxval b.colours.maxval) triples) (Decides-and _ _ (rows_decide a.rows b.rows) (rows_decide a.marks b.marks)))
+
+pub same_when : (a b : Design) → a ≡ b → same_design a b ≡ true
+same_when a b e = (same_design_decides a b).1 e
+
+pub other_when : (a b : Design) → a ≢ b → same_design a b ≡ false
+other_when a b other = false_from_ne_true (same_design a b) (λ same. other ((same_design_decides a b).0 same))
+
+pub differs : (a b : Design) → same_design a b ≡ false → a ≢ b
+differs a b e same = absurd (cc (e, same_when a b same))
+
+pub entry_of : (d : Design) (e : Edit) (n : Note) → IsDesign d → edit_fault d e ≡ None → n ≡ note_for d e → IsEntry d n
+entry_of d e n is none kept =
+    let same : n.edit ≡ e = ap (λ (m : Note). m.edit) kept in
+    record { is_design = is; lawful = ap (edit_fault d) same ∙ none; kept = kept ∙ ap (note_for d) (sym same) }

@@ -1,0 +1,97 @@
+-- Grids cell by cell: what a grid made from a function has, and when two grids are the same.
+use Rattle.std.proofs.Common.{◌≡◌, ◌≢◌, ℕ, zero, suc, ◌+◌, ◌<◌, ◌≤◌, inl, inr, List, [], ◌∷◌, length, get_or, set, map, replicate, refl, sym, ap, ◌∙◌, arith}
+use Rattle.std.specs.List.{range_with_len}
+use Rattle.std.proofs.lemmas.Bool.{cases_lt, cases_eq}
+use Rattle.std.proofs.lemmas.List.{ext_get_or, length-set, get_or-set_same, get_or-set_other, get_or_past}
+use Rattle.std.proofs.lemmas.List.FromFn.{length-map-range_with_len, get_or-map-range_with_len}
+use Rattle.picture.specs.Picture.{IsPicture}
+use Rattle.picture.specs.Rows.{width_of, row_at, cell_at, with_cell}
+use Rattle.edits.specs.Design.{IsGrid, grid}
+
+row_of_grid : (h w : ℕ) (value : ℕ → ℕ → ℕ) (i : ℕ) → i < h → row_at (grid h w value) i ≡ map (λ j. value i j) (range_with_len 0 w)
+unfolding grid
+row_of_grid h w value i within = get_or-map-range_with_len (λ i. map (λ j. value i j) (range_with_len 0 w)) 0 h i i [] within (omega arith)
+
+pub length-grid : (h w : ℕ) (value : ℕ → ℕ → ℕ) → length (grid h w value) ≡ h
+unfolding grid
+length-grid h w value = length-map-range_with_len (λ i. map (λ j. value i j) (range_with_len 0 w)) 0 h
+
+pub grid_is_grid : (h w : ℕ) (value : ℕ → ℕ → ℕ) → IsGrid h w (grid h w value)
+grid_is_grid h w value = record {
+  row_count = length-grid h w value;
+  row_lengths = λ i within. ap length (row_of_grid h w value i within) ∙ length-map-range_with_len (λ j. value i j) 0 w;
+}
+
+pub width_of-grid : (h w : ℕ) (value : ℕ → ℕ → ℕ) → 0 < h → width_of (grid h w value) ≡ w
+width_of-grid h w value some = (grid_is_grid h w value).row_lengths 0 some
+
+pub cell_at-grid : (h w : ℕ) (value : ℕ → ℕ → ℕ) (i j : ℕ) → i < h → j < w → cell_at (grid h w value) i j ≡ value i j
+cell_at-grid h w value i j in_rows in_columns =
+    ap (λ row. get_or row j 0) (row_of_grid h w value i in_rows) ∙ get_or-map-range_with_len (λ j. value i j) 0 w j j 0 in_columns (omega arith)
+
+pub picture_is_grid : (rows : List (List ℕ)) → IsPicture rows → IsGrid (length rows) (width_of rows) rows
+picture_is_grid rows is = record { row_count = refl; row_lengths = is.rectangular }
+
+-- grids of one size with the same cells
+pub same_grid : (h w : ℕ) (a b : List (List ℕ)) → IsGrid h w a → IsGrid h w b → ((i j : ℕ) → i < h → j < w → cell_at a i j ≡ cell_at b i j) → a ≡ b
+same_grid h w a b is_a is_b same =
+    ext_get_or [] a b (is_a.row_count ∙ sym is_b.row_count)
+    (λ i within.
+    let inside : i < h = omega (arith, is_a.row_count) in
+    ext_get_or 0 (get_or a i []) (get_or b i []) (is_a.row_lengths i inside ∙ sym (is_b.row_lengths i inside))
+    (λ j in_row. same i j inside (omega (arith, is_a.row_lengths i inside))))
+
+pub grid_same : (h w : ℕ) (value : ℕ → ℕ → ℕ) (rows : List (List ℕ)) → IsGrid h w rows → ((i j : ℕ) → i < h → j < w → value i j ≡ cell_at rows i j) → grid h w value ≡ rows
+grid_same h w value rows is same =
+    same_grid h w (grid h w value) rows (grid_is_grid h w value) is (λ i j in_rows in_columns. cell_at-grid h w value i j in_rows in_columns ∙ same i j in_rows in_columns)
+
+pub grids_same : (h w : ℕ) (f g : ℕ → ℕ → ℕ) → ((i j : ℕ) → i < h → j < w → f i j ≡ g i j) → grid h w f ≡ grid h w g
+grids_same h w f g same = grid_same h w f (grid h w g) (grid_is_grid h w g) (λ i j in_rows in_columns. same i j in_rows in_columns ∙ sym (cell_at-grid h w g i j in_rows in_columns))
+
+-- outside a grid there is nothing
+pub cell_at-past_rows : (rows : List (List ℕ)) (i j : ℕ) → length rows ≤ i → cell_at rows i j ≡ 0
+cell_at-past_rows rows i j past = ap (λ row. get_or row j 0) (get_or_past rows i [] past)
+
+pub cell_at-past_columns : (h w : ℕ) (rows : List (List ℕ)) (i j : ℕ) → IsGrid h w rows → w ≤ j → cell_at rows i j ≡ 0
+cell_at-past_columns h w rows i j is past =
+    elim (cases_lt i h) [
+      | inl within ↦ get_or_past (get_or rows i []) j 0 (omega (arith, is.row_lengths i within))
+      | inr beyond ↦ cell_at-past_rows rows i j (omega (arith, is.row_count))
+    ]
+
+-- one cell changed
+pub cell_at-with_same : (h w : ℕ) (rows : List (List ℕ)) (i j x : ℕ) → IsGrid h w rows → i < h → j < w → cell_at (with_cell rows i j x) i j ≡ x
+cell_at-with_same h w rows i j x is in_rows in_columns =
+    ap (λ row. get_or row j 0) (get_or-set_same rows i (set (get_or rows i []) j x) [] (omega (arith, is.row_count)))
+    ∙ get_or-set_same (get_or rows i []) j x 0 (omega (arith, is.row_lengths i in_rows))
+
+pub cell_at-with_row : (rows : List (List ℕ)) (i j x a b : ℕ) → a ≢ i → cell_at (with_cell rows i j x) a b ≡ cell_at rows a b
+cell_at-with_row rows i j x a b other = ap (λ row. get_or row b 0) (get_or-set_other rows i a (set (get_or rows i []) j x) [] other)
+
+pub cell_at-with_column : (h w : ℕ) (rows : List (List ℕ)) (i j x b : ℕ) → IsGrid h w rows → i < h → b ≢ j → cell_at (with_cell rows i j x) i b ≡ cell_at rows i b
+cell_at-with_column h w rows i j x b is in_rows other =
+    ap (λ row. get_or row b 0) (get_or-set_same rows i (set (get_or rows i []) j x) [] (omega (arith, is.row_count)))
+    ∙ get_or-set_other (get_or rows i []) j b x 0 other
+
+pub with_cell_is_grid : (h w : ℕ) (rows : List (List ℕ)) (i j x : ℕ) → IsGrid h w rows → i < h → IsGrid h w (with_cell rows i j x)
+with_cell_is_grid h w rows i j x is in_rows = record {
+  row_count = length-set rows i (set (get_or rows i []) j x) ∙ is.row_count;
+  row_lengths = λ k within.
+      elim (cases_eq k i) [
+        | inl e ↦
+            rw e (ap length (get_or-set_same rows i (set (get_or rows i []) j x) [] (omega (arith, is.row_count)))
+            ∙ (length-set (get_or rows i []) j x ∙ is.row_lengths i in_rows))
+        | inr other ↦ ap length (get_or-set_other rows i k (set (get_or rows i []) j x) [] other) ∙ is.row_lengths k within
+      ];
+}
+
+-- a blank grid
+zeros : (n k : ℕ) → get_or {A = ℕ} (replicate n 0) k 0 ≡ 0
+zeros zero k = refl
+zeros (suc n) zero = refl
+zeros (suc n) (suc k) = zeros n k
+
+pub cell_at-blank : (h w i j : ℕ) → cell_at (replicate h (replicate w 0)) i j ≡ 0
+cell_at-blank zero w i j = refl
+cell_at-blank (suc h) w zero j = zeros w j
+cell_at-blank (suc h) w (suc i) j = cell_at-blank h w i j

@@ -1,0 +1,13 @@
+pub mod ApplyLemmas
+pub mod CellLemmas
+pub mod DesignLemmas
+pub mod FaultLemmas
+pub mod GridLemmas
+pub mod IdleLemmas
+pub mod KeptLemmas
+pub mod LineLemmas
+pub mod MoveLemmas
+pub mod PaintLemmas
+pub mod PartLemmas
+pub mod RevertLemmas
+pub mod ShiftLemmas

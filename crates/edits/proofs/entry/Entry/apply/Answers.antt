@@ -1,0 +1,85 @@
+use Rattle.std.proofs.Common.{◌≡◌, ap, sym, subst, ◌∙◌, map, List}
+use Rattle.std.specs.Prelude.{IfOk}
+use Rattle.std.specs.List.{All}
+use Rattle.picture.specs.Document.{AreColoured}
+use Rattle.edits.specs.Design.{Design, design, design_of}
+use Rattle.edits.specs.Edit.{edited}
+use Rattle.edits.specs.Note.{Cell, IsCellIn, Note, repainted, with_cells}
+use Rattle.edits.proofs.CellLemmas.{paints_cells}
+use Rattle.edits.proofs.FaultLemmas.{lawful}
+use Rattle.edits.proofs.ApplyLemmas.{paints, painted_coloured, cells_fit, painted_gives, insert_fits, delete_fits, swap_fits, set_fits, pin_fits, unpin_fits}
+use Rattle.edits.proofs.entry.Entry.apply.Goals as goal
+
+pub painted-requires-clause-cells : goal.painted-requires-clause-cells
+painted-requires-clause-cells c =
+    let d = design_of c.args.document.now in
+    let p = paints c.args.self.now.edit c.in-Paint.is in
+    rw (c.deref.ensures.value ∙ ap (λ (n : Note). n.cells) c.requires.kept ∙ p.kept c.args.document.now.picture) (cells_fit d c.args.self.now.edit c.know.ensures (lawful d c.args.self.now.edit c.requires.lawful) p)
+
+pub painted-requires-clause-coloured : goal.painted-requires-clause-coloured
+painted-requires-clause-coloured c =
+    let d = design_of c.args.document.now in
+    let p = paints c.args.self.now.edit c.in-Paint.is in
+    rw (c.deref.ensures.value ∙ ap (λ (n : Note). n.cells) c.requires.kept ∙ p.kept c.args.document.now.picture, paints_cells c.args.self.now.edit c.args.document.now.picture c.know.ensures.is_picture)
+    (painted_coloured d c.args.self.now.edit c.know.ensures (lawful d c.args.self.now.edit c.requires.lawful) p)
+
+pub inserted-requires : goal.inserted-requires
+inserted-requires c =
+    let d = design_of c.args.document.now in
+    let fits = insert_fits d c.in-InsertLine.line c.know.ensures (lawful d _ (rw c.in-InsertLine.is at c.requires.lawful)) in
+    record { place = fits.0; room = fits.1; coloured = fits.2 }
+
+pub deleted-requires : goal.deleted-requires
+deleted-requires c =
+    let d = design_of c.args.document.now in
+    let fits = delete_fits d c.in-DeleteLine.line c.know.ensures (lawful d _ (rw c.in-DeleteLine.is at c.requires.lawful)) in
+    record { place = fits.0; others = fits.1; coloured = fits.2 }
+
+pub swapped-requires : goal.swapped-requires
+swapped-requires c =
+    let d = design_of c.args.document.now in
+    let fits = swap_fits d c.in-SwapLines.axis c.in-SwapLines.first c.in-SwapLines.second c.know.ensures (lawful d _ (rw c.in-SwapLines.is at c.requires.lawful)) in
+    record { first_in = fits.0; second_in = fits.1; coloured = fits.2 }
+
+pub recoloured-requires : goal.recoloured-requires
+recoloured-requires c = set_fits (design_of c.args.document.now) c.in-SetColour.colour c.in-SetColour.rgb (lawful (design_of c.args.document.now) _ (rw c.in-SetColour.is at c.requires.lawful))
+
+pub pinned-requires : goal.pinned-requires
+pinned-requires c =
+    let fits = pin_fits (design_of c.args.document.now) c.in-Pin.row c.in-Pin.col (lawful (design_of c.args.document.now) _ (rw c.in-Pin.is at c.requires.lawful)) in
+    record { in_rows = fits.0; in_columns = fits.1 }
+
+pub unpinned-requires : goal.unpinned-requires
+unpinned-requires c =
+    let fits = unpin_fits (design_of c.args.document.now) c.in-Unpin.row c.in-Unpin.col (lawful (design_of c.args.document.now) _ (rw c.in-Unpin.is at c.requires.lawful)) in
+    record { in_rows = fits.0; in_columns = fits.1 }
+
+pub returns-in-Paint : goal.returns-in-Paint
+returns-in-Paint c =
+    let d = design_of c.args.document.now in
+    let e = c.args.self.now.edit in
+    let p = paints e c.in-Paint.is in
+    let same = c.deref.ensures.value ∙ ap (λ (n : Note). n.cells) c.requires.kept ∙ p.kept c.args.document.now.picture in
+    let gives = ap (λ (cells : List Cell). design d.colours (with_cells d.rows (map (repainted e) cells)) d.marks) same ∙ painted_gives d e c.know.ensures (lawful d e c.requires.lawful) p in
+    subst (λ (x : Design). IfOk c.painted.result (λ y. design_of y ≡ x)) gives c.painted.ensures
+
+pub returns-in-InsertLine : goal.returns-in-InsertLine
+returns-in-InsertLine c = rw c.in-InsertLine.is c.inserted.ensures
+
+pub returns-in-DeleteLine : goal.returns-in-DeleteLine
+returns-in-DeleteLine c = rw c.in-DeleteLine.is c.deleted.ensures
+
+pub returns-in-SwapLines : goal.returns-in-SwapLines
+returns-in-SwapLines c = rw c.in-SwapLines.is c.swapped.ensures
+
+pub returns-in-AddColour : goal.returns-in-AddColour
+returns-in-AddColour c = rw c.in-AddColour.is c.added.ensures
+
+pub returns-in-SetColour : goal.returns-in-SetColour
+returns-in-SetColour c = rw c.in-SetColour.is c.recoloured.ensures
+
+pub returns-in-Pin : goal.returns-in-Pin
+returns-in-Pin c = rw c.in-Pin.is c.pinned.ensures
+
+pub returns-in-Unpin : goal.returns-in-Unpin
+returns-in-Unpin c = rw c.in-Unpin.is c.unpinned.ensures

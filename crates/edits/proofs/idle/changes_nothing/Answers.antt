@@ -1,0 +1,61 @@
+use Rattle.std.proofs.Common.{◌≡◌, ap, sym, ◌∙◌, arith, ◌<◌, ◌≤◌, length, inl, inr}
+use Rattle.std.proofs.lemmas.Bool.Decides.{nat_tests}
+use Rattle.picture.specs.Rows.{lines_along}
+use Rattle.edits.specs.Design.{design_of}
+use Rattle.edits.specs.Edit.{edited}
+use Rattle.edits.specs.Fault.{same_design}
+use Rattle.edits.proofs.IdleLemmas.{edited_paint, edited_fill, edited_recolour, paint_idle, insert_idle, delete_idle, swap_idle, add_idle, set_idle, pin_idle, unpin_idle}
+use Rattle.edits.proofs.RevertLemmas.{not_in}
+use Rattle.edits.proofs.idle.changes_nothing.Goals as goal
+
+pub returns-in-Paint : goal.returns-in-Paint
+returns-in-Paint c =
+    let d = design_of c.args.document.now in
+    let idle = paint_idle d c.args.edit.now c.changes_cells.result c.know.ensures.is_picture c.changes_cells.ensures in
+    idle ∙ ap (λ x. same_design x d) (sym (elim c.in-Paint.is [
+      | inl p ↦ edited_paint d c.args.edit.now p.0 p.1 p.2 p.3
+      | inr o ↦ elim o [
+        | inl f ↦ edited_fill d c.args.edit.now f.0 f.1 f.2 f.3 f.4 f.5
+        | inr r ↦ edited_recolour d c.args.edit.now r.0 r.1 r.2
+      ]
+    ]))
+
+pub returns-in-SwapLines : goal.returns-in-SwapLines
+returns-in-SwapLines c =
+    let inside = rw c.in-SwapLines.is at c.requires.inside in
+    let f : c.in-SwapLines.first < lines_along c.in-SwapLines.axis c.args.document.now.picture = grind (arith, nat_tests, inside) in
+    let s : c.in-SwapLines.second < lines_along c.in-SwapLines.axis c.args.document.now.picture = grind (arith, nat_tests, inside) in
+    rw c.in-SwapLines.is (swap_idle (design_of c.args.document.now) c.in-SwapLines.axis c.in-SwapLines.first c.in-SwapLines.second c.are_alike.result c.know.ensures f s c.are_alike.ensures)
+
+pub returns-in-SetColour : goal.returns-in-SetColour
+returns-in-SetColour c =
+    let coloured = rw c.in-SetColour.is at c.requires.coloured in
+    let within : c.in-SetColour.colour < length c.args.document.now.palette.triples = grind (arith, nat_tests, coloured) in
+    rw c.in-SetColour.is (set_idle (design_of c.args.document.now) c.in-SetColour.colour c.in-SetColour.rgb c.rgb.result c.eq.result within c.rgb.ensures.stands c.eq.ensures)
+
+pub returns-in-Pin : goal.returns-in-Pin
+returns-in-Pin c =
+    let inside = not_in c.args.document.now.picture c.in-Pin.row c.in-Pin.col (rw c.in-Pin.is at c.requires.inside) in
+    rw c.in-Pin.is (pin_idle (design_of c.args.document.now) c.in-Pin.row c.in-Pin.col c.is_given.result c.know.ensures inside.0 inside.1 c.is_given.ensures)
+
+pub returns-in-Unpin : goal.returns-in-Unpin
+returns-in-Unpin c =
+    let inside = not_in c.args.document.now.picture c.in-Unpin.row c.in-Unpin.col (rw c.in-Unpin.is at c.requires.inside) in
+    rw c.in-Unpin.is (unpin_idle (design_of c.args.document.now) c.in-Unpin.row c.in-Unpin.col c.is_given-in-Unpin.result c.know.ensures inside.0 inside.1 c.is_given-in-Unpin.ensures)
+
+pub returns-in-InsertLine : goal.returns-in-InsertLine
+returns-in-InsertLine c =
+    let d = design_of c.args.document.now in
+    elim c.in-InsertLine.is [
+      | inl i ↦
+          let inside = rw i.1 at c.requires.inside in
+          let le : i.0.at ≤ lines_along i.0.axis c.args.document.now.picture = grind (arith, nat_tests, inside) in
+          rw i.1 (insert_idle d i.0 _ c.know.ensures le)
+      | inr o ↦ elim o [
+        | inl x ↦
+            let inside = rw x.1 at c.requires.inside in
+            let lt : x.0.at < lines_along x.0.axis c.args.document.now.picture = grind (arith, nat_tests, inside) in
+            rw x.1 (delete_idle d x.0 _ c.know.ensures lt)
+        | inr a ↦ rw a.1 (add_idle d a.0)
+      ]
+    ]

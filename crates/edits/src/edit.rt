@@ -1,0 +1,60 @@
+//! What a designer does to a document.
+
+use picture::{Axis, LineId, Rgb};
+
+/// One edit. Rows, columns and the places of lines count from 0, and a colour is its number in the palette.
+#[derive(Clone, Copy, Debug, PartialEq, Eq)]
+pub enum Edit {
+    /// Gives a cell a colour.
+    Paint {
+        row: u8,
+        col: u8,
+        colour: u8,
+    },
+    /// Gives each cell of a rectangle, its corners included, a colour.
+    Fill {
+        top: u8,
+        left: u8,
+        bottom: u8,
+        right: u8,
+        colour: u8,
+    },
+    /// Gives each cell of one colour another colour.
+    Recolour {
+        source: u8,
+        target: u8,
+    },
+    /// Puts a line of background at a place, which may be the one behind the last line. Later lines move up by one.
+    InsertLine {
+        line: LineId,
+    },
+    /// Takes a line out. Later lines move down by one.
+    DeleteLine {
+        line: LineId,
+    },
+    /// Exchanges two lines of an axis.
+    SwapLines {
+        axis: Axis,
+        first: u8,
+        second: u8,
+    },
+    /// Adds a colour to the palette, with the next number.
+    AddColour {
+        rgb: Rgb,
+    },
+    /// Gives a number of the palette another colour.
+    SetColour {
+        colour: u8,
+        rgb: Rgb,
+    },
+    /// Makes a cell a given: its colour is printed as part of the puzzle.
+    Pin {
+        row: u8,
+        col: u8,
+    },
+    /// Makes a given an ordinary cell again.
+    Unpin {
+        row: u8,
+        col: u8,
+    },
+}

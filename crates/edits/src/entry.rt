@@ -1,0 +1,74 @@
+//! What is kept of an accepted edit, so that it can be taken back.
+
+ghost use Rattle.std.specs.Prelude.{◌≡◌, None, IfOk};
+
+use crate::edit::Edit;
+use crate::facts::know;
+use crate::kept::{kept_cells, kept_givens, kept_triple};
+use crate::parts::{added, deleted, inserted, painted, pinned, recoloured, swapped, unpinned};
+use picture::{Document, Rgb};
+use std::alloc::{AllocError, Global};
+
+/// A lawful edit of a document, and what is needed to take it back.
+#[derive(Debug, Drop)]
+pub struct Entry {
+    /// The edit.
+    pub edit: Edit,
+    /// The row, the column and the old colour of each cell that a paint, a fill or a recolouring changed, or that a
+    /// deleted line had, in row order.
+    pub cells: Vec<(u8, u8, u8)>,
+    /// The colour that another one took the place of.
+    pub triple: Option<Rgb>,
+    /// The row and the column of each given that a deleted line had, in row order.
+    pub givens: Vec<(u8, u8)>,
+}
+
+impl Entry {
+    ghost use Rattle.edits.specs.Design.{design_of};
+    ghost use Rattle.edits.specs.Edit.{edited};
+    ghost use Rattle.edits.specs.Fault.{edit_fault};
+    ghost use Rattle.edits.specs.Note.{IsEntry, note_for, note_of};
+
+    /// The entry of an edit that no fault refuses. Its allocator is kept with its lists.
+    #[tactic(auto, using(crate::proofs::FaultLemmas::lawful, crate::proofs::FaultLemmas::entry_of))]
+    pub fn of(alloc: Global, document: &Document, edit: &Edit) -> Result<Entry, AllocError>
+        requires { edit_fault (design_of document.now) edit.now ≡ None }
+        ensures note { IfOk result (λ entry. note_of entry ≡ note_for (design_of document.now) edit.now) }
+        ensures entry { IfOk result (λ entry. IsEntry (design_of document.now) (note_of entry)) }
+    {
+        know(document);
+        let cells = kept_cells(alloc, &document.picture, edit)?;
+        let triple = kept_triple(&document.palette, edit);
+        let givens = kept_givens(alloc, document, edit)?;
+        Ok(Entry {
+            edit: *edit,
+            cells,
+            triple,
+            givens,
+        })
+    }
+
+    /// The document after the edit. The entry is that of the edit and the document.
+    pub fn apply(&self, document: &Document) -> Result<Document, AllocError>
+        requires { IsEntry (design_of document.now) (note_of self.now) }
+        ensures { IfOk result (λ d. design_of d ≡ edited (design_of document.now) self.now.edit) }
+    {
+        know(document);
+        match self.edit {
+            Edit::Paint { .. } | Edit::Fill { .. } | Edit::Recolour { .. } => {
+                painted(document, &self.edit, &self.cells)
+            }
+            Edit::InsertLine { line } => inserted(document, line),
+            Edit::DeleteLine { line } => deleted(document, line),
+            Edit::SwapLines {
+                axis,
+                first,
+                second,
+            } => swapped(document, axis, first, second),
+            Edit::AddColour { rgb } => added(document, rgb),
+            Edit::SetColour { colour, rgb } => recoloured(document, colour, rgb),
+            Edit::Pin { row, col } => pinned(document, row, col),
+            Edit::Unpin { row, col } => unpinned(document, row, col),
+        }
+    }
+}

@@ -1,0 +1,157 @@
+//! Cells that an edit paints.
+
+ghost use Rattle.std.specs.Prelude.{◌≡◌, ◌≢◌, ◌<◌, ◌++◌, [], false, length, IfOk, OnOk, MatchBool};
+ghost use Rattle.picture.specs.Rows.{width_of};
+ghost use Rattle.edits.specs.Edit.{colour_after};
+ghost use Rattle.edits.specs.Fault.{is_outside};
+ghost use Rattle.edits.specs.Note.{changed_cells, changed_in_row};
+ghost use Rattle.edits.specs.Painting.{IsArea};
+
+use crate::edit::Edit;
+use picture::Picture;
+use std::alloc::{AllocError, Global};
+
+// The rows from `top` to before `below`, and the columns from `left` to before `beyond`.
+#[derive(Clone, Copy)]
+struct Area {
+    top: u8,
+    below: u8,
+    left: u8,
+    beyond: u8,
+}
+
+impl Edit {
+    /// The colour that a cell has afterwards where the edit moves no line.
+    pub(crate) fn colour_after(&self, row: u8, col: u8, old: u8) -> u8
+        ensures { result ≡ colour_after self.now row col old }
+    {
+        match *self {
+            Edit::Paint {
+                row: at,
+                col: across,
+                colour,
+            } if row == at && col == across => colour,
+            Edit::Fill {
+                top,
+                left,
+                bottom,
+                right,
+                colour,
+            } if top <= row && row <= bottom && left <= col && col <= right => colour,
+            Edit::Recolour { source, target } if old == source => target,
+            _ => old,
+        }
+    }
+
+    // Outside this area the edit changes no colour.
+    #[tactic(auto, using(crate::proofs::PaintLemmas::areas))]
+    fn area(&self, picture: &Picture) -> Area
+        requires { is_outside picture.now self.now ≡ false }
+        ensures { IsArea self.now picture.now result.top result.below result.left result.beyond }
+    {
+        let (height, width) = (picture.height(), picture.width());
+        match *self {
+            Edit::Paint { row, col, .. } => Area {
+                top: row,
+                below: row + 1,
+                left: col,
+                beyond: col + 1,
+            },
+            Edit::Fill {
+                top,
+                left,
+                bottom,
+                right,
+                ..
+            } => Area {
+                top,
+                below: bottom + 1,
+                left,
+                beyond: right + 1,
+            },
+            Edit::Recolour { .. } => Area {
+                top: 0,
+                below: height,
+                left: 0,
+                beyond: width,
+            },
+            _ => Area {
+                top: 0,
+                below: 0,
+                left: 0,
+                beyond: 0,
+            },
+        }
+    }
+}
+
+#[tactic(auto, using(crate::proofs::PaintLemmas::painting))]
+/// The cells that an edit gives another colour, with their old ones, in row order.
+pub(crate) fn changed_cells(
+    alloc: Global,
+    picture: &Picture,
+    edit: &Edit,
+) -> Result<Vec<(u8, u8, u8)>, AllocError>
+    requires { is_outside picture.now edit.now ≡ false }
+    ensures { IfOk result (λ cells. cells.items ≡ changed_cells edit.now picture.now) }
+{
+    let area = edit.area(picture);
+    let mut cells = Vec::new(alloc);
+    for row in area.top..area.below {
+        push_changed(&mut cells, picture, edit, area, row)?;
+    }
+    Ok(cells)
+}
+
+#[tactic(auto, using(crate::proofs::PaintLemmas::painting))]
+// Appends the cells of a row.
+fn push_changed(
+    cells: &mut Vec<(u8, u8, u8)>,
+    picture: &Picture,
+    edit: &Edit,
+    area: Area,
+    row: u8,
+) -> Result<(), AllocError>
+    requires area { IsArea edit.now picture.now area.top area.below area.left area.beyond }
+    requires row { row < length picture.now }
+    ensures { OnOk result (cells.new.items ≡ cells.old.items ++ changed_in_row edit.now picture.now row) }
+{
+    for col in area.left..area.beyond {
+        let old = picture.cell(row, col);
+        if edit.colour_after(row, col, old) != old {
+            cells.push((row, col, old))?;
+        }
+    }
+    Ok(())
+}
+
+#[tactic(auto, using(crate::proofs::PaintLemmas::painting))]
+/// Whether an edit gives some cell another colour.
+pub(crate) fn changes_cells(picture: &Picture, edit: &Edit) -> bool
+    requires { is_outside picture.now edit.now ≡ false }
+    ensures { MatchBool result (changed_cells edit.now picture.now ≢ []) (changed_cells edit.now picture.now ≡ []) }
+{
+    let area = edit.area(picture);
+    for row in area.top..area.below {
+        if changes_row(picture, edit, area, row) {
+            return true;
+        }
+    }
+    false
+}
+
+#[tactic(auto, using(crate::proofs::PaintLemmas::painting))]
+// Whether an edit gives some cell of a row another colour.
+fn changes_row(picture: &Picture, edit: &Edit, area: Area, row: u8) -> bool
+    requires area { IsArea edit.now picture.now area.top area.below area.left area.beyond }
+    requires row { row < length picture.now }
+    ensures { MatchBool result (changed_in_row edit.now picture.now row ≢ []) (changed_in_row edit.now picture.now row ≡ []) }
+{
+    for col in area.left..area.beyond {
+        let old = picture.cell(row, col);
+        if edit.colour_after(row, col, old) != old {
+            return true;
+        }
+    }
+    false
+}

@@ -1,0 +1,184 @@
+//! Documents made from another one's parts.
+
+ghost use Rattle.std.specs.Prelude.{◌≡◌, ◌<◌, ◌≤◌, length, map, IfOk};
+ghost use Rattle.std.specs.List.{All};
+ghost use Rattle.picture.specs.Document.{AreColoured};
+ghost use Rattle.picture.specs.Palette.{with_colour, with_triple};
+ghost use Rattle.picture.specs.Rows.{line_deleted, line_inserted, lines_along, lines_swapped, width_of, with_cell};
+ghost use Rattle.edits.specs.Design.{design, design_of};
+ghost use Rattle.edits.specs.Note.{IsCellIn, repainted, with_cells};
+
+use crate::cells::paint_cells;
+use crate::edit::Edit;
+use crate::moving::moved_givens;
+use clues::Change;
+use picture::{Axis, Document, LineId, Rgb};
+use std::alloc::AllocError;
+
+/// The document with the cells of a list painted.
+pub(crate) fn painted(
+    document: &Document,
+    edit: &Edit,
+    cells: &[(u8, u8, u8)],
+) -> Result<Document, AllocError>
+    requires cells { All (IsCellIn document.now.picture) (map (repainted edit.now) cells.now) }
+    requires coloured { AreColoured (with_cells document.now.picture (map (repainted edit.now) cells.now)) document.now.palette }
+    ensures { IfOk result (λ d. design_of d
+        ≡ design document.now.palette (with_cells document.now.picture (map (repainted edit.now) cells.now)) (design_of document.now).marks) }
+{
+    let palette = document.palette.copy()?;
+    let mut picture = document.picture.copy()?;
+    paint_cells(&mut picture, edit, cells);
+    let _ = document.picture.height();
+    Ok(Document {
+        palette,
+        picture,
+        givens: document.givens,
+    })
+}
+
+/// The document with a line of background inserted.
+pub(crate) fn inserted(document: &Document, line: LineId) -> Result<Document, AllocError>
+    requires place { line.at ≤ lines_along line.axis document.now.picture }
+    requires room { lines_along line.axis document.now.picture < 120 }
+    requires coloured { AreColoured (line_inserted document.now.picture line) document.now.palette }
+    ensures { IfOk result (λ d. design_of d
+        ≡ design document.now.palette (line_inserted document.now.picture line) (line_inserted (design_of document.now).marks line)) }
+{
+    let palette = document.palette.copy()?;
+    let mut picture = document.picture.copy()?;
+    let _ = document.picture.height();
+    picture.insert_line(line)?;
+    let (height, width) = (picture.height(), picture.width());
+    let back = Change::delete(height, width, line);
+    let givens = moved_givens(&document.givens, &back, height, width);
+    Ok(Document {
+        palette,
+        picture,
+        givens,
+    })
+}
+
+/// The document with a line deleted.
+pub(crate) fn deleted(document: &Document, line: LineId) -> Result<Document, AllocError>
+    requires place { line.at < lines_along line.axis document.now.picture }
+    requires others { 1 < lines_along line.axis document.now.picture }
+    requires coloured { AreColoured (line_deleted document.now.picture line) document.now.palette }
+    ensures { IfOk result (λ d. design_of d
+        ≡ design document.now.palette (line_deleted document.now.picture line) (line_deleted (design_of document.now).marks line)) }
+{
+    let palette = document.palette.copy()?;
+    let mut picture = document.picture.copy()?;
+    let _ = document.picture.height();
+    picture.delete_line(line);
+    let (height, width) = (picture.height(), picture.width());
+    let back = Change::insert(height, width, line);
+    let givens = moved_givens(&document.givens, &back, height, width);
+    Ok(Document {
+        palette,
+        picture,
+        givens,
+    })
+}
+
+/// The document with two lines exchanged.
+pub(crate) fn swapped(
+    document: &Document,
+    axis: Axis,
+    first: u8,
+    second: u8,
+) -> Result<Document, AllocError>
+    requires first_in { first < lines_along axis document.now.picture }
+    requires second_in { second < lines_along axis document.now.picture }
+    requires coloured { AreColoured (lines_swapped axis first second document.now.picture) document.now.palette }
+    ensures { IfOk result (λ d. design_of d
+        ≡ design document.now.palette (lines_swapped axis first second document.now.picture) (lines_swapped axis first second (design_of document.now).marks)) }
+{
+    let palette = document.palette.copy()?;
+    let mut picture = document.picture.copy()?;
+    let _ = document.picture.height();
+    picture.swap_lines(axis, first, second);
+    let (height, width) = (picture.height(), picture.width());
+    let back = Change::swap(height, width, axis, first, second);
+    let givens = moved_givens(&document.givens, &back, height, width);
+    Ok(Document {
+        palette,
+        picture,
+        givens,
+    })
+}
+
+/// The document with a cell that is a given.
+pub(crate) fn pinned(document: &Document, row: u8, col: u8) -> Result<Document, AllocError>
+    requires in_rows { row < length document.now.picture }
+    requires in_columns { col < width_of document.now.picture }
+    ensures { IfOk result (λ d. design_of d
+        ≡ design document.now.palette document.now.picture (with_cell (design_of document.now).marks row col 1)) }
+{
+    let palette = document.palette.copy()?;
+    let picture = document.picture.copy()?;
+    let _ = picture.height();
+    let mut givens = document.givens;
+    givens.put(row, col);
+    Ok(Document {
+        palette,
+        picture,
+        givens,
+    })
+}
+
+/// The document with a cell that is no given.
+pub(crate) fn unpinned(document: &Document, row: u8, col: u8) -> Result<Document, AllocError>
+    requires in_rows { row < length document.now.picture }
+    requires in_columns { col < width_of document.now.picture }
+    ensures { IfOk result (λ d. design_of d
+        ≡ design document.now.palette document.now.picture (with_cell (design_of document.now).marks row col 0)) }
+{
+    let palette = document.palette.copy()?;
+    let picture = document.picture.copy()?;
+    let _ = picture.height();
+    let mut givens = document.givens;
+    givens.take_out(row, col);
+    Ok(Document {
+        palette,
+        picture,
+        givens,
+    })
+}
+
+/// The document with one colour more.
+pub(crate) fn added(document: &Document, rgb: Rgb) -> Result<Document, AllocError>
+    ensures { IfOk result (λ d. design_of d
+        ≡ design (with_colour document.now.palette rgb) document.now.picture (design_of document.now).marks) }
+{
+    let mut palette = document.palette.copy()?;
+    let picture = document.picture.copy()?;
+    // The edit was lawful, so only memory can be wanting.
+    if palette.add(rgb).is_err() {
+        return Err(AllocError);
+    }
+    Ok(Document {
+        palette,
+        picture,
+        givens: document.givens,
+    })
+}
+
+/// The document with another colour at a number.
+pub(crate) fn recoloured(document: &Document, colour: u8, rgb: Rgb) -> Result<Document, AllocError>
+    requires { colour < length document.now.palette.triples }
+    ensures { IfOk result (λ d. design_of d
+        ≡ design (with_triple document.now.palette colour rgb) document.now.picture (design_of document.now).marks) }
+{
+    let mut palette = document.palette.copy()?;
+    let picture = document.picture.copy()?;
+    // The edit was lawful, so only memory can be wanting.
+    if palette.set(colour, rgb).is_err() {
+        return Err(AllocError);
+    }
+    Ok(Document {
+        palette,
+        picture,
+        givens: document.givens,
+    })
+}

@@ -1,0 +1,156 @@
+//! Why an edit of a document is refused.
+
+ghost use Rattle.std.specs.Prelude.{◌≡◌, false};
+ghost use Rattle.edits.specs.Design.{design_of};
+ghost use Rattle.edits.specs.Fault.{deletes_last, edit_fault, has_cell, has_no_room, is_full, is_outside, is_over, is_there, lacks_colour, sets_background};
+
+use crate::edit::Edit;
+use crate::fault::EditFault;
+use crate::idle::changes_nothing;
+use crate::places::line_count;
+use picture::{Document, MAX_COLOURS, MAX_SIDE, Palette, Picture};
+
+impl Edit {
+    /// Why the edit of a document is refused, where it is: the first fault in order whose condition holds. It takes no
+    /// memory.
+    pub fn refusal(&self, document: &Document) -> Option<EditFault>
+        ensures { result ≡ edit_fault (design_of document.now) self.now }
+    {
+        if is_outside(&document.picture, self) {
+            return Some(EditFault::Place);
+        }
+        if lacks_colour(&document.palette, self) {
+            return Some(EditFault::Colour);
+        }
+        if has_no_room(&document.picture, self) {
+            return Some(EditFault::TooLarge);
+        }
+        if deletes_last(&document.picture, self) {
+            return Some(EditFault::LastLine);
+        }
+        if is_over(&document.palette, self) {
+            return Some(EditFault::SampleOver);
+        }
+        if is_full(&document.palette, self) {
+            return Some(EditFault::PaletteFull);
+        }
+        if is_there(&document.palette, self) {
+            return Some(EditFault::DuplicateColour);
+        }
+        if sets_background(self) {
+            return Some(EditFault::Background);
+        }
+        if changes_nothing(document, self) {
+            return Some(EditFault::NoChange);
+        }
+        None
+    }
+}
+
+// A cell or a line lies outside the picture, or a rectangle has no cell.
+fn is_outside(picture: &Picture, edit: &Edit) -> bool
+    ensures { result ≡ is_outside picture.now edit.now }
+{
+    match *edit {
+        Edit::Paint { row, col, .. } | Edit::Pin { row, col } | Edit::Unpin { row, col } => {
+            !has_cell(picture, row, col)
+        }
+        Edit::Fill {
+            top,
+            left,
+            bottom,
+            right,
+            ..
+        } => !(has_cell(picture, bottom, right) && (top <= bottom && left <= right)),
+        Edit::InsertLine { line } => line.at > line_count(picture, line.axis),
+        Edit::DeleteLine { line } => line.at >= line_count(picture, line.axis),
+        Edit::SwapLines {
+            axis,
+            first,
+            second,
+        } => first >= line_count(picture, axis) || second >= line_count(picture, axis),
+        Edit::Recolour { .. } | Edit::AddColour { .. } | Edit::SetColour { .. } => false,
+    }
+}
+
+// Whether a cell is one of the picture's.
+fn has_cell(picture: &Picture, row: u8, col: u8) -> bool
+    ensures { result ≡ has_cell picture.now row col }
+{
+    row < picture.height() && col < picture.width()
+}
+
+// The palette lacks a colour that is named.
+fn lacks_colour(palette: &Palette, edit: &Edit) -> bool
+    ensures { result ≡ lacks_colour palette.now edit.now }
+{
+    match *edit {
+        Edit::Paint { colour, .. } | Edit::Fill { colour, .. } | Edit::SetColour { colour, .. } => {
+            colour >= palette.len()
+        }
+        Edit::Recolour { source, target } => source >= palette.len() || target >= palette.len(),
+        _ => false,
+    }
+}
+
+// A line is to be inserted where there are as many as there may be.
+fn has_no_room(picture: &Picture, edit: &Edit) -> bool
+    ensures { result ≡ has_no_room picture.now edit.now }
+{
+    match *edit {
+        Edit::InsertLine { line } => line_count(picture, line.axis) >= MAX_SIDE,
+        _ => false,
+    }
+}
+
+// The only line of its axis is to be deleted.
+fn deletes_last(picture: &Picture, edit: &Edit) -> bool
+    ensures { result ≡ deletes_last picture.now edit.now }
+{
+    match *edit {
+        Edit::DeleteLine { line } => line_count(picture, line.axis) <= 1,
+        _ => false,
+    }
+}
+
+// A sample is above the maxval.
+fn is_over(palette: &Palette, edit: &Edit) -> bool
+    ensures { result ≡ is_over palette.now edit.now }
+{
+    match *edit {
+        Edit::AddColour { rgb } | Edit::SetColour { rgb, .. } => {
+            let maxval = palette.maxval();
+            !(rgb.r <= maxval && (rgb.g <= maxval && rgb.b <= maxval))
+        }
+        _ => false,
+    }
+}
+
+// A colour is to be added where there are as many as there may be.
+fn is_full(palette: &Palette, edit: &Edit) -> bool
+    ensures { result ≡ is_full palette.now edit.now }
+{
+    match *edit {
+        Edit::AddColour { .. } => palette.len() >= MAX_COLOURS,
+        _ => false,
+    }
+}
+
+// The colour stands at another number.
+fn is_there(palette: &Palette, edit: &Edit) -> bool
+    requires { lacks_colour palette.now edit.now ≡ false }
+    ensures { result ≡ is_there palette.now edit.now }
+{
+    match *edit {
+        Edit::AddColour { rgb } => palette.number_of(rgb).is_some(),
+        Edit::SetColour { colour, rgb } => { palette.stands_elsewhere(colour, rgb) }
+        _ => false,
+    }
+}
+
+// The background is to have another colour, or its own.
+fn sets_background(edit: &Edit) -> bool
+    ensures { result ≡ sets_background edit.now }
+{
+    matches!(*edit, Edit::SetColour { colour: 0, .. })
+}
