@@ -1,0 +1,11 @@
+pub mod BookLemmas
+pub mod ForcingLemmas
+pub mod GainLemmas
+pub mod GatherLemmas
+pub mod LawLemmas
+pub mod LineMaskLemmas
+pub mod MakingLemmas
+pub mod PlaceLemmas
+pub mod ReasonLemmas
+pub mod SaidLemmas
+pub mod StandingLemmas

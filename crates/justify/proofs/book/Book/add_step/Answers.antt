@@ -1,0 +1,26 @@
+use Rattle.std.proofs.Common.{◌≡◌, ℕ, ◌<◌, List, [], ◌∷◌, ◌++◌, length, subst, sym, ap, ◌∙◌, arith}
+use Rattle.picture.specs.Rows.{line_of}
+use Rattle.justify.specs.declared.step.Step.{Step}
+use Rattle.justify.specs.Premises.{Mentions}
+use Rattle.justify.specs.Book.{Account, account, CanAdd, GainDrawn, IsAccount}
+use Rattle.justify.proofs.BookLemmas.{account_more, drawn_lies_inside, found_last}
+use Rattle.justify.proofs.book.Book.add_step.Goals as goal
+
+pub gain_drawn-requires-clause-inside : goal.gain_drawn-requires-clause-inside
+gain_drawn-requires-clause-inside c =
+    let inside = c.self.inside in
+    let P : Account → Type 0 = λ b. CanAdd b c.args.step in
+    let can = subst P (sym c.self.view_is) c.requires in
+    let e = found_last inside.steps.items c.push.new.self.items c.args.step c.index.result.now c.len-last.result (let e = c.len-last.ensures in omega (arith, inside.steps.ok.0)) c.in_ok-push.ensures.items c.index.ensures in
+    let Q : Step → Type 0 = λ s. (i : ℕ) → Mentions s.drawn i → i < length (line_of inside.facts s.line) in
+    subst Q (sym e) (drawn_lies_inside inside.base inside.steps.items inside.facts c.args.step c.self.invariant can)
+
+pub invariant_of-self-2 : goal.invariant_of-self-2
+invariant_of-self-2 c =
+    let inside = c.self.inside in
+    let P : Account → Type 0 = λ b. CanAdd b c.args.step in
+    let can = subst P (sym c.self.view_is) c.requires in
+    let e = found_last inside.steps.items c.push.new.self.items c.args.step c.index.result.now c.len-last.result (let e = c.len-last.ensures in omega (arith, inside.steps.ok.0)) c.in_ok-push.ensures.items c.index.ensures in
+    let G : Step → Type 0 = λ s. GainDrawn s inside.facts c.gain_drawn.new.facts in
+    let Q : List Step → Type 0 = λ steps. IsAccount (account inside.base steps c.gain_drawn.new.facts) in
+    subst Q (sym c.in_ok-push.ensures.items) (account_more inside.base inside.steps.items inside.facts c.gain_drawn.new.facts c.args.step c.self.invariant can (subst G e c.gain_drawn.ensures))

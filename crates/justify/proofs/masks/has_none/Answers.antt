@@ -1,0 +1,26 @@
+use Rattle.std.proofs.Common.{◌≡◌, ℕ, ◌<◌, ◌^◌, length, get_or, bit_and, subst, refl, arith}
+use Rattle.std.proofs.lemmas.Nat.{and_le_l}
+use Rattle.justify.specs.Premises.{premise_at}
+use Rattle.justify.proofs.LineMaskLemmas.{said_here, none_said}
+use Rattle.justify.proofs.StandingLemmas.{place_inside}
+use Rattle.justify.proofs.masks.has_none.Goals as goal
+
+pub bounds-left-from : goal.bounds-left-from
+bounds-left-from c =
+    let at = place_inside c.args.premises.now c.args.premises.now c.loop-premise.premise-index (length c.args.left.now) refl c.requires c.loop-premise-test.true in
+    let here = c.from.ensures in
+    omega arith
+
+pub returns-then-left-from-ne0 : goal.returns-then-left-from-ne0
+returns-then-left-from-ne0 c =
+    let premises = c.args.premises.now in
+    let left = c.args.left.now in
+    let n = c.loop-premise.premise-index in
+    let P : ℕ → Type 0 = λ place. bit_and (get_or left place 0) (premise_at premises n).colours ≡ 0 → ⊥ in
+    let some = subst P c.from.ensures c.if-left-from-ne0.true in
+    let fits : get_or left (premise_at premises n).at 0 < 2 ^ 16 = (let f = c.type_inv.left (premise_at premises n).at in omega arith) in
+    let below = and_le_l (get_or left (premise_at premises n).at 0) (premise_at premises n).colours in
+    said_here premises left n c.loop-premise-test.true (omega arith) (omega arith)
+
+pub returns : goal.returns
+returns c = none_said _ _ _ c.loop-premise-test.false c.loop-premise.invariant

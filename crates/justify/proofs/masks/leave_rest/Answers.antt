@@ -1,0 +1,37 @@
+use Rattle.std.proofs.Common.{◌≡◌, ℕ, ◌+◌, ◌-◌, ◌<◌, length, get_or, set, replicate, subst, sym, refl, ap, ◌∙◌, arith}
+use Rattle.std.proofs.lemmas.List.{get_or-replicate}
+use Rattle.justify.specs.Premises.{premise_at}
+use Rattle.justify.proofs.LineMaskLemmas.{Rest, rest_none, rest_more, rest_all}
+use Rattle.justify.proofs.StandingLemmas.{place_inside}
+use Rattle.justify.proofs.masks.leave_rest.Goals as goal
+
+pub bounds-left-from : goal.bounds-left-from
+bounds-left-from c =
+    let at = place_inside c.args.premises.now c.args.premises.now c.loop-premise.premise-index (length c.args.left.now) refl c.requires.inside c.loop-premise-test.true in
+    let here = c.from.ensures in
+    let len = c.loop-premise.auto.left in
+    let filled = c.fill.ensures.len in
+    omega arith
+
+pub loop-premise-init : goal.loop-premise-init
+loop-premise-init c =
+    let n = length c.args.left.now in
+    let e : c.fill.new.self ≡ replicate n 65535 = c.fill.ensures.after (λ y h. h) in
+    rest_none _ _ (λ i l. ap (λ xs. get_or xs i 0) e ∙ get_or-replicate n i 65535 0 (let filled = c.fill.ensures.len in omega arith))
+
+pub loop-premise-preserved : goal.loop-premise-preserved
+loop-premise-preserved c =
+    let premises = c.args.premises.now in
+    let n = c.loop-premise.premise-index in
+    let left = c.loop-premise.left in
+    let at = place_inside premises premises n (length c.args.left.now) refl c.requires.inside c.loop-premise-test.true in
+    let len = c.loop-premise.auto.left in
+    let filled = c.fill.ensures.len in
+    let P : ℕ → Type 0 = λ place. Rest premises (n + 1) (set left place (65535 - (premise_at premises n).colours)) in
+    subst P (sym c.from.ensures) (rest_more premises n left c.requires.premises c.loop-premise-test.true (omega arith) c.loop-premise.invariant)
+
+pub returns : goal.returns
+returns c =
+    let past = c.loop-premise-test.false in
+    let within = c.loop-premise.auto.premise-index-end in
+    rest_all c.args.premises.now c.loop-premise.premise-index c.loop-premise.left c.requires.premises (omega arith) c.loop-premise.invariant

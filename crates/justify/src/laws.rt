@@ -1,0 +1,34 @@
+//! Laws of the definitions in `specs/`. Each function does nothing, and its contract is the law.
+
+ghost use Rattle.justify.specs.Laws.{
+  DerivationsGrow,
+  DerivationsStayInside,
+  FactsAreWhatIsKnown,
+  NewStepsDerive,
+  NewStepsFollow,
+};
+
+/// What a book's facts exclude is what is in its base or drawn by a step.
+pub fn facts_are_what_is_known()
+    ensures { FactsAreWhatIsKnown }
+{}
+
+/// A new step can be added to the book that it was made from, and adding it is forcing the line.
+pub fn new_steps_follow()
+    ensures { NewStepsFollow }
+{}
+
+/// A new step is forced from its premises alone, and trimmed.
+pub fn new_steps_derive()
+    ensures { NewStepsDerive }
+{}
+
+/// A derivation with a forced step more is a derivation, and trimmed where both are.
+pub fn derivations_grow()
+    ensures { DerivationsGrow }
+{}
+
+/// The facts of a derivation hold its base and lie inside all closed facts that hold it.
+pub fn derivations_stay_inside()
+    ensures { DerivationsStayInside }
+{}

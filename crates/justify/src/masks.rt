@@ -1,0 +1,103 @@
+//! Premises and the masks of a line: bit k of a mask stands for colour k.
+
+ghost use Rattle.std.specs.Prelude.{◌≡◌, ℕ, ◌<◌, ◌≤◌, ◌↔◌, length, slice_index, take, IsTrue, IsBitSet, MatchBool};
+ghost use Rattle.justify.specs.Premises.{ArePremises, Gathers, HasSaid, IsComplement, KeepsLost, IsMark, LeavesRest, Mentions, Says};
+
+use crate::premise::Premise;
+
+// No line has more cells.
+pub(crate) const MOST_CELLS: usize = 120;
+
+// Gathers the cells in which the masks of a line have colours, and says how many there are.
+pub(crate) fn gather(masks: &[u16], found: &mut [Premise]) -> usize
+    requires room { length masks.now ≤ length found.old }
+    requires short { length masks.now ≤ MOST_CELLS }
+    ensures within { result ≤ length masks.now }
+    ensures gathers { Gathers masks.now (take result found.new) }
+{
+    let mut count = 0;
+    for place in 0..masks.len() {
+        let colours = masks[place];
+        found[count] = Premise {
+            at: place as u8,
+            colours,
+        };
+        count += usize::from(colours != 0);
+    }
+    count
+}
+
+// Whether the premise at a place has a colour.
+pub(crate) fn says(premises: &[Premise], place: u8, colour: u8) -> bool
+    requires { colour < 16 }
+    ensures { IsTrue result ↔ Says premises.now place colour }
+{
+    for premise in premises {
+        if premise.at == place && has_colour(premise.colours, colour) {
+            return true;
+        }
+    }
+    false
+}
+
+// Whether a mask has a colour.
+fn has_colour(mask: u16, colour: u8) -> bool
+    requires { colour < 16 }
+    ensures { IsTrue result ↔ IsBitSet mask colour }
+{
+    mask & (1 << colour) != 0
+}
+
+// Makes the masks of a line all sixteen colours but those that are said.
+pub(crate) fn leave_rest(premises: &[Premise], left: &mut [u16])
+    requires premises { ArePremises premises.now }
+    requires inside { (i : ℕ) → Mentions premises.now i → i < length left.old }
+    ensures { LeavesRest premises.now left.new }
+{
+    left.fill(u16::MAX);
+    for premise in premises {
+        left[usize::from(premise.at)] = !premise.colours;
+    }
+}
+
+// Turns the masks of a line into those of the other colours.
+pub(crate) fn complement(masks: &mut [u16])
+    ensures { IsComplement masks.old masks.new }
+{
+    for place in 0..masks.len() {
+        masks[place] = !masks[place];
+    }
+}
+
+// Makes the masks those of the colours that were there before and are no more.
+pub(crate) fn keep_lost(before: &[u16], masks: &mut [u16])
+    requires { length before.now ≡ length masks.old }
+    ensures { KeepsLost before.now masks.old masks.new }
+{
+    for place in 0..masks.len() {
+        masks[place] = before[place] & !masks[place];
+    }
+}
+
+// Whether no cell of a line has a colour that is said there.
+pub(crate) fn has_none(premises: &[Premise], left: &[u16]) -> bool
+    requires { (i : ℕ) → Mentions premises.now i → i < length left.now }
+    ensures { MatchBool result (HasSaid premises.now left.now → ⊥) (HasSaid premises.now left.now) }
+{
+    for premise in premises {
+        if left[usize::from(premise.at)] & premise.colours != 0 {
+            return false;
+        }
+    }
+    true
+}
+
+// Makes the masks of a line empty but for one colour in one cell.
+pub(crate) fn mark(masks: &mut [u16], place: u8, colour: u8)
+    requires place { place < length masks.old }
+    requires in_colours { colour < 16 }
+    ensures { IsMark place colour masks.new }
+{
+    masks.fill(0);
+    masks[usize::from(place)] = 1 << colour;
+}

@@ -1,0 +1,114 @@
+ghost use Rattle.std.specs.Prelude.{◌≡◌, ℕ, ◌<◌, ◌≤◌, length, IfOk};
+ghost use Rattle.picture.specs.Rows.{width_of};
+ghost use Rattle.line_settle.specs.FactSets.{Leaves};
+ghost use Rattle.justify.specs.Book.{IsDerivation};
+ghost use Rattle.justify.specs.Forcing.{ForcesFrom};
+ghost use Rattle.justify.specs.Premises.{Mentions, Says};
+ghost use Rattle.justify.specs.Reasons.{Supports, Reasons};
+
+use crate::book::Book;
+use crate::masks::{MOST_CELLS, leave_rest, mark};
+use crate::needs::needed_for;
+use crate::premise::Premises;
+use crate::step::{Step, place_along};
+use clues::{Clue, ClueBook};
+use picture::LineId;
+use std::alloc::AllocError;
+
+/// Why a colour is not in a cell: the step that drew it by its place in the book, the step's line, and premises of that
+/// step from which the line forces this one exclusion.
+#[derive(Drop)]
+pub struct Reason {
+    pub step: usize,
+    pub line: LineId,
+    pub premises: Premises,
+}
+
+impl Book {
+    /// Why a colour from 0 to 15 is not in a cell, where the base leaves it: the step of the book that drew it, and what of
+    /// its premises is needed for this exclusion alone. None where the colour is still left. The book has to be a
+    /// derivation from the clues. No line is evaluated.
+    pub fn trimmed(
+        &self,
+        clues: &ClueBook,
+        row: u8,
+        col: u8,
+        colour: u8,
+    ) -> Result<Option<Reason>, AllocError>
+        requires derivation { IsDerivation clues.now self.now }
+        requires in_rows { row < length self.now.base }
+        requires in_columns { col < width_of self.now.base }
+        requires in_colours { colour < 16 }
+        requires not_given { Leaves self.now.base row col colour }
+        ensures { IfOk result (Reasons clues.now self.now row col colour) }
+    {
+        let steps = self.steps();
+        let Some(place) = self.reason(row, col, colour) else {
+            return Ok(None);
+        };
+        let step = &steps[place];
+        let line = step.line;
+        let clue = clues.clue(line);
+        let cells = self.base().line_len(line);
+        let at = place_along(line, row, col);
+        let premises = needed(clue, step, cells, at, colour)?;
+        Ok(Some(Reason {
+            step: place,
+            line,
+            premises,
+        }))
+    }
+}
+
+// The premises of a step, on a line of so many cells, that are needed for one of the exclusions that it draws.
+fn needed(
+    clue: &Clue,
+    step: &Step,
+    cells: u8,
+    place: u8,
+    colour: u8,
+) -> Result<Premises, AllocError>
+    requires short { cells ≤ MOST_CELLS }
+    requires inside { (i : ℕ) → Mentions step.now.premises i → i < cells }
+    requires place { place < cells }
+    requires in_colours { colour < 16 }
+    requires forced { ForcesFrom clue.now cells (Says step.now.premises) place colour }
+    ensures { IfOk result (Supports clue.now cells step.now.premises place colour) }
+{
+    let mut left = [0; MOST_CELLS];
+    let mut drawn = [0; MOST_CELLS];
+    let count = usize::from(cells);
+    needed_on(
+        clue,
+        cells,
+        &step.premises,
+        place,
+        colour,
+        &mut left[..count],
+        &mut drawn[..count],
+    )
+}
+
+// The same, in buffers of as many cells.
+fn needed_on(
+    clue: &Clue,
+    cells: u8,
+    premises: &Premises,
+    place: u8,
+    colour: u8,
+    left: &mut [u16],
+    drawn: &mut [u16],
+) -> Result<Premises, AllocError>
+    requires left_room { length left.old ≡ cells }
+    requires drawn_room { length drawn.old ≡ cells }
+    requires short { cells ≤ MOST_CELLS }
+    requires inside { (i : ℕ) → Mentions premises.now i → i < cells }
+    requires place { place < cells }
+    requires in_colours { colour < 16 }
+    requires forced { ForcesFrom clue.now cells (Says premises.now) place colour }
+    ensures { IfOk result (Supports clue.now cells premises.now place colour) }
+{
+    leave_rest(premises.as_slice(), left);
+    mark(drawn, place, colour);
+    needed_for(premises.allocator(), clue, drawn, left)
+}

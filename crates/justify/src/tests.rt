@@ -1,0 +1,289 @@
+use crate::{Book, Premise, Premises, Step, StepFault, laws};
+use clues::ClueBook;
+use line_settle::{Facts, LineEngine, MaskEngine, Meter, PlainEngine};
+use picture::{Axis, LineId, Picture};
+use std::alloc::{AllocError, Global};
+use std::process::Abort;
+
+const ALL: u16 = u16::MAX;
+
+const NOTHING_DONE: Meter = Meter {
+    evaluations: 0,
+    trials: 0,
+};
+
+// A picture of these cells, row after row.
+fn picture_of(
+    rt: &impl Abort,
+    alloc: Global,
+    height: u8,
+    width: u8,
+    cells: &[u8],
+) -> Result<Picture, AllocError> {
+    assert!(rt; height > 0 && height <= 120 && width > 0 && width <= 120);
+    assert!(rt; cells.len() == usize::from(height) * usize::from(width));
+    let mut picture = Picture::blank(alloc, height, width)?;
+    for (i, cell) in cells.iter().enumerate() {
+        let row = i / usize::from(width);
+        let col = i % usize::from(width);
+        assert!(rt; row < usize::from(picture.height()) && col < usize::from(picture.width()));
+        assert!(rt; *cell < 16);
+        picture.set(row as u8, col as u8, *cell);
+    }
+    Ok(picture)
+}
+
+// The book without a step over facts that exclude nothing.
+fn empty_book(rt: &impl Abort, alloc: Global, height: u8, width: u8) -> Result<Book, AllocError> {
+    assert!(rt; height > 0 && height <= 120 && width > 0 && width <= 120);
+    Book::start(alloc, Facts::none(alloc, height, width)?)
+}
+
+// Lets a row draw what it newly forces, and says whether there was something.
+fn draw_row<E: LineEngine>(
+    rt: &impl Abort,
+    engine: &mut E,
+    book: &mut Book,
+    clues: &ClueBook,
+    at: u8,
+    meter: &mut Meter,
+) -> Result<bool, StepFault> {
+    laws::new_steps_follow();
+    let line = LineId {
+        axis: Axis::Across,
+        at,
+    };
+    assert!(rt; at < book.facts().height());
+    assert!(rt; at < clues.height());
+    assert!(rt; book.facts().line_len(line) <= engine.longest());
+    match book.make_step(engine, clues.clue(line), line, meter)? {
+        Some(step) => {
+            book.add_step(step)?;
+            Ok(true)
+        }
+        None => Ok(false),
+    }
+}
+
+// The same of a column.
+fn draw_column<E: LineEngine>(
+    rt: &impl Abort,
+    engine: &mut E,
+    book: &mut Book,
+    clues: &ClueBook,
+    at: u8,
+    meter: &mut Meter,
+) -> Result<bool, StepFault> {
+    laws::new_steps_follow();
+    let line = LineId {
+        axis: Axis::Down,
+        at,
+    };
+    assert!(rt; at < book.facts().width());
+    assert!(rt; at < clues.width());
+    assert!(rt; book.facts().line_len(line) <= engine.longest());
+    match book.make_step(engine, clues.clue(line), line, meter)? {
+        Some(step) => {
+            book.add_step(step)?;
+            Ok(true)
+        }
+        None => Ok(false),
+    }
+}
+
+// Compares the colours left in each cell.
+fn shows(rt: &impl Abort, facts: &Facts, want: &[u16]) {
+    let width = usize::from(facts.width());
+    for (i, mask) in want.iter().enumerate() {
+        assert!(rt; width > 0 && i / width < usize::from(facts.height()));
+        assert_eq!(rt; facts.left((i / width) as u8, (i % width) as u8), *mask);
+    }
+}
+
+// Compares a step.
+fn is_step(rt: &impl Abort, step: &Step, line: LineId, premises: &[Premise], drawn: &[Premise]) {
+    assert_eq!(rt; step.line, line);
+    assert_eq!(rt; step.premises.as_slice(), premises);
+    assert_eq!(rt; step.drawn.as_slice(), drawn);
+}
+
+fn row(at: u8) -> LineId {
+    LineId {
+        axis: Axis::Across,
+        at,
+    }
+}
+
+fn column(at: u8) -> LineId {
+    LineId {
+        axis: Axis::Down,
+        at,
+    }
+}
+
+const fn at(at: u8, colours: u16) -> Premise {
+    Premise { at, colours }
+}
+
+// Which step drew that a colour is not in a cell.
+fn drew(rt: &impl Abort, book: &Book, row: u8, col: u8, colour: u8) -> Option<usize> {
+    assert!(rt; colour < 16);
+    book.reason(row, col, colour)
+}
+
+// Whether a book stands for some clues.
+fn stands<E: LineEngine>(rt: &impl Abort, engine: &mut E, book: &Book, clues: &ClueBook) -> bool {
+    assert!(rt;
+        book.base().width() <= engine.longest() && book.base().height() <= engine.longest()
+    );
+    book.stands(engine, clues)
+}
+
+// The clues of a picture of two columns.
+fn clues_of(rt: &impl Abort, alloc: Global, height: u8, cells: &[u8]) -> ClueBook {
+    let picture = picture_of(rt, alloc, height, 2, cells).expect(rt, "a picture");
+    ClueBook::of(alloc, &picture).expect(rt, "memory")
+}
+
+// Draws row 1, column 2, row 1 again, column 1, and row 2, which draws nothing new.
+fn draw_diagonal<E: LineEngine>(
+    rt: &impl Abort,
+    engine: &mut E,
+    book: &mut Book,
+    clues: &ClueBook,
+) {
+    let mut meter = NOTHING_DONE;
+    let calls = engine.calls();
+    let first = draw_row(rt, engine, book, clues, 0, &mut meter).expect(rt, "a step");
+    let second = draw_column(rt, engine, book, clues, 1, &mut meter).expect(rt, "a step");
+    let third = draw_row(rt, engine, book, clues, 0, &mut meter).expect(rt, "a step");
+    let fourth = draw_column(rt, engine, book, clues, 0, &mut meter).expect(rt, "a step");
+    let last = draw_row(rt, engine, book, clues, 1, &mut meter).expect(rt, "no fault");
+    assert!(rt; first && second && third && fourth && !last);
+    assert_eq!(rt; meter.evaluations, 5);
+    assert_eq!(rt; meter.trials, 0);
+    assert_eq!(rt; engine.calls(), calls.saturating_add(5));
+}
+
+// Compares the steps of that book.
+fn are_diagonal(rt: &impl Abort, steps: &[Step]) {
+    assert_eq!(rt; steps.len(), 4);
+    is_step(rt, &steps[0], row(0), &[], &[at(0, !3), at(1, !3)]);
+    is_step(
+        rt,
+        &steps[1],
+        column(1),
+        &[at(0, !3)],
+        &[at(0, 2), at(1, !4)],
+    );
+    is_step(rt, &steps[2], row(0), &[at(1, !1)], &[at(0, 1)]);
+    is_step(rt, &steps[3], column(0), &[at(0, !2)], &[at(1, !1)]);
+}
+
+#[test]
+fn four_steps_settle_a_diagonal(rt: HostRuntime) {
+    let mut engine = MaskEngine::make(rt.alloc(), 120).expect(&rt, "memory");
+    let clues = clues_of(&rt, rt.alloc(), 2, &[1, 0, 0, 2]);
+    let mut book = empty_book(&rt, rt.alloc(), 2, 2).expect(&rt, "memory");
+    draw_diagonal(&rt, &mut engine, &mut book, &clues);
+    shows(&rt, book.facts(), &[2, 1, 1, 4]);
+    shows(&rt, book.base(), &[ALL; 4]);
+    are_diagonal(&rt, book.steps());
+    let copy = book.copy().expect(&rt, "memory");
+    are_diagonal(&rt, copy.steps());
+    shows(&rt, copy.facts(), &[2, 1, 1, 4]);
+    assert!(rt; stands(&rt, &mut engine, &book, &clues));
+    assert_eq!(rt; drew(&rt, &book, 0, 1, 15), Some(0));
+    assert_eq!(rt; drew(&rt, &book, 0, 1, 1), Some(1));
+    assert_eq!(rt; drew(&rt, &book, 0, 0, 0), Some(2));
+    assert_eq!(rt; drew(&rt, &book, 1, 0, 2), Some(3));
+    assert_eq!(rt; drew(&rt, &book, 0, 0, 1), None);
+}
+
+#[test]
+fn a_book_stands_for_its_own_clues_alone(rt: HostRuntime) {
+    let mut engine = PlainEngine::make(rt.alloc(), 120).expect(&rt, "memory");
+    let clues = clues_of(&rt, rt.alloc(), 2, &[1, 0, 0, 2]);
+    let mut book = empty_book(&rt, rt.alloc(), 2, 2).expect(&rt, "memory");
+    draw_diagonal(&rt, &mut engine, &mut book, &clues);
+    let other = clues_of(&rt, rt.alloc(), 2, &[1, 0, 0, 1]);
+    assert!(rt; !stands(&rt, &mut engine, &book, &other));
+    let tall = clues_of(&rt, rt.alloc(), 3, &[1, 0, 0, 2, 0, 0]);
+    assert!(rt; !stands(&rt, &mut engine, &book, &tall));
+}
+
+// Compares the reason why the second cell of a row does not have colour 1, in a book that stands for its clues.
+fn reason_is<E: LineEngine>(
+    rt: &impl Abort,
+    engine: &mut E,
+    book: &Book,
+    clues: &ClueBook,
+    line: LineId,
+    premises: &[Premise],
+) {
+    assert!(rt;
+        book.base().width() <= engine.longest() && book.base().height() <= engine.longest()
+    );
+    let holds = book.stands(engine, clues);
+    assert!(rt; holds);
+    assert!(rt; book.base().height() > 0);
+    assert!(rt; book.base().width() > 1);
+    let given = book.base().excluded(0, 1, 1);
+    assert!(rt; !given);
+    let reason = book.trimmed(clues, 0, 1, 1).expect(rt, "memory");
+    let reason = reason.expect(rt, "a reason");
+    assert_eq!(rt; reason.step, 2);
+    assert_eq!(rt; reason.line, line);
+    assert_eq!(rt; reason.premises.as_slice(), premises);
+}
+
+#[test]
+fn a_column_is_the_reason(rt: HostRuntime) {
+    let mut engine = MaskEngine::make(rt.alloc(), 120).expect(&rt, "memory");
+    let clues = clues_of(&rt, rt.alloc(), 1, &[1, 0]);
+    let mut book = empty_book(&rt, rt.alloc(), 1, 2).expect(&rt, "memory");
+    let mut meter = NOTHING_DONE;
+    assert!(rt; draw_row(&rt, &mut engine, &mut book, &clues, 0, &mut meter).expect(&rt, "a step"));
+    assert!(rt;
+        draw_column(&rt, &mut engine, &mut book, &clues, 0, &mut meter).expect(&rt, "a step")
+    );
+    assert!(rt;
+        draw_column(&rt, &mut engine, &mut book, &clues, 1, &mut meter).expect(&rt, "a step")
+    );
+    reason_is(&rt, &mut engine, &book, &clues, column(1), &[]);
+}
+
+#[test]
+fn a_row_with_a_premise_is_the_reason(rt: HostRuntime) {
+    let mut engine = MaskEngine::make(rt.alloc(), 120).expect(&rt, "memory");
+    let clues = clues_of(&rt, rt.alloc(), 1, &[1, 0]);
+    let mut book = empty_book(&rt, rt.alloc(), 1, 2).expect(&rt, "memory");
+    let mut meter = NOTHING_DONE;
+    assert!(rt; draw_row(&rt, &mut engine, &mut book, &clues, 0, &mut meter).expect(&rt, "a step"));
+    assert!(rt;
+        draw_column(&rt, &mut engine, &mut book, &clues, 0, &mut meter).expect(&rt, "a step")
+    );
+    assert!(rt; draw_row(&rt, &mut engine, &mut book, &clues, 0, &mut meter).expect(&rt, "a step"));
+    reason_is(&rt, &mut engine, &book, &clues, row(0), &[at(0, !2)]);
+}
+
+#[test]
+fn premises_are_moved_and_copied(rt: HostRuntime) {
+    let drawn = Premises::from_slice(rt.alloc(), &[]).expect(&rt, "memory");
+    let premises = Premises::from_slice(rt.alloc(), &[]).expect(&rt, "memory");
+    assert!(rt; premises.copy().expect(&rt, "memory").is_empty());
+    let step = Step {
+        line: row(0),
+        premises,
+        drawn,
+    };
+    is_step(
+        &rt,
+        &step.moved_to(column(7)).expect(&rt, "memory"),
+        column(7),
+        &[],
+        &[],
+    );
+    is_step(&rt, &step.copy().expect(&rt, "memory"), row(0), &[], &[]);
+    assert!(rt; !step.draws(0, 0, 1));
+}
