@@ -1,0 +1,5 @@
+pub mod CellLemmas
+pub mod DirtyLemmas
+pub mod KeepLemmas
+pub mod LeaveLemmas
+pub mod SoFarLemmas
