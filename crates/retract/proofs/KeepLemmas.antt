@@ -1,7 +1,7 @@
 -- A step that stands can be added to what was kept, and stays forced and trimmed.
-use Rattle.std.proofs.Common.{◌≡◌, ℕ, suc, ◌+◌, ◌<◌, ◌≤◌, ◌⊎◌, inl, inr, List, [], ◌∷◌, ◌++◌, length, length-append, map, get_or, refl, sym, ap, subst, ◌∙◌, arith}
+use Rattle.std.proofs.Common.{◌≡◌, ℕ, suc, ◌+◌, ◌<◌, ◌≤◌, ◌⊎◌, inl, inr, Some, List, [], ◌∷◌, ◌++◌, length, length-append, map, get_or, refl, sym, ap, subst, ◌∙◌, arith}
 use Rattle.std.proofs.lemmas.Bool.{cases_lt}
-use Rattle.std.proofs.lemmas.List.{get_or_push, length-map}
+use Rattle.std.proofs.lemmas.List.{get_or_default, get_or_push, length-map}
 use Rattle.std.proofs.Math.ListN.{get_or-append}
 use Rattle.picture.specs.declared.line_id.Axis.{Axis}
 use Rattle.picture.specs.declared.line_id.Axis.TheVariants.{Across, Down}
@@ -15,7 +15,7 @@ use Rattle.justify.specs.declared.step.Step.{Step}
 use Rattle.justify.specs.Premises.{Mentions, Says}
 use Rattle.justify.specs.Steps.{IsForced, IsTrimmed, step_at}
 use Rattle.justify.specs.Book.{Account, CanAdd, CanFollow, IsAccount, IsDerivation, IsDrawnBefore, IsKnownBefore}
-use Rattle.retract.specs.Standing.{HaveBooks, Stands, moved}
+use Rattle.retract.specs.Standing.{HaveBooks, KeepsLength, Stands, moved}
 use Rattle.retract.proofs.CellLemmas.{CameBefore, CameFrom, mentioned, moved_cell, one_cell, was_drawn}
 
 -- how long the lines of facts are
@@ -99,3 +99,26 @@ came_more moves steps kept n step came last m h =
           let at_end : length kept ≡ m = omega (arith, length-append kept (step ∷ [])) in
           (n, omega arith, subst (CameFrom moves (step_at steps n)) (sym (get_or_push kept step no_step m at_end)) last)
     ]
+
+-- a line that keeps its length has as many cells in the new facts
+pub kept_length : (moves : Moves) (from to : LineId) (facts : List (List ℕ)) → ImagesAreLines → IsFacts facts → ((axis : Axis) → lines_along axis facts ≡ lines_after axis moves) → Some to ≡ image_of moves from → to.at < lines_after to.axis moves → KeepsLength moves from.axis → length (line_of facts to) ≡ lines_before (crossing from.axis) moves
+kept_length moves from to facts images is sizes image inside keeps =
+    length-line_along to.axis to.at facts is (rw (sizes to.axis) inside)
+    ∙ (sizes (crossing to.axis) ∙ (ap (λ axis. lines_after (crossing axis) moves) (images.same_axis moves from to (sym image)) ∙ sym keeps))
+
+-- what a step of a derivation mentions lies on its line
+module _ (moves : Moves) (old new : Clues) (book : Account) (n : ℕ) (is : IsAccount book) (derivation : IsDerivation old book) (books : HaveBooks moves old new) (within : n < length book.steps) where
+  cells : length (line_of book.base (step_at book.steps n).line) ≡ lines_before (crossing (step_at book.steps n).line.axis) moves
+  cells =
+      let line = (step_at book.steps n).line in
+      length-line_along line.axis line.at book.base is.base_facts (is.follows n within).has_line ∙ old_sizes moves old new book derivation books (crossing line.axis)
+
+  pub premises_within : (i : ℕ) → Mentions (step_at book.steps n).premises i → i < lines_before (crossing (step_at book.steps n).line.axis) moves
+  premises_within i m = rw (← cells) ((is.follows n within).premises_inside i m)
+
+  pub drawn_within : (i : ℕ) → Mentions (step_at book.steps n).drawn i → i < lines_before (crossing (step_at book.steps n).line.axis) moves
+  drawn_within i m = rw (← cells) ((is.follows n within).drawn_inside i m)
+
+-- a step that was read from a list of steps
+pub step_read : (items steps : List Step) (n : ℕ) (step : Step) → items ≡ steps → n < length items → step ≡ get_or items n step → step ≡ step_at steps n
+step_read items steps n step same within read = read ∙ (get_or_default items n step no_step within ∙ ap (λ xs. step_at xs n) same)

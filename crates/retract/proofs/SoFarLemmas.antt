@@ -20,6 +20,9 @@ use Rattle.retract.proofs.CellLemmas.{CameBefore}
 use Rattle.retract.proofs.KeepLemmas.{came_from, came_more, came_weaker, can_follow, is_forced, is_trimmed, no_step}
 use Rattle.retract.proofs.LeaveLemmas.{none_left, one_gone, one_kept, stands_alike}
 
+drop_here : (steps : List Step) (n : ℕ) → n < length steps → drop n steps ≡ step_at steps n ∷ drop (n + 1) steps
+drop_here steps n within = let next : suc n ≡ n + 1 = omega arith in drop-cons steps n no_step within ∙ ap (λ m. step_at steps n ∷ drop m steps) next
+
 pub record KeepsSoFar (moves : Moves) (old new : Clues) (book : Account) (base : List (List ℕ)) (n : ℕ) (kept : Account) : Type 0 where
   pub base_is : kept.base ≡ base
   pub came : CameBefore moves book.steps n kept.steps
@@ -51,7 +54,7 @@ module _ (moves : Moves) (old new : Clues) (book : Account) (base : List (List �
     came = came_weaker moves book.steps kept.steps n so_far.came;
     left = λ all rest.
         so_far.left all
-        (subst (λ steps. Leave moves old new base steps kept.steps all) (sym (drop-cons book.steps n no_step within))
+        (subst (λ steps. Leave moves old new base steps kept.steps all) (sym (drop_here book.steps n within))
         (one_gone moves old new base (step_at book.steps n) (drop (n + 1) book.steps) kept.steps all
         (λ to stands. gone to (stands_alike moves old new (IsKnownBefore base kept.steps (length kept.steps)) (Excludes kept.facts) (step_at book.steps n) to (λ row col k is. (excluded_known row col k).1 (rw so_far.base_is is)) stands)) rest));
     derivation = so_far.derivation;
@@ -77,7 +80,7 @@ module _ (moves : Moves) (old new : Clues) (book : Account) (base : List (List �
           came = rw adds.steps (came_more moves book.steps kept.steps n (moved step to) so_far.came (came_from moves old new book base kept.steps n to (Excludes kept.facts) images are is derivation books base_facts new_sizes within stands));
           left = λ all rest.
               so_far.left all
-              (subst (λ steps. Leave moves old new base steps kept.steps all) (sym (drop-cons book.steps n no_step within))
+              (subst (λ steps. Leave moves old new base steps kept.steps all) (sym (drop_here book.steps n within))
               (one_kept moves old new base step (drop (n + 1) book.steps) kept.steps all to
               (stands_alike moves old new (Excludes kept.facts) (IsKnownBefore base kept.steps (length kept.steps)) step to known_in stands)
               (rw adds.steps at rest)));

@@ -19,6 +19,10 @@ pub record HaveFacts (moves : Moves) (before after : List (List ℕ)) : Type 0 w
 abbrev pub AllStay : Moves → Axis → Type 0
 AllStay moves axis = (i : ℕ) → i < lines_before (crossing axis) moves → Stays moves axis i
 
+-- lines of an axis have as many cells as before, and each position along them stays
+abbrev pub IsInPlace : Moves → Axis → Type 0
+IsInPlace moves axis = KeepsLength moves axis × AllStay moves axis
+
 -- the old line that a new line is has the same clue, and the same is known of its cells
 pub record SaysTheSame (moves : Moves) (old new : Clues) (before after : List (List ℕ)) (line : LineId) : Type 0 where
   pub from : LineId
@@ -30,8 +34,7 @@ pub record SaysTheSame (moves : Moves) (old new : Clues) (before after : List (L
 -- A new line is clean when it is an old line of equal length and equal clue along which each position stays, and what is
 -- known on it now is what was known on that line before. Every other line is dirty.
 pub record IsClean (moves : Moves) (old new : Clues) (before after : List (List ℕ)) (line : LineId) : Type 0 where
-  pub same_length : KeepsLength moves line.axis
-  pub all_stay : AllStay moves line.axis
+  pub in_place : IsInPlace moves line.axis
   pub says_the_same : SaysTheSame moves old new before after line
 
 -- a line is dirty and has its name in the set, or is clean and has not

@@ -1,10 +1,10 @@
 -- The steps of a book that stand after a change.
-use Rattle.std.specs.Prelude.{◌≡◌, ℕ, ◌⊎◌, List, [], ◌∷◌, ◌++◌, length, Some}
+use Rattle.std.specs.Prelude.{◌≡◌, ℕ, ◌⊎◌, List, [], ◌∷◌, ◌++◌, length, Some, IsBitSet}
 use Rattle.picture.specs.declared.line_id.Axis.{Axis}
 use Rattle.picture.specs.declared.line_id.LineId.{LineId}
 use Rattle.clues.specs.Change.{Moves, Stays, crossing, image_of, lines_after, lines_before}
 use Rattle.clues.specs.ClueBook.{Clues, clue_at, clues_along}
-use Rattle.line_settle.specs.FactSets.{row_on, col_on}
+use Rattle.line_settle.specs.FactSets.{Excludes, row_on, col_on}
 use Rattle.justify.specs.declared.premise.Premise.{Premise}
 use Rattle.justify.specs.declared.step.Step.{Step}
 use Rattle.justify.specs.Premises.{Mentions, Says}
@@ -26,6 +26,11 @@ StayInPlace moves axis premises = (i : ℕ) → Mentions premises i → Stays mo
 -- all that premises say holds on a line
 abbrev pub AreKnown : (ℕ → ℕ → ℕ → Type 0) → LineId → List Premise → Type 0
 AreKnown Known line premises = (i k : ℕ) → Says premises i k → Known (row_on line.axis line.at i) (col_on line.axis line.at i) k
+
+-- in the cell at a place of a line each colour of a mask is excluded
+abbrev pub ExcludesAll : List (List ℕ) → LineId → ℕ → ℕ → Type 0
+ExcludesAll facts line place colours =
+    (k : ℕ) → IsBitSet colours k → Excludes facts (row_on line.axis line.at place) (col_on line.axis line.at place) k
 
 -- A step stands on a line of the new picture, where these exclusions are known: the step's line is that line now, of equal
 -- length and with the same clue, each cell that the step mentions keeps its place along it, and each premise is known there.

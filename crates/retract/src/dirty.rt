@@ -7,9 +7,9 @@ ghost use Rattle.picture.specs.LineSet.{HasName};
 ghost use Rattle.picture.specs.Rows.{line_of, lines_along, HasLine};
 ghost use Rattle.clues.specs.Change.{lines_after, lines_before};
 ghost use Rattle.retract.specs.Standing.{HaveBooks};
-ghost use Rattle.retract.specs.Dirty.{AreDirty, AreDirtyAlong, HaveFacts, SaysTheSame};
+ghost use Rattle.retract.specs.Dirty.{AreDirty, AreDirtyAlong, HaveFacts, IsClean, IsInPlace, SaysTheSame};
 
-use crate::sizes::{all_stay, keeps_length};
+use crate::sizes::{line_count, stays_in_place};
 use clues::{Change, ClueBook};
 use line_settle::Facts;
 use picture::{Axis, LineId, LineSet};
@@ -48,17 +48,32 @@ fn put_dirty(
     ensures along { AreDirtyAlong axis change.now.moves old.now new.now before.now after.now dirty.new }
     ensures others { (line : LineId) → (line.axis ≡ axis → ⊥) → HasName dirty.new line ↔ HasName dirty.old line }
 {
-    let count = match axis {
-        Axis::Across => new.height(),
-        Axis::Down => new.width(),
-    };
-    let in_place = keeps_length(old, new, change, axis) && all_stay(old, new, change, axis);
-    for at in 0..count {
+    let in_place = stays_in_place(old, new, change, axis);
+    for at in 0..line_count(new, axis) {
         let line = LineId { axis, at };
-        if !(in_place && says_the_same(old, new, change, before, after, line)) {
+        if !is_clean(in_place, old, new, change, before, after, line) {
             dirty.put(line);
         }
     }
+}
+
+// Whether a new line is clean, where it is known whether lines of its axis are in place.
+fn is_clean(
+    in_place: bool,
+    old: &ClueBook,
+    new: &ClueBook,
+    change: &Change,
+    before: &Facts,
+    after: &Facts,
+    line: LineId,
+) -> bool
+    requires in_place { IsTrue in_place ↔ IsInPlace change.now.moves line.axis }
+    requires books { HaveBooks change.now.moves old.now new.now }
+    requires facts { HaveFacts change.now.moves before.now after.now }
+    requires line { HasLine after.now line }
+    ensures { IsTrue result ↔ IsClean change.now.moves old.now new.now before.now after.now line }
+{
+    in_place && says_the_same(old, new, change, before, after, line)
 }
 
 // Whether the old line that a new line is has the same clue, and the same is known of its cells.

@@ -7,9 +7,10 @@ ghost use Rattle.picture.specs.Rows.{line_of, lines_along, HasLine};
 ghost use Rattle.clues.specs.Change.{AreMoves, crossing, lines_after, lines_before};
 ghost use Rattle.line_settle.specs.FactSets.{Excludes};
 ghost use Rattle.justify.specs.Premises.{Mentions};
-ghost use Rattle.retract.specs.Standing.{AreKnown, HaveBooks, Stands, StayInPlace};
+ghost use Rattle.retract.specs.Standing.{AreKnown, ExcludesAll, HaveBooks, Stands, StayInPlace};
 
 use crate::sizes::keeps_length;
+use clues::laws::images_are_lines;
 use clues::{Change, ClueBook};
 use justify::{Premise, Step};
 use line_settle::Facts;
@@ -32,6 +33,8 @@ pub(crate) fn standing_line(
     ensures moves { AreMoves change.now.moves }
     ensures none { IfNone result ((to : LineId) → Stands change.now.moves old.now new.now (Excludes known.now) step.now to → ⊥) }
 {
+    images_are_lines();
+    let _ = known.height();
     let line = step.line;
     let to = change.image(line)?;
     let premises = step.premises.as_slice();
@@ -67,9 +70,19 @@ fn are_known(known: &Facts, line: LineId, premises: &[Premise]) -> bool
     ensures { IsTrue result ↔ AreKnown (Excludes known.now) line premises.now }
 {
     for premise in premises {
-        if known.left_on(line, premise.at) & premise.colours != 0 {
+        if !excludes_all(known, line, premise.at, premise.colours) {
             return false;
         }
     }
     true
+}
+
+#[tactic(auto, using(crate::proofs::MaskLemmas::excluding))]
+// Whether colours are excluded in the cell at a place of a line, all that have their bits set.
+fn excludes_all(known: &Facts, line: LineId, place: u8, colours: u16) -> bool
+    requires line { HasLine known.now line }
+    requires place { place < length (line_of known.now line) }
+    ensures { IsTrue result ↔ ExcludesAll known.now line place colours }
+{
+    known.left_on(line, place) & colours == 0
 }

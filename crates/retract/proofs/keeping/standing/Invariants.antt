@@ -2,4 +2,4 @@ use Rattle.retract.proofs.SoFarLemmas.{KeepsSoFar}
 use Rattle.retract.proofs.keeping.standing.Given as goal
 
 abbrev pub invariant-loop-step : goal.invariant-loop-step
-invariant-loop-step l = KeepsSoFar l.fn.change.now.moves l.fn.old.now l.fn.new.now l.fn.book.now l.fn.base l.step-index l.kept
+invariant-loop-step l = KeepsSoFar l.fn.change.moves l.fn.old l.fn.new l.fn.book l.fn.base l.step-index l.kept
