@@ -83,8 +83,7 @@ module _ (axis : Axis) (at : ℕ) (moves : Moves) (old new : Clues) (before afte
               let same = is_line other on g h in
               inl ((puts other).1 (inr same), λ clean. not_clean (subst (IsClean moves old new before after) same clean))
           | inl l ↦
-              decided_alike moves old new before after dirty more other
-              (
+              decided_alike moves old new before after dirty more other (
                 λ named. elim ((puts other).0 named) [ inl was ↦ was | inr same ↦ absurd (omega (arith, ap (λ (l : LineId). l.at) same, here)) ],
                 λ was. (puts other).1 (inl was),
               )

@@ -1,16 +1,17 @@
 //! What a change leaves of the lengths and the places along lines.
 
-ghost use Rattle.std.specs.Prelude.{◌≡◌, ◌↔◌, length, IsTrue};
+ghost use Rattle.std.specs.Prelude.{◌≡◌, ◌≤◌, ◌↔◌, length, IsTrue};
 ghost use Rattle.clues.specs.ClueBook.{clues_along};
 ghost use Rattle.retract.specs.Standing.{HaveBooks, KeepsLength};
 ghost use Rattle.retract.specs.Dirty.{AllStay, IsInPlace};
 
 use clues::{Change, ClueBook};
-use picture::Axis;
+use picture::{Axis, MAX_SIDE};
 
 // How many lines there are along an axis.
 pub(crate) fn line_count(clues: &ClueBook, axis: Axis) -> u8
-    ensures { result ≡ length (clues_along axis clues.now) }
+    ensures value { result ≡ length (clues_along axis clues.now) }
+    ensures fits { result ≤ MAX_SIDE }
 {
     match axis {
         Axis::Across => clues.height(),

@@ -1,13 +1,14 @@
 -- One line more is decided.
 use Rattle.std.proofs.Common.{refl, sym, ◌∙◌, arith}
 use Rattle.std.proofs.lemmas.Bool.{false≢true}
+use Rattle.picture.specs.declared.line_id.LineId.{LineId}
 use Rattle.retract.proofs.DirtyLemmas.{below_all, below_clean, below_dirty}
 use Rattle.retract.proofs.dirty.put_dirty.Goals as goal
 use Rattle.retract.proofs.dirty.put_dirty.Goals.{then-not-is_clean, else-not-is_clean}
 
 pub loop-at-preserved : goal.loop-at-preserved
 loop-at-preserved c =
-    let line = record { axis = c.args.axis; at = c.loop-at.at } in
+    let line : LineId = record { axis = c.args.axis; at = c.loop-at.at } in
     elim c.if-not-is_clean.branch [
       | then-not-is_clean w ↦
           rw w.dirty-is
@@ -22,4 +23,4 @@ loop-at-preserved c =
 pub returns-clause-along : goal.returns-clause-along
 returns-clause-along c =
     below_all c.args.axis c.loop-at.at c.args.change.now.moves c.args.old.now c.args.new.now c.args.before.now c.args.after.now c.args.dirty.now c.loop-at.dirty
-    (omega (arith, c.line_count.ensures, c.requires.books.after c.args.axis, c.requires.facts.new_sizes c.args.axis)) c.loop-at.invariant
+    (omega (arith, c.line_count-at-end.ensures.value, c.requires.books.after c.args.axis, c.requires.facts.new_sizes c.args.axis)) c.loop-at.invariant

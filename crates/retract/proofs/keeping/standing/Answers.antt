@@ -52,7 +52,7 @@ loop-step-preserved c =
           (so_far_kept c.args.change.now.moves c.args.old.now c.args.new.now c.args.book.now c.args.base c.loop-step.step-index c.loop-step.kept within c.loop-step.invariant c.facts_are_what_is_known.ensures c.facts.ensures.account w.in-Some.to c.images_are_lines.ensures w.in-Some.ensures.moves c.steps-step-items.ensures.account c.requires.derivation c.requires.books c.requires.base stands w.add_step.new.self c.derivations_grow.ensures (rw moved_step at w.in_ok-add_step.ensures.ok))
       | in_default w ↦
           let gone : (to : LineId) → Stands c.args.change.now.moves c.args.old.now c.args.new.now (Excludes c.loop-step.kept.facts) (step_at c.args.book.now.steps c.loop-step.step-index) to → ⊥ =
-              subst (λ s. (to : LineId) → Stands c.args.change.now.moves c.args.old.now c.args.new.now (Excludes c.loop-step.kept.facts) s to → ⊥) step (rw c.facts.ensures.value at w.in_default.ensures.none) in
+          subst (λ s. (to : LineId) → Stands c.args.change.now.moves c.args.old.now c.args.new.now (Excludes c.loop-step.kept.facts) s to → ⊥) step (rw c.facts.ensures.value at w.in_default.ensures.none) in
           rw w.kept-is (so_far_gone c.args.change.now.moves c.args.old.now c.args.new.now c.args.book.now c.args.base c.loop-step.step-index c.loop-step.kept within c.loop-step.invariant c.facts_are_what_is_known.ensures c.facts.ensures.account gone)
     ]
 
