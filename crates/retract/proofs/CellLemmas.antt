@@ -1,5 +1,5 @@
 -- Cells that a change moves: along a line that has an image, each place that stays is one cell of the new picture.
-use Rattle.std.proofs.Common.{◌≡◌, ℕ, ◌<◌, Some, List, length, refl, sym, ap, subst, ◌∙◌, arith}
+use Rattle.std.proofs.Common.{◌≡◌, ℕ, ◌<◌, Some, List, length, refl, ap, subst, ◌∙◌}
 use Rattle.picture.specs.declared.line_id.Axis.{Axis}
 use Rattle.picture.specs.declared.line_id.Axis.TheVariants.{Across, Down}
 use Rattle.picture.specs.declared.line_id.LineId.{LineId}
@@ -9,7 +9,7 @@ use Rattle.line_settle.specs.FactSets.{row_on, col_on}
 use Rattle.justify.specs.declared.premise.Premise.{Premise}
 use Rattle.justify.specs.declared.step.Step.{Step}
 use Rattle.justify.specs.Premises.{Mentions, Says}
-use Rattle.justify.specs.Steps.{step_at, Draws}
+use Rattle.justify.specs.Steps.{step_at}
 use Rattle.justify.specs.Book.{IsDrawnBefore}
 use Rattle.retract.specs.Standing.{StayInPlace}
 

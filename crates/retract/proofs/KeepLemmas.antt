@@ -1,12 +1,12 @@
 -- A step that stands can be added to what was kept, and stays forced and trimmed.
-use Rattle.std.proofs.Common.{◌≡◌, ℕ, suc, ◌+◌, ◌<◌, ◌≤◌, ◌⊎◌, inl, inr, Some, List, [], ◌∷◌, ◌++◌, length, length-append, map, get_or, refl, sym, ap, subst, ◌∙◌, arith}
+use Rattle.std.proofs.Common.{◌≡◌, ℕ, ◌+◌, ◌<◌, inl, inr, Some, List, [], ◌∷◌, ◌++◌, length, length-append, get_or, refl, sym, ap, subst, ◌∙◌, arith}
 use Rattle.std.proofs.lemmas.Bool.{cases_lt}
 use Rattle.std.proofs.lemmas.List.{get_or_default, get_or_push, length-map}
 use Rattle.std.proofs.Math.ListN.{get_or-append}
 use Rattle.picture.specs.declared.line_id.Axis.{Axis}
 use Rattle.picture.specs.declared.line_id.Axis.TheVariants.{Across, Down}
 use Rattle.picture.specs.declared.line_id.LineId.{LineId}
-use Rattle.picture.specs.Rows.{HasLine, line_along, line_of, lines_along, width_of}
+use Rattle.picture.specs.Rows.{HasLine, line_along, line_of, lines_along}
 use Rattle.clues.specs.Change.{AreMoves, Moves, crossing, image_of, lines_after, lines_before}
 use Rattle.clues.specs.ClueBook.{Clues, clue_at}
 use Rattle.clues.specs.Laws.{ImagesAreLines}
@@ -14,7 +14,7 @@ use Rattle.line_settle.specs.FactSets.{IsFacts, SameShape, row_on, col_on}
 use Rattle.justify.specs.declared.step.Step.{Step}
 use Rattle.justify.specs.Premises.{Mentions, Says}
 use Rattle.justify.specs.Steps.{IsForced, IsTrimmed, step_at}
-use Rattle.justify.specs.Book.{Account, CanAdd, CanFollow, IsAccount, IsDerivation, IsDrawnBefore, IsKnownBefore}
+use Rattle.justify.specs.Book.{Account, CanFollow, IsAccount, IsDerivation, IsDrawnBefore, IsKnownBefore}
 use Rattle.retract.specs.Standing.{HaveBooks, KeepsLength, Stands, moved}
 use Rattle.retract.proofs.CellLemmas.{CameBefore, CameFrom, mentioned, moved_cell, one_cell, was_drawn}
 

@@ -1,11 +1,11 @@
 -- What the steps of a book leave, step by step.
-use Rattle.std.proofs.Common.{◌≡◌, ℕ, ◌+◌, ◌<◌, List, [], ◌∷◌, ◌++◌, length, drop, inl, inr, refl, sym, subst}
+use Rattle.std.proofs.Common.{ℕ, List, [], ◌∷◌, ◌++◌, length, inl, inr, refl}
 use Rattle.picture.specs.declared.line_id.LineId.{LineId}
 use Rattle.clues.specs.Change.{Moves}
 use Rattle.clues.specs.ClueBook.{Clues}
 use Rattle.justify.specs.declared.step.Step.{Step}
 use Rattle.justify.specs.Book.{IsKnownBefore}
-use Rattle.retract.specs.Standing.{AreKnown, Leave, Stands, moved}
+use Rattle.retract.specs.Standing.{Leave, Stands, moved}
 
 -- what is known decides which steps stand
 pub stands_alike : (moves : Moves) (old new : Clues) (One Other : ℕ → ℕ → ℕ → Type 0) (step : Step) (to : LineId) → ((row col k : ℕ) → One row col k → Other row col k) → Stands moves old new One step to → Stands moves old new Other step to

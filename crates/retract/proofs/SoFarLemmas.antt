@@ -1,19 +1,19 @@
 -- What was kept of the first steps of a book.
-use Rattle.std.proofs.Common.{◌≡◌, ℕ, zero, suc, ◌+◌, ◌<◌, ◌≤◌, List, [], ◌∷◌, ◌++◌, length, drop, get_or, refl, sym, ap, subst, ◌∙◌, arith}
+use Rattle.std.proofs.Common.{◌≡◌, ℕ, suc, ◌+◌, ◌<◌, ◌≤◌, List, [], ◌∷◌, length, drop, refl, sym, ap, subst, ◌∙◌, arith}
 use Rattle.std.specs.Prelude.{◌↔◌}
 use Rattle.std.proofs.lemmas.List.{drop_all}
 use Rattle.std.proofs.Math.Seq.{drop-cons}
 use Rattle.picture.specs.declared.line_id.Axis.{Axis}
 use Rattle.picture.specs.declared.line_id.Axis.TheVariants.{Across, Down}
 use Rattle.picture.specs.declared.line_id.LineId.{LineId}
-use Rattle.picture.specs.Rows.{line_of, lines_along}
+use Rattle.picture.specs.Rows.{lines_along}
 use Rattle.clues.specs.Change.{AreMoves, Moves, lines_after}
-use Rattle.clues.specs.ClueBook.{Clues, clue_at}
+use Rattle.clues.specs.ClueBook.{Clues}
 use Rattle.clues.specs.Laws.{ImagesAreLines}
 use Rattle.line_settle.specs.FactSets.{Excludes, IsFacts}
 use Rattle.justify.specs.declared.step.Step.{Step}
 use Rattle.justify.specs.Steps.{step_at}
-use Rattle.justify.specs.Book.{Account, Adds, AreFactsBehind, AreTrimmed, CanAdd, IsAccount, IsDerivation, IsKnownBefore, account}
+use Rattle.justify.specs.Book.{Account, Adds, AreTrimmed, CanAdd, IsAccount, IsDerivation, IsKnownBefore, account}
 use Rattle.justify.specs.Laws.{DerivationsGrow, FactsAreWhatIsKnown}
 use Rattle.retract.specs.Standing.{AreStanding, HaveBooks, Leave, Stands, moved}
 use Rattle.retract.proofs.CellLemmas.{CameBefore}

@@ -1,4 +1,3 @@
-use Rattle.std.proofs.Common.{◌∙◌}
 use Rattle.retract.proofs.DirtyLemmas.{closed_outside, fits_outside}
 use Rattle.retract.proofs.keeping.keep.Goals as goal
 

@@ -1,6 +1,3 @@
-use Rattle.std.proofs.Common.{◌≡◌, ℕ, ◌<◌, sym, ap, ◌∙◌}
-use Rattle.picture.specs.Rows.{line_of}
-use Rattle.clues.specs.Change.{crossing, lines_before}
 use Rattle.retract.proofs.KeepLemmas.{kept_length}
 use Rattle.retract.proofs.standing.standing_line.Goals as goal
 
