@@ -1,0 +1,66 @@
+-- The lines of a new picture that may say something new.
+use Rattle.std.specs.Prelude.{◌≡◌, ℕ, ◌<◌, ◌⊎◌, List, Some}
+use Rattle.picture.specs.declared.line_id.Axis.{Axis}
+use Rattle.picture.specs.declared.line_id.LineId.{LineId}
+use Rattle.picture.specs.LineSet.{Lines, HasName}
+use Rattle.picture.specs.Rows.{line_of, lines_along, HasLine}
+use Rattle.clues.specs.Change.{Moves, Stays, crossing, image_of, lines_after, lines_before}
+use Rattle.clues.specs.ClueBook.{Clues, clue_at}
+use Rattle.line_settle.specs.Fitting.{CanFit}
+use Rattle.line_settle.specs.FactSets.{IsClosedLine}
+use Rattle.retract.specs.Standing.{KeepsLength}
+
+-- facts of the sizes before and after
+pub record HaveFacts (moves : Moves) (before after : List (List ℕ)) : Type 0 where
+  pub old_sizes : (axis : Axis) → lines_along axis before ≡ lines_before axis moves
+  pub new_sizes : (axis : Axis) → lines_along axis after ≡ lines_after axis moves
+
+-- each position along lines of an axis stays
+abbrev pub AllStay : Moves → Axis → Type 0
+AllStay moves axis = (i : ℕ) → i < lines_before (crossing axis) moves → Stays moves axis i
+
+-- lines of an axis have as many cells as before, and each position along them stays
+abbrev pub IsInPlace : Moves → Axis → Type 0
+IsInPlace moves axis = KeepsLength moves axis × AllStay moves axis
+
+-- the old line that a new line is has the same clue, and the same is known of its cells
+pub record SaysTheSame (moves : Moves) (old new : Clues) (before after : List (List ℕ)) (line : LineId) : Type 0 where
+  pub from : LineId
+  pub has_line : HasLine before from
+  pub image : image_of moves from ≡ Some line
+  pub same_clue : clue_at new line ≡ clue_at old from
+  pub same_facts : line_of after line ≡ line_of before from
+
+-- A new line is clean when it is an old line of equal length and equal clue along which each position stays, and what is
+-- known on it now is what was known on that line before. Every other line is dirty.
+pub record IsClean (moves : Moves) (old new : Clues) (before after : List (List ℕ)) (line : LineId) : Type 0 where
+  pub in_place : IsInPlace moves line.axis
+  pub says_the_same : SaysTheSame moves old new before after line
+
+-- a line is dirty and has its name in the set, or is clean and has not
+abbrev pub IsDecided : Moves → Clues → Clues → List (List ℕ) → List (List ℕ) → Lines → LineId → Type 0
+IsDecided moves old new before after dirty line =
+    (HasName dirty line × (IsClean moves old new before after line → ⊥))
+    ⊎ ((HasName dirty line → ⊥) × IsClean moves old new before after line)
+
+-- the set has exactly the names of the dirty lines
+pub record AreDirty (moves : Moves) (old new : Clues) (before after : List (List ℕ)) (dirty : Lines) : Type 0 where
+  pub inside : (line : LineId) → HasName dirty line → HasLine after line
+  pub decided : (line : LineId) → HasLine after line → IsDecided moves old new before after dirty line
+
+-- the same for the lines along one axis
+pub record AreDirtyAlong (axis : Axis) (moves : Moves) (old new : Clues) (before after : List (List ℕ)) (dirty : Lines) : Type 0 where
+  pub inside : (line : LineId) → line.axis ≡ axis → HasName dirty line → HasLine after line
+  pub decided : (line : LineId) → line.axis ≡ axis → HasLine after line → IsDecided moves old new before after dirty line
+
+-- each line that is not named is closed, or has a list that fits
+abbrev pub ClosedOutside : Clues → List (List ℕ) → Lines → Type 0
+ClosedOutside clues facts lines =
+    (line : LineId) → HasLine facts line → (HasName lines line → ⊥) → IsClosedLine (clue_at clues line) (line_of facts line)
+
+abbrev pub FitsOutside : Clues → List (List ℕ) → Lines → Type 0
+FitsOutside clues facts lines =
+    (line : LineId) → HasLine facts line → (HasName lines line → ⊥) → CanFit (clue_at clues line) (line_of facts line)
+
+abbrev pub EachFits : Clues → List (List ℕ) → Type 0
+EachFits clues facts = (line : LineId) → HasLine facts line → CanFit (clue_at clues line) (line_of facts line)

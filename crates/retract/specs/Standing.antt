@@ -1,0 +1,59 @@
+-- The steps of a book that stand after a change.
+use Rattle.std.specs.Prelude.{◌≡◌, ℕ, ◌⊎◌, List, [], ◌∷◌, ◌++◌, length, Some, IsBitSet}
+use Rattle.picture.specs.declared.line_id.Axis.{Axis}
+use Rattle.picture.specs.declared.line_id.LineId.{LineId}
+use Rattle.clues.specs.Change.{Moves, Stays, crossing, image_of, lines_after, lines_before}
+use Rattle.clues.specs.ClueBook.{Clues, clue_at, clues_along}
+use Rattle.line_settle.specs.FactSets.{Excludes, row_on, col_on}
+use Rattle.justify.specs.declared.premise.Premise.{Premise}
+use Rattle.justify.specs.declared.step.Step.{Step}
+use Rattle.justify.specs.Premises.{Mentions, Says}
+use Rattle.justify.specs.Book.{IsKnownBefore}
+
+-- clue books of the sizes before and after
+pub record HaveBooks (moves : Moves) (old new : Clues) : Type 0 where
+  pub before : (axis : Axis) → length (clues_along axis old) ≡ lines_before axis moves
+  pub after : (axis : Axis) → length (clues_along axis new) ≡ lines_after axis moves
+
+-- lines of an axis have as many cells as before
+abbrev pub KeepsLength : Moves → Axis → Type 0
+KeepsLength moves axis = lines_before (crossing axis) moves ≡ lines_after (crossing axis) moves
+
+-- each cell that premises mention keeps its place along lines of an axis
+abbrev pub StayInPlace : Moves → Axis → List Premise → Type 0
+StayInPlace moves axis premises = (i : ℕ) → Mentions premises i → Stays moves axis i
+
+-- all that premises say holds on a line
+abbrev pub AreKnown : (ℕ → ℕ → ℕ → Type 0) → LineId → List Premise → Type 0
+AreKnown Known line premises = (i k : ℕ) → Says premises i k → Known (row_on line.axis line.at i) (col_on line.axis line.at i) k
+
+-- in the cell at a place of a line each colour of a mask is excluded
+abbrev pub ExcludesAll : List (List ℕ) → LineId → ℕ → ℕ → Type 0
+ExcludesAll facts line place colours =
+    (k : ℕ) → IsBitSet colours k → Excludes facts (row_on line.axis line.at place) (col_on line.axis line.at place) k
+
+-- A step stands on a line of the new picture, where these exclusions are known: the step's line is that line now, of equal
+-- length and with the same clue, each cell that the step mentions keeps its place along it, and each premise is known there.
+pub record Stands (moves : Moves) (old new : Clues) (Known : ℕ → ℕ → ℕ → Type 0) (step : Step) (to : LineId) : Type 0 where
+  pub image : image_of moves step.line ≡ Some to
+  pub same_length : KeepsLength moves step.line.axis
+  pub same_clue : clue_at new to ≡ clue_at old step.line
+  pub premises_stay : StayInPlace moves step.line.axis step.premises
+  pub drawn_stay : StayInPlace moves step.line.axis step.drawn
+  pub premises_known : AreKnown Known to step.premises
+
+-- the step on another line
+abbrev pub moved : Step → LineId → Step
+moved step to = record step { line = to }
+
+-- Behind the steps that were kept so far, the rest of a book's steps leave these: in order those that stand, each moved to
+-- its new line. A premise is known where it is in the base, or a step that was kept before draws it.
+unfoldable pub Leave : Moves → Clues → Clues → List (List ℕ) → List Step → List Step → List Step → Type 0
+Leave moves old new base [] kept all = all ≡ kept
+Leave moves old new base (step ∷ steps) kept all =
+    ((to : LineId) × Stands moves old new (IsKnownBefore base kept (length kept)) step to × Leave moves old new base steps (kept ++ moved step to ∷ []) all)
+    ⊎ (((to : LineId) → Stands moves old new (IsKnownBefore base kept (length kept)) step to → ⊥) × Leave moves old new base steps kept all)
+
+-- the steps of a book that stand after a change
+abbrev pub AreStanding : Moves → Clues → Clues → List (List ℕ) → List Step → List Step → Type 0
+AreStanding moves old new base steps all = Leave moves old new base steps [] all

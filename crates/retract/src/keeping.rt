@@ -1,0 +1,86 @@
+//! Keeping the steps of a book that stand after a change.
+
+ghost use Rattle.std.specs.Prelude.{◌≡◌, ℕ, [], length, IfOk};
+ghost use Rattle.picture.specs.declared.line_id.Axis.{Axis};
+ghost use Rattle.picture.specs.Rows.{lines_along};
+ghost use Rattle.clues.specs.Change.{lines_after};
+ghost use Rattle.line_settle.specs.FactSets.{IsClosed};
+ghost use Rattle.justify.specs.Book.{AreTrimmed, IsDerivation};
+ghost use Rattle.retract.specs.Standing.{AreStanding, HaveBooks};
+ghost use Rattle.retract.specs.Dirty.{AreDirty, ClosedOutside, EachFits, FitsOutside};
+
+use crate::dirty::dirty_lines;
+use crate::standing::standing_line;
+use clues::laws::images_are_lines;
+use clues::{Change, ClueBook};
+use justify::Book;
+use justify::laws::{derivations_grow, facts_are_what_is_known};
+use line_settle::Facts;
+use picture::LineSet;
+use std::alloc::{AllocError, Global};
+
+/// What still stands of a book, and the lines of the new picture that may say something new.
+#[derive(Drop)]
+pub struct Kept {
+    pub book: Book,
+    pub dirty: LineSet,
+}
+
+/// Keeps the steps of a book that stand after a change, in order and each moved to its new line, over a new base, and
+/// names the dirty lines. The book is a derivation from the old clues, the change is of the sizes of both clue books, and
+/// the base has the new size. The old book stays.
+pub fn keep(
+    alloc: Global,
+    book: &Book,
+    old: &ClueBook,
+    new: &ClueBook,
+    change: &Change,
+    base: Facts,
+) -> Result<Kept, AllocError>
+    requires derivation { IsDerivation old.now book.now }
+    requires books { HaveBooks change.now.moves old.now new.now }
+    requires base { (axis : Axis) → lines_along axis base ≡ lines_after axis change.now.moves }
+    ensures base { IfOk result (λ kept. kept.book.base ≡ base) }
+    ensures steps { IfOk result (λ kept. AreStanding change.now.moves old.now new.now base book.now.steps kept.book.steps) }
+    ensures dirty { IfOk result (λ kept. AreDirty change.now.moves old.now new.now book.now.facts kept.book.facts kept.dirty) }
+    ensures derivation { IfOk result (λ kept. IsDerivation new.now kept.book) }
+    ensures trimmed { AreTrimmed old.now book.now → IfOk result (λ kept. AreTrimmed new.now kept.book) }
+    ensures closed { IsClosed old.now book.now.facts
+        → IfOk result (λ kept. ClosedOutside new.now kept.book.facts kept.dirty) }
+    ensures fits { EachFits old.now book.now.facts
+        → IfOk result (λ kept. FitsOutside new.now kept.book.facts kept.dirty) }
+{
+    let kept = standing(alloc, book, old, new, change, base)?;
+    let dirty = dirty_lines(old, new, change, book.facts(), kept.facts());
+    Ok(Kept { book: kept, dirty })
+}
+
+// The book of the steps that stand.
+fn standing(
+    alloc: Global,
+    book: &Book,
+    old: &ClueBook,
+    new: &ClueBook,
+    change: &Change,
+    base: Facts,
+) -> Result<Book, AllocError>
+    requires derivation { IsDerivation old.now book.now }
+    requires books { HaveBooks change.now.moves old.now new.now }
+    requires base { (axis : Axis) → lines_along axis base ≡ lines_after axis change.now.moves }
+    ensures base { IfOk result (λ kept. kept.base ≡ base) }
+    ensures steps { IfOk result (λ kept. AreStanding change.now.moves old.now new.now base book.now.steps kept.steps) }
+    ensures derivation { IfOk result (λ kept. IsDerivation new.now kept) }
+    ensures trimmed { AreTrimmed old.now book.now → IfOk result (λ kept. AreTrimmed new.now kept) }
+{
+    images_are_lines();
+    facts_are_what_is_known();
+    derivations_grow();
+    let _ = base.height();
+    let mut kept = Book::start(alloc, base)?;
+    for step in book.steps() {
+        if let Some(to) = standing_line(step, old, new, change, kept.facts()) {
+            kept.add_step(step.moved_to(to)?)?;
+        }
+    }
+    Ok(kept)
+}

@@ -1,0 +1,56 @@
+//! What a change leaves of the lengths and the places along lines.
+
+ghost use Rattle.std.specs.Prelude.{◌≡◌, ◌≤◌, ◌↔◌, length, IsTrue};
+ghost use Rattle.clues.specs.ClueBook.{clues_along};
+ghost use Rattle.retract.specs.Standing.{HaveBooks, KeepsLength};
+ghost use Rattle.retract.specs.Dirty.{AllStay, IsInPlace};
+
+use clues::{Change, ClueBook};
+use picture::{Axis, MAX_SIDE};
+
+// How many lines there are along an axis.
+pub(crate) fn line_count(clues: &ClueBook, axis: Axis) -> u8
+    ensures value { result ≡ length (clues_along axis clues.now) }
+    ensures fits { result ≤ MAX_SIDE }
+{
+    match axis {
+        Axis::Across => clues.height(),
+        Axis::Down => clues.width(),
+    }
+}
+
+// Whether lines along an axis have as many cells as before, and each position along them stays.
+pub(crate) fn stays_in_place(old: &ClueBook, new: &ClueBook, change: &Change, axis: Axis) -> bool
+    requires { HaveBooks change.now.moves old.now new.now }
+    ensures { IsTrue result ↔ IsInPlace change.now.moves axis }
+{
+    keeps_length(old, new, change, axis) && all_stay(old, new, change, axis)
+}
+
+// Whether the lines along an axis have as many cells as before.
+pub(crate) fn keeps_length(old: &ClueBook, new: &ClueBook, change: &Change, axis: Axis) -> bool
+    requires { HaveBooks change.now.moves old.now new.now }
+    ensures { IsTrue result ↔ KeepsLength change.now.moves axis }
+{
+    match axis {
+        Axis::Across => old.width() == new.width(),
+        Axis::Down => old.height() == new.height(),
+    }
+}
+
+// Whether each position along lines of an axis stays.
+fn all_stay(old: &ClueBook, new: &ClueBook, change: &Change, axis: Axis) -> bool
+    requires { HaveBooks change.now.moves old.now new.now }
+    ensures { IsTrue result ↔ AllStay change.now.moves axis }
+{
+    let cells = match axis {
+        Axis::Across => old.width(),
+        Axis::Down => old.height(),
+    };
+    for place in 0..cells {
+        if !change.stays(axis, place) {
+            return false;
+        }
+    }
+    true
+}
