@@ -1,0 +1,164 @@
+use crate::{Kept, keep};
+use clues::{Change, ClueBook};
+use justify::{Book, Premise, Step, laws};
+use line_settle::{Facts, LineEngine, MaskEngine, Meter};
+use picture::{Axis, LineId, Picture};
+use std::alloc::Global;
+use std::process::Abort;
+
+const NOTHING_DONE: Meter = Meter {
+    evaluations: 0,
+    trials: 0,
+};
+
+// The clues of two rows: colour 1 and background, then background and this colour, which may be background too.
+fn clues_with(rt: &impl Abort, alloc: Global, last: u8) -> ClueBook {
+    assert!(rt; last < 16);
+    let mut picture = Picture::blank(alloc, 2, 2).expect(rt, "memory");
+    assert!(rt; picture.height() == 2 && picture.width() == 2);
+    picture.set(0, 0, 1);
+    assert!(rt; picture.height() == 2 && picture.width() == 2);
+    picture.set(1, 1, last);
+    ClueBook::of(alloc, &picture).expect(rt, "memory")
+}
+
+// Adds the step that a row gives next.
+fn draw_row<E: LineEngine>(
+    rt: &impl Abort,
+    engine: &mut E,
+    book: &mut Book,
+    clues: &ClueBook,
+    at: u8,
+) {
+    laws::new_steps_follow();
+    let line = LineId {
+        axis: Axis::Across,
+        at,
+    };
+    assert!(rt; at < book.facts().height());
+    assert!(rt; at < clues.height());
+    assert!(rt; book.facts().line_len(line) <= engine.longest());
+    let step = book.make_step(engine, clues.clue(line), line, &mut NOTHING_DONE);
+    let step = step.expect(rt, "no fault").expect(rt, "a step");
+    book.add_step(step).expect(rt, "memory");
+}
+
+// The same of a column.
+fn draw_column<E: LineEngine>(
+    rt: &impl Abort,
+    engine: &mut E,
+    book: &mut Book,
+    clues: &ClueBook,
+    at: u8,
+) {
+    laws::new_steps_follow();
+    let line = LineId {
+        axis: Axis::Down,
+        at,
+    };
+    assert!(rt; at < book.facts().width());
+    assert!(rt; at < clues.width());
+    assert!(rt; book.facts().line_len(line) <= engine.longest());
+    let step = book.make_step(engine, clues.clue(line), line, &mut NOTHING_DONE);
+    let step = step.expect(rt, "no fault").expect(rt, "a step");
+    book.add_step(step).expect(rt, "memory");
+}
+
+fn row(at: u8) -> LineId {
+    LineId {
+        axis: Axis::Across,
+        at,
+    }
+}
+
+fn column(at: u8) -> LineId {
+    LineId {
+        axis: Axis::Down,
+        at,
+    }
+}
+
+const fn at(at: u8, colours: u16) -> Premise {
+    Premise { at, colours }
+}
+
+// The book of row 1, column 2, row 1 again and column 1.
+fn book_of<E: LineEngine>(
+    rt: &impl Abort,
+    alloc: Global,
+    engine: &mut E,
+    clues: &ClueBook,
+) -> Book {
+    let base = Facts::none(alloc, 2, 2).expect(rt, "memory");
+    let mut book = Book::start(alloc, base).expect(rt, "memory");
+    draw_row(rt, engine, &mut book, clues, 0);
+    draw_column(rt, engine, &mut book, clues, 1);
+    draw_row(rt, engine, &mut book, clues, 0);
+    draw_column(rt, engine, &mut book, clues, 0);
+    book
+}
+
+// Keeps what stands of a book of two rows and columns after a change of cells.
+fn keep_of<E: LineEngine>(
+    rt: &impl Abort,
+    alloc: Global,
+    engine: &mut E,
+    book: &Book,
+    old: &ClueBook,
+    new: &ClueBook,
+) -> Kept {
+    assert!(rt;
+        book.base().width() <= engine.longest() && book.base().height() <= engine.longest()
+    );
+    let holds = book.stands(engine, old);
+    assert!(rt; holds);
+    assert!(rt; old.height() == 2 && old.width() == 2);
+    assert!(rt; new.height() == 2 && new.width() == 2);
+    let base = Facts::none(alloc, 2, 2).expect(rt, "memory");
+    assert!(rt; base.height() == 2 && base.width() == 2);
+    let change = Change::cells(2, 2);
+    keep(alloc, book, old, new, &change, base).expect(rt, "memory")
+}
+
+// What stands of the book once the last cell, which had colour 2, is painted.
+fn kept_where_painted(rt: &impl Abort, alloc: Global, colour: u8) -> Kept {
+    let mut engine = MaskEngine::make(alloc, 120).expect(rt, "memory");
+    let old = clues_with(rt, alloc, 2);
+    let new = clues_with(rt, alloc, colour);
+    let book = book_of(rt, alloc, &mut engine, &old);
+    keep_of(rt, alloc, &mut engine, &book, &old, &new)
+}
+
+// Compares a step.
+fn is_step(rt: &impl Abort, step: &Step, line: LineId, premises: &[Premise], drawn: &[Premise]) {
+    assert_eq!(rt; step.line, line);
+    assert_eq!(rt; step.premises.as_slice(), premises);
+    assert_eq!(rt; step.drawn.as_slice(), drawn);
+}
+
+#[test]
+fn what_needs_a_changed_clue_falls(rt: HostRuntime) {
+    let kept = kept_where_painted(&rt, rt.alloc(), 0);
+    let steps = kept.book.steps();
+    assert_eq!(rt; steps.len(), 1);
+    is_step(&rt, &steps[0], row(0), &[], &[at(0, !3), at(1, !3)]);
+    assert_eq!(rt; kept.dirty.len(), 4);
+}
+
+#[test]
+fn all_steps_stand_where_nothing_changes(rt: HostRuntime) {
+    let kept = kept_where_painted(&rt, rt.alloc(), 2);
+    let steps = kept.book.steps();
+    assert_eq!(rt; steps.len(), 4);
+    is_step(&rt, &steps[0], row(0), &[], &[at(0, !3), at(1, !3)]);
+    is_step(
+        &rt,
+        &steps[1],
+        column(1),
+        &[at(0, !3)],
+        &[at(0, 2), at(1, !4)],
+    );
+    is_step(&rt, &steps[2], row(0), &[at(1, !1)], &[at(0, 1)]);
+    is_step(&rt, &steps[3], column(0), &[at(0, !2)], &[at(1, !1)]);
+    assert!(rt; kept.dirty.is_empty());
+}
