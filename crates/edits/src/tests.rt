@@ -13,10 +13,6 @@ const WHITE: Rgb = Rgb {
 
 const BLACK: Rgb = Rgb { r: 0, g: 0, b: 0 };
 
-const RED: Rgb = Rgb { r: 255, g: 0, b: 0 };
-
-const BLUE: Rgb = Rgb { r: 0, g: 0, b: 255 };
-
 fn row(at: u8) -> LineId {
     LineId {
         axis: Axis::Across,
@@ -47,18 +43,6 @@ fn after(alloc: Global, document: &Document, edit: Edit) -> Result<Document, Edi
     }
 }
 
-// The document that is there again when an edit has been taken back.
-fn there_and_back(alloc: Global, document: &Document, edit: Edit) -> Result<Document, EditFault> {
-    match edit.refusal(document) {
-        Some(fault) => Err(fault),
-        None => {
-            let entry = Entry::of(alloc, document, &edit)?;
-            let changed = entry.apply(document)?;
-            Ok(entry.revert(&changed)?)
-        }
-    }
-}
-
 fn paint(row: u8, col: u8, colour: u8) -> Edit {
     Edit::Paint { row, col, colour }
 }
@@ -76,62 +60,6 @@ fn a_given_moves_with_its_line(rt: HostRuntime) -> Result<(), Fail> {
     assert!(rt; document.givens.has(1, 1));
     assert!(rt; !document.givens.has(0, 1));
     assert_eq!(rt; document.picture.height(), 2);
-    Ok(())
-}
-
-// The document after a list of edits.
-fn after_all(alloc: Global, start: Document, edits: &[Edit]) -> Result<Document, EditFault> {
-    let mut document = start;
-    for edit in edits {
-        document = after(alloc, &document, *edit)?;
-    }
-    Ok(document)
-}
-
-// `ab/b.` with its second cell given
-fn some_cells(alloc: Global) -> Result<Document, Fail> {
-    let start = blank(alloc, 2, 2)?;
-    let edits = [
-        Edit::AddColour { rgb: BLACK },
-        Edit::AddColour { rgb: RED },
-        paint(0, 0, 1),
-        paint(0, 1, 2),
-        paint(1, 0, 2),
-        Edit::Pin { row: 0, col: 1 },
-    ];
-    Ok(after_all(alloc, start, &edits)?)
-}
-
-#[test]
-fn an_edit_is_taken_back(rt: HostRuntime) -> Result<(), Fail> {
-    let document = some_cells(rt.alloc())?;
-    let recolour = Edit::Recolour {
-        source: 2,
-        target: 1,
-    };
-    let back = there_and_back(rt.alloc(), &document, recolour)?;
-    assert!(rt; back.picture.same(&document.picture));
-    Ok(())
-}
-
-#[test]
-fn a_line_comes_back_with_its_given(rt: HostRuntime) -> Result<(), Fail> {
-    let document = some_cells(rt.alloc())?;
-    let back = there_and_back(rt.alloc(), &document, Edit::DeleteLine { line: row(0) })?;
-    assert!(rt; back.picture.same(&document.picture));
-    assert!(rt; back.givens.has(0, 1));
-    Ok(())
-}
-
-#[test]
-fn a_replaced_colour_comes_back(rt: HostRuntime) -> Result<(), Fail> {
-    let document = some_cells(rt.alloc())?;
-    let edit = Edit::SetColour {
-        colour: 1,
-        rgb: BLUE,
-    };
-    let back = there_and_back(rt.alloc(), &document, edit)?;
-    assert_eq!(rt; back.palette.number_of(BLACK), Some(1));
     Ok(())
 }
 
