@@ -1,5 +1,5 @@
 -- What a lawful edit asks of the parts that make its document.
-use Rattle.std.proofs.Common.{◌≡◌, ◌≢◌, ℕ, ◌+◌, ◌<◌, ◌≤◌, ◌⊎◌, inl, inr, Bool, true, false, List, [], ◌∷◌, length, map, refl, sym, ap, subst, ◌∙◌, arith}
+use Rattle.std.proofs.Common.{◌≡◌, ◌≢◌, ℕ, ◌+◌, ◌<◌, ◌≤◌, ◌⊎◌, inl, inr, Option, Bool, true, false, List, [], ◌∷◌, length, map, refl, sym, ap, subst, ◌∙◌, arith}
 use Rattle.std.specs.List.{All}
 use Rattle.std.proofs.lemmas.Bool.{cases_lt}
 use Rattle.std.proofs.lemmas.Bool.Decides.{nat_tests}
@@ -15,7 +15,7 @@ use Rattle.edits.specs.declared.edit.Edit.TheVariants.{Paint, Fill, Recolour, In
 use Rattle.edits.specs.Design.{Design, design, IsDesign, grid}
 use Rattle.edits.specs.Edit.{colour_after, edited, painted}
 use Rattle.edits.specs.Fault.{lacks_colour}
-use Rattle.edits.specs.Note.{Cell, IsCellIn, cells_kept, changed_cells, repainted, with_cells}
+use Rattle.edits.specs.Note.{Cell, IsCellIn, cells_kept, changed_cells, repainted, with_cells, rows_before, marks_before, colours_before}
 use Rattle.edits.proofs.CellLemmas.{Has, all_has, changed_from, has_from_map, paints_cells}
 use Rattle.edits.proofs.GridLemmas.{cell_at-grid, cell_at-past_rows, cell_at-past_columns, grid_is_grid, length-grid}
 use Rattle.edits.proofs.FaultLemmas.{IsLawful}
@@ -26,6 +26,7 @@ use Rattle.edits.proofs.ShiftLemmas.{inserted_below_bound, deleted_below_bound, 
 pub record Paints (e : Edit) : Type 0 where
   pub kept : (rows : List (List ℕ)) → cells_kept rows e ≡ changed_cells e rows
   pub gives : (d : Design) → edited d e ≡ design d.colours (painted e d.rows) d.marks
+  pub back : (d : Design) (cells : List Cell) (triple : Option Rgb) (givens : List (ℕ × ℕ)) → design (colours_before e triple d.colours) (rows_before e cells d.rows) (marks_before e givens d.marks) ≡ design d.colours (with_cells d.rows cells) d.marks
   pub fits : (colours : Colours) (i j x : ℕ) → lacks_colour colours e ≡ false → x < length colours.triples → colour_after e i j x < length colours.triples
 
 paint_fits : (colours : Colours) (row col colour i j x : ℕ) → lacks_colour colours (Paint row col colour) ≡ false → x < length colours.triples → colour_after (Paint row col colour) i j x < length colours.triples
@@ -38,13 +39,13 @@ recolour_fits : (colours : Colours) (source target i j x : ℕ) → lacks_colour
 recolour_fits colours source target i j x has small = grind (arith, nat_tests)
 
 paint_paints : (row col colour : ℕ) → Paints (Paint row col colour)
-paint_paints row col colour = record { kept = λ rows. refl; gives = λ d. refl; fits = λ colours i j x has small. paint_fits colours row col colour i j x has small }
+paint_paints row col colour = record { kept = λ rows. refl; gives = λ d. refl; back = λ d cells triple givens. refl; fits = λ colours i j x has small. paint_fits colours row col colour i j x has small }
 
 fill_paints : (top left bottom right colour : ℕ) → Paints (Fill top left bottom right colour)
-fill_paints top left bottom right colour = record { kept = λ rows. refl; gives = λ d. refl; fits = λ colours i j x has small. fill_fits colours top left bottom right colour i j x has small }
+fill_paints top left bottom right colour = record { kept = λ rows. refl; gives = λ d. refl; back = λ d cells triple givens. refl; fits = λ colours i j x has small. fill_fits colours top left bottom right colour i j x has small }
 
 recolour_paints : (source target : ℕ) → Paints (Recolour source target)
-recolour_paints source target = record { kept = λ rows. refl; gives = λ d. refl; fits = λ colours i j x has small. recolour_fits colours source target i j x has small }
+recolour_paints source target = record { kept = λ rows. refl; gives = λ d. refl; back = λ d cells triple givens. refl; fits = λ colours i j x has small. recolour_fits colours source target i j x has small }
 
 pub paints : (e : Edit) → ((row : ℕ) × (col : ℕ) × (colour : ℕ) × (e ≡ Paint row col colour)) ⊎ (((top : ℕ) × (left : ℕ) × (bottom : ℕ) × (right : ℕ) × (colour : ℕ) × (e ≡ Fill top left bottom right colour)) ⊎ ((source : ℕ) × (target : ℕ) × (e ≡ Recolour source target))) → Paints e
 paints e (inl p) = subst Paints (sym p.3) (paint_paints p.0 p.1 p.2)

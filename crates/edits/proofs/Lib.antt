@@ -2,6 +2,7 @@ pub mod ApplyLemmas
 pub mod CellLemmas
 pub mod DesignLemmas
 pub mod FaultLemmas
+pub mod GivenLemmas
 pub mod GridLemmas
 pub mod IdleLemmas
 pub mod KeptLemmas
@@ -11,3 +12,4 @@ pub mod PaintLemmas
 pub mod PartLemmas
 pub mod RevertLemmas
 pub mod ShiftLemmas
+pub mod StepLemmas

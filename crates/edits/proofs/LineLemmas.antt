@@ -142,16 +142,24 @@ cells_along_is : (axis : Axis) (h w : ℕ) (rows : List (List ℕ)) → IsGrid h
 cells_along_is Across h w rows is some = is.row_lengths 0 some
 cells_along_is Down h w rows is some = is.row_count
 
+-- the kept cells are the line's
+pub cell_of_line : (axis : Axis) (at h w : ℕ) (rows : List (List ℕ)) → IsGrid h w rows → 0 < h → at < size_along axis h w → (c : Cell) → Has (cells_of_line rows (line_at axis at)) c → (c.0 < h) × (c.1 < w) × (cell_at rows c.0 c.1 ≡ c.2)
+cell_of_line axis at h w rows is some within = λ c has.
+    let from = joined_from (λ k. cell_on rows (place_on axis at k) ∷ []) (cells_along axis rows) c has in
+    let e : cell_on rows (place_on axis at from.0) ≡ c = elim from.2 [ inl same ↦ same | inr none ↦ absurd none ] in
+    let inside = place_on_line axis at h w from.0 within (omega (arith, from.1, cells_along_is axis h w rows is some)) in
+    subst (λ (d : Cell). (d.0 < h) × (d.1 < w) × (cell_at rows d.0 d.1 ≡ d.2)) e (inside.0, inside.1, refl)
+
+-- a line deleted and one inserted at its place leave the size
+pub line_back_is_grid : (axis : Axis) (at h w : ℕ) (rows : List (List ℕ)) → IsGrid h w rows → at < size_along axis h w → 1 < size_along axis h w → IsGrid h w (with_line axis at (without_line axis at rows))
+line_back_is_grid axis at h w rows is within more = rw (insert_delete axis at h w rows is within more) (blanked_is_grid axis at h w rows is within)
+
 -- a deleted line given back
 pub gives_line_back : (axis : Axis) (at h w : ℕ) (rows : List (List ℕ)) → IsGrid h w rows → 0 < h → at < size_along axis h w → 1 < size_along axis h w → with_cells (with_line axis at (without_line axis at rows)) (cells_of_line rows (line_at axis at)) ≡ rows
 gives_line_back axis at h w rows is some within more =
     rw (insert_delete axis at h w rows is within more)
     (with_cells_give h w (cells_of_line rows (line_at axis at)) (blanked axis at w rows) rows (blanked_is_grid axis at h w rows is within) is
-    (λ c has.
-    let from = joined_from (λ k. cell_on rows (place_on axis at k) ∷ []) (cells_along axis rows) c has in
-    let e : cell_on rows (place_on axis at from.0) ≡ c = elim from.2 [ inl same ↦ same | inr none ↦ absurd none ] in
-    let inside = place_on_line axis at h w from.0 within (omega (arith, from.1, cells_along_is axis h w rows is some)) in
-    subst (λ (d : Cell). (d.0 < h) × (d.1 < w) × (cell_at rows d.0 d.1 ≡ d.2)) e (inside.0, inside.1, refl))
+    (cell_of_line axis at h w rows is some within)
     (λ i j in_rows in_columns.
     elim (cases_eq (along_line axis i j) at) [
       | inl on ↦
@@ -182,18 +190,24 @@ given_has : (b : Bool) (place : ℕ × ℕ) → b ≡ false → Has (cond b [] (
 given_has true place e = absurd (cc e)
 given_has false place e = inl refl
 
+pub given_of_line : (axis : Axis) (at h w : ℕ) (marks : List (List ℕ)) → IsGrid h w marks → 0 < h → at < size_along axis h w → (p : ℕ × ℕ) → Has (givens_of_line marks (line_at axis at)) p → (p.0 < h) × (p.1 < w) × (cell_at marks p.0 p.1 ≢ 0)
+given_of_line axis at h w marks is some within = λ found has.
+    let from = joined_from (λ k. given_on marks (place_on axis at k)) (cells_along axis marks) found has in
+    let p = place_on axis at from.0 in
+    let given = given_from (cell_at marks p.0 p.1 == 0) p found from.2 in
+    let inside = place_on_line axis at h w from.0 within (omega (arith, from.1, cells_along_is axis h w marks is some)) in
+    subst (λ (q : ℕ × ℕ). (q.0 < h) × (q.1 < w) × (cell_at marks q.0 q.1 ≢ 0)) given.1 (inside.0, inside.1, eqb-false (cell_at marks p.0 p.1) 0 given.0)
+
 pub gives_givens_back : (axis : Axis) (at h w : ℕ) (marks : List (List ℕ)) → IsGrid h w marks → ((i j : ℕ) → cell_at marks i j < 2) → 0 < h → at < size_along axis h w → 1 < size_along axis h w → with_cells (with_line axis at (without_line axis at marks)) (map as_mark (givens_of_line marks (line_at axis at))) ≡ marks
 gives_givens_back axis at h w marks is are some within more =
     rw (insert_delete axis at h w marks is within more)
     (with_cells_give h w (map as_mark (givens_of_line marks (line_at axis at))) (blanked axis at w marks) marks (blanked_is_grid axis at h w marks is within) is
     (λ c has.
     let of = from_as_mark (givens_of_line marks (line_at axis at)) c has in
-    let from = joined_from (λ k. given_on marks (place_on axis at k)) (cells_along axis marks) of.0 of.1 in
-    let p = place_on axis at from.0 in
-    let given = given_from (cell_at marks p.0 p.1 == 0) p of.0 from.2 in
-    let inside = place_on_line axis at h w from.0 within (omega (arith, from.1, cells_along_is axis h w marks is some)) in
-    let one : cell_at marks p.0 p.1 ≡ 1 = omega (arith, are p.0 p.1, eqb-false (cell_at marks p.0 p.1) 0 given.0) in
-    subst (λ (d : Cell). (d.0 < h) × (d.1 < w) × (cell_at marks d.0 d.1 ≡ d.2)) (ap as_mark given.1 ∙ of.2) (inside.0, inside.1, one))
+    let p = of.0 in
+    let is_given = given_of_line axis at h w marks is some within p of.1 in
+    let one : cell_at marks p.0 p.1 ≡ 1 = omega (arith, are p.0 p.1, is_given.2) in
+    subst (λ (d : Cell). (d.0 < h) × (d.1 < w) × (cell_at marks d.0 d.1 ≡ d.2)) of.2 (is_given.0, is_given.1, one))
     (λ i j in_rows in_columns.
     elim (cases_eq (along_line axis i j) at) [
       | inl on ↦

@@ -1,5 +1,5 @@
 -- Documents made from another one's parts.
-use Rattle.std.proofs.Common.{◌≡◌, ℕ, ◌+◌, ◌<◌, ◌≤◌, List, length, refl, sym, ap, ◌∙◌, arith, Bool, false}
+use Rattle.std.proofs.Common.{◌≡◌, ℕ, ◌+◌, ◌<◌, ◌≤◌, List, length, map, refl, sym, ap, ◌∙◌, arith, Bool, false}
 use Rattle.std.specs.Prelude.{Result, Ok, Err, OnOk, is_err}
 use Rattle.std.specs.List.{All}
 use Rattle.picture.specs.declared.line_id.Axis.{Axis}
@@ -13,7 +13,7 @@ use Rattle.clues.specs.declared.places.Places.TheVariants.{Inserted, Deleted, Sw
 use Rattle.clues.specs.Change.{Moves, lines_before, moved_along, still}
 use Rattle.edits.specs.Design.{Design, design, marks_of}
 use Rattle.edits.specs.Moving.{AreMoved}
-use Rattle.edits.specs.Note.{Cell, IsCellIn, with_cells}
+use Rattle.edits.specs.Note.{Cell, IsCellIn, as_mark, with_cells}
 use Rattle.edits.proofs.CellLemmas.{with_cells_sizes}
 use Rattle.edits.proofs.DesignLemmas.{assembled}
 use Rattle.edits.proofs.ShiftLemmas.{inserted_sizes, deleted_sizes, inserted_marks, deleted_marks, swapped_marks}
@@ -22,7 +22,7 @@ still_lines : (axis : Axis) (rows : List (List ℕ)) (height width : ℕ) → he
 still_lines Across rows height width h w = h
 still_lines Down rows height width h w = w
 
-some_lines : (axis : Axis) (rows : List (List ℕ)) → IsPicture rows → (0 < lines_along axis rows) × (lines_along axis rows ≤ 120)
+pub some_lines : (axis : Axis) (rows : List (List ℕ)) → IsPicture rows → (0 < lines_along axis rows) × (lines_along axis rows ≤ 120)
 some_lines Across rows is = (is.has_row, is.rows_fit)
 some_lines Down rows is = (is.has_column, is.columns_fit)
 
@@ -59,6 +59,13 @@ pub changed_inside : (rows now : List (List ℕ)) (cells : List Cell) (givens : 
 changed_inside rows now cells givens is inside same given =
     let sizes = with_cells_sizes rows cells is inside in
     λ i j has. (rw (same, sizes.0) (given i j has).0, rw (same, sizes.1) (given i j has).1)
+
+-- cells and givens put into a document with a new line
+pub restored_document : (rows now : List (List ℕ)) (cells : List Cell) (places : List (ℕ × ℕ)) (old new : List ℕ) (p : Colours) (d : Design) → IsPicture rows → All (IsCellIn rows) cells → design p rows (marks_of (length rows) (width_of rows) old) ≡ d → now ≡ with_cells rows cells → marks_of (length rows) (width_of rows) new ≡ with_cells (marks_of (length rows) (width_of rows) old) (map as_mark places) → design p now (marks_of (length now) (width_of now) new) ≡ design d.colours (with_cells d.rows cells) (with_cells d.marks (map as_mark places))
+restored_document rows now cells places old new p d is inside blank same put =
+    changed_document rows now cells new p p is inside refl same
+    ∙ (ap (λ m. design p (with_cells rows cells) m) put
+    ∙ ap (λ (x : Design). design x.colours (with_cells x.rows cells) (with_cells x.marks (map as_mark places))) blank)
 
 -- what holds where there is no error
 pub taken : {X E : Type 0} (r : Result X E) (P : Type 0) (is : Bool) → is ≡ is_err r → is ≡ false → OnOk r P → P

@@ -1,11 +1,26 @@
 //! Cells of a picture changed one by one.
 
-ghost use Rattle.std.specs.Prelude.{◌≡◌, List, length, map};
+ghost use Rattle.std.specs.Prelude.{◌≡◌, length, map};
+ghost use Rattle.picture.specs.Document.{AreInside};
+ghost use Rattle.picture.specs.Rows.{width_of};
+ghost use Rattle.edits.specs.Design.{marks_of};
 ghost use Rattle.std.specs.List.{All};
-ghost use Rattle.edits.specs.Note.{IsCellIn, repainted, with_cells};
+ghost use Rattle.edits.specs.Note.{IsCellIn, IsPlaceIn, as_mark, repainted, with_cells};
 
 use crate::edit::Edit;
-use picture::Picture;
+use picture::{CellSet, Picture};
+
+/// Gives each of the cells its colour.
+pub(crate) fn put_cells(picture: &mut Picture, cells: &[(u8, u8, u8)])
+    requires { All (IsCellIn picture.old) cells.now }
+    ensures { picture.new ≡ with_cells picture.old cells.now }
+{
+    let _ = picture.height();
+    for cell in cells {
+        let (row, col, colour) = *cell;
+        picture.set(row, col, colour);
+    }
+}
 
 /// Gives each of the cells the colour that an edit makes of its old one.
 pub(crate) fn paint_cells(picture: &mut Picture, edit: &Edit, cells: &[(u8, u8, u8)])
@@ -16,5 +31,20 @@ pub(crate) fn paint_cells(picture: &mut Picture, edit: &Edit, cells: &[(u8, u8, 
     for cell in cells {
         let (row, col, old) = *cell;
         picture.set(row, col, edit.colour_after(row, col, old));
+    }
+}
+
+/// Makes each of the cells a given.
+pub(crate) fn put_givens(givens: &mut CellSet, picture: &Picture, places: &[(u8, u8)])
+    requires places { All (IsPlaceIn picture.now) places.now }
+    requires inside { AreInside givens.old picture.now }
+    ensures marks { marks_of (length picture.now) (width_of picture.now) givens.new
+        ≡ with_cells (marks_of (length picture.now) (width_of picture.now) givens.old) (map as_mark places.now) }
+    ensures inside { AreInside givens.new picture.now }
+{
+    let _ = picture.height();
+    for place in places {
+        let (row, col) = *place;
+        givens.put(row, col);
     }
 }

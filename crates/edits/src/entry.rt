@@ -5,7 +5,10 @@ ghost use Rattle.std.specs.Prelude.{◌≡◌, None, IfOk};
 use crate::edit::Edit;
 use crate::facts::know;
 use crate::kept::{kept_cells, kept_givens, kept_triple};
-use crate::parts::{added, deleted, inserted, painted, pinned, recoloured, swapped, unpinned};
+use crate::parts::{
+    added, deleted, inserted, painted, pinned, recoloured, restored, swapped, unpinned, with_cells,
+    with_old, without_last,
+};
 use picture::{Document, Rgb};
 use std::alloc::{AllocError, Global};
 
@@ -24,10 +27,10 @@ pub struct Entry {
 }
 
 impl Entry {
-    ghost use Rattle.edits.specs.Design.{design_of};
+    ghost use Rattle.edits.specs.Design.{Design, design_of};
     ghost use Rattle.edits.specs.Edit.{edited};
     ghost use Rattle.edits.specs.Fault.{edit_fault};
-    ghost use Rattle.edits.specs.Note.{IsEntry, note_for, note_of};
+    ghost use Rattle.edits.specs.Note.{IsEntry, IsStep, note_for, note_of};
 
     /// The entry of an edit that no fault refuses. Its allocator is kept with its lists.
     #[tactic(auto, using(crate::proofs::FaultLemmas::lawful, crate::proofs::FaultLemmas::entry_of))]
@@ -69,6 +72,31 @@ impl Entry {
             Edit::SetColour { colour, rgb } => recoloured(document, colour, rgb),
             Edit::Pin { row, col } => pinned(document, row, col),
             Edit::Unpin { row, col } => unpinned(document, row, col),
+        }
+    }
+
+    /// The document before the edit. The entry is that of an edit which gives this document.
+    pub fn revert(&self, document: &Document) -> Result<Document, AllocError>
+        requires { (before : Design) × IsStep before (note_of self.now) (design_of document.now) }
+        ensures { IfOk result (λ d. (before : Design) → IsStep before (note_of self.now) (design_of document.now)
+            → design_of d ≡ before) }
+    {
+        know(document);
+        match self.edit {
+            Edit::Paint { .. } | Edit::Fill { .. } | Edit::Recolour { .. } => {
+                with_cells(document, &self.cells)
+            }
+            Edit::InsertLine { line } => deleted(document, line),
+            Edit::DeleteLine { line } => restored(document, line, &self.cells, &self.givens),
+            Edit::SwapLines {
+                axis,
+                first,
+                second,
+            } => swapped(document, axis, first, second),
+            Edit::AddColour { .. } => without_last(document),
+            Edit::SetColour { colour, .. } => with_old(document, colour, self.triple),
+            Edit::Pin { row, col } => unpinned(document, row, col),
+            Edit::Unpin { row, col } => pinned(document, row, col),
         }
     }
 }

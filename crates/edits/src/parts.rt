@@ -3,12 +3,12 @@
 ghost use Rattle.std.specs.Prelude.{◌≡◌, ◌<◌, ◌≤◌, length, map, IfOk};
 ghost use Rattle.std.specs.List.{All};
 ghost use Rattle.picture.specs.Document.{AreColoured};
-ghost use Rattle.picture.specs.Palette.{with_colour, with_triple};
+ghost use Rattle.picture.specs.Palette.{with_colour, with_triple, without_last};
 ghost use Rattle.picture.specs.Rows.{line_deleted, line_inserted, lines_along, lines_swapped, width_of, with_cell};
 ghost use Rattle.edits.specs.Design.{design, design_of};
-ghost use Rattle.edits.specs.Note.{IsCellIn, repainted, with_cells};
+ghost use Rattle.edits.specs.Note.{IsCellIn, IsPlaceIn, as_mark, repainted, with_cells, with_old};
 
-use crate::cells::paint_cells;
+use crate::cells::{paint_cells, put_cells, put_givens};
 use crate::edit::Edit;
 use crate::moving::moved_givens;
 use clues::Change;
@@ -29,6 +29,27 @@ pub(crate) fn painted(
     let palette = document.palette.copy()?;
     let mut picture = document.picture.copy()?;
     paint_cells(&mut picture, edit, cells);
+    let _ = document.picture.height();
+    Ok(Document {
+        palette,
+        picture,
+        givens: document.givens,
+    })
+}
+
+/// The document with the cells of a list given back.
+pub(crate) fn with_cells(
+    document: &Document,
+    cells: &[(u8, u8, u8)],
+) -> Result<Document, AllocError>
+    requires cells { All (IsCellIn document.now.picture) cells.now }
+    requires coloured { AreColoured (with_cells document.now.picture cells.now) document.now.palette }
+    ensures { IfOk result (λ d. design_of d
+        ≡ design document.now.palette (with_cells document.now.picture cells.now) (design_of document.now).marks) }
+{
+    let palette = document.palette.copy()?;
+    let mut picture = document.picture.copy()?;
+    put_cells(&mut picture, cells);
     let _ = document.picture.height();
     Ok(Document {
         palette,
@@ -180,5 +201,71 @@ pub(crate) fn recoloured(document: &Document, colour: u8, rgb: Rgb) -> Result<Do
         palette,
         picture,
         givens: document.givens,
+    })
+}
+
+/// The document without its last colour, which no cell has.
+pub(crate) fn without_last(document: &Document) -> Result<Document, AllocError>
+    requires more { 1 < length document.now.palette.triples }
+    requires coloured { AreColoured document.now.picture (without_last document.now.palette) }
+    ensures { IfOk result (λ d. design_of d
+        ≡ design (without_last document.now.palette) document.now.picture (design_of document.now).marks) }
+{
+    let mut palette = document.palette.copy()?;
+    let picture = document.picture.copy()?;
+    palette.pop_last();
+    Ok(Document {
+        palette,
+        picture,
+        givens: document.givens,
+    })
+}
+
+/// The document with a number's old colour.
+pub(crate) fn with_old(
+    document: &Document,
+    colour: u8,
+    triple: Option<Rgb>,
+) -> Result<Document, AllocError>
+    requires { colour < length document.now.palette.triples }
+    ensures { IfOk result (λ d. design_of d
+        ≡ design (with_old document.now.palette colour triple) document.now.picture (design_of document.now).marks) }
+{
+    match triple {
+        Some(rgb) => recoloured(document, colour, rgb),
+        None => document.copy(),
+    }
+}
+
+/// The document with a deleted line given back.
+pub(crate) fn restored(
+    document: &Document,
+    line: LineId,
+    cells: &[(u8, u8, u8)],
+    givens: &[(u8, u8)],
+) -> Result<Document, AllocError>
+    requires place { line.at ≤ lines_along line.axis document.now.picture }
+    requires room { lines_along line.axis document.now.picture < 120 }
+    requires blank { AreColoured (line_inserted document.now.picture line) document.now.palette }
+    requires cells { All (IsCellIn (line_inserted document.now.picture line)) cells.now }
+    requires givens { All (IsPlaceIn (line_inserted document.now.picture line)) givens.now }
+    requires coloured { AreColoured (with_cells (line_inserted document.now.picture line) cells.now) document.now.palette }
+    ensures { IfOk result (λ d. design_of d
+        ≡ design document.now.palette (with_cells (line_inserted document.now.picture line) cells.now)
+        (with_cells (line_inserted (design_of document.now).marks line) (map as_mark givens.now))) }
+{
+    let blank = inserted(document, line)?;
+    let _ = blank.picture.height();
+    let Document {
+        palette,
+        mut picture,
+        givens: mut marked,
+    } = blank;
+    put_givens(&mut marked, &picture, givens);
+    put_cells(&mut picture, cells);
+    Ok(Document {
+        palette,
+        picture,
+        givens: marked,
     })
 }

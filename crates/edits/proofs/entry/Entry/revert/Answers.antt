@@ -1,0 +1,129 @@
+use Rattle.std.proofs.Common.{◌≡◌, ℕ, ap, sym, refl, subst, ◌∙◌, map, List, length}
+use Rattle.std.specs.Prelude.{IfOk}
+use Rattle.std.specs.List.{All}
+use Rattle.picture.specs.Document.{AreColoured}
+use Rattle.picture.specs.Palette.{without_last}
+use Rattle.picture.specs.Rows.{width_of, with_cell, line_inserted, line_deleted, lines_swapped}
+use Rattle.edits.specs.Design.{Design, design, design_of, marks_of}
+use Rattle.edits.specs.Note.{Cell, IsCellIn, IsPlaceIn, Note, as_mark, cells_of_line, givens_of_line, note_of, reverted, with_cells, with_old}
+use Rattle.edits.proofs.FaultLemmas.{lawful}
+use Rattle.edits.proofs.ApplyLemmas.{paints}
+use Rattle.edits.proofs.ShiftLemmas.{inserted_below_bound}
+use Rattle.edits.proofs.StepLemmas.{step_coloured, gives_before, repaint_fits, reinsert_fits, redelete_fits, line_cells_fit, line_givens_fit, reswap_fits, pop_fits, reset_fits, repin_fits, reunpin_fits}
+use Rattle.edits.proofs.entry.Entry.revert.Goals as goal
+
+pub with_cells-requires-clause-cells : goal.with_cells-requires-clause-cells
+with_cells-requires-clause-cells c =
+    let p = paints c.args.self.now.edit c.in-Paint.is in
+    rw (c.deref.ensures.value ∙ ap (λ (n : Note). n.cells) c.requires.1.kept ∙ p.kept c.requires.0.rows)
+    (repaint_fits c.requires.0 (design_of c.args.document.now) c.requires.1.is_design c.args.self.now.edit p c.requires.1.gives)
+
+pub with_cells-requires-clause-coloured : goal.with_cells-requires-clause-coloured
+with_cells-requires-clause-coloured c =
+    let p = paints c.args.self.now.edit c.in-Paint.is in
+    let d = design_of c.args.document.now in
+    let n = note_of c.args.self.now in
+    rw c.deref.ensures.value (subst (λ (x : Design). AreColoured x.rows x.colours) (p.back d n.cells n.triple n.givens) (step_coloured c.requires.0 n d c.requires.1))
+
+pub deleted-requires : goal.deleted-requires
+deleted-requires c =
+    let d = design_of c.args.document.now in
+    let fits = reinsert_fits c.requires.0 d c.requires.1.is_design c.in-InsertLine.line (lawful c.requires.0 _ (rw c.in-InsertLine.is at c.requires.1.lawful)) (rw c.in-InsertLine.is at c.requires.1.gives) in
+    record { place = fits.0; others = fits.1; coloured = rw c.in-InsertLine.is at (step_coloured c.requires.0 (note_of c.args.self.now) d c.requires.1) }
+
+pub restored-requires : goal.restored-requires
+restored-requires c =
+    let d = design_of c.args.document.now in
+    let n = note_of c.args.self.now in
+    let b = c.requires.0 in
+    let line = c.in-DeleteLine.line in
+    let known = c.know.ensures in
+    let is_lawful = lawful b _ (rw c.in-DeleteLine.is at c.requires.1.lawful) in
+    let gives = rw c.in-DeleteLine.is at c.requires.1.gives in
+    let fits = redelete_fits b d c.requires.1.is_design line is_lawful gives in
+    let cells : n.cells ≡ cells_of_line b.rows line = rw c.in-DeleteLine.is at (ap (λ (m : Note). m.cells) c.requires.1.kept) in
+    let givens : n.givens ≡ givens_of_line b.marks line = rw c.in-DeleteLine.is at (ap (λ (m : Note). m.givens) c.requires.1.kept) in
+    record {
+      place = fits.0;
+      room = fits.1;
+      blank = inserted_below_bound line.axis line.at (length d.colours.triples) d.rows known.is_picture fits.0 known.is_palette.has_background known.is_coloured;
+      cells = rw (c.deref-in-DeleteLine.ensures.value, cells) (line_cells_fit b d c.requires.1.is_design line is_lawful gives);
+      givens = rw (c.deref-in-DeleteLine-2.ensures.value, givens) (line_givens_fit b d c.requires.1.is_design line is_lawful gives);
+      coloured = rw (c.deref-in-DeleteLine.ensures.value) (rw c.in-DeleteLine.is at (step_coloured b n d c.requires.1));
+    }
+
+pub swapped-requires : goal.swapped-requires
+swapped-requires c =
+    let d = design_of c.args.document.now in
+    let fits = reswap_fits c.requires.0 d c.requires.1.is_design c.in-SwapLines.axis c.in-SwapLines.first c.in-SwapLines.second (lawful c.requires.0 _ (rw c.in-SwapLines.is at c.requires.1.lawful)) (rw c.in-SwapLines.is at c.requires.1.gives) in
+    record { first_in = fits.0; second_in = fits.1; coloured = rw c.in-SwapLines.is at (step_coloured c.requires.0 (note_of c.args.self.now) d c.requires.1) }
+
+pub without_last-requires : goal.without_last-requires
+without_last-requires c =
+    let d = design_of c.args.document.now in
+    record {
+      more = pop_fits c.requires.0 d c.requires.1.is_design c.in-AddColour.rgb (rw c.in-AddColour.is at c.requires.1.gives);
+      coloured = rw c.in-AddColour.is at (step_coloured c.requires.0 (note_of c.args.self.now) d c.requires.1);
+    }
+
+pub with_old-requires : goal.with_old-requires
+with_old-requires c =
+    let d = design_of c.args.document.now in
+    reset_fits c.requires.0 d c.requires.1.is_design c.in-SetColour.colour c.in-SetColour.rgb (lawful c.requires.0 _ (rw c.in-SetColour.is at c.requires.1.lawful)) (rw c.in-SetColour.is at c.requires.1.gives)
+
+pub unpinned-requires : goal.unpinned-requires
+unpinned-requires c =
+    let fits = repin_fits c.requires.0 (design_of c.args.document.now) c.requires.1.is_design c.in-Pin.row c.in-Pin.col (lawful c.requires.0 _ (rw c.in-Pin.is at c.requires.1.lawful)) (rw c.in-Pin.is at c.requires.1.gives) in
+    record { in_rows = fits.0; in_columns = fits.1 }
+
+pub pinned-requires : goal.pinned-requires
+pinned-requires c =
+    let fits = reunpin_fits c.requires.0 (design_of c.args.document.now) c.requires.1.is_design c.in-Unpin.row c.in-Unpin.col (lawful c.requires.0 _ (rw c.in-Unpin.is at c.requires.1.lawful)) (rw c.in-Unpin.is at c.requires.1.gives) in
+    record { in_rows = fits.0; in_columns = fits.1 }
+
+pub returns-in-Paint : goal.returns-in-Paint
+returns-in-Paint c =
+    let d = design_of c.args.document.now in
+    let n = note_of c.args.self.now in
+    let p = paints c.args.self.now.edit c.in-Paint.is in
+    gives_before c.with_cells.result (design d.colours (with_cells d.rows c.deref.result.now) d.marks) d n
+    (p.back d n.cells n.triple n.givens ∙ ap (λ (cells : List Cell). design d.colours (with_cells d.rows cells) d.marks) (sym c.deref.ensures.value)) c.with_cells.ensures
+
+pub returns-in-InsertLine : goal.returns-in-InsertLine
+returns-in-InsertLine c =
+    let d = design_of c.args.document.now in
+    gives_before c.deleted.result (design d.colours (line_deleted d.rows c.in-InsertLine.line) (line_deleted d.marks c.in-InsertLine.line)) d (note_of c.args.self.now) (rw c.in-InsertLine.is refl) c.deleted.ensures
+
+pub returns-in-SwapLines : goal.returns-in-SwapLines
+returns-in-SwapLines c =
+    let d = design_of c.args.document.now in
+    let axis = c.in-SwapLines.axis in
+    gives_before c.swapped.result (design d.colours (lines_swapped axis c.in-SwapLines.first c.in-SwapLines.second d.rows) (lines_swapped axis c.in-SwapLines.first c.in-SwapLines.second d.marks)) d (note_of c.args.self.now) (rw c.in-SwapLines.is refl) c.swapped.ensures
+
+pub returns-in-AddColour : goal.returns-in-AddColour
+returns-in-AddColour c =
+    let d = design_of c.args.document.now in
+    gives_before c.without_last.result (design (without_last d.colours) d.rows d.marks) d (note_of c.args.self.now) (rw c.in-AddColour.is refl) c.without_last.ensures
+
+pub returns-in-SetColour : goal.returns-in-SetColour
+returns-in-SetColour c =
+    let d = design_of c.args.document.now in
+    gives_before c.with_old.result (design (with_old d.colours c.in-SetColour.colour c.args.self.now.triple) d.rows d.marks) d (note_of c.args.self.now) (rw c.in-SetColour.is refl) c.with_old.ensures
+
+pub returns-in-Pin : goal.returns-in-Pin
+returns-in-Pin c =
+    let d = design_of c.args.document.now in
+    gives_before c.unpinned.result (design d.colours d.rows (with_cell d.marks c.in-Pin.row c.in-Pin.col 0)) d (note_of c.args.self.now) (rw c.in-Pin.is refl) c.unpinned.ensures
+
+pub returns-in-Unpin : goal.returns-in-Unpin
+returns-in-Unpin c =
+    let d = design_of c.args.document.now in
+    gives_before c.pinned.result (design d.colours d.rows (with_cell d.marks c.in-Unpin.row c.in-Unpin.col 1)) d (note_of c.args.self.now) (rw c.in-Unpin.is refl) c.pinned.ensures
+
+pub returns-in-DeleteLine : goal.returns-in-DeleteLine
+returns-in-DeleteLine c =
+    let d = design_of c.args.document.now in
+    let line = c.in-DeleteLine.line in
+    let givens_put : List (ℕ × ℕ) → List Cell → Design = λ givens cells. design d.colours (with_cells (line_inserted d.rows line) cells) (with_cells (line_inserted d.marks line) (map as_mark givens)) in
+    gives_before c.restored.result (givens_put c.deref-in-DeleteLine-2.result.now c.deref-in-DeleteLine.result.now) d (note_of c.args.self.now)
+    (rw (c.in-DeleteLine.is, c.deref-in-DeleteLine.ensures.value, c.deref-in-DeleteLine-2.ensures.value) refl) c.restored.ensures
