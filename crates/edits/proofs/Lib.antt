@@ -1,5 +1,6 @@
 pub mod ApplyLemmas
 pub mod CellLemmas
+pub mod ChangeLemmas
 pub mod DesignLemmas
 pub mod FaultLemmas
 pub mod GivenLemmas

@@ -1,3 +1,4 @@
+pub mod Change
 pub mod Design
 pub mod Edit
 pub mod Fault

@@ -2,6 +2,7 @@
 #![tactic(auto)]
 
 mod cells;
+mod change;
 mod edit;
 mod entry;
 mod facts;

@@ -1,0 +1,14 @@
+-- the lines of the cells so far are touched
+use Rattle.std.proofs.Common.{◌≡◌, length}
+use Rattle.std.specs.Prelude.{◌↔◌}
+use Rattle.picture.specs.declared.line_id.LineId.{LineId}
+use Rattle.picture.specs.Rows.{width_of}
+use Rattle.clues.specs.Change.{AreMoves, IsTouched, still}
+use Rattle.edits.specs.Change.{IsCrossed}
+use Rattle.edits.proofs.change.of_cells.Given as goal
+
+abbrev pub invariant-loop-cell : goal.invariant-loop-cell
+invariant-loop-cell l = record {
+  moves : l.change.moves ≡ still (length l.old) (width_of l.old);
+  touched : (line : LineId) → IsTouched l.change line ↔ IsCrossed l.cell-index l.cells line;
+}

@@ -1,0 +1,178 @@
+//! What an edit changes: which lines it moves, and which lines have other cells afterwards.
+
+ghost use Rattle.std.specs.Prelude.{◌≡◌, ◌<◌, ◌≤◌, ◌⊎◌, ◌↔◌, length, MatchBool};
+ghost use Rattle.picture.specs.declared.line_id.LineId.{LineId};
+ghost use Rattle.picture.specs.Rows.{line_deleted, lines_along, lines_swapped, width_of};
+ghost use Rattle.clues.specs.Change.{AgreesOff, AreMoves, IsChangeOf, IsTouched, lines_after, moved_along, still};
+ghost use Rattle.clues.specs.Laws.{IsOnLine};
+ghost use Rattle.edits.specs.Change.{DifferIn};
+ghost use Rattle.edits.specs.Note.{cells_along};
+ghost use Rattle.edits.specs.Painting.{SameAt};
+
+use crate::edit::Edit;
+use crate::entry::Entry;
+use crate::facts::know;
+use crate::places::{crossing, line_length, place_on};
+use clues::{Change, Places};
+use picture::{Axis, Document, LineId, Picture};
+
+impl Entry {
+    ghost use Rattle.clues.specs.Change.{back};
+    ghost use Rattle.edits.specs.Change.{moves_of};
+    ghost use Rattle.edits.specs.Design.{design_of};
+    ghost use Rattle.edits.specs.Note.{IsStep, note_of};
+
+    /// What the edit changes: which lines it moves, and which lines have other cells afterwards. The entry is that of
+    /// the edit that makes the document `after` of the document `before`.
+    pub fn change(&self, before: &Document, after: &Document) -> Change
+        requires { IsStep (design_of before.now) (note_of self.now) (design_of after.now) }
+        ensures moves { result.moves ≡ moves_of self.now.edit before.now.picture }
+        ensures are_moves { AreMoves result.moves }
+        ensures exact { IsChangeOf result before.now.picture after.now.picture }
+    {
+        know(before);
+        let (old, new) = (&before.picture, &after.picture);
+        match self.edit {
+            Edit::Paint { .. } | Edit::Fill { .. } | Edit::Recolour { .. } => {
+                of_cells(old, new, &self.cells)
+            }
+            Edit::InsertLine { line } => of_insertion(old, new, line),
+            Edit::DeleteLine { line } => of_deletion(old, new, line),
+            Edit::SwapLines {
+                axis,
+                first,
+                second,
+            } => of_swap(old, new, axis, first, second),
+            Edit::AddColour { .. }
+            | Edit::SetColour { .. }
+            | Edit::Pin { .. }
+            | Edit::Unpin { .. } => of_cells(old, new, &[]),
+        }
+    }
+
+    /// What taking the edit back changes. The entry is that of the edit that makes the document `after` of the document
+    /// `before`, and the change leads from `after` to `before`.
+    pub fn change_back(&self, before: &Document, after: &Document) -> Change
+        requires { IsStep (design_of before.now) (note_of self.now) (design_of after.now) }
+        ensures moves { result.moves ≡ back (moves_of self.now.edit before.now.picture) }
+        ensures are_moves { AreMoves result.moves }
+        ensures exact { IsChangeOf result after.now.picture before.now.picture }
+    {
+        know(before);
+        know(after);
+        let (old, new) = (&after.picture, &before.picture);
+        match self.edit {
+            Edit::Paint { .. } | Edit::Fill { .. } | Edit::Recolour { .. } => {
+                of_cells(old, new, &self.cells)
+            }
+            Edit::InsertLine { line } => of_deletion(old, new, line),
+            Edit::DeleteLine { line } => of_insertion(old, new, line),
+            Edit::SwapLines {
+                axis,
+                first,
+                second,
+            } => of_swap(old, new, axis, first, second),
+            Edit::AddColour { .. }
+            | Edit::SetColour { .. }
+            | Edit::Pin { .. }
+            | Edit::Unpin { .. } => of_cells(old, new, &[]),
+        }
+    }
+}
+
+// The change between two pictures of one size. The cells are those in which they differ.
+fn of_cells(old: &Picture, new: &Picture, cells: &[(u8, u8, u8)]) -> Change
+    requires { DifferIn cells.now old.now new.now }
+    ensures moves { result.moves ≡ still (length old.now) (width_of old.now) }
+    ensures are_moves { AreMoves result.moves }
+    ensures exact { IsChangeOf result old.now new.now }
+{
+    let _ = new.height();
+    let mut change = Change::cells(old.height(), old.width());
+    for cell in cells {
+        let (row, col, _) = *cell;
+        touch_cell(&mut change, row, col);
+    }
+    change
+}
+
+// Touches the two lines on which a cell lies.
+fn touch_cell(change: &mut Change, row: u8, col: u8)
+    requires in_rows { row < lines_after Axis.Across change.old.moves }
+    requires in_columns { col < lines_after Axis.Down change.old.moves }
+    ensures moves { change.new.moves ≡ change.old.moves }
+    ensures touched { (line : LineId)
+        → IsTouched change.new line ↔ (IsTouched change.old line ⊎ IsOnLine line row col) }
+{
+    change.touch(LineId {
+        axis: Axis::Across,
+        at: row,
+    });
+    change.touch(LineId {
+        axis: Axis::Down,
+        at: col,
+    });
+}
+
+// The change between a picture and the one with a line inserted.
+fn of_insertion(old: &Picture, new: &Picture, line: LineId) -> Change
+    requires place { line.at ≤ lines_along line.axis old.now }
+    requires room { lines_along line.axis old.now < 120 }
+    requires agrees { AgreesOff line old.now new.now }
+    ensures moves { result.moves
+        ≡ moved_along line.axis (Places.Inserted line.at) (length old.now) (width_of old.now) }
+    ensures are_moves { AreMoves result.moves }
+    ensures exact { IsChangeOf result old.now new.now }
+{
+    let _ = new.height();
+    Change::insert(old.height(), old.width(), line)
+}
+
+// The change between a picture and the one with a line deleted.
+fn of_deletion(old: &Picture, new: &Picture, line: LineId) -> Change
+    requires place { line.at < lines_along line.axis old.now }
+    requires others { 1 < lines_along line.axis old.now }
+    requires deleted { new.now ≡ line_deleted old.now line }
+    ensures moves { result.moves
+        ≡ moved_along line.axis (Places.Deleted line.at) (length old.now) (width_of old.now) }
+    ensures are_moves { AreMoves result.moves }
+    ensures exact { IsChangeOf result old.now new.now }
+{
+    let _ = new.height();
+    Change::delete(old.height(), old.width(), line)
+}
+
+// The change between a picture and the one with two lines exchanged.
+fn of_swap(old: &Picture, new: &Picture, axis: Axis, first: u8, second: u8) -> Change
+    requires first_in { first < lines_along axis old.now }
+    requires second_in { second < lines_along axis old.now }
+    requires swapped { new.now ≡ lines_swapped axis first second old.now }
+    ensures moves { result.moves
+        ≡ moved_along axis (Places.Swapped first second) (length old.now) (width_of old.now) }
+    ensures are_moves { AreMoves result.moves }
+    ensures exact { IsChangeOf result old.now new.now }
+{
+    let _ = new.height();
+    let mut change = Change::swap(old.height(), old.width(), axis, first, second);
+    for at in 0..line_length(old, axis) {
+        if !is_same_at(old, axis, first, second, at) {
+            change.touch(LineId {
+                axis: crossing(axis),
+                at,
+            });
+        }
+    }
+    change
+}
+
+// Whether two lines of an axis have the same cell at a position.
+fn is_same_at(picture: &Picture, axis: Axis, first: u8, second: u8, position: u8) -> bool
+    requires first_in { first < lines_along axis picture.now }
+    requires second_in { second < lines_along axis picture.now }
+    requires position { position < cells_along axis picture.now }
+    ensures { MatchBool result (SameAt axis first second picture.now position) (SameAt axis first second picture.now position → ⊥) }
+{
+    let (row, col) = place_on(axis, first, position);
+    let (other_row, other_col) = place_on(axis, second, position);
+    picture.cell(row, col) == picture.cell(other_row, other_col)
+}
