@@ -5,6 +5,9 @@ use picture::{Axis, LineId, Picture};
 use std::alloc::{AllocError, Global};
 use std::process::Abort;
 
+mod growing;
+mod trying;
+
 const ALL: u16 = u16::MAX;
 
 const NOTHING_DONE: Meter = Meter {
