@@ -5,6 +5,10 @@ use picture::{Axis, CellSet, Document, LineId, Palette, Picture, Rgb};
 use std::alloc::Global;
 use std::test::Fail;
 
+mod changing;
+mod refusing;
+mod reverting;
+
 const WHITE: Rgb = Rgb {
     r: 255,
     g: 255,
@@ -13,9 +17,18 @@ const WHITE: Rgb = Rgb {
 
 const BLACK: Rgb = Rgb { r: 0, g: 0, b: 0 };
 
+const RED: Rgb = Rgb { r: 255, g: 0, b: 0 };
+
 fn row(at: u8) -> LineId {
     LineId {
         axis: Axis::Across,
+        at,
+    }
+}
+
+fn column(at: u8) -> LineId {
+    LineId {
+        axis: Axis::Down,
         at,
     }
 }
@@ -45,6 +58,36 @@ fn after(alloc: Global, document: &Document, edit: Edit) -> Result<Document, Edi
 
 fn paint(row: u8, col: u8, colour: u8) -> Edit {
     Edit::Paint { row, col, colour }
+}
+
+fn pin(row: u8, col: u8) -> Edit {
+    Edit::Pin { row, col }
+}
+
+fn add(rgb: Rgb) -> Edit {
+    Edit::AddColour { rgb }
+}
+
+// The document after a list of edits.
+fn after_all(alloc: Global, document: Document, edits: &[Edit]) -> Result<Document, EditFault> {
+    let mut document = document;
+    for edit in edits {
+        document = after(alloc, &document, *edit)?;
+    }
+    Ok(document)
+}
+
+// `ab/b.`, where a is black, b is red and the last cell is a given.
+fn corner(alloc: Global) -> Result<Document, Fail> {
+    let edits = [
+        add(BLACK),
+        add(RED),
+        paint(0, 0, 1),
+        paint(0, 1, 2),
+        paint(1, 0, 2),
+        pin(1, 1),
+    ];
+    Ok(after_all(alloc, blank(alloc, 2, 2)?, &edits).map_err(|fault| fault.name())?)
 }
 
 // `..` with a colour added, its second cell painted and pinned, and the rows above and below it
