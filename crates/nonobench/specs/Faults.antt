@@ -3,8 +3,7 @@ use Rattle.std.specs.Prelude.{ℕ, List, ◌++◌, codes, decimal, unwrap_or}
 use Rattle.ppm_text.specs.declared.fault.PpmFault.{PpmFault}
 use Rattle.ppm_text.specs.declared.fault.PpmFault.TheVariants as ppm
 use Rattle.ppm_text.specs.Faults.{name_of, place_of}
-use Rattle.nonobench.specs.declared.paint.PaintFault.{PaintFault}
-use Rattle.nonobench.specs.declared.paint.PaintFault.TheVariants.{Place, Colour, NoChange}
+use Rattle.edits.specs.Fault.{fault_name}
 use Rattle.nonobench.specs.declared.fault.ProgramFault.{ProgramFault}
 use Rattle.nonobench.specs.declared.fault.ProgramFault.TheVariants.{Ppm, Edit, Memory, TooLong, Words, Read, Write}
 
@@ -21,15 +20,10 @@ fault_of (ppm.SampleOver at) = Ppm (ppm.SampleOver at)
 fault_of (ppm.TooManyColours at) = Ppm (ppm.TooManyColours at)
 fault_of (ppm.TrailingToken at) = Ppm (ppm.TrailingToken at)
 
-abbrev pub paint_name : PaintFault → List ℕ
-paint_name Place = codes "Place"
-paint_name Colour = codes "Colour"
-paint_name NoChange = codes "NoChange"
-
 -- what stands behind `nonobench: ` on standard error
 abbrev pub fault_text : ProgramFault → List ℕ
 fault_text (Ppm fault) = codes "ppm " ++ name_of fault ++ codes " at byte " ++ decimal (unwrap_or (place_of fault) 0)
-fault_text (Edit fault) = codes "edit " ++ paint_name fault
+fault_text (Edit fault) = codes "edit " ++ fault_name fault
 fault_text Memory = codes "memory"
 fault_text TooLong = codes "input too long"
 fault_text Words = codes "words are not taken"

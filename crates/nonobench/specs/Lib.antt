@@ -1,4 +1,3 @@
 pub mod ClueText
 pub mod Faults
-pub mod Paint
 pub mod Run

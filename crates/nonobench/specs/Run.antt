@@ -1,5 +1,5 @@
 -- What the run without words shows for an input.
-use Rattle.std.specs.Prelude.{◌≡◌, ◌⊎◌, ℕ, List, Option, None, Some, Result, Ok, Err}
+use Rattle.std.specs.Prelude.{◌≡◌, ◌⊎◌, ℕ, List, length, Option, None, Some, Result, Ok, Err}
 use Rattle.std.specs.Option.{option_map}
 use Rattle.std.specs.Io.KnownBytes.{Appends, Keeps}
 use Rattle.picture.specs.Document.{Content}
@@ -7,36 +7,44 @@ use Rattle.picture.specs.Writing.{AppendsFront}
 use Rattle.ppm_text.specs.declared.fault.PpmFault.{PpmFault}
 use Rattle.ppm_text.specs.Ppm.{ppm_of}
 use Rattle.clues.specs.ClueBook.{clues_of}
-use Rattle.nonobench.specs.declared.paint.Paint.{Paint}
-use Rattle.nonobench.specs.declared.paint.PaintFault.{PaintFault}
+use Rattle.picture.specs.Rows.{width_of}
+use Rattle.edits.specs.declared.edit.Edit.{Edit}
+use Rattle.edits.specs.declared.edit.Edit.TheVariants.{Paint}
+use Rattle.edits.specs.declared.fault.EditFault.{EditFault}
+use Rattle.edits.specs.Design.{Design, design, marks_of}
+use Rattle.edits.specs.Edit.{edited}
+use Rattle.edits.specs.Fault.{edit_fault}
 use Rattle.nonobench.specs.declared.fault.ProgramFault.{ProgramFault}
-use Rattle.nonobench.specs.declared.fault.ProgramFault.TheVariants.{Edit, Memory, Write}
+use Rattle.nonobench.specs.declared.fault.ProgramFault.TheVariants.{Edit as Refused, Memory, Write}
 use Rattle.nonobench.specs.Faults.{fault_of}
-use Rattle.nonobench.specs.Paint.{paint_fault, with_paint}
 use Rattle.nonobench.specs.ClueText.{clues_text}
 
--- a paint that is refused, or the document with it
-abbrev pub painted_by : Option PaintFault → Content → Result Content ProgramFault
-painted_by None d = Ok d
-painted_by (Some fault) d = Err (Edit fault)
+-- the document read, cell by cell
+abbrev pub design_read : Content → Design
+design_read d = design d.colours d.rows (marks_of (length d.rows) (width_of d.rows) d.givens)
 
--- the document that was read, painted where that is asked
-abbrev pub after_paint : Option Paint → Result Content PpmFault → Result Content ProgramFault
-after_paint paint (Err fault) = Err (fault_of fault)
-after_paint None (Ok d) = Ok d
-after_paint (Some paint) (Ok d) = painted_by (paint_fault d paint) (with_paint d paint)
+-- an edit that is refused, or the document after it
+abbrev pub edited_by : Option EditFault → Design → Result Design ProgramFault
+edited_by None d = Ok d
+edited_by (Some fault) d = Err (Refused fault)
 
-abbrev pub clues_shown : Result Content ProgramFault → Result (List ℕ) ProgramFault
+-- the document that was read, after an edit where one is asked
+abbrev pub after_edit : Option Edit → Result Content PpmFault → Result Design ProgramFault
+after_edit edit (Err fault) = Err (fault_of fault)
+after_edit None (Ok d) = Ok (design_read d)
+after_edit (Some edit) (Ok d) = edited_by (edit_fault (design_read d) edit) (edited (design_read d) edit)
+
+abbrev pub clues_shown : Result Design ProgramFault → Result (List ℕ) ProgramFault
 clues_shown (Err fault) = Err fault
 clues_shown (Ok d) = Ok (clues_text (clues_of d.rows))
 
--- a row, a column and a colour as a paint
-abbrev pub paint_of : ℕ × ℕ × ℕ → Paint
-paint_of p = record { row = p.0; col = p.1; colour = p.2 }
+-- a row, a column and a colour as an edit
+abbrev pub paint_of : ℕ × ℕ × ℕ → Edit
+paint_of p = Paint p.0 p.1 p.2
 
 -- the text for an input, or the fault
-abbrev pub shown_for : List ℕ → Option Paint → Result (List ℕ) ProgramFault
-shown_for bytes paint = clues_shown (after_paint paint (ppm_of bytes None))
+abbrev pub shown_for : List ℕ → Option Edit → Result (List ℕ) ProgramFault
+shown_for bytes edit = clues_shown (after_edit edit (ppm_of bytes None))
 
 abbrev pub shown : List ℕ → Option (ℕ × ℕ × ℕ) → Result (List ℕ) ProgramFault
 shown bytes paint = shown_for bytes (option_map paint_of paint)

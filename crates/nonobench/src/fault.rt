@@ -4,7 +4,7 @@ ghost use Rattle.std.specs.Prelude.{◌≡◌, Some};
 ghost use Rattle.nonobench.specs.declared.fault.ProgramFault.TheVariants.{Memory, Write as Unwritten};
 ghost use Rattle.nonobench.specs.Faults.{fault_of, fault_text, status_of};
 
-use crate::paint::PaintFault;
+use edits::EditFault;
 use picture::WriteFault;
 use ppm_text::PpmFault;
 use std::alloc::{AllocError, AllocFailed};
@@ -16,7 +16,7 @@ pub enum ProgramFault {
     /// The P3 text was refused.
     Ppm(PpmFault),
     /// The paint was refused.
-    Edit(PaintFault),
+    Edit(EditFault),
     /// Memory ran out.
     Memory,
     /// The input has more than 16,777,216 bytes.

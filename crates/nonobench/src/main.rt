@@ -4,7 +4,6 @@
 mod clue_text;
 mod fault;
 mod input;
-mod paint;
 mod run;
 #[cfg(test)]
 mod tests;

@@ -1,14 +1,16 @@
 //! The run without words.
 
-ghost use Rattle.picture.specs.Content.{content_of};
 ghost use Rattle.picture.specs.Reading.{Gives};
 ghost use Rattle.ppm_text.specs.Ppm.{ppm_of};
-ghost use Rattle.nonobench.specs.Run.{after_paint, shown, shown_for, Writes};
+ghost use Rattle.edits.specs.Design.{design_of};
+ghost use Rattle.edits.specs.Edit.{edited};
+ghost use Rattle.edits.specs.Fault.{edit_fault};
+ghost use Rattle.nonobench.specs.Run.{after_edit, edited_by, shown, shown_for, Writes};
 
 use crate::clue_text::clues_text;
 use crate::fault::ProgramFault;
-use crate::paint::{Paint, painted};
 use clues::ClueBook;
+use edits::{Edit, Entry};
 use picture::{Document, send};
 use ppm_text::read_ppm;
 use std::alloc::Global;
@@ -25,32 +27,43 @@ pub fn run_clues<W: Write>(
 ) -> Result<(), ProgramFault>
     ensures { Writes (W.contents writer.old) (W.contents writer.new) result (shown bytes.now paint) }
 {
-    let paint = paint.map(|(row, col, colour)| Paint { row, col, colour });
-    let text = answer_text(alloc, bytes, paint)?;
+    let edit = paint.map(|(row, col, colour)| Edit::Paint { row, col, colour });
+    let text = answer_text(alloc, bytes, edit)?;
     send(&text, writer)?;
     Ok(())
 }
 
 // The clues of the picture, as text.
-fn answer_text(alloc: Global, bytes: &[u8], paint: Option<Paint>) -> Result<Vec<u8>, ProgramFault>
-    ensures { Gives ProgramFault.Memory (λ v. v.items) result (shown_for bytes.now paint) }
+fn answer_text(alloc: Global, bytes: &[u8], edit: Option<Edit>) -> Result<Vec<u8>, ProgramFault>
+    ensures { Gives ProgramFault.Memory (λ v. v.items) result (shown_for bytes.now edit) }
 {
-    let document = painted_document(alloc, bytes, paint)?;
+    let document = edited_document(alloc, bytes, edit)?;
     let book = ClueBook::of(alloc, &document.picture)?;
     Ok(clues_text(alloc, &book)?)
 }
 
-// The document that the text gives, painted where that is asked.
-fn painted_document(
+// The document that the text gives, after an edit where one is asked.
+fn edited_document(
     alloc: Global,
     bytes: &[u8],
-    paint: Option<Paint>,
+    edit: Option<Edit>,
 ) -> Result<Document, ProgramFault>
-    ensures { Gives ProgramFault.Memory content_of result (after_paint paint (ppm_of bytes.now None)) }
+    ensures { Gives ProgramFault.Memory design_of result (after_edit edit (ppm_of bytes.now None)) }
 {
     let document = read_ppm(alloc, bytes, None)?;
-    match paint {
+    match edit {
         None => Ok(document),
-        Some(paint) => painted(document, paint).map_err(ProgramFault::Edit),
+        Some(edit) => edited(alloc, &document, edit),
     }
+}
+
+// The document after an edit.
+fn edited(alloc: Global, document: &Document, edit: Edit) -> Result<Document, ProgramFault>
+    ensures { Gives ProgramFault.Memory design_of result
+        (edited_by (edit_fault (design_of document.now) edit) (edited (design_of document.now) edit)) }
+{
+    if let Some(fault) = edit.refusal(document) {
+        return Err(ProgramFault::Edit(fault));
+    }
+    Ok(Entry::of(alloc, document, &edit)?.apply(document)?)
 }

@@ -1,5 +1,5 @@
 use super::*;
-use crate::paint::PaintFault;
+use edits::EditFault;
 use ppm_text::PpmFault;
 use std::io::{Read, Write};
 use std::test::Fail;
@@ -69,7 +69,7 @@ fn every_fault_has_its_line_and_status(rt: HostRuntime) -> Result<(), Fail> {
             "ppm Truncated at byte 35",
             1,
         ),
-        (ProgramFault::Edit(PaintFault::Colour), "edit Colour", 1),
+        (ProgramFault::Edit(EditFault::Colour), "edit Colour", 1),
         (ProgramFault::Memory, "memory", 1),
         (ProgramFault::TooLong, "input too long", 1),
         (ProgramFault::Words, "words are not taken", 2),
