@@ -6,6 +6,10 @@ use picture::{Axis, LineId, Picture};
 use std::alloc::Global;
 use std::process::Abort;
 
+mod keeping;
+mod reference;
+mod strokes;
+
 const NOTHING_DONE: Meter = Meter {
     evaluations: 0,
     trials: 0,
@@ -22,7 +26,7 @@ fn clues_with(rt: &impl Abort, alloc: Global, last: u8) -> ClueBook {
     ClueBook::of(alloc, &picture).expect(rt, "memory")
 }
 
-// Adds the step that a row gives next.
+// Adds the step that a row gives next, if it gives one.
 fn draw_row<E: LineEngine>(
     rt: &impl Abort,
     engine: &mut E,
@@ -39,8 +43,9 @@ fn draw_row<E: LineEngine>(
     assert!(rt; at < clues.height());
     assert!(rt; book.facts().line_len(line) <= engine.longest());
     let step = book.make_step(engine, clues.clue(line), line, &mut NOTHING_DONE);
-    let step = step.expect(rt, "no fault").expect(rt, "a step");
-    book.add_step(step).expect(rt, "memory");
+    if let Some(step) = step.expect(rt, "no fault") {
+        book.add_step(step).expect(rt, "memory");
+    }
 }
 
 // The same of a column.
@@ -60,8 +65,9 @@ fn draw_column<E: LineEngine>(
     assert!(rt; at < clues.width());
     assert!(rt; book.facts().line_len(line) <= engine.longest());
     let step = book.make_step(engine, clues.clue(line), line, &mut NOTHING_DONE);
-    let step = step.expect(rt, "no fault").expect(rt, "a step");
-    book.add_step(step).expect(rt, "memory");
+    if let Some(step) = step.expect(rt, "no fault") {
+        book.add_step(step).expect(rt, "memory");
+    }
 }
 
 fn row(at: u8) -> LineId {

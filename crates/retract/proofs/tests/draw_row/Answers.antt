@@ -18,4 +18,4 @@ add_step-requires g c =
     let P : Result (Option Step) StepFault → Type 0 = λ made. Makes c.clue.result.now line (line_of facts line) made in
     let Q : Option Step → Type 0 = λ made. P (Ok made) in
     let made = subst P c.expect.ensures c.make_step-step.ensures.makes in
-    c.new_steps_follow.ensures.can_add c.args.book.now c.clue.result.now line c.expect-step.result c.facts.ensures.account has (subst Q c.expect-step.ensures made)
+    c.new_steps_follow.ensures.can_add c.args.book.now c.clue.result.now line c.in-Some.step c.facts.ensures.account has (subst Q c.in-Some.is made)
