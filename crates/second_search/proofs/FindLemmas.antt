@@ -1,0 +1,359 @@
+-- What is searched while facts wait: nothing that fills the first facts gets lost.
+use Rattle.std.proofs.Common.{◌≡◌, ℕ, zero, suc, ◌+◌, ◌*◌, ◌^◌, ◌<◌, ◌≤◌, ◌⊎◌, ◌↔◌, ◌==◌, Bool, true, false, cond, eq-eqb, eqb-true, Option, None, Some, List, [], ◌∷◌, ◌++◌, length, replicate, refl, sym, ap, subst, ◌∙◌, arith, inl, inr}
+use Rattle.std.specs.Prelude.{IsBitSet}
+use Rattle.std.specs.List.{filter, range_with_len}
+use Rattle.std.specs.Int.{bit_at}
+use Rattle.std.proofs.lemmas.Bool.{cases_eq, cases_lt}
+use Rattle.std.proofs.Math.Pow.{pow_mono, pow_pos}
+use Rattle.std.proofs.lemmas.List.{get_or_past, get_or-replicate, length-replicate}
+use Rattle.picture.specs.declared.line_id.Axis.{Axis}
+use Rattle.picture.specs.declared.line_id.Axis.TheVariants.{Across, Down}
+use Rattle.picture.specs.Picture.{IsPicture}
+use Rattle.picture.specs.Rows.{width_of, row_at, cell_at, lines_along, with_cell}
+use Rattle.clues.specs.ClueBook.{Clues, clues_along, clues_of}
+use Rattle.line_settle.specs.FactSets.{IsFacts, IsWithin, Leaves, SameShape}
+use Rattle.line_settle.proofs.AlongLemmas.{shape_refl, shape_sym, shape_trans}
+use Rattle.line_settle.proofs.GridLemmas.{at_with_cell, off_with_cell, shape_with_cell}
+use Rattle.line_settle.proofs.MaskLemmas.{bit_below, bit_is_set, power_has, set_bit}
+use Rattle.propagate.specs.Closing.{AreClosable}
+use Rattle.propagate.specs.Filling.{Fills}
+use Rattle.second_search.specs.declared.cell.Cell.{Cell}
+use Rattle.second_search.specs.declared.looking.Look.{Look}
+use Rattle.second_search.specs.declared.looking.Look.TheVariants.{Nothing, Found}
+use Rattle.second_search.specs.Branching.{FillsSome, Search, branches, colours_of, held, search_of}
+use Rattle.second_search.specs.Looking.{FindsFilling, Looks, Narrows}
+use Rattle.second_search.specs.Other.{AreSound, FindsFirst, FindsOther, HasClues, Solves}
+use Rattle.second_search.proofs.WeightLemmas.{branches_lighter, load, load_append, no_load, load_more, weight, weight_within}
+
+-- ---- a cell held to each of its colours
+
+-- a picture fills facts with a cell held exactly where it fills the facts and has the colour there
+held_fills : (clues : Clues) (facts picture : List (List ℕ)) (row col k : ℕ) → row < length facts → col < length (row_at facts row) → Fills clues facts picture → cell_at picture row col ≡ k → Fills clues (with_cell facts row col (2 ^ k)) picture
+held_fills clues facts picture row col k h l f e = record {
+  is_picture = f.is_picture;
+  same_shape = shape_trans f.same_shape (shape_with_cell facts row col (2 ^ k));
+  has_clues = f.has_clues;
+  leaves = λ r c m. elim (cases_eq r row) [
+    | inr d ↦ let P : ℕ → Type 0 = λ x. IsBitSet x (cell_at picture r c) in subst P (sym (off_with_cell facts row col (2 ^ k) r c (λ p. d p.0))) (f.leaves r c m)
+    | inl er ↦ elim (cases_eq c col) [
+      | inr d ↦ let P : ℕ → Type 0 = λ x. IsBitSet x (cell_at picture r c) in subst P (sym (off_with_cell facts row col (2 ^ k) r c (λ p. d p.1))) (f.leaves r c m)
+      | inl ec ↦
+          let P : ℕ → ℕ → Type 0 = λ i j. IsBitSet (cell_at (with_cell facts row col (2 ^ k)) i j) (cell_at picture i j) in
+          let Q : ℕ → Type 0 = λ x. IsBitSet x (cell_at picture row col) in
+          let here : P row col = subst Q (sym (at_with_cell facts row col (2 ^ k) h l)) ((power_has k (cell_at picture row col)).1 e) in
+          let R : ℕ → Type 0 = λ i. P i c in
+          let S : ℕ → Type 0 = λ j. P row j in
+          subst R (sym er) (subst S (sym ec) here)
+    ]
+  ];
+}
+
+held_within : (facts : List (List ℕ)) (row col k : ℕ) → row < length facts → col < length (row_at facts row) → Leaves facts row col k → IsWithin facts (with_cell facts row col (2 ^ k))
+held_within facts row col k h l s = record {
+  same_shape = shape_with_cell facts row col (2 ^ k);
+  leaves = λ r c x t. elim (cases_eq r row) [
+    | inr d ↦ let P : ℕ → Type 0 = λ m. IsBitSet m x in subst P (off_with_cell facts row col (2 ^ k) r c (λ p. d p.0)) t
+    | inl er ↦ elim (cases_eq c col) [
+      | inr d ↦ let P : ℕ → Type 0 = λ m. IsBitSet m x in subst P (off_with_cell facts row col (2 ^ k) r c (λ p. d p.1)) t
+      | inl ec ↦
+          let P : ℕ → ℕ → Type 0 = λ i j. IsBitSet (cell_at (with_cell facts row col (2 ^ k)) i j) x in
+          let R : ℕ → Type 0 = λ i. P i c in
+          let S : ℕ → Type 0 = λ j. P row j in
+          let at : P row col = subst S ec (subst R er t) in
+          let Q : ℕ → Type 0 = λ m. IsBitSet m x in
+          let e = (power_has k x).0 (subst Q (at_with_cell facts row col (2 ^ k) h l) at) in
+          let V : ℕ → Type 0 = λ i. Leaves facts i c x in
+          let W : ℕ → Type 0 = λ j. Leaves facts row j x in
+          let X : ℕ → Type 0 = λ y. Leaves facts row col y in
+          subst V (sym er) (subst W (sym ec) (subst X (sym e) s))
+    ]
+  ];
+}
+
+-- a number in a list of numbers
+abbrev Among : List ℕ → ℕ → Type 0
+Among [] x = ⊥
+Among (y ∷ ys) x = (x ≡ y) ⊎ Among ys x
+
+some_held : (clues : Clues) (facts picture : List (List ℕ)) (row col : ℕ) → row < length facts → col < length (row_at facts row) → Fills clues facts picture → (ks : List ℕ) → Among ks (cell_at picture row col) → FillsSome clues (held facts row col ks) picture
+some_held clues facts picture row col h l f [] a = absurd a
+some_held clues facts picture row col h l f (k ∷ ks) a = elim a [
+  | inl e ↦ inl (held_fills clues facts picture row col k h l f e)
+  | inr m ↦ inr (some_held clues facts picture row col h l f ks m)
+]
+
+abbrev Each : (ℕ → Type 0) → List ℕ → Type 0
+Each P [] = Unit {0}
+Each P (x ∷ xs) = P x × Each P xs
+
+fills_fewer : (clues : Clues) (base facts picture : List (List ℕ)) → IsWithin base facts → Fills clues facts picture → Fills clues base picture
+fills_fewer clues base facts picture w f = record {
+  is_picture = f.is_picture;
+  same_shape = shape_trans f.same_shape (shape_sym w.same_shape);
+  has_clues = f.has_clues;
+  leaves = λ row col inside. w.leaves row col (cell_at picture row col) (f.leaves row col inside);
+}
+
+held_some : (clues : Clues) (facts picture : List (List ℕ)) (row col : ℕ) → row < length facts → col < length (row_at facts row) → (ks : List ℕ) → Each (Leaves facts row col) ks → FillsSome clues (held facts row col ks) picture → Fills clues facts picture
+held_some clues facts picture row col h l [] a s = absurd s
+held_some clues facts picture row col h l (k ∷ ks) a s = elim s [
+  | inl f ↦ fills_fewer clues facts (with_cell facts row col (2 ^ k)) picture (held_within facts row col k h l a.0) f
+  | inr m ↦ held_some clues facts picture row col h l ks a.1 m
+]
+
+-- ---- the colours of a mask
+
+tested : (p : ℕ → Bool) (k n : ℕ) (b : Bool) → p k ≡ b → filter p (range_with_len k (suc n)) ≡ cond b (k ∷ filter p (range_with_len (k + 1) n)) (filter p (range_with_len (k + 1) n))
+tested p k n b e = ap (λ (t : Bool). cond t (k ∷ filter p (range_with_len (k + 1) n)) (filter p (range_with_len (k + 1) n))) e
+
+among_step : (p : ℕ → Bool) (k n x : ℕ) (b : Bool) → p k ≡ b → Among (filter p (range_with_len (k + 1) n)) x → Among (filter p (range_with_len k (suc n))) x
+among_step p k n x true e r = let P : List ℕ → Type 0 = λ xs. Among xs x in subst P (sym (tested p k n true e)) (inr r)
+among_step p k n x false e r = let P : List ℕ → Type 0 = λ xs. Among xs x in subst P (sym (tested p k n false e)) r
+
+among_kept : (p : ℕ → Bool) (k n x : ℕ) → k ≤ x → x < k + n → p x ≡ true → Among (filter p (range_with_len k n)) x
+among_kept p k zero x l m e = absurd (omega arith)
+among_kept p k (suc n) x l m e = elim (cases_eq x k) [
+  | inl same ↦
+      let P : List ℕ → Type 0 = λ xs. Among xs x in
+      subst P (sym (tested p k n true (ap p (sym same) ∙ e))) (inl same)
+  | inr d ↦
+      let rest = among_kept p (k + 1) n x (omega arith) (omega arith) e in
+      by (p k) refl rest
+]
+  where
+    by : (b : Bool) → p k ≡ b → Among (filter p (range_with_len (k + 1) n)) x → Among (filter p (range_with_len k (suc n))) x
+    by true e r = let P : List ℕ → Type 0 = λ xs. Among xs x in subst P (sym (tested p k n true e)) (inr r)
+    by false e r = let P : List ℕ → Type 0 = λ xs. Among xs x in subst P (sym (tested p k n false e)) r
+
+each_step : (p : ℕ → Bool) (P : ℕ → Type 0) (x : ℕ) (xs : List ℕ) (b : Bool) → p x ≡ b → (p x ≡ true → P x) → Each P (filter p xs) → Each P (filter p (x ∷ xs))
+each_step p P x xs true e h r = let Q : List ℕ → Type 0 = λ ys. Each P ys in subst Q (sym (ap (λ (t : Bool). cond t (x ∷ filter p xs) (filter p xs)) e)) (h e, r)
+each_step p P x xs false e h r = let Q : List ℕ → Type 0 = λ ys. Each P ys in subst Q (sym (ap (λ (t : Bool). cond t (x ∷ filter p xs) (filter p xs)) e)) r
+
+each_kept : (p : ℕ → Bool) (P : ℕ → Type 0) → ((x : ℕ) → p x ≡ true → P x) → (xs : List ℕ) → Each P (filter p xs)
+each_kept p P h [] = tt
+each_kept p P h (x ∷ xs) = each_step p P x xs (p x) refl (h x) (each_kept p P h xs)
+
+among_colours : (mask x : ℕ) → mask < 2 ^ 16 → IsBitSet mask x → Among (colours_of mask) x
+unfolding colours_of
+among_colours mask x small s = among_kept (λ k. bit_at mask k == 1) 0 16 x (omega arith) (let l = bit_below mask 16 x small s in omega arith) (eq-eqb (bit_at mask x) 1 (set_bit mask x s))
+
+each_colour : (mask : ℕ) → Each (λ k. IsBitSet mask k) (colours_of mask)
+unfolding colours_of
+each_colour mask = each_kept (λ k. bit_at mask k == 1) (λ k. IsBitSet mask k) (λ x e. bit_is_set mask x (eqb-true (bit_at mask x) 1 e)) (range_with_len 0 16)
+
+-- a picture fills facts exactly where it fills one of the branches of a cell
+split_fills : (clues : Clues) (facts picture : List (List ℕ)) (row col : ℕ) → IsFacts facts → row < length facts → col < width_of facts → Fills clues facts picture ↔ FillsSome clues (branches facts row col (cell_at facts row col)) picture
+split_fills clues facts picture row col is h l =
+    let rect = is.rectangular row h in
+    let l' : col < length (row_at facts row) = omega arith in (
+      (λ f.
+          let each = f.same_shape.each row in
+          some_held clues facts picture row col h l' f (colours_of (cell_at facts row col)) (among_colours (cell_at facts row col) (cell_at picture row col) (is.masks row col) (f.leaves row col (omega arith)))),
+      (λ s. held_some clues facts picture row col h l' (colours_of (cell_at facts row col)) (each_colour (cell_at facts row col)) s),
+    )
+
+-- ---- the search
+
+-- facts of one shape with the first
+abbrev AreAlike : List (List ℕ) → List (List (List ℕ)) → Type 0
+AreAlike first [] = Unit {0}
+AreAlike first (facts ∷ others) = SameShape first facts × AreAlike first others
+
+-- What waits while a picture is looked for: what fills the first facts and is not known fills some that wait, and what fills
+-- some that wait fills the first.
+pub record Finding (clues : Clues) (first known : List (List ℕ)) (s : Search) : Type 0 where
+  pub alike : AreAlike first (s.at_hand ∷ s.behind)
+  pub there : (picture : List (List ℕ)) → (picture ≡ known → ⊥) → Fills clues first picture → FillsSome clues (s.at_hand ∷ s.behind) picture
+  pub back : (picture : List (List ℕ)) → FillsSome clues (s.at_hand ∷ s.behind) picture → Fills clues first picture
+
+-- The facts at hand are done with: others stand before those that wait, which weigh less and are filled by the same pictures
+-- but for the known one.
+pub record IsLookedAt (clues : Clues) (known : List (List ℕ)) (s t : Search) : Type 0 where
+  pub front : List (List (List ℕ))
+  pub behind : t.behind ≡ front ++ s.behind
+  pub lighter : load front < 2 ^ (5 * weight s.at_hand)
+  pub alike : AreAlike s.at_hand front
+  pub there : (picture : List (List ℕ)) → (picture ≡ known → ⊥) → Fills clues s.at_hand picture → FillsSome clues front picture
+  pub back : (picture : List (List ℕ)) → FillsSome clues front picture → Fills clues s.at_hand picture
+
+pub finding_starts : (clues : Clues) (first known : List (List ℕ)) (s : Search) → s ≡ search_of first [] → Finding clues first known s
+finding_starts clues first known s e =
+    let P : Search → Type 0 = Finding clues first known in
+    subst P (sym e) (record {
+      alike = (shape_refl first, tt);
+      there = λ picture d f. inl f;
+      back = λ picture f. elim f [ inl x ↦ x | inr y ↦ absurd y ];
+    })
+
+-- what a look at the facts at hand found
+pub seen : (clues : Clues) (known facts : List (List ℕ)) (s : Search) (look found : Look) → facts ≡ s.at_hand → look ≡ found → Looks clues known facts look → Looks clues known s.at_hand found
+seen clues known facts s look found e f h =
+    let P : List (List ℕ) → Type 0 = λ x. Looks clues known x look in
+    let Q : Look → Type 0 = Looks clues known s.at_hand in
+    subst Q f (subst P e h)
+
+pub nothing_looked_at : (clues : Clues) (known : List (List ℕ)) (s t : Search) → Looks clues known s.at_hand Nothing → t ≡ s → IsLookedAt clues known s t
+nothing_looked_at clues known s t h e = record {
+  front = [];
+  behind = ap (λ (x : Search). x.behind) e;
+  lighter = let p = pow_pos (5 * weight s.at_hand) in let n = no_load in omega arith;
+  alike = tt;
+  there = λ picture d f. absurd (h picture f d);
+  back = λ picture f. absurd f;
+}
+
+held_alike : (first facts : List (List ℕ)) (row col : ℕ) → SameShape first facts → (ks : List ℕ) → AreAlike first (held facts row col ks)
+held_alike first facts row col s [] = tt
+held_alike first facts row col s (k ∷ ks) = (shape_trans s (shape_with_cell facts row col (2 ^ k)), held_alike first facts row col s ks)
+
+pub split_looked_at : (clues : Clues) (known settled : List (List ℕ)) (cell : Cell) (s t u : Search) → Narrows clues s.at_hand settled cell → t ≡ search_of settled s.behind → u ≡ search_of t.at_hand (branches t.at_hand cell.row cell.col (cell_at t.at_hand cell.row cell.col) ++ t.behind) → IsLookedAt clues known s u
+split_looked_at clues known settled cell s t u h et eu =
+    let is = h.are_facts in
+    let front = branches settled cell.row cell.col (cell_at settled cell.row cell.col) in
+    let rect = is.rectangular cell.row h.splits.in_rows in
+    let inside = h.splits.in_columns in
+    let wide : cell.col < length (row_at settled cell.row) = omega arith in
+    let same : (picture : List (List ℕ)) → Fills clues settled picture ↔ FillsSome clues front picture = λ picture. split_fills clues settled picture cell.row cell.col is h.splits.in_rows h.splits.in_columns in
+    let less = weight_within s.at_hand settled h.within in
+    let most = pow_mono {i = 5 * weight settled} {j = 5 * weight s.at_hand} (omega arith) in
+    let light = branches_lighter settled cell.row cell.col h.splits.in_rows wide h.splits.unsettled in
+    record {
+      front = front;
+      behind = ap (λ (x : Search). x.behind) eu ∙ ap (λ (x : Search). branches x.at_hand cell.row cell.col (cell_at x.at_hand cell.row cell.col) ++ x.behind) et;
+      lighter = omega arith;
+      alike = held_alike s.at_hand settled cell.row cell.col h.within.same_shape (colours_of (cell_at settled cell.row cell.col));
+      there = λ picture d f. (same picture).0 ((h.fills picture).0 f);
+      back = λ picture f. (h.fills picture).1 ((same picture).1 f);
+    }
+
+alike_both : (first facts : List (List ℕ)) (xs ys : List (List (List ℕ))) → SameShape first facts → AreAlike facts xs → AreAlike first ys → AreAlike first (xs ++ ys)
+alike_both first facts [] ys s a b = b
+alike_both first facts (x ∷ xs) ys s a b = (shape_trans s a.0, alike_both first facts xs ys s a.1 b)
+
+some_front : (clues : Clues) (xs ys : List (List (List ℕ))) (picture : List (List ℕ)) → FillsSome clues xs picture → FillsSome clues (xs ++ ys) picture
+some_front clues [] ys picture f = absurd f
+some_front clues (x ∷ xs) ys picture f = elim f [ inl here ↦ inl here | inr there ↦ inr (some_front clues xs ys picture there) ]
+
+some_behind : (clues : Clues) (xs ys : List (List (List ℕ))) (picture : List (List ℕ)) → FillsSome clues ys picture → FillsSome clues (xs ++ ys) picture
+some_behind clues [] ys picture f = f
+some_behind clues (x ∷ xs) ys picture f = inr (some_behind clues xs ys picture f)
+
+some_both : (clues : Clues) (xs ys : List (List (List ℕ))) (picture : List (List ℕ)) → FillsSome clues (xs ++ ys) picture → FillsSome clues xs picture ⊎ FillsSome clues ys picture
+some_both clues [] ys picture f = inr f
+some_both clues (x ∷ xs) ys picture f = elim f [
+  | inl here ↦ inl (inl here)
+  | inr there ↦ elim (some_both clues xs ys picture there) [ inl a ↦ inl (inr a) | inr b ↦ inr b ]
+]
+
+there_again : (clues : Clues) (first known : List (List ℕ)) (s t : Search) → Finding clues first known s → IsLookedAt clues known s t → (picture : List (List ℕ)) → (picture ≡ known → ⊥) → Fills clues first picture → FillsSome clues t.behind picture
+there_again clues first known s t i l picture d f =
+    let P : List (List (List ℕ)) → Type 0 = λ xs. FillsSome clues xs picture in
+    subst P (sym l.behind) (elim (i.there picture d f) [
+      | inl here ↦ some_front clues l.front s.behind picture (l.there picture d here)
+      | inr other ↦ some_behind clues l.front s.behind picture other
+    ])
+
+pub finding_goes_on : (clues : Clues) (first known : List (List ℕ)) (s t u : Search) → Finding clues first known s → IsLookedAt clues known s t → t.behind ≡ u.at_hand ∷ u.behind → Finding clues first known u
+finding_goes_on clues first known s t u i l e =
+    let P : List (List (List ℕ)) → Type 0 = λ xs. AreAlike first xs in
+    let Q : List (List ℕ) → List (List (List ℕ)) → Type 0 = λ picture xs. FillsSome clues xs picture in
+    let all : l.front ++ s.behind ≡ u.at_hand ∷ u.behind = sym l.behind ∙ e in
+    record {
+      alike = subst P all (alike_both first s.at_hand l.front s.behind i.alike.0 l.alike i.alike.1);
+      there = λ picture d f. subst (Q picture) e (there_again clues first known s t i l picture d f);
+      back = λ picture f. i.back picture (elim (some_both clues l.front s.behind picture (subst (Q picture) (sym all) f)) [
+        | inl here ↦ inl (l.back picture here)
+        | inr other ↦ inr other
+      ]);
+    }
+
+pub less_waits : (clues : Clues) (known : List (List ℕ)) (s t u : Search) → IsLookedAt clues known s t → t.behind ≡ u.at_hand ∷ u.behind → load (u.at_hand ∷ u.behind) < load (s.at_hand ∷ s.behind)
+less_waits clues known s t u l e =
+    let all : load (l.front ++ s.behind) ≡ load (u.at_hand ∷ u.behind) = ap load (sym l.behind ∙ e) in
+    let both = load_append l.front s.behind in
+    let head = load_more s.at_hand s.behind in
+    let light = l.lighter in
+    omega arith
+
+pub none_waits : (clues : Clues) (first known : List (List ℕ)) (s t : Search) → Finding clues first known s → IsLookedAt clues known s t → t.behind ≡ [] → FindsFilling clues first known None
+none_waits clues first known s t i l e picture f d =
+    let P : List (List (List ℕ)) → Type 0 = λ xs. FillsSome clues xs picture in
+    subst P e (there_again clues first known s t i l picture d f)
+
+pub found_one : (clues : Clues) (first known picture : List (List ℕ)) (s : Search) → Finding clues first known s → Looks clues known s.at_hand (Found picture) → FindsFilling clues first known (Some picture)
+found_one clues first known picture s i h = (i.back picture (inl h.0), h.1)
+
+-- ---- the calls
+
+-- a cell that lies outside of two grids of one shape
+both_outside : (a b : List (List ℕ)) (r c : ℕ) → SameShape a b → length (row_at a r) ≤ c → cell_at a r c ≡ cell_at b r c
+both_outside a b r c s p = let each = s.each r in get_or_past (row_at a r) c 0 p ∙ sym (get_or_past (row_at b r) c 0 (omega arith))
+
+fills_solves : (clues : Clues) (givens : List ℕ) (picture facts other : List (List ℕ)) → AreSound clues givens picture facts → Fills clues facts other → Solves clues givens picture other
+fills_solves clues givens picture facts other s f =
+    let shape : SameShape other picture = shape_trans f.same_shape (shape_sym s.same_shape) in
+    record {
+      is_picture = f.is_picture;
+      same_shape = shape;
+      has_clues = f.has_clues;
+      keeps_givens = λ r c g. elim (cases_lt c (length (row_at other r))) [
+        | inl l ↦ s.hold_givens r c (cell_at other r c) g (f.leaves r c l)
+        | inr p ↦ both_outside other picture r c shape p
+      ];
+    }
+
+solves_fills : (clues : Clues) (givens : List ℕ) (picture facts other : List (List ℕ)) → AreSound clues givens picture facts → Solves clues givens picture other → Fills clues facts other
+solves_fills clues givens picture facts other s h = record {
+  is_picture = h.is_picture;
+  same_shape = shape_trans h.same_shape s.same_shape;
+  has_clues = h.has_clues;
+  leaves = s.leave other h;
+}
+
+pub finds_other : (clues : Clues) (givens : List ℕ) (picture facts first : List (List ℕ)) (found : Option (List (List ℕ))) → AreSound clues givens picture facts → first ≡ facts → FindsFilling clues first picture found → FindsOther clues givens picture found
+finds_other clues givens picture facts first None s e h = λ other o.
+    let P : List (List ℕ) → Type 0 = λ x. Fills clues x other in
+    h other (subst P (sym e) (solves_fills clues givens picture facts other s o.solves)) o.differs
+finds_other clues givens picture facts first (Some other) s e h =
+    let P : List (List ℕ) → Type 0 = λ x. Fills clues x other in
+    record { solves = fills_solves clues givens picture facts other s (subst P e h.0); differs = h.1 }
+
+pub can_close : (clues : Clues) (picture facts first : List (List ℕ)) (longest : ℕ) → ((axis : Axis) → length (clues_along axis (clues_of picture)) ≡ lines_along axis picture) → clues_of picture ≡ clues → SameShape picture facts → first ≡ facts → length clues.rows ≤ longest → length clues.columns ≤ longest → AreClosable clues longest first
+can_close clues picture facts first longest sizes e s same tall wide =
+    let P : List (List ℕ) → Type 0 = AreClosable clues longest in
+    let rows : length clues.rows ≡ length picture = ap (λ (c : Clues). length c.rows) (sym e) ∙ sizes Across in
+    let columns : length clues.columns ≡ width_of picture = ap (λ (c : Clues). length c.columns) (sym e) ∙ sizes Down in
+    let high = s.rows in
+    let each : width_of picture ≡ width_of facts = s.each 0 in
+    subst P (sym same) (record { rows = omega arith; columns = omega arith; wide = omega arith; tall = omega arith })
+
+-- a picture with the clues fills facts of the clues' size that exclude nothing
+all_fills : (clues : Clues) (picture facts : List (List ℕ)) (height width : ℕ) → ((axis : Axis) → length (clues_along axis (clues_of picture)) ≡ lines_along axis picture) → HasClues clues picture → height ≡ length clues.rows → width ≡ length clues.columns → SameShape (replicate height (replicate {A = ℕ} width 65535)) facts → ((row col k : ℕ) → row < height → col < width → k < 16 → Leaves facts row col k) → Fills clues facts picture
+all_fills clues picture facts height width sizes h tall wide shape left =
+    let rows : length clues.rows ≡ length picture = ap (λ (c : Clues). length c.rows) (sym h.has_clues) ∙ sizes Across in
+    let columns : length clues.columns ≡ width_of picture = ap (λ (c : Clues). length c.columns) (sym h.has_clues) ∙ sizes Down in
+    record {
+      is_picture = h.is_picture;
+      same_shape = shape_trans (blank_like picture height width h.is_picture (omega arith) (omega arith)) shape;
+      has_clues = h.has_clues;
+      leaves = λ row col l. elim (cases_lt row (length picture)) [
+        | inl m ↦ let rect = h.is_picture.rectangular row m in left row col (cell_at picture row col) (omega arith) (omega arith) (h.is_picture.colours row col)
+        | inr p ↦ absurd (let none : length (row_at picture row) ≡ 0 = ap length (get_or_past picture row [] p) in omega arith)
+      ];
+    }
+  where
+    blank_like : (p : List (List ℕ)) (h w : ℕ) → IsPicture p → h ≡ length p → w ≡ width_of p → SameShape p (replicate h (replicate {A = ℕ} w 65535))
+    blank_like p h w is th wd = record {
+      rows = sym (length-replicate h (replicate {A = ℕ} w 65535) ∙ th);
+      each = λ i. elim (cases_lt i h) [
+        | inl l ↦ sym (ap length (get_or-replicate h i (replicate {A = ℕ} w 65535) [] l) ∙ (length-replicate {A = ℕ} w 65535 ∙ (wd ∙ sym (is.rectangular i (omega arith)))))
+        | inr q ↦ ap length (get_or_past p i [] (omega arith)) ∙ ap length (sym (get_or_past (replicate h (replicate {A = ℕ} w 65535)) i [] (omega (arith, length-replicate h (replicate {A = ℕ} w 65535)))))
+      ];
+    }
+
+pub finds_first : (clues : Clues) (facts blank : List (List ℕ)) (height width : ℕ) (found : Option (List (List ℕ))) → ((picture : List (List ℕ)) (axis : Axis) → length (clues_along axis (clues_of picture)) ≡ lines_along axis picture) → height ≡ length clues.rows → width ≡ length clues.columns → facts ≡ replicate height (replicate {A = ℕ} width 65535) → ((row col k : ℕ) → row < height → col < width → k < 16 → Leaves facts row col k) → (clues_of blank ≡ clues → ⊥) → FindsFilling clues facts blank found → FindsFirst clues found
+finds_first clues facts blank height width None sizes tall wide e left n h = λ picture has.
+    let P : List (List ℕ) → Type 0 = λ x. SameShape (replicate height (replicate {A = ℕ} width 65535)) x in
+    let Q : List (List ℕ) → Type 0 = λ x. clues_of x ≡ clues in
+    h picture (all_fills clues picture facts height width (sizes picture) has tall wide (subst P (sym e) (shape_refl _)) left) (λ same. n (subst Q same has.has_clues))
+finds_first clues facts blank height width (Some picture) sizes tall wide e left n h = record { is_picture = h.0.is_picture; has_clues = h.0.has_clues }

@@ -1,0 +1,5 @@
+pub mod GridLemmas
+pub mod NoteLemmas
+pub mod LookLemmas
+pub mod WeightLemmas
+pub mod FindLemmas

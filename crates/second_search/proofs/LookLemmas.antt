@@ -1,0 +1,125 @@
+-- Settled facts and the picture that they show.
+use Rattle.std.proofs.Common.{◌≡◌, ℕ, ◌+◌, ◌<◌, ◌↔◌, List, [], length, replicate, refl, sym, ap, subst, ◌∙◌, arith, inl, inr, Result, Ok, Err}
+use Rattle.std.specs.Prelude.{IfOk}
+use Rattle.std.proofs.lemmas.Bool.{cases_eq, cases_lt}
+use Rattle.std.proofs.lemmas.List.{get_or_past, get_or-replicate, length-replicate}
+use Rattle.picture.specs.Rows.{width_of, row_at, cell_at, with_cell}
+use Rattle.clues.specs.ClueBook.{Clues, clues_of}
+use Rattle.line_settle.specs.Masks.{IsOnly}
+use Rattle.line_settle.specs.FactSets.{IsFacts, IsWithin, SameShape}
+use Rattle.line_settle.proofs.AlongLemmas.{shape_sym, shape_trans}
+use Rattle.line_settle.proofs.GridLemmas.{at_with_cell, off_with_cell, shape_with_cell}
+use Rattle.line_settle.proofs.MaskLemmas.{bit_below}
+use Rattle.propagate.specs.Filling.{Fills}
+use Rattle.second_search.specs.declared.looking.Look.{Look}
+use Rattle.second_search.specs.declared.looking.Look.TheVariants.{Nothing, Found, Split}
+use Rattle.second_search.specs.Looking.{Looks, Shows, ShowsRow}
+use Rattle.second_search.proofs.GridLemmas.{same_inside}
+
+pub only_small : (facts : List (List ℕ)) (row col k : ℕ) → IsFacts facts → IsOnly (cell_at facts row col) k → k < 16
+only_small facts row col k is h = bit_below (cell_at facts row col) 16 k (is.masks row col) ((h k).1 refl)
+
+-- what holds of each place below one, and there, holds of each below the next
+pub below_next : (P : ℕ → Type 0) (n : ℕ) → ((i : ℕ) → i < n → P i) → P n → (i : ℕ) → i < n + 1 → P i
+below_next P n h here i l = elim (cases_eq i n) [
+  | inl e ↦ subst P (sym e) here
+  | inr d ↦ h i (omega arith)
+]
+
+-- ---- one more cell shown
+
+pub shape_shown : (facts picture : List (List ℕ)) (row col colour : ℕ) → SameShape picture facts → SameShape (with_cell picture row col colour) facts
+shape_shown facts picture row col colour s = shape_trans (shape_sym (shape_with_cell picture row col colour)) s
+
+pub more_shown : (facts picture : List (List ℕ)) (row col colour : ℕ) → IsFacts facts → SameShape picture facts → row < length facts → col < width_of facts → IsOnly (cell_at facts row col) colour → ((c : ℕ) → c < col → IsOnly (cell_at facts row c) (cell_at picture row c)) → (c : ℕ) → c < col + 1 → IsOnly (cell_at facts row c) (cell_at (with_cell picture row col colour) row c)
+more_shown facts picture row col colour is s h l only before = below_next (λ c. IsOnly (cell_at facts row c) (cell_at (with_cell picture row col colour) row c)) col
+    (λ c m.
+    let P : ℕ → Type 0 = λ x. IsOnly (cell_at facts row c) x in
+    subst P (sym (off_with_cell picture row col colour row c (λ p. absurd (let e = p.1 in omega arith)))) (before c m))
+    (let P : ℕ → Type 0 = λ x. IsOnly (cell_at facts row col) x in
+    let rows = s.rows in
+    let each = s.each row in
+    let wide = is.rectangular row h in
+    subst P (sym (at_with_cell picture row col colour (omega arith) (omega arith))) only)
+
+pub others_shown : (first picture : List (List ℕ)) (row col colour : ℕ) → ((r c : ℕ) → (r ≡ row → ⊥) → cell_at picture r c ≡ cell_at first r c) → (r c : ℕ) → (r ≡ row → ⊥) → cell_at (with_cell picture row col colour) r c ≡ cell_at first r c
+others_shown first picture row col colour h r c n = off_with_cell picture row col colour r c (λ p. n p.0) ∙ h r c n
+
+-- ---- one more row shown
+
+pub more_rows : (facts old new : List (List ℕ)) (row : ℕ) → ShowsRow facts old new row → ((r c : ℕ) → r < row → c < width_of facts → IsOnly (cell_at facts r c) (cell_at old r c)) → (r c : ℕ) → r < row + 1 → c < width_of facts → IsOnly (cell_at facts r c) (cell_at new r c)
+more_rows facts old new row s h r c l w = below_next (λ i. IsOnly (cell_at facts i c) (cell_at new i c)) row
+    (λ i m. let P : ℕ → Type 0 = λ x. IsOnly (cell_at facts i c) x in subst P (sym (s.elsewhere i c (λ e. absurd (omega arith)))) (h i c m w))
+    (s.only c w)
+    r l
+
+pub blank_shape : (facts : List (List ℕ)) (height width : ℕ) → IsFacts facts → height ≡ length facts → width ≡ width_of facts → SameShape (replicate height (replicate width 0)) facts
+blank_shape facts height width is h w = record {
+  rows = length-replicate height (replicate {A = ℕ} width 0) ∙ h;
+  each = λ i. elim (cases_lt i height) [
+    | inl l ↦ ap length (get_or-replicate height i (replicate {A = ℕ} width 0) [] l) ∙ (length-replicate {A = ℕ} width 0 ∙ (w ∙ sym (is.rectangular i (omega arith))))
+    | inr p ↦ ap length (get_or_past (replicate height (replicate {A = ℕ} width 0)) i [] (omega (arith, length-replicate height (replicate {A = ℕ} width 0)))) ∙ ap length (sym (get_or_past facts i [] (omega arith)))
+  ];
+}
+
+-- ---- the picture shown
+
+-- what fills settled facts is the picture that they show
+pub one_filling : (clues : Clues) (facts picture other : List (List ℕ)) → IsFacts facts → Shows facts picture → Fills clues facts other → other ≡ picture
+one_filling clues facts picture other is s f =
+    let rows = s.same_shape.rows in
+    let wide : width_of picture ≡ width_of facts = s.same_shape.each 0 in
+    same_inside other picture (width_of picture) (shape_trans f.same_shape (shape_sym s.same_shape)) s.is_picture.rectangular (λ r c h l.
+    let each = f.same_shape.each r in
+    let rect = is.rectangular r (omega arith) in
+    (s.only r c (omega arith) (omega arith) (cell_at other r c)).0 (f.leaves r c (omega arith)))
+
+pub shown_fills : (clues : Clues) (facts picture : List (List ℕ)) → IsFacts facts → Shows facts picture → clues_of picture ≡ clues → Fills clues facts picture
+shown_fills clues facts picture is s e = record {
+  is_picture = s.is_picture;
+  same_shape = s.same_shape;
+  has_clues = e;
+  leaves = λ row col l. elim (cases_lt row (length facts)) [
+    | inl h ↦
+        let each = s.same_shape.each row in
+        let rect = is.rectangular row h in
+        (s.only row col h (omega arith) (cell_at picture row col)).1 refl
+    | inr p ↦ absurd (
+        let rows = s.same_shape.rows in
+        let none : length (row_at picture row) ≡ 0 = ap length (get_or_past picture row [] (omega arith)) in
+        omega arith)
+  ];
+}
+
+-- a picture shown without the clues
+pub none_without_clues : (clues : Clues) (facts picture known : List (List ℕ)) → IsFacts facts → Shows facts picture → (clues_of picture ≡ clues → ⊥) → Looks clues known facts Nothing
+none_without_clues clues facts picture known is s n other f d =
+    let P : List (List ℕ) → Type 0 = λ p. clues_of p ≡ clues in
+    n (subst P (one_filling clues facts picture other is s f) f.has_clues)
+
+-- the known picture shown
+pub none_but_known : (clues : Clues) (facts picture known : List (List ℕ)) → IsFacts facts → Shows facts picture → picture ≡ known → Looks clues known facts Nothing
+none_but_known clues facts picture known is s e other f d = d (one_filling clues facts picture other is s f ∙ e)
+
+pub found_shown : (clues : Clues) (facts picture known : List (List ℕ)) → IsFacts facts → Shows facts picture → clues_of picture ≡ clues → (picture ≡ known → ⊥) → Looks clues known facts (Found picture)
+found_shown clues facts picture known is s e n = (shown_fills clues facts picture is s e, n)
+
+-- ---- before closing
+
+pub if_ok : {T E : Type 0} (r : Result T E) (P Q : T → Type 0) → ((x : T) → P x → Q x) → IfOk r P → IfOk r Q
+if_ok (Ok x) P Q f h = f x h
+if_ok (Err e) P Q f h = h
+
+-- what is seen of the facts that closing leaves is seen of those handed in
+pub looks_back : (clues : Clues) (known facts settled : List (List ℕ)) → IsWithin facts settled → ((picture : List (List ℕ)) → Fills clues facts picture ↔ Fills clues settled picture) → (look : Look) → Looks clues known settled look → Looks clues known facts look
+looks_back clues known facts settled w same Nothing h = λ picture f d. h picture ((same picture).0 f) d
+looks_back clues known facts settled w same (Found picture) h = ((same picture).1 h.0, h.1)
+looks_back clues known facts settled w same (Split more cell) h = record {
+  are_facts = h.are_facts;
+  within = record {
+    same_shape = shape_trans w.same_shape h.within.same_shape;
+    leaves = λ r c k s. w.leaves r c k (h.within.leaves r c k s);
+  };
+  fills = λ picture. ((λ f. (h.fills picture).0 ((same picture).0 f)), (λ f. (same picture).1 ((h.fills picture).1 f)));
+  splits = h.splits;
+}

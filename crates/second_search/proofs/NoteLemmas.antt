@@ -1,0 +1,141 @@
+-- The colours of a mask, and facts told from notes.
+use Rattle.std.proofs.Common.{◌≡◌, ◌≢◌, ℕ, zero, suc, ◌+◌, ◌*◌, ◌%◌, ◌^◌, ◌<◌, ◌≤◌, ◌==◌, Bool, true, false, cond, List, [], ◌∷◌, ◌++◌, length, bit_and, reverse, refl, sym, ap, subst, ◌∙◌, arith, inl, inr, eqb-true, eq-eqb}
+use Rattle.std.specs.List.{filter, range_with_len}
+use Rattle.std.specs.Int.{bit_at, bit_not, trailing_zeros, w16}
+use Rattle.std.proofs.lemmas.Bool.{cases_eq}
+use Rattle.std.proofs.lemmas.List.{reverse-append}
+use Rattle.std.proofs.lemmas.Nat.Bits.{bit_at-zero, bit_at-trailing_zeros, bit_at_clear_same, bit_at_clear_other}
+use Rattle.picture.specs.Rows.{width_of, cell_at, with_cell}
+use Rattle.line_settle.specs.FactSets.{IsFacts}
+use Rattle.line_settle.proofs.MaskLemmas.{lowest_below, shifted}
+use Rattle.second_search.specs.declared.note.CellMask.{CellMask}
+use Rattle.second_search.specs.declared.note.Note.{Note}
+use Rattle.second_search.specs.declared.note.Note.TheVariants.{Restore, Branch}
+use Rattle.second_search.specs.Branching.{AreInside, IsInside, Search, branches, colours_of, held, search_of, waiting}
+use Rattle.second_search.proofs.GridLemmas.{cell_back, same_cell}
+
+has : ℕ → ℕ → Bool
+has mask k = bit_at mask k == 1
+
+abbrev from : ℕ → ℕ → ℕ → List ℕ
+from mask k n = filter (λ j. bit_at mask j == 1) (range_with_len k n)
+
+tested : (mask k n : ℕ) (b : Bool) → (bit_at mask k == 1) ≡ b → from mask k (suc n) ≡ cond b (k ∷ from mask (k + 1) n) (from mask (k + 1) n)
+tested mask k n b e = ap (λ (t : Bool). cond t (k ∷ from mask (k + 1) n) (from mask (k + 1) n)) e
+
+not_one : (n : ℕ) → n ≢ 1 → (n == 1) ≡ false
+not_one n d = by (n == 1) refl
+  where
+    by : (b : Bool) → (n == 1) ≡ b → b ≡ false
+    by true e = absurd (d (eqb-true n 1 e))
+    by false e = refl
+
+-- masks that agree from a number on have the same colours from there
+agree : (a b k n : ℕ) → ((j : ℕ) → k ≤ j → j < k + n → bit_at a j ≡ bit_at b j) → from a k n ≡ from b k n
+agree a b k zero h = refl
+agree a b k (suc n) h =
+    let e : (bit_at a k == 1) ≡ (bit_at b k == 1) = ap (λ m. m == 1) (h k (omega arith) (omega arith)) in
+    let r = agree a b (k + 1) n (λ j l m. h j (omega arith) (omega arith)) in
+    tested a k n (bit_at b k == 1) e ∙ ap (λ (xs : List ℕ). cond (bit_at b k == 1) (k ∷ xs) xs) r
+
+none_of : (k n : ℕ) → from 0 k n ≡ []
+none_of k zero = refl
+none_of k (suc n) = tested 0 k n false (not_one (bit_at 0 k) (λ e. absurd (let z = bit_at-zero k in omega arith))) ∙ none_of (k + 1) n
+
+-- the first colour of a mask, and the others
+first_of : (mask rest first k n : ℕ) → k ≤ first → first < k + n → bit_at mask first ≡ 1 → bit_at rest first ≡ 0 → ((j : ℕ) → j < first → bit_at mask j ≡ 0) → ((j : ℕ) → j < k + n → j ≢ first → bit_at rest j ≡ bit_at mask j) → from mask k n ≡ first ∷ from rest k n
+first_of mask rest first k zero l m one none below other = absurd (omega arith)
+first_of mask rest first k (suc n) l m one none below other = elim (cases_eq k first) [
+  | inl e ↦
+      let here : (bit_at mask k == 1) ≡ true = eq-eqb (bit_at mask k) 1 (ap (bit_at mask) e ∙ one) in
+      let gone : (bit_at rest k == 1) ≡ false = not_one (bit_at rest k) (λ x. absurd (let y = ap (bit_at rest) e in omega arith)) in
+      tested mask k n true here
+      ∙ (ap (λ (xs : List ℕ). k ∷ xs) (agree mask rest (k + 1) n (λ j p q. sym (other j (omega arith) (omega arith))))
+      ∙ (ap (λ (x : ℕ). x ∷ from rest (k + 1) n) e ∙ ap (λ (xs : List ℕ). first ∷ xs) (sym (tested rest k n false gone))))
+  | inr d ↦
+      let low : bit_at mask k ≡ 0 = below k (omega arith) in
+      let same = other k (omega arith) d in
+      let here : (bit_at mask k == 1) ≡ false = not_one (bit_at mask k) (λ x. absurd (omega arith)) in
+      let gone : (bit_at rest k == 1) ≡ false = not_one (bit_at rest k) (λ x. absurd (omega arith)) in
+      tested mask k n false here
+      ∙ (first_of mask rest first (k + 1) n (omega arith) (omega arith) one none below (λ j p q. other j (omega arith) q)
+      ∙ ap (λ (xs : List ℕ). first ∷ xs) (sym (tested rest k n false gone)))
+]
+
+pub no_colours : colours_of 0 ≡ []
+unfolding colours_of
+no_colours = none_of 0 16
+
+pub lowest_colour : (mask : ℕ) → 0 < mask → mask < 2 ^ 16 → colours_of mask ≡ trailing_zeros w16 mask ∷ colours_of (bit_and mask (bit_not w16 (1 * 2 ^ trailing_zeros w16 mask % 65536)))
+unfolding colours_of
+lowest_colour mask p q =
+    let t = bit_at-trailing_zeros w16 mask p q in
+    let first = trailing_zeros w16 mask in
+    let rest = bit_and mask (bit_not w16 (1 * 2 ^ first % 65536)) in
+    first_of mask rest first 0 16 (omega arith) (omega (arith, t.0)) t.1 (bit_at_clear_same w16 mask first t.0) t.2 (λ j l n. bit_at_clear_other w16 mask first t.0 j (omega arith) n)
+
+-- ---- notes
+
+pub newest : (notes more : List Note) (note : Note) → more ≡ notes ++ note ∷ [] → reverse more ≡ note ∷ reverse notes
+newest notes more note e = ap reverse e ∙ reverse-append notes (note ∷ [])
+
+inside_same : (height width high wide : ℕ) (cell : CellMask) → high ≡ height → wide ≡ width → IsInside height width cell → IsInside high wide cell
+inside_same height width high wide cell h w i = let a = i.in_rows in let b = i.in_columns in record { in_rows = omega arith; in_columns = omega arith; small = i.small }
+
+pub are_inside_same : (height width high wide : ℕ) (notes : List Note) → high ≡ height → wide ≡ width → AreInside height width notes → AreInside high wide notes
+are_inside_same height width high wide [] h w i = i
+are_inside_same height width high wide (Restore cell ∷ notes) h w i = (inside_same height width high wide cell h w i.0, are_inside_same height width high wide notes h w i.1)
+are_inside_same height width high wide (Branch cell ∷ notes) h w i = (inside_same height width high wide cell h w i.0, are_inside_same height width high wide notes h w i.1)
+
+-- a cell held to a mask, with the old one noted
+pub holds : (s : Search) (facts new : List (List ℕ)) (notes more : List Note) (cell : CellMask) (mask : ℕ) → search_of facts (waiting facts (reverse notes)) ≡ s → IsFacts facts → cell.row < length s.at_hand → cell.col < width_of s.at_hand → cell.mask ≡ cell_at facts cell.row cell.col → new ≡ with_cell facts cell.row cell.col mask → more ≡ notes ++ Restore cell ∷ [] → search_of new (waiting new (reverse more)) ≡ search_of (with_cell s.at_hand cell.row cell.col mask) s.behind
+holds s facts new notes more cell mask v is h w m n e =
+    let front = ap (λ (x : Search). x.at_hand) v in
+    let tall = ap length front in
+    let wide = ap width_of front in
+    let r = is.rectangular cell.row (omega arith) in
+    let P : List (List ℕ) → Type 0 = λ x. search_of x (waiting x (reverse more)) ≡ search_of (with_cell s.at_hand cell.row cell.col mask) s.behind in
+    let back : with_cell (with_cell facts cell.row cell.col mask) cell.row cell.col cell.mask ≡ facts =
+    ap (λ x. with_cell (with_cell facts cell.row cell.col mask) cell.row cell.col x) m ∙ cell_back facts cell.row cell.col mask (omega arith) (omega arith) in
+    let held_to = with_cell facts cell.row cell.col mask in
+    let behind : waiting held_to (reverse more) ≡ s.behind =
+    ap (waiting held_to) (newest notes more (Restore cell) e) ∙ (ap (λ x. waiting x (reverse notes)) back ∙ ap (λ (x : Search). x.behind) v) in
+    subst P (sym n) (ap (λ (x : List (List (List ℕ))). search_of held_to x) behind ∙ ap (λ (x : List (List ℕ)). search_of (with_cell x cell.row cell.col mask) s.behind) front)
+
+-- a cell that has the mask already
+pub holds_same : (s : Search) (facts : List (List ℕ)) (behind : List (List (List ℕ))) (row col mask : ℕ) → search_of facts behind ≡ s → IsFacts facts → row < length s.at_hand → col < width_of s.at_hand → cell_at facts row col ≡ mask → s ≡ search_of (with_cell s.at_hand row col mask) s.behind
+holds_same s facts behind row col mask v is h w e =
+    let front = ap (λ (x : Search). x.at_hand) v in
+    let tall = ap length front in
+    let wide = ap width_of front in
+    let r = is.rectangular row (omega arith) in
+    let P : List (List ℕ) → Type 0 = λ x. with_cell x row col mask ≡ x in
+    let same : with_cell facts row col mask ≡ facts = ap (λ x. with_cell facts row col x) (sym e) ∙ same_cell facts row col (omega arith) (omega arith) in
+    sym (ap (λ x. search_of x s.behind) (subst P front same))
+
+-- no colours make no branches
+pub no_branches : (s : Search) (row col mask : ℕ) → mask ≡ 0 → s ≡ search_of s.at_hand (branches s.at_hand row col mask ++ s.behind)
+no_branches s row col mask e = ap (λ xs. search_of s.at_hand (held s.at_hand row col xs ++ s.behind)) (sym (ap colours_of e ∙ no_colours))
+
+first_branch : (facts : List (List ℕ)) (row col mask : ℕ) → 0 < mask → mask < 2 ^ 16 → branches facts row col mask ≡ with_cell facts row col (2 ^ trailing_zeros w16 mask) ∷ branches facts row col (bit_and mask (bit_not w16 (1 * 2 ^ trailing_zeros w16 mask % 65536)))
+first_branch facts row col mask p q = ap (held facts row col) (lowest_colour mask p q)
+
+-- the first branch begun, and the others put before what waits
+pub begins : (s t u : Search) (row col mask lowest rest : ℕ) → 0 < mask → mask < 2 ^ 16 → lowest ≡ 1 * 2 ^ trailing_zeros w16 mask % 65536 → rest ≡ bit_and mask (bit_not w16 lowest) → t ≡ search_of s.at_hand (branches s.at_hand row col rest ++ s.behind) → u ≡ search_of (with_cell t.at_hand row col lowest) t.behind → branches s.at_hand row col mask ++ s.behind ≡ u.at_hand ∷ u.behind
+begins s t u row col mask lowest rest p q l r et eu =
+    let power : 2 ^ trailing_zeros w16 mask ≡ lowest = sym (l ∙ shifted (trailing_zeros w16 mask) (lowest_below mask p q)) in
+    let others : bit_and mask (bit_not w16 (1 * 2 ^ trailing_zeros w16 mask % 65536)) ≡ rest = ap (λ n. bit_and mask (bit_not w16 n)) (sym l) ∙ sym r in
+    let front : with_cell s.at_hand row col lowest ≡ u.at_hand = sym (ap (λ (x : Search). x.at_hand) eu ∙ ap (λ (x : Search). with_cell x.at_hand row col lowest) et) in
+    let behind : branches s.at_hand row col rest ++ s.behind ≡ u.behind = sym (ap (λ (x : Search). x.behind) eu ∙ ap (λ (x : Search). x.behind) et) in
+    ap (λ xs. xs ++ s.behind) (first_branch s.at_hand row col mask p q)
+    ∙ (ap (λ n. with_cell s.at_hand row col n ∷ (branches s.at_hand row col (bit_and mask (bit_not w16 (1 * 2 ^ trailing_zeros w16 mask % 65536))) ++ s.behind)) power
+    ∙ (ap (λ n. with_cell s.at_hand row col lowest ∷ (branches s.at_hand row col n ++ s.behind)) others
+    ∙ (ap (λ x. x ∷ (branches s.at_hand row col rest ++ s.behind)) front ∙ ap (λ xs. u.at_hand ∷ xs) behind)))
+
+-- a branch with no colours left is none
+pub skips : (facts : List (List ℕ)) (height width : ℕ) (notes more : List Note) (cell : CellMask) → notes ≡ more ++ Branch cell ∷ [] → cell.mask ≡ 0 → (waiting facts (reverse notes) ≡ waiting facts (reverse more)) × (AreInside height width (reverse notes) → AreInside height width (reverse more))
+skips facts height width notes more cell e z =
+    let n = newest more notes (Branch cell) e in (
+      ap (waiting facts) n ∙ ap (λ xs. held facts cell.row cell.col xs ++ waiting facts (reverse more)) (ap colours_of z ∙ no_colours),
+      (λ i. let P : List Note → Type 0 = AreInside height width in (subst P n i).1),
+    )

@@ -1,0 +1,148 @@
+-- What facts weigh: the sum of their masks. A search ends since what waits weighs less with each step.
+use Rattle.std.proofs.Common.{◌≡◌, ℕ, zero, suc, ◌+◌, ◌-◌, ◌*◌, ◌^◌, ◌<◌, ◌≤◌, ◌==◌, true, List, [], ◌∷◌, ◌++◌, length, get_or, set, bit_and, refl, sym, ap, subst, arith, inl, inr, eqb-true}
+use Rattle.std.specs.Prelude.{IsBitSet}
+use Rattle.std.specs.List.{All, filter, range_with_len}
+use Rattle.std.specs.Int.{bit_at}
+use Rattle.std.proofs.lemmas.Bool.{cases_eq}
+use Rattle.std.proofs.lemmas.Nat.{and_le_r, pow-add}
+use Rattle.std.proofs.lemmas.Nat.Bits.{bit_at_and, bit_at-lt}
+use Rattle.std.proofs.lemmas.List.Elements.{filter_passes}
+use Rattle.std.proofs.lemmas.List.FromFn.{length-range_with_len}
+use Rattle.std.proofs.lemmas.List.Sums.{count_by-le-length, length-filter}
+use Rattle.std.proofs.Math.Nat.{mul-le-mul_right}
+use Rattle.std.proofs.Math.Pow.{pow_mono, pow_pos}
+use Rattle.picture.specs.Rows.{row_at, cell_at, with_cell}
+use Rattle.line_settle.specs.Masks.{IsOnly}
+use Rattle.line_settle.specs.FactSets.{IsWithin}
+use Rattle.line_settle.proofs.MaskLemmas.{bit_is_set, power_has, same_bits, set_bit}
+use Rattle.second_search.specs.Branching.{branches, colours_of, held}
+
+-- the sum over a list
+abbrev total : {X : Type 0} → (X → ℕ) → List X → ℕ
+total f [] = 0
+total f (x ∷ xs) = f x + total f xs
+
+total_append : {X : Type 0} (f : X → ℕ) (xs ys : List X) → total f (xs ++ ys) ≡ total f xs + total f ys
+total_append f [] ys = omega arith
+total_append f (x ∷ xs) ys = let rest = total_append f xs ys in omega arith
+
+total_set : {X : Type 0} (f : X → ℕ) (xs : List X) (i : ℕ) (y d : X) → i < length xs → total f (set xs i y) + f (get_or xs i d) ≡ total f xs + f y
+total_set f [] i y d l = absurd (omega arith)
+total_set f (x ∷ xs) zero y d l = omega arith
+total_set f (x ∷ xs) (suc i) y d l = let rest = total_set f xs i y d (omega arith) in omega arith
+
+row_weight : List ℕ → ℕ
+row_weight row = total (λ (x : ℕ). x) row
+
+pub weight : List (List ℕ) → ℕ
+weight facts = total row_weight facts
+
+abbrev loads : List (List ℕ) → ℕ
+loads facts = 2 ^ (5 * weight facts)
+
+pub load : List (List (List ℕ)) → ℕ
+load many = total loads many
+
+-- ---- fewer colours weigh less
+
+fewer_le : (a b : ℕ) → ((k : ℕ) → IsBitSet a k → IsBitSet b k) → a ≤ b
+fewer_le a b h =
+    let e : bit_and a b ≡ a = same_bits (bit_and a b) a (λ k. (
+      (λ s. let x = set_bit (bit_and a b) k s in let y = bit_at_and a b k in let l = bit_at-lt a k in let m = bit_at-lt b k in bit_is_set a k (omega arith)),
+      (λ s. let x = set_bit a k s in let z = set_bit b k (h k s) in let y = bit_at_and a b k in bit_is_set (bit_and a b) k (omega arith)),
+    )) in
+    omega (arith, and_le_r a b)
+
+row_le : (a b : List ℕ) → length a ≡ length b → ((i : ℕ) → get_or a i 0 ≤ get_or b i 0) → row_weight a ≤ row_weight b
+unfolding row_weight
+row_le [] [] e h = omega arith
+row_le [] (y ∷ ys) e h = omega arith
+row_le (x ∷ xs) [] e h = absurd (omega arith)
+row_le (x ∷ xs) (y ∷ ys) e h = let first = h 0 in let rest = row_le xs ys (omega arith) (λ i. h (suc i)) in omega arith
+
+rows_le : (a b : List (List ℕ)) → length a ≡ length b → ((i : ℕ) → row_weight (get_or a i []) ≤ row_weight (get_or b i [])) → weight a ≤ weight b
+unfolding weight
+rows_le [] [] e h = omega arith
+rows_le [] (y ∷ ys) e h = omega arith
+rows_le (x ∷ xs) [] e h = absurd (omega arith)
+rows_le (x ∷ xs) (y ∷ ys) e h = let first = h 0 in let rest = rows_le xs ys (omega arith) (λ i. h (suc i)) in omega arith
+
+pub weight_within : (few many : List (List ℕ)) → IsWithin few many → weight many ≤ weight few
+weight_within few many w = rows_le many few (sym w.same_shape.rows) (λ i. row_le (row_at many i) (row_at few i) (sym (w.same_shape.each i)) (λ j. fewer_le (cell_at many i j) (cell_at few i j) (λ k s. w.leaves i j k s)))
+
+-- ---- a cell held
+
+weight_with_cell : (facts : List (List ℕ)) (i j x : ℕ) → i < length facts → j < length (row_at facts i) → weight (with_cell facts i j x) + cell_at facts i j ≡ weight facts + x
+unfolding weight row_weight
+weight_with_cell facts i j x h l =
+    let rows = total_set row_weight facts i (set (row_at facts i) j x) [] h in
+    let cells = total_set (λ (y : ℕ). y) (row_at facts i) j x 0 l in
+    omega arith
+
+-- a colour of a mask that is not its only one weighs less than the mask
+power_below : (mask k : ℕ) → IsBitSet mask k → (IsOnly mask k → ⊥) → 2 ^ k < mask
+power_below mask k s n =
+    let le = fewer_le (2 ^ k) mask (λ j t. let P : ℕ → Type 0 = λ i. IsBitSet mask i in subst P (sym ((power_has k j).0 t)) s) in
+    elim (cases_eq (2 ^ k) mask) [
+      | inl e ↦ absurd (n (let P : ℕ → Type 0 = λ m. IsOnly m k in subst P e (power_has k)))
+      | inr d ↦ omega arith
+    ]
+
+abbrev Lighter : ℕ → ℕ → Type 0
+Lighter mask k = 2 ^ k < mask
+
+all_lighter : (mask : ℕ) (ks : List ℕ) → ((k : ℕ) → IsOnly mask k → ⊥) → All (λ k. (bit_at mask k == 1) ≡ true) ks → All (Lighter mask) ks
+all_lighter mask ks n h = λ i d l. power_below mask (get_or ks i d) (bit_is_set mask (get_or ks i d) (eqb-true (bit_at mask (get_or ks i d)) 1 (h i d l))) (n (get_or ks i d))
+
+held_weight : (facts : List (List ℕ)) (row col w k : ℕ) → row < length facts → col < length (row_at facts row) → weight facts ≤ w + 1 → 2 ^ k < cell_at facts row col → 2 ^ (5 * weight (with_cell facts row col (2 ^ k))) ≤ 2 ^ (5 * w)
+held_weight facts row col w k h l e a =
+    let held_to = weight_with_cell facts row col (2 ^ k) h l in
+    pow_mono {i = 5 * weight (with_cell facts row col (2 ^ k))} {j = 5 * w} (omega arith)
+
+held_load : (facts : List (List ℕ)) (row col w : ℕ) → row < length facts → col < length (row_at facts row) → weight facts ≤ w + 1 → (ks : List ℕ) → All (Lighter (cell_at facts row col)) ks → load (held facts row col ks) ≤ length ks * 2 ^ (5 * w)
+unfolding load
+held_load facts row col w h l e [] a = omega arith
+held_load facts row col w h l e (k ∷ ks) a =
+    let first = held_weight facts row col w k h l e (a 0 0 (omega arith)) in
+    let rest = held_load facts row col w h l e ks (λ i d m. a (suc i) d (omega arith)) in
+    omega arith
+
+held_below : (facts : List (List ℕ)) (row col : ℕ) → row < length facts → col < length (row_at facts row) → (ks : List ℕ) → length ks ≤ 16 → All (Lighter (cell_at facts row col)) ks → load (held facts row col ks) < 2 ^ (5 * weight facts)
+unfolding load
+held_below facts row col h l [] m a = pow_pos (5 * weight facts)
+held_below facts row col h l (k ∷ ks) m a =
+    let some : 0 < weight facts = (let held_to = weight_with_cell facts row col (2 ^ k) h l in let less = a 0 0 (omega arith) in omega arith) in
+    let w = weight facts - 1 in
+    let all = held_load facts row col w h l (omega arith) (k ∷ ks) a in
+    let most : length (k ∷ ks) * 2 ^ (5 * w) ≤ 16 * 2 ^ (5 * w) = mul-le-mul_right (2 ^ (5 * w)) m in
+    let split : 2 ^ (5 * w + 5) ≡ 2 ^ (5 * w) * 2 ^ 5 = pow-add 2 (5 * w) 5 in
+    let whole : 2 ^ (5 * weight facts) ≡ 2 ^ (5 * w + 5) = ap (λ n. 2 ^ n) (let e : 5 * weight facts ≡ 5 * w + 5 = omega arith in e) in
+    let positive = pow_pos (5 * w) in
+    omega arith
+
+few_colours : (mask : ℕ) → length (colours_of mask) ≤ 16
+unfolding colours_of
+few_colours mask =
+    let kept = length-filter (λ k. bit_at mask k == 1) (range_with_len 0 16) in
+    let most = count_by-le-length (λ k. bit_at mask k == 1) (range_with_len 0 16) in
+    let all = length-range_with_len 0 16 in
+    omega arith
+
+colours_lighter : (mask : ℕ) → ((k : ℕ) → IsOnly mask k → ⊥) → All (Lighter mask) (colours_of mask)
+unfolding colours_of
+colours_lighter mask n = all_lighter mask (filter (λ k. bit_at mask k == 1) (range_with_len 0 16)) n (filter_passes (λ k. bit_at mask k == 1) (range_with_len 0 16))
+
+pub branches_lighter : (facts : List (List ℕ)) (row col : ℕ) → row < length facts → col < length (row_at facts row) → ((k : ℕ) → IsOnly (cell_at facts row col) k → ⊥) → load (branches facts row col (cell_at facts row col)) < 2 ^ (5 * weight facts)
+branches_lighter facts row col h l n = held_below facts row col h l (colours_of (cell_at facts row col)) (few_colours (cell_at facts row col)) (colours_lighter (cell_at facts row col) n)
+
+pub load_append : (xs ys : List (List (List ℕ))) → load (xs ++ ys) ≡ load xs + load ys
+unfolding load
+load_append xs ys = total_append loads xs ys
+
+pub load_more : (facts : List (List ℕ)) (others : List (List (List ℕ))) → load (facts ∷ others) ≡ 2 ^ (5 * weight facts) + load others
+unfolding load
+load_more facts others = refl
+
+pub no_load : load [] ≡ 0
+unfolding load
+no_load = refl

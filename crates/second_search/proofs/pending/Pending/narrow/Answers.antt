@@ -1,0 +1,11 @@
+use Rattle.std.proofs.Common.{ap, ◌∙◌, arith}
+use Rattle.second_search.specs.Branching.{search_of}
+use Rattle.second_search.proofs.GridLemmas.{same_inside}
+use Rattle.second_search.proofs.pending.Pending.narrow.Goals as goal
+
+pub returns : goal.returns
+returns c =
+    let i = c.loop-row.invariant in
+    let f = c.height-row-end.ensures.facts in
+    let same = same_inside c.loop-row.self.at_hand c.args.settled.now _ i.same_shape f.rectangular (λ r col h l. i.above r col (omega arith)) in
+    ap (λ x. search_of x c.loop-row.self.behind) same ∙ ap (λ x. search_of c.args.settled.now x) i.behind

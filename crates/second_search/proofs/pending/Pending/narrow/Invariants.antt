@@ -1,0 +1,11 @@
+use Rattle.std.proofs.Common.{◌≡◌, ℕ, ◌<◌}
+use Rattle.picture.specs.Rows.{cell_at}
+use Rattle.line_settle.specs.FactSets.{SameShape}
+use Rattle.second_search.proofs.pending.Pending.narrow.Given as goal
+
+abbrev pub invariant-loop-row : goal.invariant-loop-row
+invariant-loop-row l = record {
+  same_shape : SameShape l.self.at_hand l.settled;
+  behind : l.self.behind ≡ l.fn.self.behind;
+  above : (r c : ℕ) → r < l.row → cell_at l.self.at_hand r c ≡ cell_at l.settled r c;
+}

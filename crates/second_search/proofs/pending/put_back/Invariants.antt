@@ -1,0 +1,13 @@
+use Rattle.std.proofs.Common.{◌≡◌, length, reverse, vec_len}
+use Rattle.picture.specs.Rows.{width_of}
+use Rattle.second_search.specs.Branching.{AreInside, waiting}
+use Rattle.second_search.proofs.pending.put_back.Given as goal
+
+abbrev pub invariant-loop-note : goal.invariant-loop-note
+invariant-loop-note l = record {
+  waits : waiting l.facts (reverse l.notes.items) ≡ waiting l.fn.facts (reverse l.fn.notes.items);
+  inside : AreInside (length l.facts) (width_of l.facts) (reverse l.notes.items);
+}
+
+abbrev pub decreases-loop-note : goal.decreases-loop-note
+decreases-loop-note l = vec_len l.notes

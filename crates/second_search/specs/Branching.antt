@@ -1,0 +1,71 @@
+-- Facts that wait to be searched, and the notes from which they are told.
+use Rattle.std.specs.Prelude.{◌≡◌, ℕ, ◌^◌, ◌<◌, ◌⊎◌, ◌==◌, Bool, true, false, Option, None, Some, List, [], ◌∷◌, ◌++◌, map}
+use Rattle.std.specs.List.{filter, range_with_len}
+use Rattle.std.specs.Int.{bit_at}
+use Rattle.picture.specs.Rows.{cell_at, with_cell}
+use Rattle.clues.specs.ClueBook.{Clues}
+use Rattle.line_settle.specs.FactSets.{SameShape}
+use Rattle.propagate.specs.Filling.{Fills}
+use Rattle.second_search.specs.declared.note.CellMask.{CellMask}
+use Rattle.second_search.specs.declared.note.Note.{Note}
+use Rattle.second_search.specs.declared.note.Note.TheVariants.{Restore, Branch}
+
+-- the colours of a mask, in rising number
+unfoldable pub colours_of : ℕ → List ℕ
+colours_of mask = filter (λ k. bit_at mask k == 1) (range_with_len 0 16)
+
+-- the facts with a cell held to each of some colours in turn
+abbrev pub held : List (List ℕ) → ℕ → ℕ → List ℕ → List (List (List ℕ))
+held facts row col colours = map (λ (k : ℕ). with_cell facts row col (2 ^ k)) colours
+
+-- the branches of a cell: it is held to each colour of a mask in turn
+abbrev pub branches : List (List ℕ) → ℕ → ℕ → ℕ → List (List (List ℕ))
+branches facts row col mask = held facts row col (colours_of mask)
+
+-- The facts that wait behind those at hand, told from the notes, the newest first: a cell gets its mask back, or is held to
+-- colours still to try.
+abbrev pub waiting : List (List ℕ) → List Note → List (List (List ℕ))
+waiting facts [] = []
+waiting facts (Restore cell ∷ notes) = waiting (with_cell facts cell.row cell.col cell.mask) notes
+waiting facts (Branch cell ∷ notes) = branches facts cell.row cell.col cell.mask ++ waiting facts notes
+
+-- a cell lies in a picture of that size, and its mask is one of sixteen colours
+pub record IsInside (height width : ℕ) (cell : CellMask) : Type 0 where
+  pub in_rows : cell.row < height
+  pub in_columns : cell.col < width
+  pub small : cell.mask < 2 ^ 16
+
+abbrev pub AreInside : ℕ → ℕ → List Note → Type 0
+AreInside height width [] = Unit {0}
+AreInside height width (Restore cell ∷ notes) = IsInside height width cell × AreInside height width notes
+AreInside height width (Branch cell ∷ notes) = IsInside height width cell × AreInside height width notes
+
+-- Cells got their masks back down to the first branch, whose colours are still to be tried; or there was none, and nothing
+-- waits.
+abbrev pub PutsBack : List (List ℕ) → List Note → List (List ℕ) → List Note → Option CellMask → Type 0
+PutsBack old notes new rest None = waiting old notes ≡ []
+PutsBack old notes new rest (Some cell) = waiting old notes ≡ branches new cell.row cell.col cell.mask ++ waiting new rest
+
+-- the facts at hand, and those that wait behind them
+pub record Search : Type 0 where
+  pub at_hand : List (List ℕ)
+  pub behind : List (List (List ℕ))
+
+abbrev pub search_of : List (List ℕ) → List (List (List ℕ)) → Search
+search_of at_hand behind = record { at_hand = at_hand; behind = behind }
+
+-- one row is that of other facts, and the other rows are as they were
+pub record IsRowTaken (old settled new : List (List ℕ)) (row : ℕ) : Type 0 where
+  pub same_shape : SameShape old new
+  pub here : (col : ℕ) → cell_at new row col ≡ cell_at settled row col
+  pub elsewhere : (r col : ℕ) → (r ≡ row → ⊥) → cell_at new r col ≡ cell_at old r col
+
+-- the search goes on to the next facts that wait, or none do
+abbrev pub GoesOn : Search → Search → Bool → Type 0
+GoesOn old new true = old.behind ≡ new.at_hand ∷ new.behind
+GoesOn old new false = old.behind ≡ []
+
+-- a picture fills some of the facts
+abbrev pub FillsSome : Clues → List (List (List ℕ)) → List (List ℕ) → Type 0
+FillsSome clues [] picture = ⊥
+FillsSome clues (facts ∷ others) picture = Fills clues facts picture ⊎ FillsSome clues others picture

@@ -1,0 +1,51 @@
+-- What facts come to when they are closed.
+use Rattle.std.specs.Prelude.{◌≡◌, ℕ, ◌<◌, ◌↔◌, List, Option, None, Some, length}
+use Rattle.picture.specs.Picture.{IsPicture}
+use Rattle.picture.specs.Rows.{width_of, cell_at}
+use Rattle.clues.specs.ClueBook.{Clues}
+use Rattle.line_settle.specs.Masks.{IsOnly}
+use Rattle.line_settle.specs.FactSets.{IsFacts, IsWithin, SameShape}
+use Rattle.propagate.specs.Filling.{Fills}
+use Rattle.second_search.specs.declared.cell.Cell.{Cell}
+use Rattle.second_search.specs.declared.looking.Look.{Look}
+use Rattle.second_search.specs.declared.looking.Look.TheVariants.{Nothing, Found, Split}
+
+-- a cell in which not just one colour is left
+pub record IsUnsettled (facts : List (List ℕ)) (cell : Cell) : Type 0 where
+  pub in_rows : cell.row < length facts
+  pub in_columns : cell.col < width_of facts
+  pub unsettled : (k : ℕ) → IsOnly (cell_at facts cell.row cell.col) k → ⊥
+
+-- in each cell just one colour is left
+abbrev pub AreSettled : List (List ℕ) → Type 0
+AreSettled facts = (row col : ℕ) → row < length facts → col < width_of facts → (k : ℕ) × IsOnly (cell_at facts row col) k
+
+-- a picture that has in each cell the only colour left there
+pub record Shows (facts picture : List (List ℕ)) : Type 0 where
+  pub is_picture : IsPicture picture
+  pub same_shape : SameShape picture facts
+  pub only : (row col : ℕ) → row < length facts → col < width_of facts → IsOnly (cell_at facts row col) (cell_at picture row col)
+
+-- one row of a picture shows the facts, and the other rows are as they were
+pub record ShowsRow (facts old new : List (List ℕ)) (row : ℕ) : Type 0 where
+  pub same_shape : SameShape new facts
+  pub only : (col : ℕ) → col < width_of facts → IsOnly (cell_at facts row col) (cell_at new row col)
+  pub elsewhere : (r col : ℕ) → (r ≡ row → ⊥) → cell_at new r col ≡ cell_at old r col
+
+-- facts that exclude more, with a cell that is not settled, which the same pictures fill
+pub record Narrows (clues : Clues) (facts settled : List (List ℕ)) (cell : Cell) : Type 0 where
+  pub are_facts : IsFacts settled
+  pub within : IsWithin facts settled
+  pub fills : (picture : List (List ℕ)) → Fills clues facts picture ↔ Fills clues settled picture
+  pub splits : IsUnsettled settled cell
+
+-- No picture fills the facts but the known one; or another one does; or they narrow to facts with a cell to split.
+abbrev pub Looks : Clues → List (List ℕ) → List (List ℕ) → Look → Type 0
+Looks clues known facts Nothing = (picture : List (List ℕ)) → Fills clues facts picture → (picture ≡ known → ⊥) → ⊥
+Looks clues known facts (Found picture) = Fills clues facts picture × (picture ≡ known → ⊥)
+Looks clues known facts (Split settled cell) = Narrows clues facts settled cell
+
+-- a picture fills the facts and is not the known one, or none does
+abbrev pub FindsFilling : Clues → List (List ℕ) → List (List ℕ) → Option (List (List ℕ)) → Type 0
+FindsFilling clues facts known None = (picture : List (List ℕ)) → Fills clues facts picture → (picture ≡ known → ⊥) → ⊥
+FindsFilling clues facts known (Some picture) = Fills clues facts picture × (picture ≡ known → ⊥)

@@ -1,0 +1,10 @@
+//! A complete search for a picture with given clues, or for another one.
+#![tactic(auto)]
+
+mod cell;
+mod finding;
+mod looking;
+mod note;
+mod pending;
+
+pub use finding::{find_first, find_other};

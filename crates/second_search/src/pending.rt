@@ -1,0 +1,171 @@
+//! The facts that wait to be searched, kept as those at hand and a stack of notes.
+
+ghost use Rattle.std.specs.Prelude.{◌≡◌, ℕ, ◌<◌, [], ◌∷◌, ◌++◌, length, reverse, IfOk, OnOk, IfSome};
+ghost use Rattle.picture.specs.Rows.{width_of, cell_at, with_cell};
+ghost use Rattle.line_settle.specs.FactSets.{SameShape};
+ghost use Rattle.second_search.specs.Branching.{branches, search_of, AreInside, GoesOn, IsInside, IsRowTaken, PutsBack};
+
+use crate::cell::Cell;
+use crate::note::{CellMask, Note};
+use line_settle::Facts;
+use std::alloc::{AllocError, Global};
+use std::marker::Model;
+
+// The facts at hand, and the notes that tell which others wait behind them, the newest last. A cell's mask is noted only
+// where it changes, to fewer colours, and there is at most one branch for each such note: so there are never more notes
+// than cells times colours, however deep a search goes.
+#[derive(Drop)]
+pub(crate) struct Pending {
+    facts: Facts,
+    notes: Vec<Note>,
+}
+
+impl Model for Pending {
+    ghost use Rattle.std.specs.Prelude.{length, reverse};
+    ghost use Rattle.picture.specs.Rows.{width_of};
+    ghost use Rattle.second_search.specs.Branching.{AreInside, Search, search_of, waiting};
+
+    ghost Value = { Search };
+
+    ghost view = { λ p. search_of p.facts (waiting p.facts (reverse p.notes.items)) };
+
+    ghost invariant = { λ p. AreInside (length p.facts) (width_of p.facts) (reverse p.notes.items) };
+}
+
+impl Pending {
+    // The facts alone, with none behind them.
+    pub(crate) fn start(alloc: Global, facts: Facts) -> Pending
+        ensures { result ≡ search_of facts [] }
+    {
+        Pending {
+            facts,
+            notes: Vec::new(alloc),
+        }
+    }
+
+    // The facts at hand.
+    pub(crate) fn at_hand(&self) -> &Facts
+        ensures { result.now ≡ self.now.at_hand }
+    {
+        &self.facts
+    }
+
+    // Narrows the facts at hand to others of their shape, and notes each cell that changes.
+    pub(crate) fn narrow(&mut self, settled: &Facts) -> Result<(), AllocError>
+        requires { SameShape self.old.at_hand settled.now }
+        ensures { OnOk result (self.new ≡ search_of settled.now self.old.behind) }
+    {
+        for row in 0..settled.height() {
+            self.narrow_row(settled, row)?;
+        }
+        Ok(())
+    }
+
+    // Narrows a row of the facts at hand to that of others of their shape.
+    fn narrow_row(&mut self, settled: &Facts, row: u8) -> Result<(), AllocError>
+        requires same_shape { SameShape self.old.at_hand settled.now }
+        requires in_rows { row < length settled.now }
+        ensures behind { OnOk result (self.new.behind ≡ self.old.behind) }
+        ensures row { OnOk result (IsRowTaken self.old.at_hand settled.now self.new.at_hand row) }
+    {
+        for col in 0..settled.width() {
+            self.hold(row, col, settled.left(row, col))?;
+        }
+        Ok(())
+    }
+
+    // Gives a cell of the facts at hand a mask, and notes the one that it had where they differ.
+    fn hold(&mut self, row: u8, col: u8, mask: u16) -> Result<(), AllocError>
+        requires in_rows { row < length self.old.at_hand }
+        requires in_columns { col < width_of self.old.at_hand }
+        ensures { OnOk result (self.new ≡ search_of (with_cell self.old.at_hand row col mask) self.old.behind) }
+    {
+        let left = self.facts.left(row, col);
+        if left != mask {
+            let cell = CellMask {
+                row,
+                col,
+                mask: left,
+            };
+            self.notes.push(Note::Restore(cell))?;
+            self.facts.set_left(row, col, mask);
+        }
+        Ok(())
+    }
+
+    // Puts the branches of a cell before the facts that wait.
+    pub(crate) fn split(&mut self, cell: Cell) -> Result<(), AllocError>
+        requires in_rows { cell.row < length self.old.at_hand }
+        requires in_columns { cell.col < width_of self.old.at_hand }
+        ensures { OnOk result (self.new ≡ search_of self.old.at_hand
+            (branches self.old.at_hand cell.row cell.col (cell_at self.old.at_hand cell.row cell.col) ++ self.old.behind)) }
+    {
+        let mask = self.facts.left(cell.row, cell.col);
+        self.push_branch(CellMask {
+            row: cell.row,
+            col: cell.col,
+            mask,
+        })
+    }
+
+    // Puts the branches of a cell for the colours of a mask before the facts that wait.
+    fn push_branch(&mut self, cell: CellMask) -> Result<(), AllocError>
+        requires in_rows { cell.row < length self.old.at_hand }
+        requires in_columns { cell.col < width_of self.old.at_hand }
+        ensures { OnOk result (self.new ≡ search_of self.old.at_hand (branches self.old.at_hand cell.row cell.col cell.mask ++ self.old.behind)) }
+    {
+        if cell.mask != 0 {
+            self.notes.push(Note::Branch(cell))?;
+        }
+        Ok(())
+    }
+
+    // Leaves the facts at hand, and goes on to the next that wait. There are none exactly where the answer is false.
+    pub(crate) fn advance(&mut self) -> Result<bool, AllocError>
+        ensures { IfOk result (GoesOn self.old self.new) }
+    {
+        match put_back(&mut self.facts, &mut self.notes) {
+            Some(cell) => {
+                self.begin(cell)?;
+                Ok(true)
+            }
+            None => Ok(false),
+        }
+    }
+
+    // Holds a cell to the lowest colour of a mask, and puts the branches of the others before the facts that wait.
+    fn begin(&mut self, cell: CellMask) -> Result<(), AllocError>
+        requires inside { IsInside (length self.old.at_hand) (width_of self.old.at_hand) cell }
+        requires some { 0 < cell.mask }
+        ensures { OnOk result (branches self.old.at_hand cell.row cell.col cell.mask ++ self.old.behind ≡ self.new.at_hand ∷ self.new.behind) }
+    {
+        let lowest = 1 << cell.mask.trailing_zeros();
+        self.push_branch(CellMask {
+            row: cell.row,
+            col: cell.col,
+            mask: cell.mask & !lowest,
+        })?;
+        self.hold(cell.row, cell.col, lowest)?;
+        Ok(())
+    }
+}
+
+// Puts back what the newest notes say, down to a branch with colours still to try, which it takes off.
+fn put_back(facts: &mut Facts, notes: &mut Vec<Note>) -> Option<CellMask>
+    requires { AreInside (length facts.old) (width_of facts.old) (reverse notes.old.items) }
+    ensures puts_back { PutsBack facts.old (reverse notes.old.items) facts.new (reverse notes.new.items) result }
+    ensures inside { AreInside (length facts.new) (width_of facts.new) (reverse notes.new.items) }
+    ensures some { IfSome result (λ cell. (0 < cell.mask) × IsInside (length facts.new) (width_of facts.new) cell) }
+{
+    while let Some(note) = notes.pop() {
+        match note {
+            Note::Restore(cell) => facts.set_left(cell.row, cell.col, cell.mask),
+            Note::Branch(cell) => {
+                if cell.mask != 0 {
+                    return Some(cell);
+                }
+            }
+        }
+    }
+    None
+}
