@@ -2,10 +2,11 @@ ghost use Rattle.std.specs.Prelude.{◌<◌, ◌≤◌};
 
 use crate::{Edit, EditFault, Entry};
 use picture::{Axis, CellSet, Document, LineId, Palette, Picture, Rgb};
-use std::alloc::Global;
+use std::alloc::{AllocError, Global};
 use std::test::Fail;
 
 mod changing;
+mod growing;
 mod refusing;
 mod reverting;
 
@@ -34,11 +35,11 @@ fn column(at: u8) -> LineId {
 }
 
 // A blank picture, with the background alone in its palette.
-fn blank(alloc: Global, height: u8, width: u8) -> Result<Document, Fail>
+fn blank(alloc: Global, height: u8, width: u8) -> Result<Document, AllocError>
     requires height { (0 < height) × (height ≤ 120) }
     requires width { (0 < width) × (width ≤ 120) }
 {
-    let palette = Palette::start(alloc, 255, WHITE)?;
+    let palette = Palette::start(alloc, 255, WHITE).map_err(|_| AllocError)?;
     let _ = palette.len();
     let picture = Picture::blank(alloc, height, width)?;
     Ok(Document {

@@ -36,7 +36,7 @@ fn are_same_cells(one: &CellSet, other: &CellSet) -> bool {
     true
 }
 
-fn are_same(one: &Document, other: &Document) -> bool {
+pub(super) fn are_same(one: &Document, other: &Document) -> bool {
     one.picture.same(&other.picture)
         && are_same_colours(&one.palette, &other.palette)
         && are_same_cells(&one.givens, &other.givens)
