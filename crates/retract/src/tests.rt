@@ -1,13 +1,15 @@
 use crate::{Kept, keep};
 use clues::{Change, ClueBook};
-use justify::{Book, Premise, Step, laws};
+use justify::{Book, Premise, Step, StepFault, laws};
 use line_settle::{Facts, LineEngine, MaskEngine, Meter};
 use picture::{Axis, LineId, Picture};
 use std::alloc::Global;
 use std::process::Abort;
 
+mod growing;
 mod keeping;
 mod reference;
+mod rows;
 mod strokes;
 
 const NOTHING_DONE: Meter = Meter {
@@ -33,7 +35,7 @@ fn draw_row<E: LineEngine>(
     book: &mut Book,
     clues: &ClueBook,
     at: u8,
-) {
+) -> Result<(), StepFault> {
     laws::new_steps_follow();
     let line = LineId {
         axis: Axis::Across,
@@ -42,9 +44,12 @@ fn draw_row<E: LineEngine>(
     assert!(rt; at < book.facts().height());
     assert!(rt; at < clues.height());
     assert!(rt; book.facts().line_len(line) <= engine.longest());
-    let step = book.make_step(engine, clues.clue(line), line, &mut NOTHING_DONE);
-    if let Some(step) = step.expect(rt, "no fault") {
-        book.add_step(step).expect(rt, "memory");
+    match book.make_step(engine, clues.clue(line), line, &mut NOTHING_DONE)? {
+        Some(step) => {
+            book.add_step(step)?;
+            Ok(())
+        }
+        None => Ok(()),
     }
 }
 
@@ -55,7 +60,7 @@ fn draw_column<E: LineEngine>(
     book: &mut Book,
     clues: &ClueBook,
     at: u8,
-) {
+) -> Result<(), StepFault> {
     laws::new_steps_follow();
     let line = LineId {
         axis: Axis::Down,
@@ -64,9 +69,12 @@ fn draw_column<E: LineEngine>(
     assert!(rt; at < book.facts().width());
     assert!(rt; at < clues.width());
     assert!(rt; book.facts().line_len(line) <= engine.longest());
-    let step = book.make_step(engine, clues.clue(line), line, &mut NOTHING_DONE);
-    if let Some(step) = step.expect(rt, "no fault") {
-        book.add_step(step).expect(rt, "memory");
+    match book.make_step(engine, clues.clue(line), line, &mut NOTHING_DONE)? {
+        Some(step) => {
+            book.add_step(step)?;
+            Ok(())
+        }
+        None => Ok(()),
     }
 }
 
@@ -97,10 +105,10 @@ fn book_of<E: LineEngine>(
 ) -> Book {
     let base = Facts::none(alloc, 2, 2).expect(rt, "memory");
     let mut book = Book::start(alloc, base).expect(rt, "memory");
-    draw_row(rt, engine, &mut book, clues, 0);
-    draw_column(rt, engine, &mut book, clues, 1);
-    draw_row(rt, engine, &mut book, clues, 0);
-    draw_column(rt, engine, &mut book, clues, 0);
+    draw_row(rt, engine, &mut book, clues, 0).expect(rt, "a step");
+    draw_column(rt, engine, &mut book, clues, 1).expect(rt, "a step");
+    draw_row(rt, engine, &mut book, clues, 0).expect(rt, "a step");
+    draw_column(rt, engine, &mut book, clues, 0).expect(rt, "a step");
     book
 }
 

@@ -100,10 +100,10 @@ fn draw_steps<E: LineEngine>(
     for _ in 0..count {
         if draw(state, 2) == 0 {
             let at = draw(state, clues.height());
-            draw_row(rt, engine, book, clues, at);
+            draw_row(rt, engine, book, clues, at).expect(rt, "no fault");
         } else {
             let at = draw(state, clues.width());
-            draw_column(rt, engine, book, clues, at);
+            draw_column(rt, engine, book, clues, at).expect(rt, "no fault");
         }
     }
 }

@@ -1,8 +1,7 @@
-use Rattle.std.proofs.Common.{◌≡◌, ◌<◌, ℕ, List, length, Option, Result, Ok, subst, ap, arith}
+use Rattle.std.proofs.Common.{◌≡◌, ◌<◌, ℕ, List, length, Option, Ok, subst, ap, arith}
 use Rattle.picture.specs.declared.line_id.Axis.TheVariants.{Across}
 use Rattle.picture.specs.declared.line_id.LineId.{LineId}
-use Rattle.picture.specs.Rows.{line_of}
-use Rattle.justify.specs.declared.fault.StepFault.{StepFault}
+use Rattle.picture.specs.Rows.{line_of, width_of}
 use Rattle.justify.specs.declared.step.Step.{Step}
 use Rattle.justify.specs.Making.{Makes}
 use Rattle.retract.proofs.tests.draw_row.Goals as goal
@@ -15,7 +14,5 @@ add_step-requires g c =
     (let e = ap length c.facts.ensures.value in
     let h = c.height.ensures.value in
     omega arith) in
-    let P : Result (Option Step) StepFault → Type 0 = λ made. Makes c.clue.result.now line (line_of facts line) made in
-    let Q : Option Step → Type 0 = λ made. P (Ok made) in
-    let made = subst P c.expect.ensures c.make_step-step.ensures.makes in
-    c.new_steps_follow.ensures.can_add c.args.book.now c.clue.result.now line c.in-Some.step c.facts.ensures.account has (subst Q c.in-Some.is made)
+    let P : Option Step → Type 0 = λ made. Makes c.clue.result.now line (line_of facts line) (Ok made) in
+    c.new_steps_follow.ensures.can_add c.args.book.now c.clue.result.now line c.in-Some.step c.facts.ensures.account has (subst P c.in-Some.is c.in_ok-step.ensures.makes)
