@@ -1,5 +1,5 @@
 -- How the digits of a token are counted, byte by byte and no further than the cap.
-use Rattle.std.proofs.Common.{◌≡◌, ◌≢◌, ℕ, suc, take, inl, inr, ◌+◌, ◌-◌, ◌*◌, ◌<◌, ◌≤◌, min, Bool, true, false, not, ◌&&◌, cond, List, [], ◌∷◌, length, get_or, drop, Option, Some, None, refl, sym, ap, ◌∙◌, arith}
+use Rattle.std.proofs.Common.{◌≡◌, ℕ, suc, take, inl, inr, ◌+◌, ◌-◌, ◌*◌, ◌<◌, ◌≤◌, min, Bool, true, false, not, ◌&&◌, cond, List, [], ◌∷◌, length, get_or, drop, drop-drop, length-drop, Option, Some, None, refl, sym, ap, ◌∙◌, arith}
 use Rattle.std.specs.Char.{is_ascii_digit, digit_value}
 use Rattle.std.specs.Str.{all_ascii_digits}
 use Rattle.std.specs.Str.Parse.{digits_value_after}
@@ -9,10 +9,11 @@ use Rattle.std.proofs.lemmas.Bool.{cases_lt}
 use Rattle.std.proofs.lemmas.List.{at_drop_more, at_drop_all, take_rest}
 use Rattle.std.proofs.lemmas.List.Sums.{take_while-cons}
 use Rattle.ppm_text.specs.Tokens.{tokens_from, without_comments, is_gap}
+use Rattle.ppm_text.specs.ClosedNumbers.{IsBehind}
 use Rattle.ppm_text.specs.Numerals.{begins_number, capped, with_byte, number_on}
 use Rattle.ppm_text.proofs.Scanning.{no_gap, no_comment, gap_parts, token_ends, last_token_ends}
 
-is_digit : (d : ℕ) → d ≤ 9 → is_ascii_digit (48 + d) ≡ true
+pub is_digit : (d : ℕ) → d ≤ 9 → is_ascii_digit (48 + d) ≡ true
 is_digit d le = grind (arith, nat_tests)
 
 -- a digit is counted on
@@ -24,46 +25,57 @@ digit_counts rest more d n e le =
     let one : number_on (Some n) ((48 + d) ∷ more) ≡ number_on (Some (min (n * 10 + d) 65536)) more = rw (gap, digit, value) refl in
     sym (ap (number_on (Some n)) e ∙ one)
 
--- and is part of its token
-pub digit_passes : (end : ℕ) (rest more : List ℕ) (d : ℕ) → rest ≡ (48 + d) ∷ more → d ≤ 9 → length rest ≤ end
-    → tokens_from true (end - length more) (without_comments false more) ≡ tokens_from true (end - length rest) (without_comments false rest)
-digit_passes end rest more d e le fits =
-    let gap = no_gap (48 + d) (is_digit d le) in
-    let place = end - length rest in
-    let later : suc place ≡ end - length more = omega (arith, ap length e) in
-    let one : tokens_from true place (without_comments false ((48 + d) ∷ more)) ≡ tokens_from true (suc place) (without_comments false more) = rw (no_comment _ gap, (gap_parts _ gap).0) refl in
-    sym (ap (λ bs. tokens_from true place (without_comments false bs)) e ∙ one ∙ ap (λ (n : ℕ). tokens_from true n (without_comments false more)) later)
+-- a text stands behind nothing of its own
+pub behind_none : (text : List ℕ) → IsBehind text text
+behind_none text =
+    let none : 0 ≡ length text - length text = omega arith in
+    let same : (place : ℕ) → place + (length text - length text) ≡ place = λ place. omega arith in
+    record {
+      within = omega arith;
+      tail = ap (λ (n : ℕ). drop n text) none;
+      tokens = λ place. ap (λ (n : ℕ). tokens_from true n (without_comments false text)) (same place);
+    }
 
--- what is left behind it is a tail too
-pub tail_passes : (bytes rest more : List ℕ) (b : ℕ) → rest ≡ b ∷ more → length rest ≤ length bytes → rest ≡ drop (length bytes - length rest) bytes → more ≡ drop (length bytes - length more) bytes
-tail_passes bytes rest more b e fits tail =
-    let at = length bytes - length rest in
-    let lt : at < length bytes = omega (arith, ap length e) in
-    let later : at + 1 ≡ length bytes - length more = omega (arith, ap length e) in
-    let both : b ∷ more ≡ get_or bytes at 0 ∷ drop (at + 1) bytes = sym e ∙ tail ∙ at_drop_more (λ bs. bs) bytes at 0 lt in
-    let same : more ≡ drop (at + 1) bytes = cc in
-    same ∙ ap (λ (n : ℕ). drop n bytes) later
+-- a digit is part of its token
+digit_passes : (place d : ℕ) (more : List ℕ) → d ≤ 9 → tokens_from true (suc place) (without_comments false more) ≡ tokens_from true place (without_comments false ((48 + d) ∷ more))
+digit_passes place d more le =
+    let gap = no_gap (48 + d) (is_digit d le) in
+    let one : tokens_from true place (without_comments false ((48 + d) ∷ more)) ≡ tokens_from true (suc place) (without_comments false more) = rw (no_comment _ gap, (gap_parts _ gap).0) refl in
+    sym one
+
+-- what stands behind one digit more
+pub behind_digit : (text rest more : List ℕ) (d : ℕ) → rest ≡ (48 + d) ∷ more → d ≤ 9 → IsBehind text rest → IsBehind text more
+behind_digit text rest more d e le is =
+    let at = length text - length rest in
+    let lt : at < length text = omega (arith, is.within, ap length e) in
+    let later : at + 1 ≡ length text - length more = omega (arith, is.within, ap length e) in
+    let both : (48 + d) ∷ more ≡ get_or text at 0 ∷ drop (at + 1) text = sym e ∙ is.tail ∙ at_drop_more (λ bs. bs) text at 0 lt in
+    let same : more ≡ drop (at + 1) text = cc in
+    let place_later : (place : ℕ) → place + (length text - length more) ≡ suc (place + at) = λ place. omega (arith, later) in
+    record {
+      within = omega (arith, is.within, ap length e);
+      tail = same ∙ ap (λ (n : ℕ). drop n text) later;
+      tokens = λ place. ap (λ (n : ℕ). tokens_from true n (without_comments false more)) (place_later place) ∙ digit_passes (place + at) d more le
+          ∙ ap (λ bs. tokens_from true (place + at) (without_comments false bs)) (sym e) ∙ is.tokens place;
+    }
+
+-- what stands behind a tail is behind it in the text too
+pub behind_from : (bytes rest : List ℕ) (from : ℕ) → from ≤ length bytes → IsBehind (drop from bytes) rest → rest ≡ drop (length bytes - length rest) bytes
+behind_from bytes rest from le is =
+    let later : from + (length (drop from bytes) - length rest) ≡ length bytes - length rest = omega (arith, is.within, length-drop from bytes) in
+    is.tail ∙ drop-drop (length (drop from bytes) - length rest) from bytes ∙ ap (λ (n : ℕ). drop n bytes) later
+
+pub tokens_behind : (bytes rest : List ℕ) (from : ℕ) → from ≤ length bytes → IsBehind (drop from bytes) rest
+    → tokens_from true (length bytes - length rest) (without_comments false rest) ≡ tokens_from true from (without_comments false (drop from bytes))
+tokens_behind bytes rest from le is =
+    let later : from + (length (drop from bytes) - length rest) ≡ length bytes - length rest = omega (arith, is.within, length-drop from bytes) in
+    ap (λ (n : ℕ). tokens_from true n (without_comments false rest)) (sym later) ∙ is.tokens from
 
 -- what a slice from a place on has
 pub tail_from : (bytes : List ℕ) (from : ℕ) → take (length bytes - from) (drop from bytes) ≡ drop from bytes
 tail_from bytes from = take_rest bytes from
 
--- a text that begins with a digit
-pub digit_begins : (rest more : List ℕ) (d : ℕ) → rest ≡ (48 + d) ∷ more → d ≤ 9 → begins_number rest ≡ true
-digit_begins rest more d e le = ap begins_number e ∙ is_digit d le
-
--- the text from a place on began with a digit, where one was passed before or is passed now
-pub first_passes : (bytes rest more : List ℕ) (from d : ℕ) → rest ≡ (48 + d) ∷ more → d ≤ 9 → from + length rest ≤ length bytes → rest ≡ drop (length bytes - length rest) bytes
-    → (from ≢ length bytes - length rest → begins_number (drop from bytes) ≡ true) → begins_number (drop from bytes) ≡ true
-first_passes bytes rest more from d e le within tail before =
-    elim (cases_lt from (length bytes - length rest)) [
-      | inl lt ↦ before (λ same. omega arith)
-      | inr ge ↦
-          let same : length bytes - length rest ≡ from = omega arith in
-          ap begins_number (ap (λ (n : ℕ). drop n bytes) (sym same) ∙ sym tail) ∙ digit_begins rest more d e le
-    ]
-
-pub ruleset counting = (digit_counts, digit_passes, tail_passes, tail_from, digit_begins)
+pub ruleset counting = (behind_none, behind_from, tokens_behind, tail_from)
 
 -- at a place of the text
 pub number_begins : (bytes : List ℕ) (at : ℕ) → begins_number (drop at bytes) ≡ true → (at < length bytes) × (is_gap (get_or bytes at 0) ≡ false)

@@ -1,12 +1,10 @@
 -- Colours that stand with their numbers keep them while the palette grows.
-use Rattle.std.proofs.Common.{◌≡◌, ℕ, ◌<◌, Bool, true, false, cond, ltb, List, [], ◌∷◌, ◌++◌, length, set, get_or, replicate, Option, Some, None, Result, Ok, Err, refl, sym, ap, subst, ◌∙◌, arith}
+use Rattle.std.proofs.Common.{◌≡◌, ℕ, ◌<◌, ltb, List, [], ◌∷◌, length, set, get_or, replicate, Option, Some, None, Ok, refl, sym, ap, subst, ◌∙◌}
 use Rattle.std.specs.Prelude.{slice_get}
-use Rattle.std.specs.List.{All}
 use Rattle.std.proofs.lemmas.List.Elements.{All-set, All-get_or, All-replicate, All-weaker}
 use Rattle.picture.specs.declared.rgb.Rgb.{Rgb}
 use Rattle.picture.specs.declared.picture.TheConstants.{MAX_COLOURS}
-use Rattle.picture.specs.Palette.{Colours, rgb_eq, place_of, with_colour}
-use Rattle.ppm_text.specs.declared.fault.PpmFault.{PpmFault}
+use Rattle.picture.specs.Palette.{Colours, place_of, with_colour}
 use Rattle.ppm_text.specs.declared.fault.PpmFault.TheVariants.{Memory, TooManyColours}
 use Rattle.ppm_text.specs.declared.fields.Triple.{Triple}
 use Rattle.ppm_text.specs.declared.known.Known.{Known}

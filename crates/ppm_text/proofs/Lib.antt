@@ -1,5 +1,6 @@
 pub mod Scanning
 pub mod Counting
+pub mod ClosedNumbers
 pub mod NextNumeral
 pub mod Caps
 pub mod Sending

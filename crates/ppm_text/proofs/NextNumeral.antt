@@ -1,13 +1,14 @@
 -- The next number of a text, by where its token begins and ends.
-use Rattle.std.proofs.Common.{◌≡◌, ℕ, ◌<◌, ◌≤◌, min, Bool, true, false, not, cond, List, [], ◌∷◌, length, get_or, drop, Some, None, Ok, Err, refl, sym, ap, ◌∙◌, arith}
+use Rattle.std.proofs.Common.{◌≡◌, ℕ, ◌+◌, ◌<◌, ◌≤◌, min, Bool, true, false, not, cond, List, [], ◌∷◌, length, get_or, drop, drop-drop, length-drop, Some, None, Ok, Err, refl, sym, ap, ◌∙◌, arith}
 use Rattle.std.specs.Str.{all_ascii_digits}
 use Rattle.std.specs.Str.Parse.{digits_value}
 use Rattle.std.specs.List.{take_while}
 use Rattle.std.proofs.lemmas.List.{at_drop_all}
 use Rattle.ppm_text.specs.declared.fault.PpmFault.TheVariants.{Truncated, BadNumber}
 use Rattle.ppm_text.specs.Tokens.{Token, tokens_at, tokens_from, without_comments, is_gap, next_place}
-use Rattle.ppm_text.specs.Numerals.{begins_number, capped, capped_at, number_on, numeral_at}
-use Rattle.ppm_text.proofs.Counting.{counted, number_begins, number_begins_not, other_byte}
+use Rattle.ppm_text.specs.Numerals.{begins_number, capped_at, number_on, numeral_at}
+use Rattle.ppm_text.specs.ClosedNumbers.{IsClosedNumber}
+use Rattle.ppm_text.proofs.Counting.{counted, tail_from, number_begins, number_begins_not, other_byte}
 use Rattle.ppm_text.proofs.Scanning.{token_begins}
 
 pub no_token : (bytes : List ℕ) (from place : ℕ) → tokens_at bytes place ≡ tokens_at bytes from → place ≡ length bytes
@@ -62,6 +63,22 @@ other_token bytes from place end value same lt stops given inside gap digit =
     ap (capped_at (length bytes)) (sym same ∙ token_begins bytes place lt stops) ∙ read_token (length bytes) token rest false no_digits
 
 pub ruleset next_numeral = (no_token, number_token, other_token, number_begins)
+
+-- a token of digits with white space behind it
+pub closed_number : (bytes : List ℕ) (from value count : ℕ) → IsClosedNumber (drop from bytes) value count
+    → capped_at (length bytes) (tokens_at bytes from) ≡ Ok (record { place = from; value = value }, tokens_at bytes (from + count))
+closed_number bytes from value count is =
+    let token = token_of bytes from in
+    let begins = number_begins bytes from is.begins in
+    let found = given_some (all_ascii_digits token.bytes) value (min (digits_value 10 token.bytes) 65536) (sym is.number ∙ counted (drop from bytes)) in
+    let goes : tokens_from true from (without_comments false (drop from bytes)) ≡ tokens_at bytes (from + count) = is.rest from ∙ ap (λ bs. tokens_from false (from + count) (without_comments false bs)) (drop-drop count from bytes) in
+    ap (capped_at (length bytes)) (some_token bytes from from (from + count) refl begins.0 begins.1 goes) ∙ read_token (length bytes) token (tokens_at bytes (from + count)) true found.0 ∙ ap (λ (n : ℕ). Ok (record { place = from; value = n }, tokens_at bytes (from + count))) (sym found.1)
+
+-- and the place behind it
+pub closed_within : (bytes : List ℕ) (from value count : ℕ) → from ≤ length bytes → IsClosedNumber (drop from bytes) value count → from + count ≤ length bytes
+closed_within bytes from value count le is = omega (arith, is.within, length-drop from bytes)
+
+pub ruleset closed_token = (closed_number, closed_within, tail_from)
 
 pub no_next : (bytes : List ℕ) (from place : ℕ) → tokens_at bytes place ≡ tokens_at bytes from → length bytes ≤ place → next_place (tokens_at bytes from) ≡ None
 no_next bytes from place same last =

@@ -1,6 +1,7 @@
 pub mod Faults
 pub mod Tokens
 pub mod Numerals
+pub mod ClosedNumbers
 pub mod Samples
 pub mod Ppm
 pub mod Text

@@ -2,6 +2,7 @@ ghost use Rattle.std.specs.Prelude.{◌≡◌, ◌≢◌, ℕ, ◌+◌, ◌∷�
 ghost use Rattle.picture.specs.Reading.{Reads};
 ghost use Rattle.ppm_text.specs.Tokens.{is_gap, is_line_end, tokens_from, tokens_at, without_comments, magic_of, next_place};
 ghost use Rattle.ppm_text.specs.Numerals.{begins_number, capped_at, number_on};
+ghost use Rattle.ppm_text.specs.ClosedNumbers.{IsBehind, IsClosedNumber, begins_white};
 
 use crate::fault::PpmFault;
 use std::marker::Model;
@@ -68,29 +69,53 @@ impl<'a> Scanner<'a> {
     }
 }
 
-#[tactic(auto, using(crate::proofs::NextNumeral::next_numeral))]
+#[tactic(auto, using(crate::proofs::NextNumeral::closed_token))]
 #[inline(always)]
-// The next number from a place on, and a place behind its token. Mostly the digits begin at once.
+// The next number from a place on, and a place behind its token. Mostly it begins at once, and white space ends it.
 fn numeral_after(bytes: &[u8], from: usize) -> Result<(Numeral, usize), PpmFault>
     requires { from ≤ length bytes.now }
     ensures read { Reads (λ x. (x.0, tokens_at bytes.now x.1)) result
         (capped_at (length bytes.now) (tokens_at bytes.now from)) }
     ensures within { IfOk result (λ x. x.1 ≤ length bytes.now) }
 {
-    let (value, end) = count_digits(bytes, from);
-    if end == from {
-        return numeral_behind_gaps(bytes, from);
-    }
-    match behind_token(bytes, end) {
-        Some(behind) => Ok((Numeral { place: from, value }, behind)),
-        None => Err(PpmFault::BadNumber(from)),
+    match closed_number(&bytes[from..]) {
+        Some((value, count)) => Ok((Numeral { place: from, value }, from + count)),
+        None => any_numeral(bytes, from),
     }
 }
 
-#[tactic(auto, using(crate::proofs::NextNumeral::next_numeral))]
+#[tactic(auto, using(crate::proofs::ClosedNumbers::closed_numbers))]
 #[inline(always)]
-// The same, where white space or comments may come first.
-fn numeral_behind_gaps(bytes: &[u8], from: usize) -> Result<(Numeral, usize), PpmFault>
+// The number that begins a text and ends at white space, and how many bytes both are. Most have up to three digits.
+fn closed_number(text: &[u8]) -> Option<(u32, usize)>
+    ensures { IfSome result (λ x. IsClosedNumber text.now x.0 x.1) }
+{
+    let (first, rest) = first_digit(text)?;
+    let Some((second, rest)) = first_digit(rest) else {
+        return begins_white(rest).then_some((first, 2));
+    };
+    let tens = first * 10 + second;
+    let Some((third, rest)) = first_digit(rest) else {
+        return begins_white(rest).then_some((tens, 3));
+    };
+    let (value, rest) = count_on(tens * 10 + third, rest);
+    if begins_white(rest) {
+        return Some((value, text.len() - rest.len() + 1));
+    }
+    None
+}
+
+// Whether a text begins with white space.
+fn begins_white(text: &[u8]) -> bool
+    ensures { result ≡ begins_white text.now }
+{
+    matches!(text, [b' ' | 9..=13, ..])
+}
+
+#[tactic(auto, using(crate::proofs::NextNumeral::next_numeral))]
+#[inline(never)]
+// The same for any number, with white space and comments before it.
+fn any_numeral(bytes: &[u8], from: usize) -> Result<(Numeral, usize), PpmFault>
     requires { from ≤ length bytes.now }
     ensures read { Reads (λ x. (x.0, tokens_at bytes.now x.1)) result
         (capped_at (length bytes.now) (tokens_at bytes.now from)) }
@@ -180,15 +205,27 @@ fn count_digits(bytes: &[u8], from: usize) -> (u32, usize)
     ensures rest { tokens_from true result.1 (without_comments false (drop result.1 bytes.now))
         ≡ tokens_from true from (without_comments false (drop from bytes.now)) }
     ensures stops { begins_number (drop result.1 bytes.now) ≡ false }
-    ensures first { from ≢ result.1 → begins_number (drop from bytes.now) ≡ true }
 {
-    let mut rest = &bytes[from..];
-    let mut value: u32 = 0;
+    let (value, rest) = count_on(0, &bytes[from..]);
+    (value, bytes.len() - rest.len())
+}
+
+#[tactic(auto, using(crate::proofs::Counting::counting))]
+#[inline(always)]
+// What a number becomes by the digits that begin a text, and what stands behind them.
+fn count_on(number: u32, text: &[u8]) -> (u32, &[u8])
+    requires { number ≤ 65536 }
+    ensures value { number_on (Some result.0) result.1.now ≡ number_on (Some number) text.now }
+    ensures rest { IsBehind text.now result.1.now }
+    ensures stops { begins_number result.1.now ≡ false }
+{
+    let mut rest = text;
+    let mut value = number;
     while let Some((digit, behind)) = first_digit(rest) {
         value = (value * 10 + digit).min(CAP);
         rest = behind;
     }
-    (value, bytes.len() - rest.len())
+    (value, rest)
 }
 
 #[inline(always)]

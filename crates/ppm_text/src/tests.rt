@@ -48,6 +48,8 @@ fn comments_and_white_space_are_taken(rt: HostRuntime) {
         "P3 001 0000001 0000000000000000000255 00 0 000000000000000000000000000000",
         "P3 1 1 255 0#0 0\n0#9\n0 # the end, with no line end",
         "P3#P3 1 1 255 0 0 0\n1 1 255 0 0 0",
+        "P3\r\n1 1\r\n255\r\n0 00 000\r\n",
+        "P3\x0b1\x091\x0c255\x090000\x0b00#\n000",
     ];
     for text in texts {
         assert!(rt; is_black_pixel(rt.alloc(), text.as_bytes()), "{text}");
@@ -88,6 +90,10 @@ fn the_first_fault_is_answered(rt: HostRuntime) {
         ("P3\n1 1\n255\n0 256 0\n", PpmFault::SampleOver(13)),
         ("P3\n1 1\n255\n0 0 0\n7", PpmFault::TrailingToken(17)),
         ("P3\n1 1\n255\n0 0 0x", PpmFault::BadNumber(15)),
+        ("P3\n1 1\n255\n0 0x 0", PpmFault::BadNumber(13)),
+        ("P3\n1 1\n255\n12: 0 0\n", PpmFault::BadNumber(11)),
+        ("P3\n1 1\n255\n123/ 0 0\n", PpmFault::BadNumber(11)),
+        ("P3\n1 1\n255\n00255 0 999 ", PpmFault::SampleOver(19)),
     ];
     for (text, fault) in faults {
         assert_eq!(rt;
@@ -122,6 +128,26 @@ fn sixteen_colours_are_the_most(rt: HostRuntime) -> Result<(), Fail> {
     let document = read_ppm(rt.alloc(), text.as_bytes(), None)?;
     assert_eq!(rt; document.palette.len(), 16);
     assert_eq!(rt; document.picture.width(), 16);
+    Ok(())
+}
+
+#[test]
+fn samples_of_one_to_five_digits(rt: HostRuntime) -> Result<(), Fail> {
+    let text = b"P3 2 1 65535 7 80 901 2345 65535 00012\n";
+    let document = read_ppm(rt.alloc(), text, None)?;
+    assert_eq!(rt; document.palette.len(), 3);
+    let first = Rgb {
+        r: 7,
+        g: 80,
+        b: 901,
+    };
+    assert_eq!(rt; document.palette.rgb(1), first);
+    let second = Rgb {
+        r: 2345,
+        g: 65535,
+        b: 12,
+    };
+    assert_eq!(rt; document.palette.rgb(2), second);
     Ok(())
 }
 
