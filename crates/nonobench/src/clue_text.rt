@@ -8,7 +8,7 @@ ghost use Rattle.nonobench.specs.ClueText.{behind, block_text, clue_text, letter
 
 use clues::{Block, ClueBook};
 use itoa::Buffer;
-use picture::{Axis, LineId};
+use picture::{Axis, LineId, MAX_SIDE};
 use std::alloc::{AllocError, Global};
 
 /// The clues of the rows and then of the columns, a line each.
@@ -46,7 +46,7 @@ fn letter_of(axis: Axis) -> u8
 // How many lines the book has along an axis.
 fn line_count(book: &ClueBook, axis: Axis) -> u8
     ensures count { result ≡ length (clues_along axis book.now) }
-    ensures fits { result ≤ 120 }
+    ensures fits { result ≤ MAX_SIDE }
 {
     match axis {
         Axis::Across => book.height(),

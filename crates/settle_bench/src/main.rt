@@ -7,14 +7,12 @@ ghost use Rattle.std.specs.Prelude.{◌<◌, ◌≤◌, length};
 use anyhow::{Context, Result, bail, ensure};
 use clues::ClueBook;
 use line_settle::{Facts, LineEngine, MaskEngine, Meter, PlainEngine};
+use picture::MAX_SIDE;
 use ppm_text::read_ppm;
 use propagate::{Agenda, InOrder, NewestFirst, settle_afresh};
 use std::alloc::Global;
 use std::env;
 use std::io::Read;
-
-// How many cells a line has at the most.
-const MOST: u8 = 120;
 
 fn main(rt: HostRuntime) -> Result<()> {
     let mut words = env::args(&rt)?.skip(1);
@@ -31,13 +29,13 @@ fn main(rt: HostRuntime) -> Result<()> {
     )?;
     let tally = match engine.as_str() {
         "plain" => tally_with(
-            &mut PlainEngine::make(rt.alloc(), MOST)?,
+            &mut PlainEngine::make(rt.alloc(), MAX_SIDE)?,
             agenda.as_str(),
             &book,
             &base,
         )?,
         "mask" => tally_with(
-            &mut MaskEngine::make(rt.alloc(), MOST)?,
+            &mut MaskEngine::make(rt.alloc(), MAX_SIDE)?,
             agenda.as_str(),
             &book,
             &base,
@@ -68,7 +66,7 @@ fn tally_with<E: LineEngine>(
     book: &ClueBook,
     base: &Facts,
 ) -> Result<Tally>
-    requires { 120 ≤ E.longest engine.old }
+    requires { MAX_SIDE ≤ E.longest engine.old }
 {
     match agenda {
         "inorder" => settle(engine, &mut InOrder::make(), book, base),
@@ -84,7 +82,7 @@ fn settle<E: LineEngine, A: Agenda>(
     book: &ClueBook,
     base: &Facts,
 ) -> Result<Tally>
-    requires { 120 ≤ E.longest engine.old }
+    requires { MAX_SIDE ≤ E.longest engine.old }
 {
     ensure!(base.height() == book.height(), "the heights differ");
     ensure!(base.width() == book.width(), "the widths differ");
