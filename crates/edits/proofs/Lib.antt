@@ -5,6 +5,7 @@ pub mod DesignLemmas
 pub mod FaultLemmas
 pub mod GivenLemmas
 pub mod GridLemmas
+pub mod HistoryLemmas
 pub mod IdleLemmas
 pub mod KeptLemmas
 pub mod LineLemmas
@@ -12,5 +13,6 @@ pub mod MoveLemmas
 pub mod PaintLemmas
 pub mod PartLemmas
 pub mod RevertLemmas
+pub mod RingLemmas
 pub mod ShiftLemmas
 pub mod StepLemmas

@@ -1,10 +1,14 @@
 -- The history of a document: a present document, those before it and those after it, each with the edit between.
 use Rattle.std.specs.Prelude.{◌≡◌, ℕ, ◌+◌, ◌-◌, ◌<◌, ◌≤◌, List, [], ◌∷◌, ◌++◌, length, take, drop, map, Option, Some, None, slice_get}
 use Rattle.circular_buffer.specs.Buffer.{keep_last}
+use Rattle.clues.specs.Change.{Changes, Moves, AreMoves, IsChangeOf}
 use Rattle.edits.specs.declared.edit.Edit.{Edit}
+use Rattle.edits.specs.declared.fault.EditFault.{EditFault}
+use Rattle.edits.specs.declared.fault.EditFault.TheVariants.{UndoEmpty, RedoEmpty, Memory}
 use Rattle.edits.specs.Design.{Design}
 use Rattle.edits.specs.Edit.{edited}
-use Rattle.edits.specs.Note.{Note, IsStep, reverted}
+use Rattle.edits.specs.Fault.{edit_fault}
+use Rattle.edits.specs.Note.{Note, IsStep, note_for, reverted}
 
 -- a whole document with an edit
 pub record Turn : Type 0 where
@@ -40,6 +44,86 @@ last_turn turns = slice_get turns (length turns - 1)
 
 abbrev pub first_turn : List Turn → Option Turn
 first_turn turns = slice_get turns 0
+
+-- a step back and a step forth, where there is one
+abbrev pub undone_to : History → Option Turn → History
+undone_to h None = h
+undone_to h (Some t) = after_undo h t
+
+abbrev pub undone : History → History
+undone h = undone_to h (last_turn h.past)
+
+abbrev pub redone_to : History → Option Turn → History
+redone_to h None = h
+redone_to h (Some t) = after_redo h t
+
+abbrev pub redone : History → History
+redone h = redone_to h (first_turn h.future)
+
+-- why they are refused
+abbrev pub fault_if_empty : List Turn → EditFault → Option EditFault
+fault_if_empty [] fault = Some fault
+fault_if_empty (t ∷ turns) fault = None
+
+abbrev pub undo_fault : History → Option EditFault
+undo_fault h = fault_if_empty h.past UndoEmpty
+
+abbrev pub redo_fault : History → Option EditFault
+redo_fault h = fault_if_empty h.future RedoEmpty
+
+-- the fault that is answered: want of memory only where there is no other
+abbrev pub or_memory : Option EditFault → EditFault
+or_memory None = Memory
+or_memory (Some fault) = fault
+
+-- how a history goes on: by an edit, with what is kept of it, or along the edits that it has
+pub data Advance : Type 0 where
+  ByEdit : Note → Advance
+  ByUndo : Advance
+  ByRedo : Advance
+
+abbrev pub advanced : History → Advance → History
+advanced h (ByEdit n) = after_edit h n.edit
+advanced h ByUndo = undone h
+advanced h ByRedo = redone h
+
+abbrev pub advance_fault : History → Advance → Option EditFault
+advance_fault h (ByEdit n) = edit_fault h.document n.edit
+advance_fault h ByUndo = undo_fault h
+advance_fault h ByRedo = redo_fault h
+
+-- what is kept of an edit is that of the present document
+abbrev pub IsKeptOf : Design → Advance → Type 0
+IsKeptOf d (ByEdit n) = n ≡ note_for d n.edit
+IsKeptOf d ByUndo = Unit {0}
+IsKeptOf d ByRedo = Unit {0}
+
+-- the change moves the lines so, and it is that of the two pictures: the touched lines are those that have other cells
+pub record IsChangeBy (moves : Moves) (old new : List (List ℕ)) (change : Changes) : Type 0 where
+  pub moved : change.moves ≡ moves
+  pub are_moves : AreMoves change.moves
+  pub exact : IsChangeOf change old new
+
+-- how a history goes on, the document that it comes to, and what that changes
+pub record Plan : Type 0 where
+  pub advance : Advance
+  pub document : Design
+  pub change : Changes
+
+abbrev pub plan : Advance → Design → Changes → Plan
+plan advance document change = record { advance = advance; document = document; change = change }
+
+-- the plan goes on so, from one document to the other
+pub record IsMade (advance : Advance) (moves : Moves) (old new : Design) (p : Plan) : Type 0 where
+  pub advances : p.advance ≡ advance
+  pub gives : p.document ≡ new
+  pub change : IsChangeBy moves old.rows p.document.rows p.change
+
+-- the plan is one for this very state of the history
+pub record IsPlanFor (h : History) (p : Plan) : Type 0 where
+  pub lawful : advance_fault h p.advance ≡ None
+  pub kept : IsKeptOf h.document p.advance
+  pub gives : p.document ≡ (advanced h p.advance).document
 
 -- the document before the first of these notes' edits, from the one after the last
 abbrev pub before_all : Design → List Note → Design

@@ -6,3 +6,5 @@ pub mod History
 pub mod Moving
 pub mod Note
 pub mod Painting
+pub mod Prepared
+pub mod Studio

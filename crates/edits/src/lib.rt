@@ -13,11 +13,15 @@ mod moving;
 mod painting;
 mod parts;
 mod places;
+mod prepared;
 mod refusal;
+mod studio;
 
 pub use edit::Edit;
 pub use entry::Entry;
 pub use fault::EditFault;
+pub use prepared::Prepared;
+pub use studio::{MAX_DEPTH, Studio};
 
 #[cfg(test)]
 mod tests;

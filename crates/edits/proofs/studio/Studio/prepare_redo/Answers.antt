@@ -1,0 +1,47 @@
+use Rattle.std.proofs.Common.{◌≡◌, Some, None, ap, sym, subst, ◌∙◌, rules}
+use Rattle.std.specs.Prelude.{slice_get}
+use Rattle.edits.specs.Design.{Design, design_of}
+use Rattle.edits.specs.Edit.{edited}
+use Rattle.edits.specs.History.{History, Plan, IsPlanFor, ByRedo, redo_fault}
+use Rattle.edits.proofs.HistoryLemmas.{step_entry}
+use Rattle.edits.specs.Studio.{history_from}
+use Rattle.edits.proofs.RingLemmas.{redo_refused, has_redo, first_step, redo_plan, first_turn_is, plan_is}
+use Rattle.edits.proofs.studio.Studio.prepare_redo.Goals as goal
+
+pub returns-in_default-clause-refused : goal.returns-in_default-clause-refused
+returns-in_default-clause-refused c =
+    rw (← c.self.view_is) (sym (redo_refused (design_of c.self.inside.document) c.self.inside.past c.self.inside.future (sym c.in_default.ensures)))
+
+pub redo_of-requires : goal.redo_of-requires
+redo_of-requires c =
+    let first : slice_get c.self.inside.future.items 0 ≡ Some c.in-Some.entry.now = sym c.in-Some.ensures in
+    step_entry _ _ _ (first_step (design_of c.self.inside.document) c.self.inside.future.items c.in-Some.entry.now first c.self.invariant.are_future).0
+
+pub returns-in_err-redo_of-clause-refused : goal.returns-in_err-redo_of-clause-refused
+returns-in_err-redo_of-clause-refused c =
+    let first : slice_get c.self.inside.future.items 0 ≡ Some c.in-Some.entry.now = sym c.in-Some.ensures in
+    let none : redo_fault c.args.self.now ≡ None = ap redo_fault (sym c.self.view_is) ∙ has_redo (design_of c.self.inside.document) c.self.inside.past c.self.inside.future c.in-Some.entry.now first in
+    rw none (search rules)
+
+pub returns-clause-lawful : goal.returns-clause-lawful
+returns-clause-lawful c =
+    let first : slice_get c.self.inside.future.items 0 ≡ Some c.in-Some.entry.now = sym c.in-Some.ensures in
+    ap redo_fault (sym c.self.view_is) ∙ has_redo (design_of c.self.inside.document) c.self.inside.past c.self.inside.future c.in-Some.entry.now first
+
+pub returns-clause-ready : goal.returns-clause-ready
+returns-clause-ready c =
+    let d : Design = design_of c.self.inside.document in
+    let p : Plan = c.in_ok-redo_of.field-0 in
+    let first : slice_get c.self.inside.future.items 0 ≡ Some c.in-Some.entry.now = sym c.in-Some.ensures in
+    rw (← c.self.view_is)
+    (subst (λ (q : Plan). IsPlanFor (history_from d c.self.inside.past c.self.inside.future) q) (plan_is p ByRedo (edited d c.in-Some.entry.now.edit) c.in_ok-redo_of.ensures.advances c.in_ok-redo_of.ensures.gives)
+    (redo_plan d c.self.inside.past c.self.inside.future c.in-Some.entry.now first c.self.invariant p.change))
+
+pub returns-clause-next : goal.returns-clause-next
+returns-clause-next c = rw (c.in_ok-redo_of.ensures.advances)
+
+pub returns-clause-change : goal.returns-clause-change
+returns-clause-change c =
+    let d : Design = design_of c.self.inside.document in
+    let first : slice_get c.self.inside.future.items 0 ≡ Some c.in-Some.entry.now = sym c.in-Some.ensures in
+    rw (← c.self.view_is, first_turn_is d c.self.inside.future.items c.in-Some.entry.now first) c.in_ok-redo_of.ensures.change

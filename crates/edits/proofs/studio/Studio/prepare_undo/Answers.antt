@@ -1,0 +1,51 @@
+use Rattle.std.proofs.Common.{◌≡◌, Some, None, ap, sym, subst, ◌∙◌, rules}
+use Rattle.circular_buffer.specs.Buffer.{last_item}
+use Rattle.edits.specs.Design.{Design, design_of}
+use Rattle.edits.specs.History.{History, Plan, IsPlanFor, ByUndo, last_turn, undo_fault}
+use Rattle.edits.specs.Note.{note_of, reverted}
+use Rattle.edits.specs.Studio.{history_from}
+use Rattle.edits.proofs.RingLemmas.{undo_refused, has_undo, last_step, undo_plan, last_turn_is, plan_is}
+use Rattle.edits.proofs.studio.Studio.prepare_undo.Goals as goal
+
+pub returns-in_default-clause-refused : goal.returns-in_default-clause-refused
+returns-in_default-clause-refused c =
+    rw (← c.self.view_is) (sym (undo_refused (design_of c.self.inside.document) c.self.inside.past c.self.inside.future (sym c.in_default.ensures)))
+
+pub undo_of-requires : goal.undo_of-requires
+undo_of-requires c =
+    let last : last_item c.self.inside.past.items ≡ Some c.in-Some.entry.now = sym c.in-Some.ensures in
+    (reverted (design_of c.self.inside.document) (note_of c.in-Some.entry.now), (last_step (design_of c.self.inside.document) c.self.inside.past.items c.in-Some.entry.now last c.self.invariant.are_past).0)
+
+pub returns-in_err-undo_of-clause-refused : goal.returns-in_err-undo_of-clause-refused
+returns-in_err-undo_of-clause-refused c =
+    let last : last_item c.self.inside.past.items ≡ Some c.in-Some.entry.now = sym c.in-Some.ensures in
+    let none : undo_fault c.args.self.now ≡ None = ap undo_fault (sym c.self.view_is) ∙ has_undo (design_of c.self.inside.document) c.self.inside.past c.self.inside.future c.in-Some.entry.now last in
+    rw none (search rules)
+
+pub returns-clause-lawful : goal.returns-clause-lawful
+returns-clause-lawful c =
+    let last : last_item c.self.inside.past.items ≡ Some c.in-Some.entry.now = sym c.in-Some.ensures in
+    ap undo_fault (sym c.self.view_is) ∙ has_undo (design_of c.self.inside.document) c.self.inside.past c.self.inside.future c.in-Some.entry.now last
+
+pub returns-clause-ready : goal.returns-clause-ready
+returns-clause-ready c =
+    let d : Design = design_of c.self.inside.document in
+    let p : Plan = c.in_ok-undo_of.field-0 in
+    let last : last_item c.self.inside.past.items ≡ Some c.in-Some.entry.now = sym c.in-Some.ensures in
+    let made = c.in_ok-undo_of.ensures (reverted d (note_of c.in-Some.entry.now)) (last_step d c.self.inside.past.items c.in-Some.entry.now last c.self.invariant.are_past).0 in
+    rw (← c.self.view_is)
+    (subst (λ (q : Plan). IsPlanFor (history_from d c.self.inside.past c.self.inside.future) q) (plan_is p ByUndo (reverted d (note_of c.in-Some.entry.now)) made.advances made.gives)
+    (undo_plan d c.self.inside.past c.self.inside.future c.in-Some.entry.now last c.self.invariant p.change))
+
+pub returns-clause-next : goal.returns-clause-next
+returns-clause-next c =
+    let d : Design = design_of c.self.inside.document in
+    let last : last_item c.self.inside.past.items ≡ Some c.in-Some.entry.now = sym c.in-Some.ensures in
+    rw ((c.in_ok-undo_of.ensures (reverted d (note_of c.in-Some.entry.now)) (last_step d c.self.inside.past.items c.in-Some.entry.now last c.self.invariant.are_past).0).advances)
+
+pub returns-clause-change : goal.returns-clause-change
+returns-clause-change c =
+    let d : Design = design_of c.self.inside.document in
+    let last : last_item c.self.inside.past.items ≡ Some c.in-Some.entry.now = sym c.in-Some.ensures in
+    rw (← c.self.view_is, last_turn_is d c.self.inside.past.items c.in-Some.entry.now last)
+    (c.in_ok-undo_of.ensures (reverted d (note_of c.in-Some.entry.now)) (last_step d c.self.inside.past.items c.in-Some.entry.now last c.self.invariant.are_past).0).change

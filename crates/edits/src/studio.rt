@@ -1,0 +1,181 @@
+//! A document with the history of its edits.
+
+ghost use Rattle.std.specs.Prelude.{◌≡◌, ◌<◌, ◌≤◌, [], None, IfErr, IfOk, IfSome, length, option_copied, option_map, slice_get};
+ghost use Rattle.circular_buffer.specs.Buffer.{last_item};
+ghost use Rattle.clues.specs.Change.{back};
+ghost use Rattle.edits.specs.Change.{moves_of};
+ghost use Rattle.edits.specs.Design.{design_of};
+ghost use Rattle.edits.specs.Fault.{edit_fault};
+ghost use Rattle.edits.specs.History.{IsChangeBy, IsPlanFor, advanced, after_edit, first_turn, history, last_turn, or_memory, redo_fault, redone, undo_fault, undone};
+ghost use Rattle.edits.specs.Note.{note_for, note_of};
+ghost use Rattle.edits.specs.Studio.{future_after, past_after, with_first, with_last, without_first, without_last};
+
+use crate::edit::Edit;
+use crate::entry::Entry;
+use crate::facts::know;
+use crate::fault::EditFault;
+use crate::prepared::{Prepared, Step, edit_of, redo_of, undo_of};
+use circular_buffer::HeapCircularBuffer;
+use picture::Document;
+use std::alloc::{AllocError, Global};
+use std::marker::Model;
+
+/// The most edits that a studio can be asked to keep.
+pub const MAX_DEPTH: u16 = 1000;
+
+/// A document, the edits that led to it, and those that were undone. It keeps what each edit changed and no other
+/// document than the present one.
+#[derive(Drop)]
+pub struct Studio {
+    document: Document,
+    past: HeapCircularBuffer<Entry>,
+    future: HeapCircularBuffer<Entry>,
+}
+
+impl Model for Studio {
+    ghost use Rattle.edits.specs.Design.{design_of};
+    ghost use Rattle.edits.specs.History.{History};
+    ghost use Rattle.edits.specs.Studio.{AreRings, history_from};
+
+    ghost Value = { History };
+
+    ghost view = { λ s. history_from (design_of s.document) s.past s.future };
+
+    ghost invariant = { λ s. AreRings (design_of s.document) s.past s.future };
+}
+
+impl Studio {
+    /// A studio with a document and no history. Its depth, 1 to `MAX_DEPTH`, is how many edits it keeps. It takes all
+    /// the memory that the history itself needs.
+    pub fn start(alloc: Global, document: Document, depth: u16) -> Result<Studio, AllocError>
+        requires { (0 < depth) × (depth ≤ MAX_DEPTH) }
+        ensures { IfOk result (λ s. s ≡ history (design_of document) [] [] depth) }
+    {
+        let past = HeapCircularBuffer::with_capacity(alloc, usize::from(depth))?;
+        let future = HeapCircularBuffer::with_capacity(alloc, usize::from(depth))?;
+        Ok(Studio {
+            document,
+            past,
+            future,
+        })
+    }
+
+    /// The present document.
+    pub fn document(&self) -> &Document
+        ensures { design_of result.now ≡ self.now.document }
+    {
+        &self.document
+    }
+
+    /// How many edits can be undone.
+    pub fn past_len(&self) -> usize
+        ensures { result ≡ length self.now.past }
+    {
+        self.past.len()
+    }
+
+    /// How many edits can be done again.
+    pub fn future_len(&self) -> usize
+        ensures { result ≡ length self.now.future }
+    {
+        self.future.len()
+    }
+
+    /// What is kept of the last edit that can be undone.
+    pub fn last_entry(&self) -> Option<&Entry>
+        ensures { option_map note_of (option_copied result)
+            ≡ option_map (λ turn. note_for turn.document turn.edit) (last_turn self.now.past) }
+    {
+        self.past.back()
+    }
+
+    /// What an edit comes to, or the first fault that refuses it. The studio stays as it is.
+    pub fn prepare(&self, alloc: Global, edit: &Edit) -> Result<Prepared, EditFault>
+        ensures refused { IfErr result (λ fault. fault ≡ or_memory (edit_fault self.now.document edit.now)) }
+        ensures lawful { IfOk result (λ _. edit_fault self.now.document edit.now ≡ None) }
+        ensures ready { IfOk result (λ p. IsPlanFor self.now p) }
+        ensures next { IfOk result (λ p. advanced self.now p.advance ≡ after_edit self.now edit.now) }
+        ensures change { IfOk result (λ p. IsChangeBy (moves_of edit.now self.now.document.rows) self.now.document.rows p.document.rows p.change) }
+    {
+        edit_of(alloc, &self.document, edit)
+    }
+
+    /// What taking back the last edit comes to. `UndoEmpty` where there is none. The studio stays as it is.
+    pub fn prepare_undo(&self) -> Result<Prepared, EditFault>
+        ensures refused { IfErr result (λ fault. fault ≡ or_memory (undo_fault self.now)) }
+        ensures lawful { IfOk result (λ _. undo_fault self.now ≡ None) }
+        ensures ready { IfOk result (λ p. IsPlanFor self.now p) }
+        ensures next { IfOk result (λ p. advanced self.now p.advance ≡ undone self.now) }
+        ensures change { IfOk result (λ p. IfSome (last_turn self.now.past) (λ turn.
+            IsChangeBy (back (moves_of turn.edit turn.document.rows)) self.now.document.rows p.document.rows p.change)) }
+    {
+        let Some(entry) = self.past.back() else {
+            return Err(EditFault::UndoEmpty);
+        };
+        Ok(undo_of(&self.document, entry)?)
+    }
+
+    /// What making the edit again that was undone last comes to. `RedoEmpty` where there is none. The studio stays as
+    /// it is.
+    pub fn prepare_redo(&self) -> Result<Prepared, EditFault>
+        ensures refused { IfErr result (λ fault. fault ≡ or_memory (redo_fault self.now)) }
+        ensures lawful { IfOk result (λ _. redo_fault self.now ≡ None) }
+        ensures ready { IfOk result (λ p. IsPlanFor self.now p) }
+        ensures next { IfOk result (λ p. advanced self.now p.advance ≡ redone self.now) }
+        ensures change { IfOk result (λ p. IfSome (first_turn self.now.future) (λ turn.
+            IsChangeBy (moves_of turn.edit self.now.document.rows) self.now.document.rows p.document.rows p.change)) }
+    {
+        let Some(entry) = self.future.front() else {
+            return Err(EditFault::RedoEmpty);
+        };
+        Ok(redo_of(&self.document, entry)?)
+    }
+
+    /// Takes a step that was prepared from the state in which the studio is. It takes no memory and cannot fail. The
+    /// oldest edit is forgotten where the past has as many as the depth already, and an edit forgets those that were
+    /// undone.
+    pub fn commit(&mut self, prepared: Prepared)
+        requires { IsPlanFor self.old prepared }
+        ensures { self.new ≡ advanced self.old prepared.advance }
+    {
+        know(&self.document);
+        let Prepared { document, step, .. } = prepared;
+        go_on(&mut self.past, &mut self.future, step);
+        self.document = document;
+    }
+}
+
+// Moves entries between the rings, as a step does.
+fn go_on(past: &mut HeapCircularBuffer<Entry>, future: &mut HeapCircularBuffer<Entry>, step: Step)
+    ensures past { past.new ≡ past_after step past.old future.old }
+    ensures future { future.new ≡ future_after step past.old future.old }
+{
+    match step {
+        Step::Edit(entry) => {
+            let _ = past.push_back(entry);
+            future.clear();
+        }
+        Step::Undo => move_back(past, future),
+        Step::Redo => move_forth(past, future),
+    }
+}
+
+// Moves the last entry of the past to the front of the future.
+fn move_back(past: &mut HeapCircularBuffer<Entry>, future: &mut HeapCircularBuffer<Entry>)
+    ensures past { past.new ≡ without_last past.old }
+    ensures future { future.new ≡ with_first future.old (last_item past.old.items) }
+{
+    if let Some(entry) = past.pop_back() {
+        let _ = future.push_front(entry);
+    }
+}
+
+// Moves the first entry of the future to the end of the past.
+fn move_forth(past: &mut HeapCircularBuffer<Entry>, future: &mut HeapCircularBuffer<Entry>)
+    ensures past { past.new ≡ with_last past.old (slice_get future.old.items 0) }
+    ensures future { future.new ≡ without_first future.old }
+{
+    if let Some(entry) = future.pop_front() {
+        let _ = past.push_back(entry);
+    }
+}
