@@ -215,7 +215,7 @@ piece_length m len c rest =
     let d = length-replicate len c in
     omega arith
 
-blocks_spelled : (last : ℕ) (bs : List Block) → IsClue bs → length bs ≤ length (spelled_after last bs)
+pub blocks_spelled : (last : ℕ) (bs : List Block) → IsClue bs → length bs ≤ length (spelled_after last bs)
 blocks_spelled last [] c = omega arith
 blocks_spelled last (b ∷ bs) c =
     let f = first_is IsBlock b bs c in
@@ -223,9 +223,6 @@ blocks_spelled last (b ∷ bs) c =
     let i = blocks_spelled b.colour bs (rest_are IsBlock b bs c) in
     let l = piece_length (b.colour == last) b.len b.colour (spelled_after b.colour bs) in
     omega arith
-
-pub blocks_have_room : (bs : List Block) (cells : ℕ) → IsClue bs → length (pattern_of bs) ≤ cells + 1 → length bs ≤ cells
-blocks_have_room bs cells c h = let i = blocks_spelled 0 bs c in omega arith
 
 pub no_room : (room : Bool) (m n : ℕ) → room ≡ false → (m ≤ n → room ≡ true) → n < m
 no_room room m n e h = elim (cases_lt n m) [

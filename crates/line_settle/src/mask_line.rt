@@ -77,7 +77,7 @@ fn narrow_sets(
 }
 
 /// Compares a line with its clue by sets of positions for each block, in the buffers that are lent. A line without
-/// blocks or open cells needs only a pass over its cells. A clue that needs more cells than the line has is not laid.
+/// blocks or open cells needs only a pass over its cells. A clue of more blocks than the line has cells is not laid.
 pub fn narrow_by_sets(
     blocks: &[Block],
     left: &[u16],
@@ -98,7 +98,7 @@ pub fn narrow_by_sets(
     if are_shown(left) {
         return narrow_shown(blocks, left, out);
     }
-    if !has_room(blocks, left.len()) {
+    if blocks.len() > left.len() {
         out.fill(0);
         return Outcome::Dead;
     }

@@ -8,9 +8,10 @@ ghost use Rattle.line_settle.specs.Positions.{has};
 use crate::mask_line::has_room;
 use crate::state_sets::{Moves, PatternSets};
 use clues::Clue;
+use picture::MAX_SIDE;
 
 // How many cells a line has at the most.
-const MOST: usize = 120;
+const MOST: usize = MAX_SIDE as usize;
 
 /// The states that lines can be in: any lines, and the marked ones, which have a drawn colour somewhere.
 #[derive(Clone, Copy)]
@@ -129,7 +130,7 @@ fn sweep(sets: &PatternSets, drawn: &[u16], plain: &[u128], marked: &[u128], lef
 /// their old mask can do without it. No memory is taken, and no line is evaluated.
 pub fn leave_out(clue: &Clue, drawn: &[u16], left: &mut [u16])
     requires same_length { length drawn.now ≡ length left.old }
-    requires short { length left.old ≤ 120 }
+    requires short { length left.old ≤ MAX_SIDE }
     requires forced { ForcesAll clue.now left.old drawn.now }
     ensures { LeavesOut clue.now drawn.now left.old left.new }
 {

@@ -1,6 +1,5 @@
 use Rattle.std.proofs.Common.{◌≡◌, ℕ, ◌+◌, ap, sym, subst, ◌∙◌, refl, arith, List, length}
-use Rattle.picture.specs.declared.line_id.LineId.{LineId}
-use Rattle.picture.specs.LineSet.{Lines, PutsName}
+use Rattle.picture.specs.LineSet.{PutsName}
 use Rattle.picture.specs.Rows.{line_of}
 use Rattle.line_settle.proofs.ChangeLemmas.{WrittenTo, HasCrossing, none_written, same_kept, other_written, holds_line, none_crosses, same_crosses, other_crosses, all_cross}
 use Rattle.line_settle.proofs.forcing.write_line.Goals as goal

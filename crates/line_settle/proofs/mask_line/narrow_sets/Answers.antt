@@ -1,4 +1,4 @@
-use Rattle.std.proofs.Common.{◌≡◌, ℕ, ◌<◌, ◌∙◌, ap, subst, sym, arith, List, take, get_or, length}
+use Rattle.std.proofs.Common.{◌<◌, ◌∙◌, ap, arith, take, get_or, length}
 use Rattle.line_settle.specs.Positions.{has}
 use Rattle.line_settle.proofs.NarrowLemmas.{seen_in_full}
 use Rattle.line_settle.proofs.mask_line.narrow_sets.Goals as goal
