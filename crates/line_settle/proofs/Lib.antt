@@ -21,6 +21,7 @@ pub mod ForceLemmas
 pub mod WritingLemmas
 pub mod FittingLemmas
 pub mod PositionLemmas
+pub mod SpanLemmas
 pub mod ColouringLemmas
 pub mod GatheringLemmas
 pub mod SetStepLemmas

@@ -6,7 +6,7 @@ use Rattle.std.proofs.lemmas.Bool.{cases_eq}
 use Rattle.std.proofs.Math.Nat.{pow-succ', div-div-eq-div-mul, div-add-mod, mul_comm}
 use Rattle.std.proofs.lemmas.Nat.Bits.{shr_and_one, bit_at_lowest, bit_at-suc, bit_at_and, bit_at_or, bit_at_xor, bit_at-lt, bit_at-zero, bit_at_above, bit_at-pow_same, bit_at-pow_other, bit_at_cat_low}
 use Rattle.std.proofs.lemmas.Grind.{one_shifted}
-use Rattle.line_settle.specs.Positions.{has}
+use Rattle.line_settle.specs.Positions.{has, spans}
 use Rattle.line_settle.proofs.BitLemmas.{max_is_one}
 
 -- ---- numbers below 2 as tests
@@ -180,11 +180,6 @@ abbrev pub fills : (ℕ → Bool) → (ℕ → Bool) → ℕ → ℕ → Bool
 fills f r zero i = false
 fills f r (suc n) i = f i || (r i && fills f r n (i + 1))
 
--- n cells in a row
-abbrev pub spans : (ℕ → Bool) → ℕ → ℕ → Bool
-spans r zero i = true
-spans r (suc n) i = r i && spans r n (i + 1)
-
 spread : (f r a l b : Bool) → (f || (r && (a || (l && b)))) ≡ ((f || (r && a)) || ((r && l) && b))
 spread true r a l b = refl
 spread false true a l b = refl
@@ -224,11 +219,11 @@ fills_enough : (f r : ℕ → Bool) (w : ℕ) → ((j : ℕ) → w ≤ j → f j
 fills_enough f r w past zero i h = ap (λ x. x || (r i && false)) (past i (omega arith)) ∙ no_more (r i)
 fills_enough f r w past (suc n) i h = ap (λ x. f i || (r i && x)) (fills_enough f r w past n (i + 1) (omega arith))
 
-pub filled : (set run all n i : ℕ) → set < 340282366920938463463374607431768211456 → 128 ≤ n → ((j : ℕ) → has all j ≡ fills (has set) (has run) n j) → has all i ≡ (has set i || (has run i && has all (i + 1)))
-filled set run all n i h l is =
-    let past = λ (j : ℕ) (m : 128 ≤ j). has_above 128 set j h m in
+pub filled : (w set run all n i : ℕ) → set < 2 ^ w → w ≤ n → ((j : ℕ) → has all j ≡ fills (has set) (has run) n j) → has all i ≡ (has set i || (has run i && has all (i + 1)))
+filled w set run all n i h l is =
+    let past = λ (j : ℕ) (m : w ≤ j). has_above w set j h m in
     is i
-    ∙ (sym (fills_enough (has set) (has run) 128 past n i (omega arith))
+    ∙ (sym (fills_enough (has set) (has run) w past n i (omega arith))
     ∙ ap (λ x. has set i || (has run i && x)) (sym (is (i + 1))))
 
 nothing_more : (f r : Bool) → f ≡ (f || (r && false))
@@ -264,8 +259,6 @@ spans_twice run runs s t i e g =
     ∙ (ap (λ x. x && has runs (i + s)) (g i)
     ∙ (ap (λ x. spans (has run) s i && x) (g (i + s))
     ∙ (sym (spans_more (has run) s s i) ∙ ap (λ n. spans (has run) n i) (sym e)))))
-
-pub ruleset falling = (filled, fills_one, spans_one, fills_twice, spans_twice)
 
 -- ---- the next position
 

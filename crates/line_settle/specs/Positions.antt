@@ -1,7 +1,9 @@
 -- Sets of positions of a line, counted before and after each cell: position i is bit i of a number.
-use Rattle.std.specs.Prelude.{◌≡◌, ℕ, ◌+◌, ◌<◌, ◌≤◌, List, Bool, true, ◌==◌, ◌&&◌, ◌||◌, slice_index}
+use Rattle.std.specs.Prelude.{◌≡◌, ℕ, zero, suc, ◌+◌, ◌^◌, ◌<◌, ◌≤◌, List, Bool, true, ◌==◌, ◌&&◌, ◌||◌, length, slice_index}
 use Rattle.std.specs.Int.{bit_at}
 use Rattle.line_settle.specs.Spelling.{allows}
+use Rattle.line_settle.specs.declared.positions.Spans.{Spans}
+use Rattle.line_settle.specs.declared.positions.Spans.TheVariants.{Near, Far}
 
 -- a set has position i
 unfoldable pub has : ℕ → ℕ → Bool
@@ -21,3 +23,17 @@ pub record IsColoured (set colour first end : ℕ) (old new : List ℕ) : Type 0
   pub inside : (i j k : ℕ) → i ≡ first + j → i < end → allows (slice_index new i) k ≡ (allows (slice_index old i) k || (has set j && colour == k))
   pub before : (i : ℕ) → i < first → slice_index new i ≡ slice_index old i
   pub behind : (i : ℕ) → end ≤ i → slice_index new i ≡ slice_index old i
+
+-- n cells in a row are in a set, from position i on
+abbrev pub spans : (ℕ → Bool) → ℕ → ℕ → Bool
+spans cells zero i = true
+spans cells (suc n) i = cells i && spans cells n (i + 1)
+
+-- sets of the positions from which 1, 2, 4 and so on cells in a row are in a set of cells
+abbrev pub AreSpans : ℕ → List ℕ → Type 0
+AreSpans cells spanned = (k i : ℕ) → k < length spanned → has (slice_index spanned k) i ≡ spans (has cells) (2 ^ k) i
+
+-- such sets for each power of two below the width
+abbrev pub AreSpansOf : ℕ → Spans → Type 0
+AreSpansOf cells (Near spanned) = (cells < 2 ^ 63) × (length spanned ≡ 6) × AreSpans cells spanned
+AreSpansOf cells (Far spanned) = (length spanned ≡ 7) × AreSpans cells spanned

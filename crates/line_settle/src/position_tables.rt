@@ -7,7 +7,7 @@ ghost use Rattle.line_settle.specs.Laying.{AreMarked, AreSeen, IsAllowed};
 
 use crate::block_steps::{before_gap, behind_gap, lay, meets, starts_before};
 use crate::pattern::allows;
-use crate::positions::{add_colour, cells_with, fill_down, fill_up};
+use crate::positions::{Spans, add_colour, cells_with, fill_up};
 use clues::Block;
 
 #[tactic(auto, using(crate::proofs::SetStepLemmas::making))]
@@ -59,12 +59,13 @@ pub fn mark_back(
     ensures marked { AreMarked blocks.now left.now starting.new waiting.new }
     ensures fits { result ≡ finishes (pattern_of blocks.now) left.now 0 }
 {
-    let mut later = fill_down(1 << left.len(), allowed[0]);
+    let background = Spans::of(allowed[0]);
+    let mut later = background.fill_down(1 << left.len());
     waiting[blocks.len()] = later;
     for j in (0..blocks.len()).rev() {
         let block = blocks[j];
         let starts = starts_before(later, allowed[usize::from(block.colour)], block.len);
-        let waits = fill_down(starts, allowed[0]);
+        let waits = background.fill_down(starts);
         starting[j] = starts;
         waiting[j] = waits;
         later = before_gap(waits, allowed[0], meets(blocks, j));

@@ -1,6 +1,6 @@
 ghost use Rattle.std.specs.Prelude.{◌≡◌, ℕ, ◌+◌, ◌<◌, ◌≤◌, ◌&&◌, ◌||◌, ◌==◌, Bool, length, slice_index};
 ghost use Rattle.line_settle.specs.Spelling.{allows};
-ghost use Rattle.line_settle.specs.Positions.{has, IsColoured};
+ghost use Rattle.line_settle.specs.Positions.{has, AreSpans, AreSpansOf, IsColoured};
 
 use crate::pattern::allows;
 use std::simd::prelude::*;
@@ -17,19 +17,102 @@ pub fn fill_up(set: u128, run: u128) -> u128
     set | (carried ^ begun ^ run)
 }
 
-#[tactic(auto, using(crate::proofs::PositionLemmas::falling))]
-/// The positions from which a set can be reached, cell by cell upwards, over the cells of `run`.
-pub fn fill_down(set: u128, run: u128) -> u128
-    ensures { (i : ℕ) → has result i ≡ (has set i || (has run i && has result (i + 1))) }
+/// For each power of two below the width of the positions, from 1 on, the positions from which so many cells in a row are
+/// in a set of cells.
+#[derive(Clone, Copy)]
+pub enum Spans {
+    /// Of cells before position 63.
+    Near([u64; 6]),
+    /// Of any cells.
+    Far([u128; 7]),
+}
+
+// The positions that half the width has.
+const NEAR: u128 = 0xffff_ffff_ffff_ffff;
+
+impl Spans {
+    /// Those of a set of cells.
+    pub fn of(cells: u128) -> Spans
+        ensures { AreSpansOf cells result }
+    {
+        if cells <= NEAR >> 1 {
+            Spans::Near(near_spans(cells as u64))
+        } else {
+            Spans::Far(far_spans(cells))
+        }
+    }
+
+    /// The positions from which a set can be reached, cell by cell upwards, over the cells.
+    pub fn fill_down(&self, set: u128) -> u128
+        ensures { (cells : ℕ) → AreSpansOf cells self.now
+            → (i : ℕ) → has result i ≡ (has set i || (has cells i && has result (i + 1))) }
+    {
+        match self {
+            Spans::Near(spans) => set | u128::from(fill_near((set & NEAR) as u64, spans)),
+            Spans::Far(spans) => fill_far(set, spans),
+        }
+    }
+}
+
+#[tactic(auto, using(crate::proofs::SpanLemmas::spanning))]
+// The spans of cells before position 63.
+fn near_spans(cells: u64) -> [u64; 6]
+    ensures six { length result ≡ 6 }
+    ensures each { AreSpans cells result }
 {
-    // After a round `all` has what reaches the set over fewer than `step` cells, and `runs` where `step` cells in a row
-    // are in `run`.
-    let mut all = set;
-    let mut runs = run;
+    let mut spans = [cells; 6];
+    let mut span = cells;
     let mut step: u32 = 1;
-    'doubling: while step < 128 {
-        all |= (all >> step) & runs;
-        runs &= runs >> step;
+    for k in 0..6 {
+        spans[k] = span;
+        span &= span >> step;
+        step += step;
+    }
+    spans
+}
+
+#[tactic(auto, using(crate::proofs::SpanLemmas::spanning))]
+// The spans of any cells.
+fn far_spans(cells: u128) -> [u128; 7]
+    ensures seven { length result ≡ 7 }
+    ensures each { AreSpans cells result }
+{
+    let mut spans = [cells; 7];
+    let mut span = cells;
+    let mut step: u32 = 1;
+    for k in 0..7 {
+        spans[k] = span;
+        span &= span >> step;
+        step += step;
+    }
+    spans
+}
+
+#[tactic(auto, using(crate::proofs::SpanLemmas::filling))]
+// What reaches a set over cells before position 63, by their spans: after a round what does over fewer than `step` cells.
+fn fill_near(set: u64, spans: &[u64; 6]) -> u64
+    ensures { (cells : ℕ) → length spans.now ≡ 6 → AreSpans cells spans.now
+        → (i : ℕ) → has result i ≡ (has set i || (has cells i && has result (i + 1))) }
+{
+    let mut all = set;
+    let mut step: u32 = 1;
+    for k in 0..6 {
+        all |= (all >> step) & spans[k];
+        step += step;
+    }
+    all
+}
+
+#[tactic(auto, using(crate::proofs::SpanLemmas::filling))]
+// The same over any cells.
+fn fill_far(set: u128, spans: &[u128; 7]) -> u128
+    ensures { (cells : ℕ) → length spans.now ≡ 7 → AreSpans cells spans.now
+        → (i : ℕ) → has result i ≡ (has set i || (has cells i && has result (i + 1))) }
+{
+    let mut all = set;
+    let mut step: u32 = 1;
+    for k in 0..7 {
+        all |= (all >> step) & spans[k];
         step += step;
     }
     all

@@ -10,7 +10,7 @@ pub loop-j-init : goal.loop-j-init
 loop-j-init c =
     let blocks = c.args.blocks.now in
     let left = c.args.left.now in
-    let end = mark_end blocks left c.args.allowed.now c.fill_down-later.result c.requires.blocks_of_clue c.requires.allowed_is c.requires.short c.fill_down-later.ensures in
+    let end = mark_end blocks left c.args.allowed.now c.fill_down-later.result c.requires.blocks_of_clue c.requires.allowed_is c.requires.short (c.fill_down-later.ensures (get_or c.args.allowed.now 0 0) c.of-background.ensures) in
     record {
       later_is = end;
       starts = λ r h l. absurd (omega arith);
@@ -27,7 +27,7 @@ loop-j-preserved c =
     let E : ℕ → Type 0 = λ r. r ≤ length blocks in
     let P : ℕ → ℕ → Type 0 = λ r v. IsStart (pattern_of blocks) left (state_before blocks r) v in
     let K : ℕ → ℕ → Type 0 = λ r v. IsBack (pattern_of blocks) left (state_before blocks r) v in
-    let here = mark_block blocks left c.args.allowed.now c.loop-j.j j c.loop-j.later c.starts_before-starts.result c.fill_down-waits.result c.before_gap-later.result c.meets.result c.requires.blocks_of_clue (omega arith) (omega arith) c.requires.allowed_is c.requires.short c.meets.ensures kept.later_is (λ i. c.starts_before-starts.ensures i ∙ ap (λ n. lays (get_or c.args.allowed.now n 0) c.loop-j.later (block_at blocks j).len i) c.from.ensures) c.fill_down-waits.ensures c.before_gap-later.ensures.none c.before_gap-later.ensures.one in
+    let here = mark_block blocks left c.args.allowed.now c.loop-j.j j c.loop-j.later c.starts_before-starts.result c.fill_down-waits.result c.before_gap-later.result c.meets.result c.requires.blocks_of_clue (omega arith) (omega arith) c.requires.allowed_is c.requires.short c.meets.ensures kept.later_is (λ i. c.starts_before-starts.ensures i ∙ ap (λ n. lays (get_or c.args.allowed.now n 0) c.loop-j.later (block_at blocks j).len i) c.from.ensures) (c.fill_down-waits.ensures (get_or c.args.allowed.now 0 0) c.of-background.ensures) c.before_gap-later.ensures.none c.before_gap-later.ensures.one in
     record {
       later_is = here.here_is;
       starts = stored P B c.loop-j.starting c.loop-j.j j c.starts_before-starts.result (omega arith) (omega arith) here.starts_are kept.starts;
