@@ -63,7 +63,7 @@ fn narrow_sets(
         k }
 {
     let mut allowed = [0u128; 16];
-    mark_allowed(blocks, left, &mut allowed);
+    let made = mark_allowed(blocks, left, &mut allowed);
     let fits = mark_back(blocks, left, &allowed, starting, waiting);
     if !fits {
         out.fill(0);
@@ -71,7 +71,7 @@ fn narrow_sets(
     }
     let mut seen = [0u128; 16];
     see_blocks(blocks, left, &allowed, starting, waiting, &mut seen);
-    let colours = colours_of(blocks);
+    let colours = colours_of(made);
     write_colours(&seen[..usize::from(colours)], out);
     true
 }

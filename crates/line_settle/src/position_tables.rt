@@ -28,17 +28,21 @@ fn mark_colour(colour: u8, left: &[u16], made: u16, allowed: &mut [u128]) -> u16
     made | (1 << colour)
 }
 
-/// Makes the sets of cells in which the background and the colour of each block are left.
-pub fn mark_allowed(blocks: &[Block], left: &[u16], allowed: &mut [u128])
+/// Makes the sets of cells in which the background and the colour of each block are left, and answers a mask of these
+/// colours.
+pub fn mark_allowed(blocks: &[Block], left: &[u16], allowed: &mut [u128]) -> u16
     requires blocks_of_clue { IsClue blocks.now }
     requires short { length left.now < 128 }
     requires sixteen { length allowed.old ≡ 16 }
-    ensures { IsAllowed blocks.now left.now allowed.new }
+    ensures made { IsAllowed blocks.now left.now allowed.new }
+    ensures background { allows result 0 ≡ true }
+    ensures each { All (λ b. allows result b.colour ≡ true) blocks.now }
 {
     let mut made = mark_colour(0, left, 0, allowed);
     for block in blocks {
         made = mark_colour(block.colour, left, made, allowed);
     }
+    made
 }
 
 /// Marks for each block the positions from which the line can go to its end by laying it, and those from which it can
@@ -134,18 +138,11 @@ pub fn write_colours(seen: &[u128], out: &mut [u16])
     }
 }
 
-/// How many colours there are up to the highest one of the blocks, with the background.
-pub fn colours_of(blocks: &[Block]) -> u8
-    requires { IsClue blocks.now }
-    ensures some { 0 < result }
+#[tactic(auto, using(crate::proofs::BitLemmas::highest))]
+/// How many colours there are up to the highest one of a mask.
+pub fn colours_of(mask: u16) -> u8
     ensures few { result ≤ 16 }
-    ensures each { All (λ b. b.colour < result) blocks.now }
+    ensures each { (k : ℕ) → allows mask k ≡ true → k < result }
 {
-    let mut colours = 1;
-    for block in blocks {
-        if block.colour >= colours {
-            colours = block.colour + 1;
-        }
-    }
-    colours
+    (16 - mask.leading_zeros()) as u8
 }
