@@ -12,7 +12,7 @@ use anyhow::{Result, ensure};
 use clues::{Change, ClueBook};
 use justify::Book;
 use line_settle::{Facts, LineEngine};
-use picture::{Axis, LineId};
+use picture::{Axis, LineId, MAX_SIDE};
 use retract::keep;
 use std::alloc::Global;
 
@@ -84,7 +84,7 @@ fn after_insertion(
 {
     let height = old.height();
     let width = old.width();
-    ensure!(height < 120 && at <= height, "no room for a row");
+    ensure!(height < MAX_SIDE && at <= height, "no room for a row");
     ensure!(
         new.height() == height + 1 && new.width() == width,
         "another size"

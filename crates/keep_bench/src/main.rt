@@ -12,6 +12,7 @@ use clues::ClueBook;
 use drawing::closed_book;
 use keeping::{Tally, keep_after};
 use line_settle::MaskEngine;
+use picture::MAX_SIDE;
 use ppm_text::read_ppm;
 use std::env;
 use std::io::Read;
@@ -26,7 +27,7 @@ fn main(rt: HostRuntime) -> Result<()> {
     let mut bytes = Vec::new(rt.alloc());
     rt.reader().read_to_end(&mut bytes)?;
     let mut picture = read_ppm(rt.alloc(), &bytes, None)?.picture;
-    let mut engine = MaskEngine::make(rt.alloc(), 120)?;
+    let mut engine = MaskEngine::make(rt.alloc(), MAX_SIDE)?;
     let old = ClueBook::of(rt.alloc(), &picture)?;
     let book = closed_book(rt.alloc(), &mut engine, &old)?;
     stroke.strike(&mut picture)?;

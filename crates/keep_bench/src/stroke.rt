@@ -1,7 +1,7 @@
 //! Strokes in the middle of a picture.
 
 use anyhow::{Result, ensure};
-use picture::{Axis, LineId, Picture};
+use picture::{Axis, LineId, MAX_SIDE, Picture};
 
 /// What is done to a picture.
 #[derive(Clone, Copy, Debug)]
@@ -70,7 +70,7 @@ fn fill(picture: &mut Picture, row: u8, col: u8) -> Result<()> {
 
 fn insert(picture: &mut Picture, at: u8) -> Result<()> {
     ensure!(
-        picture.height() < 120 && at <= picture.height(),
+        picture.height() < MAX_SIDE && at <= picture.height(),
         "no room for a row"
     );
     let axis = Axis::Across;
