@@ -49,6 +49,19 @@ fn a_number_gets_another_colour(rt: HostRuntime) -> Result<(), Fail> {
 }
 
 #[test]
+fn a_colour_stands_at_another_number(rt: HostRuntime) -> Result<(), Fail> {
+    let mut palette = Palette::start(rt.alloc(), 255, WHITE)?;
+    palette.add(BLACK)?;
+    assert_eq!(rt; palette.len(), 2);
+    assert!(rt; palette.stands_elsewhere(0, BLACK));
+    assert!(rt; !palette.stands_elsewhere(1, BLACK));
+    assert!(rt; palette.stands_elsewhere(1, WHITE));
+    assert!(rt; !palette.stands_elsewhere(0, WHITE));
+    assert!(rt; !palette.stands_elsewhere(1, RED));
+    Ok(())
+}
+
+#[test]
 fn the_last_colour_goes(rt: HostRuntime) -> Result<(), Fail> {
     let mut palette = Palette::start(rt.alloc(), 255, WHITE)?;
     palette.add(BLACK)?;
