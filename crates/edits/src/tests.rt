@@ -7,6 +7,7 @@ use std::test::Fail;
 
 mod changing;
 mod growing;
+mod listing;
 mod refusing;
 mod reverting;
 
