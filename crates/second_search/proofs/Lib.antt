@@ -3,3 +3,4 @@ pub mod NoteLemmas
 pub mod LookLemmas
 pub mod WeightLemmas
 pub mod FindLemmas
+pub mod SoundLemmas

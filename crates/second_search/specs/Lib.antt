@@ -1,3 +1,4 @@
 pub mod Other
 pub mod Branching
 pub mod Looking
+pub mod Laws

@@ -3,8 +3,12 @@
 
 mod cell;
 mod finding;
+pub mod laws;
 mod looking;
 mod note;
 mod pending;
 
 pub use finding::{find_first, find_other};
+
+#[cfg(test)]
+mod tests;
