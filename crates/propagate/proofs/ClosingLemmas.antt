@@ -125,7 +125,7 @@ pub record Closing (clues : Clues) (longest : ℕ) (base facts : List (List ℕ)
 pub closing_starts : (clues : Clues) (longest : ℕ) (base : List (List ℕ)) (dirty : Lines) → AreClosable clues longest base → AreLinesOf base dirty → QuietOutside clues base dirty → Closing clues longest base base dirty
 closing_starts clues longest base dirty c l s = record { closable = c; lines = l; quiet = s; holds = within_refl base; inside = λ others closed w. w }
 
-same_sizes : (clues : Clues) (longest : ℕ) (old new : List (List ℕ)) → SameShape old new → AreClosable clues longest old → AreClosable clues longest new
+pub same_sizes : (clues : Clues) (longest : ℕ) (old new : List (List ℕ)) → SameShape old new → AreClosable clues longest old → AreClosable clues longest new
 same_sizes clues longest old new s c =
     let r = s.rows in
     let w : width_of old ≡ width_of new = s.each 0 in

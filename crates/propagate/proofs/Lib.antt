@@ -5,3 +5,6 @@ pub mod ClosingLemmas
 pub mod WorkLemmas
 pub mod PictureLemmas
 pub mod ScheduleLemmas
+pub mod TurnLemmas
+pub mod GrowLemmas
+pub mod ScheduleBookLemmas

@@ -1,4 +1,4 @@
--- Laws of the least closed facts, of pictures that facts allow, and of schedules.
+-- Laws of the least closed facts, of pictures that facts allow, of schedules, and of books.
 use Rattle.std.specs.Prelude.{◌≡◌, ℕ, ◌<◌, ◌↔◌, List, length}
 use Rattle.std.specs.List.{All}
 use Rattle.picture.specs.Picture.{IsPicture}
@@ -7,6 +7,7 @@ use Rattle.picture.specs.Rows.{row_at, cell_at, HasLine}
 use Rattle.clues.specs.ClueBook.{Clues, clues_of}
 use Rattle.line_settle.specs.declared.line_engine.Outcome.{Outcome}
 use Rattle.line_settle.specs.FactSets.{IsClosed, IsLeast, IsWithin, Leaves, SameShape}
+use Rattle.justify.specs.Book.{Account, IsAccount, IsDerivation}
 use Rattle.propagate.specs.Closing.{Closes, HasDeadLine}
 use Rattle.propagate.specs.Filling.{Fills, LeavesPicture, only}
 use Rattle.propagate.specs.Schedule.{AreAfter, IsDeadInTurn}
@@ -40,3 +41,13 @@ pub record SchedulesLeadInside : Type 0 where
   pub least : (clues : Clues) (base : List (List ℕ)) (lines : List LineId) (facts : List (List ℕ)) → All (HasLine base) lines → AreAfter clues base lines facts → IsClosed clues facts → IsLeast clues base facts
   pub dead : (clues : Clues) (base : List (List ℕ)) (lines : List LineId) → All (HasLine base) lines → IsDeadInTurn clues base lines → HasDeadLine clues base
   pub not_both : (clues : Clues) (base : List (List ℕ)) (lines : List LineId) (facts : List (List ℕ)) → AreAfter clues base lines facts → ¬ IsDeadInTurn clues base lines
+
+-- A schedule that begins with a book which is a derivation comes to facts inside all closed ones that hold the book's base, and
+-- to the least over the base where no line can draw more. So all schedules that end there come to the same facts.
+pub record SchedulesFillBooks : Type 0 where
+  pub inside : (clues : Clues) (book : Account) (lines : List LineId) (facts : List (List ℕ)) → IsAccount book → IsDerivation clues book → All (HasLine book.facts) lines → AreAfter clues book.facts lines facts
+      → (others : List (List ℕ)) → IsClosed clues others → IsWithin book.base others → IsWithin facts others
+  pub least : (clues : Clues) (book : Account) (lines : List LineId) (facts : List (List ℕ)) → IsAccount book → IsDerivation clues book → All (HasLine book.facts) lines → AreAfter clues book.facts lines facts
+      → IsClosed clues facts → IsLeast clues book.base facts
+  pub order : (clues : Clues) (book : Account) (lines more : List LineId) (facts others : List (List ℕ)) → IsAccount book → IsDerivation clues book → All (HasLine book.facts) lines → All (HasLine book.facts) more
+      → AreAfter clues book.facts lines facts → AreAfter clues book.facts more others → IsClosed clues facts → IsClosed clues others → facts ≡ others

@@ -1,8 +1,10 @@
 pub mod Agenda
 pub mod Closing
+pub mod ClosingBooks
 pub mod Filling
 pub mod LineNames
 pub mod Orders
 pub mod Schedule
 pub mod Settling
+pub mod Turns
 pub mod Laws

@@ -1,5 +1,6 @@
 ghost use Rattle.std.specs.Prelude.{◌≡◌};
 
+use justify::StepFault;
 use std::alloc::AllocError;
 use thiserror::Error;
 
@@ -21,5 +22,18 @@ impl From<AllocError> for CloseFault {
 
     fn from(_refused: AllocError) -> CloseFault {
         CloseFault::Memory
+    }
+}
+
+impl From<StepFault> for CloseFault {
+    ghost use Rattle.propagate.specs.Turns.{close_fault};
+
+    ghost from_gives = { λ step e. e ≡ close_fault step };
+
+    fn from(fault: StepFault) -> CloseFault {
+        match fault {
+            StepFault::Dead => CloseFault::Dead,
+            StepFault::Memory => CloseFault::Memory,
+        }
     }
 }

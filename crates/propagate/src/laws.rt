@@ -1,7 +1,10 @@
-//! Laws of the least closed facts, of pictures that facts allow, and of schedules. Each function does nothing, and its
-//! contract is the law.
+//! Laws of the least closed facts, of pictures that facts allow, of schedules, and of books. Each function does nothing, and
+//! its contract is the law.
 
-ghost use Rattle.propagate.specs.Laws.{ClosingKeepsFillings, OnlyIsClosed, PictureStays, SchedulesLeadInside};
+ghost use Rattle.propagate.specs.Laws.{ClosingKeepsFillings, OnlyIsClosed, PictureStays, SchedulesFillBooks, SchedulesLeadInside};
+
+use justify::laws::derivations_stay_inside;
+use line_settle::laws::least_is_unique;
 
 #[tactic(auto, using(crate::proofs::PictureLemmas::laws))]
 /// Line logic never excludes the colours of a picture that has the clues, where the base doesn't.
@@ -28,3 +31,12 @@ pub fn closing_keeps_fillings()
 pub fn schedules_lead_inside()
     ensures { SchedulesLeadInside }
 {}
+
+/// A schedule that begins with a book comes to facts inside the least closed ones over the book's base, and to these where no
+/// line can draw more: so the order and the repeats of its lines don't matter then.
+pub fn schedules_fill_books()
+    ensures { SchedulesFillBooks }
+{
+    derivations_stay_inside();
+    least_is_unique();
+}

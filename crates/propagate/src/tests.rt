@@ -8,6 +8,8 @@ use std::alloc::Global;
 use std::process::Abort;
 use std::test::Fail;
 
+mod books;
+
 // A picture of these cells, row after row.
 fn picture_of(
     rt: &impl Abort,
@@ -312,4 +314,5 @@ fn the_laws_do_nothing() {
     laws::only_is_closed();
     laws::closing_keeps_fillings();
     laws::schedules_lead_inside();
+    laws::schedules_fill_books();
 }

@@ -1,0 +1,88 @@
+ghost use Rattle.std.specs.Prelude.{◌≡◌, ◌≤◌, ℕ, List, length, IfOk, IfErr};
+ghost use Rattle.picture.specs.Rows.{width_of};
+ghost use Rattle.clues.specs.Change.{IsChangeOf};
+ghost use Rattle.clues.specs.ClueBook.{clues_of};
+ghost use Rattle.line_settle.specs.FactSets.{IsLeast};
+ghost use Rattle.propagate.specs.declared.fault.CloseFault.TheVariants as fault;
+ghost use Rattle.kept_audit.specs.Audit.{IsAudit, IsBaseOf};
+
+use clues::laws::{clues_are_of_lines, untouched_clues_stand};
+use clues::{Change, ClueBook};
+use justify::Book;
+use line_settle::laws::least_is_unique;
+use line_settle::{Facts, LineEngine, Meter};
+use picture::Picture;
+use propagate::laws::closing_keeps_fillings;
+use propagate::{Agenda, CloseFault, all_lines, close};
+use retract::{Kept, keep};
+use std::alloc::Global;
+
+/// The clues of a picture, and the closed book of what its lines draw.
+#[derive(Drop)]
+pub struct Audit {
+    pub clues: ClueBook,
+    pub book: Book,
+}
+
+/// Audits a picture anew: counts its clues, and closes the book without a step over a base that leaves its colours.
+pub fn audit_anew<E: LineEngine, A: Agenda>(
+    alloc: Global,
+    engine: &mut E,
+    agenda: &mut A,
+    picture: &Picture,
+    base: Facts,
+    meter: &mut Meter,
+) -> Result<Audit, CloseFault>
+    requires base { IsBaseOf picture.now base }
+    requires wide { width_of picture.now ≤ E.longest engine.old }
+    requires tall { length picture.now ≤ E.longest engine.old }
+    ensures audit { IfOk result (λ audit. IsAudit picture.now base audit.clues audit.book) }
+    ensures memory { IfErr result (λ e. e ≡ fault.Memory) }
+    ensures same_longest { E.longest engine.new ≡ E.longest engine.old }
+{
+    clues_are_of_lines();
+    closing_keeps_fillings();
+    let _ = picture.height();
+    let clues = ClueBook::of(alloc, picture)?;
+    let book = Book::start(alloc, base)?;
+    let dirty = all_lines(book.facts());
+    let book = close(engine, agenda, book, &clues, &dirty, meter)?;
+    Ok(Audit { clues, book })
+}
+
+/// Audits a picture again after a change, over a base that leaves its colours: its clues are refreshed, the steps that
+/// stand are kept, and the book is closed again from the dirty lines alone. The result is an audit of the new picture
+/// like one made anew, and its facts are those of a fresh audit. The audit before stays.
+pub fn audit_again<E: LineEngine, A: Agenda>(
+    alloc: Global,
+    engine: &mut E,
+    agenda: &mut A,
+    before: &Audit,
+    old: &Picture,
+    new: &Picture,
+    change: &Change,
+    base: Facts,
+    meter: &mut Meter,
+) -> Result<Audit, CloseFault>
+    requires audited { IsAudit old.now before.now.book.base before.now.clues before.now.book }
+    requires change { IsChangeOf change.now old.now new.now }
+    requires base { IsBaseOf new.now base }
+    requires wide { width_of new.now ≤ E.longest engine.old }
+    requires tall { length new.now ≤ E.longest engine.old }
+    ensures audit { IfOk result (λ audit. IsAudit new.now base audit.clues audit.book) }
+    ensures fresh { (facts : List (List ℕ)) → IsLeast (clues_of new.now) base facts
+        → IfOk result (λ audit. audit.book.facts ≡ facts) }
+    ensures memory { IfErr result (λ e. e ≡ fault.Memory) }
+    ensures same_longest { E.longest engine.new ≡ E.longest engine.old }
+{
+    clues_are_of_lines();
+    untouched_clues_stand();
+    closing_keeps_fillings();
+    least_is_unique();
+    let _ = new.height();
+    let clues = before.clues.refresh(new, change)?;
+    let Kept { book, dirty } = keep(alloc, &before.book, &before.clues, &clues, change, base)?;
+    let _ = book.facts();
+    let book = close(engine, agenda, book, &clues, &dirty, meter)?;
+    Ok(Audit { clues, book })
+}

@@ -1,0 +1,9 @@
+//! A picture kept audited by line logic: its clues, and the book of what follows from them, audited anew or again after a
+//! change.
+#![tactic(auto)]
+
+mod audit;
+#[cfg(test)]
+mod tests;
+
+pub use audit::{Audit, audit_again, audit_anew};

@@ -1,0 +1,55 @@
+use Rattle.std.proofs.Common.{◌≡◌, ℕ, ◌+◌, Err, refl, sym, ap, ◌∙◌, subst, arith}
+use Rattle.std.proofs.lemmas.Result.{err_from_is_err_and}
+use Rattle.picture.specs.LineSet.{Lines}
+use Rattle.line_settle.proofs.ForceLemmas.{gains_grows}
+use Rattle.propagate.proofs.AlongLemmas.{filled}
+use Rattle.propagate.proofs.ClosingLemmas.{Closing, closing_starts}
+use Rattle.propagate.proofs.GrowLemmas.{ClosingBook, all_trimmed, book_closes, book_comes_nearer, book_dies, book_fails, book_goes_on, book_starts, book_worked, one_more}
+use Rattle.propagate.proofs.closing_book.close.Goals as goal
+
+pub loop-line-init : goal.loop-line-init
+loop-line-init g c =
+    let all = filled _ _ _ c.clear.ensures c.put_all.ensures in
+    let P : Lines → Type 0 = λ lines. Closing c.args.clues.now (g.E.LineEngine.longest c.args.engine.now) c.args.book.facts c.args.book.facts lines in
+    record {
+      closing = book_starts _ _ _ _ _ _ _ c.requires.derivation all (subst P (sym all) (closing_starts _ _ _ _ c.requires.closable c.requires.lines c.requires.quiet)) (omega arith) (omega arith) (omega arith);
+      same_longest = refl;
+    }
+
+pub returns-in_err-changed-clause-closes : goal.returns-in_err-changed-clause-closes
+returns-in_err-changed-clause-closes g c =
+    let p = err_from_is_err_and c.from_residual.result c.from_residual.ensures.1 in
+    let i = c.loop-line.invariant in
+    let s = c.in-Some.ensures in
+    rw (p.1, p.2) (book_fails c.args.clues.now c.args.book _ (λ e. book_dies c.args.clues.now _ c.args.book c.loop-line.book _ _ c.derivations_stay_inside.ensures c.facts.ensures.account c.requires.derivation i.closing.closing s.0 (c.in_err-changed.ensures.dead (ap Err e))))
+
+pub returns-in_err-changed-clause-works : goal.returns-in_err-changed-clause-works
+returns-in_err-changed-clause-works g c =
+    let p = err_from_is_err_and c.from_residual.result c.from_residual.ensures.1 in
+    let i = c.loop-line.invariant in
+    rw p.1 (i.closing.evaluations + 1, one_more _ _ _ _ _ _ _ i.closing.counts c.in_err-changed.ensures.counts)
+
+pub loop-line-smaller : goal.loop-line-smaller
+loop-line-smaller g c =
+    let i = c.loop-line.invariant in
+    let s = c.in-Some.ensures in
+    let e = c.in_ok-changed.ensures in
+    book_comes_nearer _ _ _ _ _ _ _ _ _ _ _ _ _ _ _ _ _ i.closing s.0 s.1 e.facts e.comes_to c.put_all-in-Some.ensures e.counts (gains_grows _ _ _ _ _ e.comes_to.gains)
+
+pub loop-line-preserved : goal.loop-line-preserved
+loop-line-preserved g c =
+    let i = c.loop-line.invariant in
+    let s = c.in-Some.ensures in
+    let e = c.in_ok-changed.ensures in
+    let P : ℕ → Type 0 = λ n. ClosingBook c.args.clues.now n c.args.dirty.now c.args.book c.take_turn.new.book (g.A.Agenda.members c.put_all-in-Some.new.self) c.args.meter.now c.take_turn.new.meter (g.E.LineEngine.calls c.args.engine.now) (g.E.LineEngine.calls c.take_turn.new.engine) in
+    record {
+      closing = subst P (sym e.same_longest) (book_goes_on _ _ _ _ _ _ _ _ _ _ _ _ _ _ _ _ _ i.closing s.0 s.1 e.facts e.comes_to c.put_all-in-Some.ensures e.counts);
+      same_longest = e.same_longest ∙ i.same_longest;
+    }
+
+pub returns-clause-closes : goal.returns-clause-closes
+returns-clause-closes g c =
+    book_closes _ _ _ _ _ _ _ _ _ _ c.derivations_stay_inside.ensures c.facts.ensures.account c.requires.derivation c.loop-line.invariant.closing c.in_default.ensures.0
+
+pub returns-clause-trimmed : goal.returns-clause-trimmed
+returns-clause-trimmed g c = all_trimmed _ _ _ _ c.loop-line.invariant.closing.grows

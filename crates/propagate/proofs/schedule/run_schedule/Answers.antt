@@ -1,0 +1,40 @@
+use Rattle.std.proofs.Common.{◌≡◌, ℕ, ◌+◌, ◌<◌, ◌≤◌, drop, length, Err, refl, sym, ap, ◌∙◌, subst, arith}
+use Rattle.std.proofs.lemmas.Result.{err_from_is_err_and}
+use Rattle.propagate.proofs.GrowLemmas.{all_trimmed, one_more}
+use Rattle.propagate.proofs.ScheduleBookLemmas.{Scheduled, next_in_turn, none_left, schedule_dies, schedule_ends, schedule_fails, schedule_goes_on, schedule_has_line, schedule_starts}
+use Rattle.propagate.proofs.WorkLemmas.{nothing_counted}
+use Rattle.propagate.proofs.schedule.run_schedule.Goals as goal
+
+pub loop-line-init : goal.loop-line-init
+loop-line-init g c = record {
+  scheduled = schedule_starts _ _ _ _ c.requires.derivation c.requires.closable;
+  counts = nothing_counted _ _ (omega arith) (omega arith) (omega arith);
+  same_longest = refl;
+}
+
+pub returns-in_err-take_turn-clause-runs : goal.returns-in_err-take_turn-clause-runs
+returns-in_err-take_turn-clause-runs g c =
+    let p = err_from_is_err_and c.from_residual.result c.from_residual.ensures.1 in
+    let next = next_in_turn _ _ _ _ c.args.schedule.now c.loop-line.line-index _ c.loop-line-test.true c.loop-line.invariant.scheduled in
+    rw (p.1, p.2) (schedule_fails c.args.clues.now c.args.book c.args.schedule.now _ (λ e. schedule_dies _ _ _ _ _ _ _ next (c.in_err-take_turn.ensures.dead (ap Err e))))
+
+pub returns-in_err-take_turn-clause-works : goal.returns-in_err-take_turn-clause-works
+returns-in_err-take_turn-clause-works g c =
+    let p = err_from_is_err_and c.from_residual.result c.from_residual.ensures.1 in
+    let l = c.loop-line-test.true in
+    rw p.1 (c.loop-line.line-index + 1, omega arith, one_more _ _ _ _ _ _ _ c.loop-line.invariant.counts c.in_err-take_turn.ensures.counts)
+
+pub loop-line-preserved : goal.loop-line-preserved
+loop-line-preserved g c =
+    let i = c.loop-line.invariant in
+    let e = c.in_ok-take_turn.ensures in
+    let next = next_in_turn _ _ _ _ c.args.schedule.now c.loop-line.line-index _ c.loop-line-test.true i.scheduled in
+    let P : ℕ → Type 0 = λ n. Scheduled c.args.clues.now n c.args.book c.take_turn.new.book c.args.schedule.now (drop (c.loop-line.line-index + 1) c.args.schedule.now) in
+    record {
+      scheduled = subst P (sym e.same_longest) (schedule_goes_on _ _ _ _ _ _ _ next _ _ e.turn e.comes_to);
+      counts = one_more _ _ _ _ _ _ _ i.counts e.counts;
+      same_longest = e.same_longest ∙ i.same_longest;
+    }
+
+pub returns-clause-trimmed : goal.returns-clause-trimmed
+returns-clause-trimmed g c = all_trimmed _ _ _ _ c.loop-line.invariant.scheduled.grows

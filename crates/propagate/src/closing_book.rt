@@ -1,0 +1,49 @@
+ghost use Rattle.std.specs.Prelude.{◌≡◌, IfOk};
+ghost use Rattle.justify.specs.Book.{AreTrimmed, IsDerivation};
+ghost use Rattle.propagate.specs.Closing.{AreClosable, QuietOutside};
+ghost use Rattle.propagate.specs.ClosingBooks.{BookWorks, ClosesBook};
+ghost use Rattle.propagate.specs.LineNames.{AreLinesOf};
+
+use crate::agenda::Agenda;
+use crate::fault::CloseFault;
+use crate::turn::take_turn;
+use clues::ClueBook;
+use justify::Book;
+use justify::laws::derivations_stay_inside;
+use line_settle::{LineEngine, Meter};
+use picture::LineSet;
+
+/// Puts steps behind those of a book until no line forces more: its facts are then the least closed ones over its base.
+/// The book is a derivation from the clues, and every line that is not in `dirty` has to be quiet under its facts: it
+/// forces nothing new, and some list fits it. Dead says that under the least closed facts some line has no list that
+/// fits; the book is dropped then, and where memory is refused. The lines that the agenda had are forgotten.
+pub fn close<E: LineEngine, A: Agenda>(
+    engine: &mut E,
+    agenda: &mut A,
+    book: Book,
+    clues: &ClueBook,
+    dirty: &LineSet,
+    meter: &mut Meter,
+) -> Result<Book, CloseFault>
+    requires closable { AreClosable clues.now (E.longest engine.old) book.facts }
+    requires derivation { IsDerivation clues.now book }
+    requires lines { AreLinesOf book.facts dirty.now }
+    requires quiet { QuietOutside clues.now book.facts dirty.now }
+    ensures closes { ClosesBook clues.now book result }
+    ensures works { BookWorks dirty.now book result meter.old meter.new (E.calls engine.old) (E.calls engine.new) }
+    ensures trimmed { AreTrimmed clues.now book → IfOk result (AreTrimmed clues.now) }
+    ensures same_longest { E.longest engine.new ≡ E.longest engine.old }
+{
+    derivations_stay_inside();
+    let _ = (book.facts().height(), engine.calls());
+    let _evaluations = meter.evaluations;
+    let _trials = meter.trials;
+    let mut book = book;
+    agenda.clear();
+    agenda.put_all(dirty);
+    while let Some(line) = agenda.take() {
+        let changed = take_turn(engine, &mut book, clues, line, meter)?;
+        agenda.put_all(&changed);
+    }
+    Ok(book)
+}

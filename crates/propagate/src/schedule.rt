@@ -1,0 +1,41 @@
+ghost use Rattle.std.specs.Prelude.{◌≡◌, IfOk};
+ghost use Rattle.std.specs.List.{All};
+ghost use Rattle.picture.specs.Rows.{HasLine};
+ghost use Rattle.justify.specs.Book.{AreTrimmed, IsDerivation};
+ghost use Rattle.propagate.specs.Closing.{AreClosable};
+ghost use Rattle.propagate.specs.Schedule.{RunsSchedule, ScheduleWorks};
+
+use crate::fault::CloseFault;
+use crate::turn::take_turn;
+use clues::ClueBook;
+use justify::Book;
+use line_settle::{LineEngine, Meter};
+use picture::LineId;
+
+/// Evaluates the lines of a schedule in turn, each as often as it is named, and puts behind the book's steps one for each
+/// named line that drew something. The book is a derivation from the clues. Dead says that no list fits a named line in
+/// its turn; the book is dropped then, and where memory is refused.
+pub fn run_schedule<E: LineEngine>(
+    engine: &mut E,
+    book: Book,
+    clues: &ClueBook,
+    schedule: &[LineId],
+    meter: &mut Meter,
+) -> Result<Book, CloseFault>
+    requires closable { AreClosable clues.now (E.longest engine.old) book.facts }
+    requires derivation { IsDerivation clues.now book }
+    requires lines { All (HasLine book.facts) schedule.now }
+    ensures runs { RunsSchedule clues.now book schedule.now result }
+    ensures works { ScheduleWorks schedule.now result meter.old meter.new (E.calls engine.old) (E.calls engine.new) }
+    ensures trimmed { AreTrimmed clues.now book → IfOk result (AreTrimmed clues.now) }
+    ensures same_longest { E.longest engine.new ≡ E.longest engine.old }
+{
+    let _ = (book.facts().height(), engine.calls());
+    let _evaluations = meter.evaluations;
+    let _trials = meter.trials;
+    let mut book = book;
+    for line in schedule {
+        take_turn(engine, &mut book, clues, *line, meter)?;
+    }
+    Ok(book)
+}
