@@ -1,18 +1,19 @@
 -- What the clauses of the calls below come to for an audit.
-use Rattle.std.proofs.Common.{◌≡◌, ℕ, ◌<◌, ◌≤◌, List, [], ◌++◌, length, Err, refl, sym, ap, subst, ◌∙◌, arith}
+use Rattle.std.proofs.Common.{◌≡◌, ℕ, ◌<◌, ◌≤◌, List, [], length, inl, inr, Err, refl, sym, ap, subst, ◌∙◌, arith}
+use Rattle.std.proofs.lemmas.Bool.{cases_lt}
+use Rattle.std.proofs.lemmas.List.{get_or_past}
 use Rattle.picture.specs.declared.line_id.Axis.{Axis}
 use Rattle.picture.specs.declared.line_id.Axis.TheVariants.{Across, Down}
-use Rattle.picture.specs.declared.line_id.LineId.{LineId}
-use Rattle.picture.specs.LineSet.{Lines, HasName}
+use Rattle.picture.specs.LineSet.{Lines}
 use Rattle.picture.specs.Picture.{IsPicture}
-use Rattle.picture.specs.Rows.{lines_along, width_of, HasLine}
-use Rattle.clues.specs.Change.{Changes, IsChangeOf, Moves, CanRefresh, lines_after}
+use Rattle.picture.specs.Rows.{cell_at, lines_along, row_at, width_of}
+use Rattle.clues.specs.Change.{Changes, IsChangeOf, CanRefresh, lines_after}
 use Rattle.clues.specs.ClueBook.{Clues, clues_along, clues_of}
 use Rattle.clues.specs.Laws.{CluesAreOfLines, UntouchedCluesStand}
-use Rattle.line_settle.specs.FactSets.{IsFacts, IsLeast, SameShape}
+use Rattle.line_settle.specs.FactSets.{IsFacts, IsLeast, Leaves, SameShape}
 use Rattle.line_settle.specs.Laws.{LeastIsUnique}
 use Rattle.justify.specs.Book.{Account, account, AreTrimmed, IsAccount, IsDerivation}
-use Rattle.retract.specs.Dirty.{AreDirty, ClosedOutside, FitsOutside}
+use Rattle.retract.specs.Dirty.{ClosedOutside, FitsOutside}
 use Rattle.retract.specs.Standing.{HaveBooks}
 use Rattle.propagate.specs.Closing.{AreClosable, HasDeadLine, QuietOutside}
 use Rattle.propagate.specs.declared.fault.CloseFault.{CloseFault}
@@ -21,6 +22,7 @@ use Rattle.propagate.specs.ClosingBooks.{ClosesBook, IsClosedBook}
 use Rattle.propagate.specs.Filling.{Fills}
 use Rattle.propagate.specs.Laws.{ClosingKeepsFillings}
 use Rattle.kept_audit.specs.Audit.{IsAudit, IsBaseOf}
+use Rattle.kept_audit.specs.Laws.{BasesLeavePictures}
 
 -- ---- sizes
 
@@ -96,3 +98,41 @@ no_fault_but_memory clues kept Memory closes never = refl
 -- a book without a step is trimmed
 pub starts_trimmed : (clues : Clues) (base : List (List ℕ)) (book : Account) → book ≡ account base [] base → AreTrimmed clues book
 starts_trimmed clues base book e = let P : Account → Type 0 = λ b. AreTrimmed clues b in subst P (sym e) (λ n l. absurd (omega arith))
+
+-- ---- bases
+
+row_or_past : (rows : List (List ℕ)) (row col : ℕ) → col < length (row_at rows row) → row < length rows
+row_or_past rows row col l = elim (cases_lt row (length rows)) [
+  | inl m ↦ m
+  | inr past ↦
+      let none = ap length (get_or_past rows row [] past) in
+      absurd (omega arith)
+]
+
+pub bases_leave : BasesLeavePictures
+bases_leave givens picture base is b = record {
+  same_shape = b.same_shape;
+  leaves = λ row col l.
+      let r = row_or_past picture row col l in
+      let wide = is.rectangular row r in
+      (b.left row col (cell_at picture row col) r (omega arith)).1 (is.colours row col, λ given. refl);
+}
+
+-- facts of a picture's size that leave each of its colours
+pub base_by_cells : (picture base : List (List ℕ)) → IsPicture picture → IsFacts base → length base ≡ length picture → width_of base ≡ width_of picture
+    → ((row : ℕ) → row < length picture → (col : ℕ) → col < width_of picture → Leaves base row col (cell_at picture row col)) → IsBaseOf picture base
+base_by_cells picture base is facts rows columns leaves = record {
+  same_shape = record {
+    rows = sym rows;
+    each = λ i. elim (cases_lt i (length picture)) [
+      | inl l ↦ is.rectangular i l ∙ (sym columns ∙ sym (facts.rectangular i (omega arith)))
+      | inr past ↦ ap length (get_or_past picture i [] past) ∙ sym (ap length (get_or_past base i [] (omega arith)))
+    ];
+  };
+  leaves = λ row col l.
+      let r = row_or_past picture row col l in
+      let wide = is.rectangular row r in
+      leaves row r col (omega arith);
+}
+
+pub ruleset bases = (bases_leave)

@@ -1,6 +1,5 @@
 -- A picture audited by line logic.
 use Rattle.std.specs.Prelude.{◌≡◌, ℕ, List}
-use Rattle.picture.specs.Rows.{row_at, cell_at}
 use Rattle.clues.specs.ClueBook.{Clues, clues_of}
 use Rattle.line_settle.specs.FactSets.{IsLeast, SameShape}
 use Rattle.justify.specs.Book.{Account, AreTrimmed, IsDerivation}

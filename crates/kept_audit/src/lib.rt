@@ -3,6 +3,7 @@
 #![tactic(auto)]
 
 mod audit;
+pub mod laws;
 #[cfg(test)]
 mod tests;
 

@@ -1,5 +1,5 @@
 -- Books that grow turn by turn, until they are closed or a schedule is over.
-use Rattle.std.proofs.Common.{◌≡◌, ℕ, zero, suc, ◌+◌, ◌-◌, ◌^◌, ◌<◌, ◌≤◌, ◌⊎◌, List, [], ◌∷◌, ◌++◌, length, drop, refl, sym, ap, subst, ◌∙◌, arith, inl, inr, length-append}
+use Rattle.std.proofs.Common.{◌≡◌, ℕ, ◌+◌, ◌-◌, ◌^◌, ◌<◌, ◌≤◌, List, [], ◌∷◌, ◌++◌, length, drop, refl, sym, ap, subst, ◌∙◌, arith, inl, inr, length-append}
 use Rattle.std.specs.Prelude.{Err}
 use Rattle.std.proofs.Math.ListN.{get_or-append}
 use Rattle.std.proofs.Math.Seq.{drop-append_seam, get_or-append_right}
@@ -7,14 +7,14 @@ use Rattle.std.proofs.lemmas.Bool.{cases_lt}
 use Rattle.std.proofs.lemmas.List.{append_assoc, append-nil}
 use Rattle.picture.specs.declared.line_id.LineId.{LineId}
 use Rattle.picture.specs.LineSet.{Lines, HasName, PutsNames, TakesOutName, name_count, no_names}
-use Rattle.picture.specs.Rows.{line_of, HasLine}
+use Rattle.picture.specs.Rows.{line_of}
 use Rattle.picture.proofs.LineSetLaws.{no_names_counted}
 use Rattle.picture.proofs.UnionLemmas.{put_all_counts}
 use Rattle.clues.specs.ClueBook.{Clues, clue_at}
 use Rattle.line_settle.specs.declared.line_engine.Outcome.TheVariants.{Narrowed}
 use Rattle.line_settle.specs.declared.meter.Meter.{Meter}
 use Rattle.line_settle.specs.Counting.{Counts}
-use Rattle.line_settle.specs.FactSets.{IsClosed, IsFacts, IsLeast, IsWithin}
+use Rattle.line_settle.specs.FactSets.{IsFacts, IsWithin}
 use Rattle.line_settle.specs.Fitting.{CanFit}
 use Rattle.line_settle.proofs.AlongLemmas.{same_has_line, shape_sym, shape_trans}
 use Rattle.line_settle.proofs.LawLemmas.{counting_adds, tighter_fits, within_tighter}
@@ -22,7 +22,7 @@ use Rattle.justify.specs.declared.step.Step.{Step}
 use Rattle.justify.specs.Steps.{step_at, IsTrimmed}
 use Rattle.justify.specs.Book.{Account, AreTrimmed, IsAccount, IsDerivation}
 use Rattle.justify.specs.Laws.{DerivationsStayInside}
-use Rattle.propagate.specs.Closing.{EachFits, HasDeadLine, PutsCrossing}
+use Rattle.propagate.specs.Closing.{HasDeadLine, PutsCrossing}
 use Rattle.propagate.specs.declared.fault.CloseFault.{CloseFault}
 use Rattle.propagate.specs.declared.fault.CloseFault.TheVariants.{Dead, Memory}
 use Rattle.propagate.specs.ClosingBooks.{ClosesBook, IsClosedBook, SufficeToClose}

@@ -1,13 +1,11 @@
 -- Books whose lines take their turns as a schedule names them.
-use Rattle.std.proofs.Common.{◌≡◌, ℕ, ◌+◌, ◌<◌, ◌≤◌, ◌⊎◌, List, [], ◌∷◌, ◌++◌, length, drop, get_or, refl, sym, ap, subst, ◌∙◌, arith, inl, inr, Err, drop-cons, add-one}
+use Rattle.std.proofs.Common.{◌≡◌, ℕ, ◌+◌, ◌<◌, ◌≤◌, List, [], ◌∷◌, ◌++◌, length, drop, get_or, refl, sym, subst, inl, inr, Err, drop-cons, add-one}
 use Rattle.std.specs.List.{All}
 use Rattle.std.proofs.lemmas.List.{drop_all}
 use Rattle.picture.specs.declared.line_id.LineId.{LineId}
 use Rattle.picture.specs.LineSet.{Lines}
 use Rattle.picture.specs.Rows.{line_of, HasLine}
 use Rattle.clues.specs.ClueBook.{Clues, clue_at}
-use Rattle.line_settle.specs.declared.meter.Meter.{Meter}
-use Rattle.line_settle.specs.Counting.{Counts}
 use Rattle.line_settle.specs.Fitting.{CanFit}
 use Rattle.line_settle.specs.FactSets.{IsClosed, IsLeast, IsWithin, SameShape}
 use Rattle.line_settle.specs.Laws.{LeastIsUnique}
@@ -23,8 +21,7 @@ use Rattle.propagate.specs.Turns.{Grows, TakesTurn, TakeTurns, Turn}
 use Rattle.propagate.specs.Laws.{SchedulesFillBooks}
 use Rattle.propagate.proofs.ClosingLemmas.{same_sizes, within_trans}
 use Rattle.propagate.proofs.ScheduleLemmas.{schedules_lead_inside}
-use Rattle.propagate.proofs.GrowLemmas.{grown, grows_none, grows_on, one_more}
-use Rattle.propagate.proofs.WorkLemmas.{nothing_counted}
+use Rattle.propagate.proofs.GrowLemmas.{grown, grows_none, grows_on}
 
 -- Behind some lines of a schedule: what the rest of it comes to from here, the whole of it comes to from the start.
 pub record Scheduled (clues : Clues) (longest : ℕ) (start now : Account) (lines rest : List LineId) : Type 0 where

@@ -1,5 +1,5 @@
 -- What a line's turn comes to.
-use Rattle.std.proofs.Common.{◌≡◌, ◌≢◌, ℕ, zero, suc, ◌+◌, ◌<◌, ◌≤◌, ◌^◌, ◌⊎◌, ◌↔◌, List, [], ◌∷◌, ◌++◌, length, refl, sym, ap, subst, ◌∙◌, arith, inl, inr, get_or, bit_and}
+use Rattle.std.proofs.Common.{◌≡◌, ◌≢◌, ℕ, zero, suc, ◌+◌, ◌<◌, ◌≤◌, ◌^◌, ◌⊎◌, ◌↔◌, List, [], ◌∷◌, length, refl, sym, ap, subst, ◌∙◌, arith, inl, inr, get_or, bit_and}
 use Rattle.std.specs.Prelude.{IsBitSet}
 use Rattle.std.specs.Int.{w16, trailing_zeros}
 use Rattle.std.proofs.lemmas.Bool.{cases_eq}
@@ -24,7 +24,7 @@ use Rattle.justify.specs.Steps.{step_at, IsTrimmed}
 use Rattle.justify.specs.Book.{Account, Adds, GainDrawn, IsAccount, IsDerivation}
 use Rattle.justify.specs.Laws.{DerivationsGrow, NewStepsDerive, NewStepsFollow}
 use Rattle.justify.specs.Making.{DrawsNothing, IsNewStep}
-use Rattle.propagate.specs.Turns.{cells_drawn, CrossesDrawn, Grows, TakesTurn, Turn}
+use Rattle.propagate.specs.Turns.{CrossesDrawn, Turn}
 
 -- ---- the lines that cross a step where it draws
 

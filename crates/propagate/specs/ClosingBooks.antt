@@ -1,5 +1,5 @@
 -- Books closed line by line.
-use Rattle.std.specs.Prelude.{◌≡◌, ℕ, ◌+◌, ◌≤◌, List, length, Result, Ok, Err}
+use Rattle.std.specs.Prelude.{ℕ, ◌+◌, ◌≤◌, List, length, Result, Ok, Err}
 use Rattle.picture.specs.LineSet.{Lines, name_count}
 use Rattle.clues.specs.ClueBook.{Clues}
 use Rattle.line_settle.specs.declared.meter.Meter.{Meter}

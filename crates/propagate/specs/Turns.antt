@@ -1,12 +1,12 @@
 -- Lines that draw steps into a book, each in its turn.
-use Rattle.std.specs.Prelude.{◌≡◌, ℕ, zero, suc, ◌+◌, ◌<◌, ◌≤◌, ◌⊎◌, ◌↔◌, List, [], ◌∷◌, ◌++◌, length, drop}
+use Rattle.std.specs.Prelude.{◌≡◌, ℕ, ◌+◌, ◌<◌, ◌≤◌, ◌⊎◌, ◌↔◌, List, [], ◌∷◌, ◌++◌, length, drop}
 use Rattle.picture.specs.declared.line_id.LineId.{LineId}
 use Rattle.picture.specs.LineSet.{Lines, HasName, name_count}
 use Rattle.picture.specs.Rows.{line_of}
 use Rattle.clues.specs.ClueBook.{Clues, clue_at}
 use Rattle.line_settle.specs.declared.line_engine.Outcome.TheVariants.{Narrowed}
 use Rattle.line_settle.specs.Crossing.{CrossesChange, crossing_at}
-use Rattle.line_settle.specs.FactSets.{Gains, SameShape}
+use Rattle.line_settle.specs.FactSets.{Gains}
 use Rattle.justify.specs.declared.fault.StepFault.{StepFault}
 use Rattle.justify.specs.declared.fault.StepFault.TheVariants as step
 use Rattle.justify.specs.declared.step.Step.{Step}

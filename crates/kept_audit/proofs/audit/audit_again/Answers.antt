@@ -1,4 +1,3 @@
-use Rattle.std.proofs.Common.{Err, refl, sym, ap, ◌∙◌, subst, arith}
 use Rattle.std.proofs.lemmas.Result.{err_from_is_err_and}
 use Rattle.propagate.specs.Closing.{HasDeadLine}
 use Rattle.kept_audit.proofs.AuditLemmas.{audit_of, never_dead, no_fault_but_memory, quiet_outside, same_as_fresh}

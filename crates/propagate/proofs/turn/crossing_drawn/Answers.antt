@@ -1,9 +1,7 @@
-use Rattle.std.proofs.Common.{◌≡◌, ℕ, ◌<◌, List, length, refl, sym, ap, ◌∙◌, subst, arith}
+use Rattle.std.proofs.Common.{ap, arith}
 use Rattle.picture.specs.declared.line_id.LineId.{LineId}
-use Rattle.justify.specs.declared.premise.Premise.{Premise}
-use Rattle.justify.specs.Premises.{premise_at}
 use Rattle.picture.specs.LineSet.{mask_along}
-use Rattle.propagate.proofs.TurnLemmas.{CrossesSoFar, crosses_all, crosses_more, drawn_place, named_or_not}
+use Rattle.propagate.proofs.TurnLemmas.{crosses_all, crosses_more, drawn_place, named_or_not}
 use Rattle.propagate.proofs.turn.crossing_drawn.Goals as goal
 
 pub put-requires : goal.put-requires
