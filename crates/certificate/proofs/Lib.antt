@@ -1,0 +1,7 @@
+pub mod ColourLemmas
+pub mod Exactness
+pub mod GivenLemmas
+pub mod PendingLemmas
+pub mod ShowingLemmas
+pub mod Soundness
+pub mod WalkLemmas

@@ -1,0 +1,39 @@
+-- Masks with one colour alone.
+use Rattle.std.proofs.Common.{◌≡◌, ℕ, ◌*◌, ◌%◌, ◌^◌, ◌<◌, ◌≤◌, ◌↔◌, List, [], sym, ap, subst, ◌∙◌, arith, inl, inr, length, get_or, bit_and}
+use Rattle.std.specs.Prelude.{IsBitSet}
+use Rattle.std.specs.Int.{bit_not, w16}
+use Rattle.std.proofs.lemmas.Bool.{cases_eq, cases_lt}
+use Rattle.std.proofs.lemmas.List.{get_or_past}
+use Rattle.picture.specs.Rows.{width_of, row_at, cell_at}
+use Rattle.line_settle.specs.FactSets.{Leaves, SameShape}
+use Rattle.line_settle.proofs.MaskLemmas.{no_bit, power_has, same_bits, shifted, without_bit}
+
+-- no bit is left beside one exactly where every bit is that one
+pub only_bit : (left colour low : ℕ) → left < 2 ^ 16 → colour < 16 → low ≡ 1 * 2 ^ colour % 65536 → (bit_and left (bit_not w16 low) ≡ 0) ↔ ((k : ℕ) → IsBitSet left k → k ≡ colour)
+only_bit left colour low q c e =
+    let is : low ≡ 2 ^ colour = e ∙ shifted colour c in
+    let Q : ℕ → Type 0 = λ n. (j : ℕ) → IsBitSet n j ↔ (j ≡ colour) in
+    let one : (j : ℕ) → IsBitSet low j ↔ (j ≡ colour) = subst Q (sym is) (power_has colour) in
+    let small : low < 2 ^ 16 = omega arith in
+    let rest = bit_and left (bit_not w16 low) in (
+      (λ z k s. elim (cases_eq k colour) [
+        | inl i ↦ i
+        | inr n ↦ let P : ℕ → Type 0 = λ m. IsBitSet m k in absurd (no_bit k (subst P z ((without_bit left low k q small).1 (s, λ t. n ((one k).0 t)))))
+      ]),
+      (λ h. same_bits rest 0
+          (λ k. (
+            (λ s. let b = (without_bit left low k q small).0 s in absurd (b.1 ((one k).1 (h k b.0)))),
+            (λ s. absurd (no_bit k s)),
+          ))),
+    )
+
+pub ruleset one_mask = (only_bit)
+
+-- past the last column nothing is left
+pub past_row : (facts : List (List ℕ)) (row col k : ℕ) → length (row_at facts row) ≤ col → Leaves facts row col k → ⊥
+past_row facts row col k h s = let P : ℕ → Type 0 = λ m. IsBitSet m k in no_bit k (subst P (get_or_past (row_at facts row) col 0 h) s)
+
+-- below the last row nothing is left
+pub past_rows : (facts : List (List ℕ)) (row col k : ℕ) → length facts ≤ row → Leaves facts row col k → ⊥
+past_rows facts row col k h s =
+    past_row facts row col k (let e : row_at facts row ≡ [] = get_or_past facts row [] h in rw e (omega arith)) s

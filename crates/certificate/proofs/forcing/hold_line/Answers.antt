@@ -1,0 +1,16 @@
+use Rattle.std.proofs.Common.{arith, refl, ◌∙◌, ap, sym, subst}
+use Rattle.line_settle.proofs.AlongLemmas.{shape_sym, written_more, written_all}
+use Rattle.certificate.proofs.PendingLemmas.{moved_inside}
+use Rattle.certificate.proofs.forcing.hold_line.Goals as goal
+
+pub loop-i-preserved : goal.loop-i-preserved
+loop-i-preserved c =
+    let kept = c.loop-i.invariant in
+    record {
+      written = written_more c.args.line c.args.facts.now c.loop-i.facts c.hold_at.new.facts c.args.masks.now c.loop-i.i _ c.hold_at.ensures.facts c.requires.line c.requires.whole (omega arith) refl kept.written c.in_ok-hold_at.ensures.value;
+      waits = c.in_ok-hold_at.ensures.pending ∙ kept.waits;
+      inside = moved_inside c.loop-i.facts c.args.facts.now _ (shape_sym kept.written.same_shape) c.in_ok-hold_at.ensures.inside;
+    }
+
+pub returns-clause-holds : goal.returns-clause-holds
+returns-clause-holds c = written_all c.args.line c.args.facts.now c.loop-i.facts c.args.masks.now c.loop-i.i c.requires.whole (omega arith) c.loop-i.invariant.written

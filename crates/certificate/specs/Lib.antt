@@ -1,0 +1,6 @@
+pub mod Cert
+pub mod Faults
+pub mod FirstFault
+pub mod Puzzle
+pub mod Tree
+pub mod Walk

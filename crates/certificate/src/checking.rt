@@ -1,0 +1,91 @@
+//! The checker of certificates.
+
+ghost use Rattle.std.specs.Prelude.{◌≡◌, ℕ, ◌≤◌, ◌<◌, ◌+◌, ◌∷◌, ◌^◌, [], length, IfErr, OnOk, List, Option, Some};
+ghost use Rattle.picture.specs.Picture.{IsPicture};
+ghost use Rattle.picture.specs.Rows.{width_of};
+ghost use Rattle.line_settle.specs.FactSets.{SameShape};
+ghost use Rattle.certificate.specs.declared.line.CertLine.{CertLine};
+ghost use Rattle.certificate.specs.FirstFault.{AnswersFirst, CertFirstFault, FirstFault, FirstFaultBehind};
+ghost use Rattle.certificate.specs.Puzzle.{HasCellNumbers, IsUnique};
+ghost use Rattle.certificate.specs.Tree.{IsProof};
+ghost use Rattle.certificate.specs.Walk.{GivesBase};
+
+use crate::cert::Cert;
+use crate::fault::CertFault;
+use crate::line::CellNumber;
+use crate::places::cell_in;
+use crate::walk::walk;
+use clues::ClueBook;
+use line_settle::{Facts, LineEngine};
+use picture::Picture;
+use std::alloc::Global;
+
+// The line below which the givens stand.
+const FIRST_LINES: usize = 2;
+
+// Holds each given to the picture's colour.
+fn set_givens(picture: &Picture, facts: &mut Facts, givens: &[CellNumber]) -> Result<(), CertFault>
+    requires same_shape { SameShape picture.now facts.old }
+    requires few { FIRST_LINES + length givens.now < 2 ^ 64 }
+    ensures { GivesBase picture.now facts.old givens.now result facts.new }
+{
+    for (i, given) in givens.iter().enumerate() {
+        let Some((row, col)) = cell_in(picture, *given) else {
+            return Err(CertFault::Place(FIRST_LINES + i));
+        };
+        facts.set_left(row, col, 1 << picture.cell(row, col));
+    }
+    Ok(())
+}
+
+// Answers the first fault of a certificate.
+fn first_fault<E: LineEngine>(
+    alloc: Global,
+    engine: &mut E,
+    picture: &Picture,
+    cert: &Cert,
+) -> Result<(), CertFault>
+    requires wide { width_of picture.now ≤ E.longest engine.old }
+    requires tall { length picture.now ≤ E.longest engine.old }
+    ensures first { AnswersFirst (CertFirstFault picture.now cert.now) result }
+    ensures picture { IsPicture picture.now }
+    ensures same_longest { E.longest engine.new ≡ E.longest engine.old }
+{
+    let mut facts = Facts::none(alloc, picture.height(), picture.width())?;
+    let book = ClueBook::of(alloc, picture)?;
+    set_givens(picture, &mut facts, cert.givens())?;
+    let first = FIRST_LINES + cert.givens_len();
+    walk(
+        alloc,
+        engine,
+        picture,
+        &book,
+        &mut facts,
+        cert.lines(),
+        first,
+    )
+}
+
+#[tactic(auto, using(crate::proofs::Exactness::answering))]
+/// Checks a certificate of a picture: whether no other picture has its clues and, in the certificate's givens, its colours.
+/// No line of the picture may be longer than the engine takes.
+///
+/// The answer is Ok exactly where the givens lie in the picture and the lines are a tree that proves it; else it is the
+/// first fault from the top with its line. The memory taken is bounded by the picture's cells and the colours, however long
+/// the certificate is, and a refused growth is answered as `Memory`.
+pub fn check_cert<E: LineEngine>(
+    alloc: Global,
+    engine: &mut E,
+    picture: &Picture,
+    cert: &Cert,
+) -> Result<(), CertFault>
+    requires wide { width_of picture.now ≤ E.longest engine.old }
+    requires tall { length picture.now ≤ E.longest engine.old }
+    ensures first { AnswersFirst (CertFirstFault picture.now cert.now) result }
+    ensures proof { OnOk result (IsProof picture.now cert.now) }
+    ensures only { IsProof picture.now cert.now → IfErr result (λ e. e ≡ CertFault.Memory) }
+    ensures unique { OnOk result (IsUnique picture.now cert.now.givens) }
+    ensures same_longest { E.longest engine.new ≡ E.longest engine.old }
+{
+    first_fault(alloc, engine, picture, cert)
+}

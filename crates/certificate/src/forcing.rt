@@ -1,0 +1,152 @@
+ghost use Rattle.std.specs.Prelude.{◌≡◌, ◌<◌, ◌≤◌, ◌↔◌, length, reverse, slice_index, IfErr, OnOk, IsTrue};
+ghost use Rattle.picture.specs.Rows.{HasLine, line_of, width_of, with_cell};
+ghost use Rattle.line_settle.specs.declared.line_engine.Outcome.{Outcome};
+ghost use Rattle.line_settle.specs.FactSets.{Gains, HoldsLine, IsFacts, col_on, row_on};
+ghost use Rattle.line_settle.specs.Fitting.{CanFit};
+ghost use Rattle.line_settle.specs.Narrowing.{Narrows};
+ghost use Rattle.certificate.specs.Walk.{AreInside, pending};
+
+use crate::fault::CertFault;
+use crate::notes::{Note, hold};
+use clues::Clue;
+use line_settle::{Facts, LineEngine, Outcome};
+use picture::{Axis, LineId, MAX_SIDE};
+
+// No line has more cells.
+const MOST_CELLS: usize = MAX_SIDE as usize;
+
+// Finds which colours the cells of a line can have by its clue.
+fn narrow_line<E: LineEngine>(
+    engine: &mut E,
+    facts: &Facts,
+    clue: &Clue,
+    line: LineId,
+    out: &mut [u16],
+) -> Outcome
+    requires line { HasLine facts.now line }
+    requires short { length (line_of facts.now line) ≤ E.longest engine.old }
+    requires whole { length out.old ≡ length (line_of facts.now line) }
+    requires fits { length out.old ≤ MAX_SIDE }
+    ensures narrows { Narrows clue.now (line_of facts.now line) result out.new }
+    ensures same_longest { E.longest engine.new ≡ E.longest engine.old }
+{
+    let mut left = [0; MOST_CELLS];
+    let mut count = 0;
+    let cells = out.len();
+    facts.copy_line(line, &mut left[..cells]);
+    engine.narrow(&mut count, clue, &left[..cells], out)
+}
+
+// Whether no list of colours fits a line.
+pub(crate) fn is_dead<E: LineEngine>(
+    engine: &mut E,
+    facts: &Facts,
+    clue: &Clue,
+    line: LineId,
+) -> bool
+    requires line { HasLine facts.now line }
+    requires short { length (line_of facts.now line) ≤ E.longest engine.old }
+    ensures dead { IsTrue result ↔ (CanFit clue.now (line_of facts.now line) → ⊥) }
+    ensures same_longest { E.longest engine.new ≡ E.longest engine.old }
+{
+    let mut out = [0; MOST_CELLS];
+    let cells = usize::from(facts.line_len(line));
+    match narrow_line(engine, facts, clue, line, &mut out[..cells]) {
+        Outcome::Dead => true,
+        Outcome::Narrowed => false,
+    }
+}
+
+#[tactic(auto, using(line_settle::proofs::AlongLemmas::places))]
+// Gives the cell at a place of a line other colours, with a note.
+fn hold_at(
+    facts: &mut Facts,
+    notes: &mut Vec<Note>,
+    line: LineId,
+    i: u8,
+    mask: u16,
+) -> Result<(), CertFault>
+    requires line { HasLine facts.old line }
+    requires place { i < length (line_of facts.old line) }
+    requires inside { AreInside (length facts.old) (width_of facts.old) (reverse notes.old.items) }
+    ensures value { OnOk result (facts.new ≡ with_cell facts.old (row_on line.axis line.at i) (col_on line.axis line.at i) mask) }
+    ensures pending { OnOk result (pending facts.new (reverse notes.new.items) ≡ pending facts.old (reverse notes.old.items)) }
+    ensures inside { OnOk result (AreInside (length facts.old) (width_of facts.old) (reverse notes.new.items)) }
+    ensures err { IfErr result (λ e. e ≡ CertFault.Memory) }
+    ensures facts { IsFacts facts.old }
+{
+    let _ = facts.height();
+    match line.axis {
+        Axis::Across => hold(facts, notes, line.at, i, mask),
+        Axis::Down => hold(facts, notes, i, line.at, mask),
+    }
+}
+
+// Gives the cells of a line other colours, with notes.
+fn hold_line(
+    facts: &mut Facts,
+    notes: &mut Vec<Note>,
+    line: LineId,
+    masks: &[u16],
+) -> Result<(), CertFault>
+    requires line { HasLine facts.old line }
+    requires whole { length masks.now ≡ length (line_of facts.old line) }
+    requires fits { length masks.now ≤ MAX_SIDE }
+    requires inside { AreInside (length facts.old) (width_of facts.old) (reverse notes.old.items) }
+    ensures holds { OnOk result (HoldsLine line facts.old facts.new masks.now) }
+    ensures pending { OnOk result (pending facts.new (reverse notes.new.items) ≡ pending facts.old (reverse notes.old.items)) }
+    ensures inside { OnOk result (AreInside (length facts.old) (width_of facts.old) (reverse notes.new.items)) }
+    ensures err { IfErr result (λ e. e ≡ CertFault.Memory) }
+{
+    for i in 0..masks.len() {
+        hold_at(facts, notes, line, i as u8, masks[i])?;
+    }
+    Ok(())
+}
+
+// Adds to the facts all that a line forces by its clue, with notes. The buffer is as long as the line.
+fn force_by<E: LineEngine>(
+    engine: &mut E,
+    facts: &mut Facts,
+    notes: &mut Vec<Note>,
+    clue: &Clue,
+    line: LineId,
+    out: &mut [u16],
+) -> Result<(), CertFault>
+    requires line { HasLine facts.old line }
+    requires short { length (line_of facts.old line) ≤ E.longest engine.old }
+    requires whole { length out.old ≡ length (line_of facts.old line) }
+    requires fits { length out.old ≤ MAX_SIDE }
+    requires inside { AreInside (length facts.old) (width_of facts.old) (reverse notes.old.items) }
+    ensures gains { OnOk result ((outcome : Outcome) × Gains clue.now line facts.old facts.new outcome) }
+    ensures pending { OnOk result (pending facts.new (reverse notes.new.items) ≡ pending facts.old (reverse notes.old.items)) }
+    ensures inside { OnOk result (AreInside (length facts.old) (width_of facts.old) (reverse notes.new.items)) }
+    ensures err { IfErr result (λ e. e ≡ CertFault.Memory) }
+    ensures same_longest { E.longest engine.new ≡ E.longest engine.old }
+{
+    let _outcome = narrow_line(engine, facts, clue, line, out);
+    hold_line(facts, notes, line, out)?;
+    Ok(())
+}
+
+// The same, with a buffer of its own.
+pub(crate) fn force<E: LineEngine>(
+    engine: &mut E,
+    facts: &mut Facts,
+    notes: &mut Vec<Note>,
+    clue: &Clue,
+    line: LineId,
+) -> Result<(), CertFault>
+    requires line { HasLine facts.old line }
+    requires short { length (line_of facts.old line) ≤ E.longest engine.old }
+    requires inside { AreInside (length facts.old) (width_of facts.old) (reverse notes.old.items) }
+    ensures gains { OnOk result ((outcome : Outcome) × Gains clue.now line facts.old facts.new outcome) }
+    ensures pending { OnOk result (pending facts.new (reverse notes.new.items) ≡ pending facts.old (reverse notes.old.items)) }
+    ensures inside { OnOk result (AreInside (length facts.old) (width_of facts.old) (reverse notes.new.items)) }
+    ensures err { IfErr result (λ e. e ≡ CertFault.Memory) }
+    ensures same_longest { E.longest engine.new ≡ E.longest engine.old }
+{
+    let mut out = [0; MOST_CELLS];
+    let cells = usize::from(facts.line_len(line));
+    force_by(engine, facts, notes, clue, line, &mut out[..cells])
+}

@@ -1,0 +1,186 @@
+ghost use Rattle.certificate.specs.Cert.{IsWritable};
+
+use crate::{CellNumber, Cert, CertFault, CertLine, LineNumber, check_cert};
+use line_settle::{LineEngine, PlainEngine};
+use picture::{Axis, Picture};
+use std::alloc::{AllocError, Global};
+use std::process::Abort;
+
+// The first row, and so on, as a certificate names them.
+const TOP: LineNumber = LineNumber {
+    axis: Axis::Across,
+    number: 1,
+};
+
+const BELOW: LineNumber = LineNumber {
+    axis: Axis::Across,
+    number: 2,
+};
+
+const LEFT: LineNumber = LineNumber {
+    axis: Axis::Down,
+    number: 1,
+};
+
+const RIGHT: LineNumber = LineNumber {
+    axis: Axis::Down,
+    number: 2,
+};
+
+const CORNER: CellNumber = CellNumber { row: 1, col: 1 };
+
+// A picture of two rows and two columns.
+fn square(alloc: Global, first: [u8; 2], second: [u8; 2]) -> Result<Picture, AllocError> {
+    let mut picture = Picture::blank(alloc, 2, 2)?;
+    picture.set(0, 0, first[0] % 16);
+    picture.set(0, 1, first[1] % 16);
+    picture.set(1, 0, second[0] % 16);
+    picture.set(1, 1, second[1] % 16);
+    Ok(picture)
+}
+
+// What checking a certificate of a picture answers.
+fn checked(
+    rt: &impl Abort,
+    alloc: Global,
+    picture: &Picture,
+    cert: &Cert,
+) -> Result<(), CertFault> {
+    let mut engine = PlainEngine::make(alloc, 2)?;
+    assert!(rt; picture.width() <= engine.longest() && picture.height() <= engine.longest());
+    check_cert(alloc, &mut engine, picture, cert)
+}
+
+// `a./.b`, whose clues are r 1: 1a, r 2: 1b, c 1: 1a, c 2: 1b.
+fn two_colours(alloc: Global) -> Result<Picture, AllocError> {
+    square(alloc, [1, 0], [0, 2])
+}
+
+// `a./.a`, which has the clues of `.a/a.`.
+fn diagonal(alloc: Global) -> Result<Picture, AllocError> {
+    square(alloc, [1, 0], [0, 1])
+}
+
+// The worked certificate for `a./.b`.
+fn whole(alloc: Global) -> Result<Cert, AllocError> {
+    let lines = vec![in alloc;
+        CertLine::Line(TOP),
+        CertLine::Split(CORNER),
+        CertLine::Line(LEFT),
+        CertLine::Dead(BELOW),
+        CertLine::Line(TOP),
+        CertLine::Line(LEFT),
+        CertLine::Line(RIGHT),
+        CertLine::Done,
+    ]?;
+    Ok(Cert::new(1, Vec::new(alloc), lines))
+}
+
+#[test]
+fn a_whole_tree_is_accepted(rt: HostRuntime) {
+    let alloc = rt.alloc();
+    let picture = two_colours(alloc).expect(&rt, "a picture");
+    let cert = whole(alloc).expect(&rt, "a certificate");
+    assert_eq!(rt; cert.version(), 1);
+    assert_eq!(rt; cert.givens_len(), 0);
+    assert_eq!(rt; cert.lines().len(), 8);
+    assert_eq!(rt; checked(&rt, alloc, &picture, &cert), Ok(()));
+}
+
+// A certificate of version 1 with two lines.
+fn two_lines(alloc: Global, first: CertLine, second: CertLine) -> Result<Cert, AllocError>
+    requires first { IsWritable first }
+    requires second { IsWritable second }
+{
+    let lines = vec![in alloc; first, second]?;
+    Ok(Cert::new(1, Vec::new(alloc), lines))
+}
+
+// A certificate of version 1 with one line.
+fn one_line(alloc: Global, line: CertLine) -> Result<Cert, AllocError>
+    requires { IsWritable line }
+{
+    let lines = vec![in alloc; line]?;
+    Ok(Cert::new(1, Vec::new(alloc), lines))
+}
+
+#[test]
+fn an_open_cell_is_not_done(rt: HostRuntime) {
+    let alloc = rt.alloc();
+    let picture = diagonal(alloc).expect(&rt, "a picture");
+    let cert = one_line(alloc, CertLine::Done).expect(&rt, "a certificate");
+    assert_eq!(rt;
+        checked(&rt, alloc, &picture, &cert),
+        Err(CertFault::NotDone(2))
+    );
+}
+
+#[test]
+fn a_line_with_a_list_that_fits_is_not_dead(rt: HostRuntime) {
+    let alloc = rt.alloc();
+    let picture = diagonal(alloc).expect(&rt, "a picture");
+    let cert = one_line(alloc, CertLine::Dead(TOP)).expect(&rt, "a certificate");
+    assert_eq!(rt;
+        checked(&rt, alloc, &picture, &cert),
+        Err(CertFault::NotDead(2))
+    );
+}
+
+#[test]
+fn a_line_past_the_picture(rt: HostRuntime) {
+    let alloc = rt.alloc();
+    let picture = diagonal(alloc).expect(&rt, "a picture");
+    let third = LineNumber {
+        axis: Axis::Across,
+        number: 3,
+    };
+    let cert = one_line(alloc, CertLine::Line(third)).expect(&rt, "a certificate");
+    assert_eq!(rt;
+        checked(&rt, alloc, &picture, &cert),
+        Err(CertFault::Place(2))
+    );
+}
+
+#[test]
+fn a_tree_that_is_not_whole(rt: HostRuntime) {
+    let alloc = rt.alloc();
+    let picture = two_colours(alloc).expect(&rt, "a picture");
+    let cert = two_lines(alloc, CertLine::Line(TOP), CertLine::Split(CORNER)).expect(
+        &rt,
+        "a certificate",
+    );
+    assert_eq!(rt;
+        checked(&rt, alloc, &picture, &cert),
+        Err(CertFault::Ended(4))
+    );
+}
+
+#[test]
+fn names_and_lines_of_faults(rt: HostRuntime) {
+    assert_eq!(rt; CertFault::Ended(9).name(), "Ended");
+    assert_eq!(rt; CertFault::Ended(9).place(), Some(9));
+    assert_eq!(rt; CertFault::Memory.name(), "Memory");
+    assert_eq!(rt; CertFault::Memory.place(), None);
+}
+
+// The worked certificate for `a./.a` with a given corner.
+fn with_corner(alloc: Global) -> Result<Cert, AllocError> {
+    let givens = vec![in alloc; CORNER]?;
+    let lines = vec![in alloc;
+        CertLine::Line(TOP),
+        CertLine::Line(LEFT),
+        CertLine::Line(BELOW),
+        CertLine::Done,
+    ]?;
+    Ok(Cert::new(2, givens, lines))
+}
+
+#[test]
+fn a_given_holds_its_cell(rt: HostRuntime) {
+    let alloc = rt.alloc();
+    let picture = diagonal(alloc).expect(&rt, "a picture");
+    let cert = with_corner(alloc).expect(&rt, "a certificate");
+    assert_eq!(rt; cert.givens_len(), 1);
+    assert_eq!(rt; cert.givens().len(), 1);
+    assert_eq!(rt; checked(&rt, alloc, &picture, &cert), Ok(()));
+}

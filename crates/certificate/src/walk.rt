@@ -1,0 +1,150 @@
+ghost use Rattle.std.specs.Prelude.{◌≡◌, ℕ, ◌+◌, ◌<◌, ◌≤◌, ◌^◌, ◌∷◌, [], length, reverse, Option};
+ghost use Rattle.certificate.specs.declared.line.CertLine.TheVariants as line;
+ghost use Rattle.certificate.specs.FirstFault.{AnswersFirst, FirstFault};
+ghost use Rattle.certificate.specs.Walk.{CanCheck, IsWalk, Takes};
+
+use crate::fault::CertFault;
+use crate::forcing::{force, is_dead};
+use crate::line::{CellNumber, CertLine, LineNumber};
+use crate::notes::{Note, end_branch, split};
+use crate::places::{cell_in, line_at};
+use crate::showing::shows_only;
+use clues::ClueBook;
+use line_settle::{Facts, LineEngine};
+use picture::Picture;
+use std::alloc::Global;
+
+// Takes a `line`: the branch goes on with what it forces.
+fn take_forced<E: LineEngine>(
+    engine: &mut E,
+    picture: &Picture,
+    book: &ClueBook,
+    facts: &mut Facts,
+    notes: &mut Vec<Note>,
+    at: LineNumber,
+    number: usize,
+) -> Result<bool, CertFault>
+    requires can { CanCheck picture.now book.now (E.longest engine.old) }
+    requires walk { IsWalk picture.now facts.old (reverse notes.old.items) }
+    ensures takes { Takes picture.now facts.old (reverse notes.old.items) (line.Line at) number result facts.new (reverse notes.new.items) }
+    ensures same_longest { E.longest engine.new ≡ E.longest engine.old }
+{
+    let Some(line) = line_at(picture, at) else {
+        return Err(CertFault::Place(number));
+    };
+    force(engine, facts, notes, book.clue(line), line)?;
+    Ok(true)
+}
+
+// Takes a `dead`: the branch ends.
+fn take_dead<E: LineEngine>(
+    engine: &mut E,
+    picture: &Picture,
+    book: &ClueBook,
+    facts: &mut Facts,
+    notes: &mut Vec<Note>,
+    at: LineNumber,
+    number: usize,
+) -> Result<bool, CertFault>
+    requires can { CanCheck picture.now book.now (E.longest engine.old) }
+    requires walk { IsWalk picture.now facts.old (reverse notes.old.items) }
+    ensures takes { Takes picture.now facts.old (reverse notes.old.items) (line.Dead at) number result facts.new (reverse notes.new.items) }
+    ensures same_longest { E.longest engine.new ≡ E.longest engine.old }
+{
+    let Some(line) = line_at(picture, at) else {
+        return Err(CertFault::Place(number));
+    };
+    if !is_dead(engine, facts, book.clue(line), line) {
+        return Err(CertFault::NotDead(number));
+    }
+    let going = end_branch(facts, notes)?;
+    Ok(going)
+}
+
+// Takes a `split`: the branch of the cell's lowest colour begins.
+fn take_split(
+    picture: &Picture,
+    facts: &mut Facts,
+    notes: &mut Vec<Note>,
+    cell: CellNumber,
+    number: usize,
+) -> Result<bool, CertFault>
+    requires walk { IsWalk picture.now facts.old (reverse notes.old.items) }
+    ensures takes { Takes picture.now facts.old (reverse notes.old.items) (line.Split cell) number result facts.new (reverse notes.new.items) }
+{
+    let Some((row, col)) = cell_in(picture, cell) else {
+        return Err(CertFault::Place(number));
+    };
+    let going = split(facts, notes, row, col)?;
+    Ok(going)
+}
+
+// Takes a `done`: the branch ends.
+fn take_done(
+    picture: &Picture,
+    facts: &mut Facts,
+    notes: &mut Vec<Note>,
+    number: usize,
+) -> Result<bool, CertFault>
+    requires walk { IsWalk picture.now facts.old (reverse notes.old.items) }
+    ensures takes { Takes picture.now facts.old (reverse notes.old.items) line.Done number result facts.new (reverse notes.new.items) }
+{
+    if !shows_only(facts, picture) {
+        return Err(CertFault::NotDone(number));
+    }
+    let going = end_branch(facts, notes)?;
+    Ok(going)
+}
+
+// Takes a line with its number, and says whether a branch is at hand behind it.
+fn take_line<E: LineEngine>(
+    engine: &mut E,
+    picture: &Picture,
+    book: &ClueBook,
+    facts: &mut Facts,
+    notes: &mut Vec<Note>,
+    line: CertLine,
+    number: usize,
+) -> Result<bool, CertFault>
+    requires can { CanCheck picture.now book.now (E.longest engine.old) }
+    requires walk { IsWalk picture.now facts.old (reverse notes.old.items) }
+    ensures takes { Takes picture.now facts.old (reverse notes.old.items) line number result facts.new (reverse notes.new.items) }
+    ensures same_longest { E.longest engine.new ≡ E.longest engine.old }
+{
+    match line {
+        CertLine::Line(at) => take_forced(engine, picture, book, facts, notes, at, number),
+        CertLine::Split(cell) => take_split(picture, facts, notes, cell, number),
+        CertLine::Dead(at) => take_dead(engine, picture, book, facts, notes, at, number),
+        CertLine::Done => take_done(picture, facts, notes, number),
+    }
+}
+
+// Takes the lines from the root on, of which the first has a number, and answers the first fault.
+pub(crate) fn walk<E: LineEngine>(
+    alloc: Global,
+    engine: &mut E,
+    picture: &Picture,
+    book: &ClueBook,
+    facts: &mut Facts,
+    lines: &[CertLine],
+    first: usize,
+) -> Result<(), CertFault>
+    requires can { CanCheck picture.now book.now (E.longest engine.old) }
+    requires walk { IsWalk picture.now facts.old [] }
+    requires few { first + length lines.now < 2 ^ 64 }
+    ensures first { AnswersFirst (FirstFault picture.now (facts.old ∷ []) first lines.now) result }
+    ensures same_longest { E.longest engine.new ≡ E.longest engine.old }
+{
+    let mut notes = Vec::new(alloc);
+    let mut going = true;
+    for (i, line) in lines.iter().enumerate() {
+        if !going {
+            return Err(CertFault::Trailing(first + i));
+        }
+        going = take_line(engine, picture, book, facts, &mut notes, *line, first + i)?;
+    }
+    if going {
+        return Err(CertFault::Ended(first + lines.len()));
+    }
+    Ok(())
+}
