@@ -7,6 +7,8 @@ use std::test::Fail;
 
 mod changing;
 mod growing;
+mod history;
+mod history_growing;
 mod listing;
 mod refusing;
 mod reverting;
