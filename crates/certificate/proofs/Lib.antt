@@ -2,6 +2,8 @@ pub mod ColourLemmas
 pub mod Exactness
 pub mod GivenLemmas
 pub mod PendingLemmas
+pub mod ReadLemmas
 pub mod ShowingLemmas
 pub mod Soundness
 pub mod WalkLemmas
+pub mod WordLemmas

@@ -2,5 +2,6 @@ pub mod Cert
 pub mod Faults
 pub mod FirstFault
 pub mod Puzzle
+pub mod Text
 pub mod Tree
 pub mod Walk

@@ -1,4 +1,4 @@
-//! Certificates of uniqueness, and their checker.
+//! Certificates of uniqueness: texts that anyone can test, and their checker.
 #![tactic(auto)]
 
 mod cert;
@@ -8,13 +8,16 @@ mod forcing;
 mod line;
 mod notes;
 mod places;
+mod reading;
 mod showing;
 mod walk;
+mod words;
 
 pub use cert::Cert;
 pub use checking::check_cert;
 pub use fault::CertFault;
 pub use line::{CellNumber, CertLine, LineNumber};
+pub use reading::read_cert;
 
 #[cfg(test)]
 mod tests;
