@@ -1,16 +1,22 @@
 -- Laws of the least closed facts, of pictures that facts allow, of schedules, and of books.
-use Rattle.std.specs.Prelude.{◌≡◌, ℕ, ◌<◌, ◌↔◌, List, length}
+use Rattle.std.specs.Prelude.{◌≡◌, ℕ, ◌+◌, ◌<◌, ◌↔◌, List, length}
 use Rattle.std.specs.List.{All}
 use Rattle.picture.specs.Picture.{IsPicture}
 use Rattle.picture.specs.declared.line_id.LineId.{LineId}
-use Rattle.picture.specs.Rows.{row_at, cell_at, HasLine}
+use Rattle.picture.specs.LineSet.{Lines, name_count}
+use Rattle.picture.specs.Rows.{row_at, cell_at, width_of, HasLine}
 use Rattle.clues.specs.ClueBook.{Clues, clues_of}
 use Rattle.line_settle.specs.declared.line_engine.Outcome.{Outcome}
 use Rattle.line_settle.specs.FactSets.{IsClosed, IsLeast, IsWithin, Leaves, SameShape}
 use Rattle.justify.specs.Book.{Account, IsAccount, IsDerivation}
 use Rattle.propagate.specs.Closing.{Closes, HasDeadLine}
 use Rattle.propagate.specs.Filling.{Fills, LeavesPicture, only}
+use Rattle.propagate.specs.LineNames.{AllLines}
 use Rattle.propagate.specs.Schedule.{AreAfter, IsDeadInTurn}
+
+-- the names of all lines are as many as the rows and the columns together
+abbrev pub AllNamesAreCounted : Type 0
+AllNamesAreCounted = (facts : List (List ℕ)) (lines : Lines) → AllLines facts lines → name_count lines ≡ length facts + width_of facts
 
 -- where the base leaves the colours of a picture that has the clues, so do the least closed facts
 abbrev pub PictureStays : Type 0

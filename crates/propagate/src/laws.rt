@@ -1,10 +1,16 @@
 //! Laws of the least closed facts, of pictures that facts allow, of schedules, and of books. Each function does nothing, and
 //! its contract is the law.
 
-ghost use Rattle.propagate.specs.Laws.{ClosingKeepsFillings, OnlyIsClosed, PictureStays, SchedulesFillBooks, SchedulesLeadInside};
+ghost use Rattle.propagate.specs.Laws.{AllNamesAreCounted, ClosingKeepsFillings, OnlyIsClosed, PictureStays, SchedulesFillBooks, SchedulesLeadInside};
 
 use justify::laws::derivations_stay_inside;
 use line_settle::laws::least_is_unique;
+
+#[tactic(auto, using(crate::proofs::NameLemmas::all_names))]
+/// The names of all lines of facts are as many as the rows and the columns together.
+pub fn all_names_are_counted()
+    ensures { AllNamesAreCounted }
+{}
 
 #[tactic(auto, using(crate::proofs::PictureLemmas::laws))]
 /// Line logic never excludes the colours of a picture that has the clues, where the base doesn't.

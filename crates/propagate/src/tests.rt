@@ -3,7 +3,7 @@ ghost use Rattle.std.specs.Prelude.{◌<◌};
 use crate::{Agenda, CloseFault, InOrder, NewestFirst, all_lines, laws, settle_afresh};
 use clues::{Block, Clue, ClueBook};
 use line_settle::{Facts, LineEngine, Meter, PlainEngine};
-use picture::{Axis, LineId, Picture};
+use picture::{Axis, LineId, LineSet, Picture};
 use std::alloc::Global;
 use std::process::Abort;
 use std::test::Fail;
@@ -194,6 +194,19 @@ fn the_newest_line_comes_first(rt: HostRuntime) {
     takes(&rt, &mut agenda, &[ROW_1, COLUMN_1, ROW_5]);
 }
 
+// Row 5 waits already and keeps its place. The others come by number, the columns last.
+#[test]
+fn the_last_column_of_a_set_comes_first(rt: HostRuntime) {
+    let mut lines = LineSet::empty();
+    for line in [COLUMN_119, ROW_5, COLUMN_1, ROW_1] {
+        lines.put(line);
+    }
+    let mut agenda = NewestFirst::make();
+    agenda.put(ROW_5);
+    agenda.put_all(&lines);
+    takes(&rt, &mut agenda, &[COLUMN_119, COLUMN_1, ROW_1, ROW_5]);
+}
+
 // Two rows full of a colour, and two columns without one.
 fn impossible(rt: &impl Abort, alloc: Global) -> Result<ClueBook, Fail> {
     let full = [Block { len: 2, colour: 1 }];
@@ -310,6 +323,7 @@ fn small_pictures_agree_with_a_listing(rt: HostRuntime) -> Result<(), Fail> {
 
 #[test]
 fn the_laws_do_nothing() {
+    laws::all_names_are_counted();
     laws::picture_stays();
     laws::only_is_closed();
     laws::closing_keeps_fillings();
