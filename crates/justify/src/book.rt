@@ -31,7 +31,8 @@ impl Model for Book {
 }
 
 impl Book {
-    /// The book without a step, over the exclusions that are given.
+    /// The book without a step, over the exclusions that are given. Its facts are a copy of them, for which memory may be
+    /// refused.
     pub fn start(alloc: Global, base: Facts) -> Result<Book, AllocError>
         ensures { IfOk result (λ book. book ≡ account base [] base) }
     {
@@ -83,7 +84,9 @@ impl Book {
         Ok(Book { base, facts, steps })
     }
 
-    /// Puts a step behind all others. On an error the book is as it was.
+    /// Puts a step behind all others, and the facts gain what it draws. Its line is one of the base, each of its premises is
+    /// in the base or drawn already, it draws something, and no step has drawn any of that before. On an error the book is as
+    /// it was, and the step is dropped.
     pub fn add_step(&mut self, step: Step) -> Result<(), AllocError>
         requires { CanAdd self.old step }
         ensures ok { OnOk result (Adds self.old step self.new) }
@@ -95,7 +98,8 @@ impl Book {
         Ok(())
     }
 
-    /// The step that drew that a colour from 0 to 15 is not in a cell, by its place from 0.
+    /// The step that drew that a colour from 0 to 15 is not in a cell, by its place from 0. None where no step did: the
+    /// colour is left, or only the base excludes it, or there is no such cell.
     pub fn reason(&self, row: u8, col: u8, colour: u8) -> Option<usize>
         requires { colour < 16 }
         ensures { Finds self.now.steps row col colour result }

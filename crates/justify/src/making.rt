@@ -16,8 +16,9 @@ use picture::LineId;
 impl Book {
     /// The step that a line gives next, with all that its clue newly forces there. None where it forces nothing new, Dead
     /// where no list of colours fits the line. Each premise has all colours that are excluded in its cell, and none of
-    /// their cells can be left out: of those that can, the ones nearer to the line's start are left out first. The line is
-    /// evaluated once, also where memory is refused, and nothing is tried.
+    /// their cells can be left out. Of several such choices the contract names none; tests see that it is the one that
+    /// leaving out cell after cell from the line's start comes to. The line is evaluated once, also where memory is
+    /// refused, and nothing is tried.
     pub fn make_step<E: LineEngine>(
         &self,
         engine: &mut E,

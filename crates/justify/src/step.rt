@@ -7,7 +7,7 @@ use crate::premise::Premises;
 use picture::{Axis, LineId};
 use std::alloc::AllocError;
 
-/// A line draws exclusions from premises on its own cells.
+/// A line draws exclusions from premises on its own cells: what is excluded before it, and what it excludes.
 #[derive(Drop)]
 pub struct Step {
     pub line: LineId,
@@ -36,7 +36,7 @@ impl Step {
         })
     }
 
-    /// Whether the step draws that a colour is not in a cell.
+    /// Whether the step draws that a colour from 0 to 15 is not in a cell.
     pub fn draws(&self, row: u8, col: u8, colour: u8) -> bool
         requires { colour < 16 }
         ensures { IsTrue result ↔ Draws self.now row col colour }

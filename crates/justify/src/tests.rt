@@ -204,6 +204,20 @@ fn four_steps_settle_a_diagonal(rt: HostRuntime) {
 }
 
 #[test]
+fn a_step_is_moved_with_all_that_it_says(rt: HostRuntime) {
+    let mut engine = MaskEngine::make(rt.alloc(), 120).expect(&rt, "memory");
+    let clues = clues_of(&rt, rt.alloc(), 2, &[1, 0, 0, 2]);
+    let mut book = empty_book(&rt, rt.alloc(), 2, 2).expect(&rt, "memory");
+    draw_diagonal(&rt, &mut engine, &mut book, &clues);
+    assert!(rt; book.steps().len() > 1);
+    let step = &book.steps()[1];
+    let moved = step.moved_to(row(7)).expect(&rt, "memory");
+    is_step(&rt, &moved, row(7), &[at(0, !3)], &[at(0, 2), at(1, !4)]);
+    assert!(rt; moved.draws(7, 1, 0) && !moved.draws(7, 1, 2));
+    assert!(rt; step.draws(1, 1, 0) && !step.draws(7, 1, 0));
+}
+
+#[test]
 fn a_book_stands_for_its_own_clues_alone(rt: HostRuntime) {
     let mut engine = PlainEngine::make(rt.alloc(), 120).expect(&rt, "memory");
     let clues = clues_of(&rt, rt.alloc(), 2, &[1, 0, 0, 2]);
