@@ -1,6 +1,6 @@
 ghost use Rattle.certificate.specs.Cert.{IsWritable};
 
-use crate::{CellNumber, Cert, CertFault, CertLine, LineNumber, check_cert};
+use crate::{CellNumber, Cert, CertFault, CertLine, LineNumber, check_cert, read_cert};
 use line_settle::{LineEngine, PlainEngine};
 use picture::{Axis, Picture};
 use std::alloc::{AllocError, Global};
@@ -183,4 +183,48 @@ fn a_given_holds_its_cell(rt: HostRuntime) {
     assert_eq!(rt; cert.givens_len(), 1);
     assert_eq!(rt; cert.givens().len(), 1);
     assert_eq!(rt; checked(&rt, alloc, &picture, &cert), Ok(()));
+}
+
+// What reading a text answers, and checking what was read for `a./.a`.
+fn fault_of(rt: &impl Abort, alloc: Global, text: &[u8]) -> Result<(), CertFault> {
+    let cert = read_cert(alloc, text)?;
+    let picture = diagonal(alloc)?;
+    checked(rt, alloc, &picture, &cert)
+}
+
+// The same for `a./.b`.
+fn fault_of_two_colours(rt: &impl Abort, alloc: Global, text: &[u8]) -> Result<(), CertFault> {
+    let cert = read_cert(alloc, text)?;
+    let picture = two_colours(alloc)?;
+    checked(rt, alloc, &picture, &cert)
+}
+
+#[test]
+fn a_text_is_read_as_its_lines(rt: HostRuntime) {
+    let text = b"nonocert 2\ngiven 1 1\nline r 1\nline c 1\nline r 2\ndone\n";
+    let cert = read_cert(rt.alloc(), text).expect(&rt, "a certificate");
+    let whole = with_corner(rt.alloc()).expect(&rt, "a certificate");
+    assert_eq!(rt; cert.version(), 2);
+    assert_eq!(rt; cert.givens(), whole.givens());
+    assert_eq!(rt; cert.lines(), whole.lines());
+}
+
+#[test]
+fn worked_texts_have_their_answers(rt: HostRuntime) {
+    let cases = [
+        (b"".as_slice(), Err(CertFault::NotCert(1))),
+        (b"nonocert 3".as_slice(), Err(CertFault::NotCert(1))),
+        (b"nonocert 1\r\n".as_slice(), Err(CertFault::NotCert(1))),
+        (b"nonocert 2".as_slice(), Err(CertFault::Ended(2))),
+        (b"nonocert 1\n\n".as_slice(), Err(CertFault::BadLine(2))),
+        (b"nonocert 1\nline r 1000".as_slice(), Err(CertFault::BadLine(2))),
+        (b"nonocert 1\nline r 01".as_slice(), Err(CertFault::BadLine(2))),
+        (b"nonocert 1\nline r 0".as_slice(), Err(CertFault::Place(2))),
+        (b"nonocert 1\nline r 3".as_slice(), Err(CertFault::Place(2))),
+        (b"nonocert 1\ndone".as_slice(), Err(CertFault::NotDone(2))),
+        (b"nonocert 1\ndead r 1".as_slice(), Err(CertFault::NotDead(2))),
+    ];
+    for (text, answer) in cases {
+        assert_eq!(rt; fault_of(&rt, rt.alloc(), text), answer);
+    }
 }
