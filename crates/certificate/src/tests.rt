@@ -217,14 +217,94 @@ fn worked_texts_have_their_answers(rt: HostRuntime) {
         (b"nonocert 1\r\n".as_slice(), Err(CertFault::NotCert(1))),
         (b"nonocert 2".as_slice(), Err(CertFault::Ended(2))),
         (b"nonocert 1\n\n".as_slice(), Err(CertFault::BadLine(2))),
-        (b"nonocert 1\nline r 1000".as_slice(), Err(CertFault::BadLine(2))),
-        (b"nonocert 1\nline r 01".as_slice(), Err(CertFault::BadLine(2))),
+        (
+            b"nonocert 1\nline r 1000".as_slice(),
+            Err(CertFault::BadLine(2)),
+        ),
+        (
+            b"nonocert 1\nline r 01".as_slice(),
+            Err(CertFault::BadLine(2)),
+        ),
         (b"nonocert 1\nline r 0".as_slice(), Err(CertFault::Place(2))),
         (b"nonocert 1\nline r 3".as_slice(), Err(CertFault::Place(2))),
         (b"nonocert 1\ndone".as_slice(), Err(CertFault::NotDone(2))),
-        (b"nonocert 1\ndead r 1".as_slice(), Err(CertFault::NotDead(2))),
+        (
+            b"nonocert 1\ndead r 1".as_slice(),
+            Err(CertFault::NotDead(2)),
+        ),
     ];
     for (text, answer) in cases {
         assert_eq!(rt; fault_of(&rt, rt.alloc(), text), answer);
+    }
+}
+
+#[test]
+fn givens_are_read_in_their_order(rt: HostRuntime) {
+    let cases = [
+        (
+            b"nonocert 1\ngiven 1 1".as_slice(),
+            Err(CertFault::BadLine(2)),
+        ),
+        (
+            b"nonocert 2\ngiven 1 1\ngiven 1 1".as_slice(),
+            Err(CertFault::BadLine(3)),
+        ),
+        (
+            b"nonocert 2\ngiven 1 2\ngiven 1 1".as_slice(),
+            Err(CertFault::BadLine(3)),
+        ),
+        (
+            b"nonocert 2\nline r 1\ngiven 1 1".as_slice(),
+            Err(CertFault::BadLine(3)),
+        ),
+        (
+            b"nonocert 2\ngiven 3 1".as_slice(),
+            Err(CertFault::Place(2)),
+        ),
+        (
+            b"nonocert 2\ngiven 1 1\nline r 1\nline c 1\nline r 2\ndone".as_slice(),
+            Ok(()),
+        ),
+        (
+            b"nonocert 1\nline r 1\nline c 1\nline r 2\ndone\n".as_slice(),
+            Err(CertFault::NotDone(5)),
+        ),
+    ];
+    for (text, answer) in cases {
+        assert_eq!(rt; fault_of(&rt, rt.alloc(), text), answer);
+    }
+}
+
+// The worked certificate as a text, for `a./.b`.
+const WHOLE: &[u8] =
+    b"nonocert 1\nline r 1\nsplit 1 1\nline c 1\ndead r 2\nline r 1\nline c 1\nline c 2\ndone\n";
+
+#[test]
+fn parts_of_a_tree_have_their_answers(rt: HostRuntime) {
+    let cases = [
+        (WHOLE, Ok(())),
+        (
+            b"nonocert 2\nline r 1\nsplit 1 1\nline c 1\ndead r 2\nline r 1\nline c 1\nline c 2\ndone".as_slice(),
+            Ok(()),
+        ),
+        (
+            b"nonocert 1\nline r 1\nsplit 1 1\nline c 1\ndead r 2\nline r 1\nline c 1\nline c 2\n".as_slice(),
+            Err(CertFault::Ended(9)),
+        ),
+        (
+            b"nonocert 1\nline r 1\nsplit 1 1\nline c 1\ndead r 2\nline r 1\nline c 1\nline c 2\ndone\ndone".as_slice(),
+            Err(CertFault::Trailing(10)),
+        ),
+        (
+            b"nonocert 1\nline r 1\nsplit 1 1\nline c 1\ndead r 2\ndead r 2\n".as_slice(),
+            Err(CertFault::NotDead(6)),
+        ),
+        (
+            b"nonocert 1\nline r 1\nsplit 1 1\nline c 1\ndead r 2\n".as_slice(),
+            Err(CertFault::Ended(6)),
+        ),
+    ];
+    for (text, answer) in cases {
+        assert_eq!(rt; fault_of_two_colours(&rt, rt.alloc(), text), answer);
     }
 }
