@@ -4,9 +4,10 @@ ghost use Rattle.std.specs.Prelude.{◌≡◌, ℕ, ◌<◌, ◌≤◌, ◌↔�
 ghost use Rattle.justify.specs.Premises.{ArePremises, Gathers, HasSaid, IsComplement, KeepsLost, IsMark, LeavesRest, Mentions, Says};
 
 use crate::premise::Premise;
+use picture::MAX_SIDE;
 
 // No line has more cells.
-pub(crate) const MOST_CELLS: usize = 120;
+pub(crate) const MOST_CELLS: usize = MAX_SIDE as usize;
 
 // Gathers the cells in which the masks of a line have colours, and says how many there are.
 pub(crate) fn gather(masks: &[u16], found: &mut [Premise]) -> usize
