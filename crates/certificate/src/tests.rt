@@ -308,3 +308,42 @@ fn parts_of_a_tree_have_their_answers(rt: HostRuntime) {
         assert_eq!(rt; fault_of_two_colours(&rt, rt.alloc(), text), answer);
     }
 }
+
+// The fault of a text that is no certificate.
+fn reading_fault(alloc: Global, text: &[u8]) -> Option<CertFault> {
+    read_cert(alloc, text).err()
+}
+
+#[test]
+fn lines_of_another_form_are_refused(rt: HostRuntime) {
+    let texts = [
+        "nonocert 1\nline  r 1",
+        "nonocert 1\n line r 1",
+        "nonocert 1\nline r 1 ",
+        "nonocert 1\nline r 1 1",
+        "nonocert 1\nline r",
+        "nonocert 1\nline x 1",
+        "nonocert 1\nline R 1",
+        "nonocert 1\nline r 00",
+        "nonocert 1\nline r -1",
+        "nonocert 1\ndead 1 1",
+        "nonocert 1\nsplit r 1",
+        "nonocert 1\nsplit 1",
+        "nonocert 1\nDone",
+        "nonocert 1\ndone\r\n",
+        "nonocert 1\n\ndone",
+        "nonocert 2\ngiven 01 1",
+    ];
+    for text in texts {
+        assert_eq!(rt;
+            reading_fault(rt.alloc(), text.as_bytes()),
+            Some(CertFault::BadLine(2))
+        );
+    }
+}
+
+#[test]
+fn the_whole_text_is_read_before_it_is_checked(rt: HostRuntime) {
+    let text = b"nonocert 1\ndone\nline r 01";
+    assert_eq!(rt; fault_of(&rt, rt.alloc(), text), Err(CertFault::BadLine(3)));
+}
