@@ -229,6 +229,24 @@ fn a_book_stands_for_its_own_clues_alone(rt: HostRuntime) {
     assert!(rt; !stands(&rt, &mut engine, &book, &tall));
 }
 
+// The second step's column has another clue, and clues of another size need no evaluation.
+#[test]
+fn steps_are_evaluated_up_to_the_first_that_is_not_forced(rt: HostRuntime) {
+    let mut engine = PlainEngine::make(rt.alloc(), 120).expect(&rt, "memory");
+    let clues = clues_of(&rt, rt.alloc(), 2, &[1, 0, 0, 2]);
+    let mut book = empty_book(&rt, rt.alloc(), 2, 2).expect(&rt, "memory");
+    draw_diagonal(&rt, &mut engine, &mut book, &clues);
+    let calls = engine.calls();
+    assert!(rt; stands(&rt, &mut engine, &book, &clues));
+    assert_eq!(rt; engine.calls(), calls.saturating_add(4));
+    let other = clues_of(&rt, rt.alloc(), 2, &[1, 0, 0, 1]);
+    assert!(rt; !stands(&rt, &mut engine, &book, &other));
+    assert_eq!(rt; engine.calls(), calls.saturating_add(6));
+    let tall = clues_of(&rt, rt.alloc(), 3, &[1, 0, 0, 2, 0, 0]);
+    assert!(rt; !stands(&rt, &mut engine, &book, &tall));
+    assert_eq!(rt; engine.calls(), calls.saturating_add(6));
+}
+
 // Compares the reason why the second cell of a row does not have colour 1, in a book that stands for its clues.
 fn reason_is<E: LineEngine>(
     rt: &impl Abort,
