@@ -347,3 +347,20 @@ fn the_whole_text_is_read_before_it_is_checked(rt: HostRuntime) {
     let text = b"nonocert 1\ndone\nline r 01";
     assert_eq!(rt; fault_of(&rt, rt.alloc(), text), Err(CertFault::BadLine(3)));
 }
+
+// A text for `a./.a` with a given corner, and with splits of that corner.
+fn with_splits(alloc: Global, splits: usize) -> Result<Vec<u8>, AllocError> {
+    let mut text = Vec::new(alloc);
+    text.extend_from_slice(b"nonocert 2\ngiven 1 1\n")?;
+    for _ in 0..splits {
+        text.extend_from_slice(b"split 1 1\n")?;
+    }
+    text.extend_from_slice(b"line r 1\nline c 1\nline r 2\ndone\n")?;
+    Ok(text)
+}
+
+#[test]
+fn a_million_splits_of_a_cell_with_one_colour(rt: HostRuntime) {
+    let text = with_splits(rt.alloc(), 1_000_000).expect(&rt, "a text");
+    assert_eq!(rt; fault_of(&rt, rt.alloc(), &text), Ok(()));
+}
