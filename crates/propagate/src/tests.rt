@@ -9,6 +9,8 @@ use std::process::Abort;
 use std::test::Fail;
 
 mod books;
+mod compared;
+mod growing;
 
 // A picture of these cells, row after row.
 fn picture_of(

@@ -19,14 +19,14 @@ const NOTHING_DONE: Meter = Meter {
     trials: 0,
 };
 
-const fn row(at: u8) -> LineId {
+pub const fn row(at: u8) -> LineId {
     LineId {
         axis: Axis::Across,
         at,
     }
 }
 
-const fn column(at: u8) -> LineId {
+pub const fn column(at: u8) -> LineId {
     LineId {
         axis: Axis::Down,
         at,
@@ -38,7 +38,7 @@ const fn at(at: u8, colours: u16) -> Premise {
 }
 
 // The book without a step over facts that exclude nothing.
-fn empty_book(rt: &impl Abort, alloc: Global, height: u8, width: u8) -> Book {
+pub fn empty_book(rt: &impl Abort, alloc: Global, height: u8, width: u8) -> Book {
     assert!(rt; height > 0 && height <= 120 && width > 0 && width <= 120);
     let base = Facts::none(alloc, height, width).expect(rt, "memory");
     Book::start(alloc, base).expect(rt, "memory")
@@ -57,7 +57,7 @@ fn are_lines(rt: &impl Abort, facts: &Facts, lines: &[LineId])
 }
 
 // Runs a schedule, of which each line is to be evaluated once.
-fn run<E: LineEngine>(
+pub fn run<E: LineEngine>(
     rt: &impl Abort,
     engine: &mut E,
     book: Book,
@@ -150,7 +150,7 @@ fn steps_and_cells(steps: &[Step]) -> (u64, u64) {
 }
 
 // Closes a book of which every line may say something new, and compares its steps, its work and its facts.
-fn close_all<E: LineEngine, A: Agenda>(
+pub fn close_all<E: LineEngine, A: Agenda>(
     rt: &impl Abort,
     engine: &mut E,
     agenda: &mut A,
