@@ -9,6 +9,7 @@ use Rattle.picture.specs.Document.{AreColoured}
 use Rattle.picture.specs.Palette.{Colours}
 use Rattle.picture.specs.Rows.{cell_at, width_of, with_cell}
 use Rattle.edits.specs.Design.{Design, IsDesign, design, grid, mark_at, marks_of}
+use Rattle.edits.specs.Laws.{MarksAreGivens}
 use Rattle.edits.proofs.GridLemmas.{grid_is_grid, grid_same, with_cell_is_grid, cell_at-with_same, cell_at-with_row, cell_at-with_column, cell_at-grid, cell_at-past_rows, cell_at-past_columns, length-grid}
 
 pub mark_small : (b : Bool) → cond b 0 1 < 2
@@ -45,6 +46,21 @@ mark_is_given h w givens i j in_rows in_columns has = cell_at-grid h w (mark_at 
 
 pub given_is_marked : (h w : ℕ) (givens : List ℕ) (i j : ℕ) → i < h → j < w → cell_at (marks_of h w givens) i j ≡ 1 → HasCell givens i j
 given_is_marked h w givens i j in_rows in_columns one = has_mark givens i j (sym (cell_at-grid h w (mark_at givens) i j in_rows in_columns) ∙ one)
+
+-- exactly the givens are marked
+pub all_marked : MarksAreGivens
+all_marked rows givens inside i j =
+    let h = length rows in
+    let w = width_of rows in
+    ((λ has. mark_is_given h w givens i j (inside i j has).0 (inside i j has).1 has),
+    (λ one. elim (cases_lt i h) [
+      | inl in_rows ↦
+          elim (cases_lt j w) [
+            | inl in_columns ↦ given_is_marked h w givens i j in_rows in_columns one
+            | inr past ↦ absurd (omega (arith, one, cell_at-past_columns h w (marks_of h w givens) i j (grid_is_grid h w (mark_at givens)) past))
+          ]
+      | inr past ↦ absurd (omega (arith, one, cell_at-past_rows (marks_of h w givens) i j (omega (arith, length-grid h w (mark_at givens)))))
+    ]))
 
 pub is_design : (colours : Colours) (rows : List (List ℕ)) (givens : List ℕ) → IsPalette colours → IsPicture rows → AreColoured rows colours → IsDesign (design colours rows (marks_of (length rows) (width_of rows) givens))
 is_design colours rows givens palette picture coloured = record {

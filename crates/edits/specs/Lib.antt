@@ -3,6 +3,7 @@ pub mod Design
 pub mod Edit
 pub mod Fault
 pub mod History
+pub mod Laws
 pub mod Moving
 pub mod Note
 pub mod Painting

@@ -20,11 +20,12 @@ pub record IsArea (e : Edit) (rows : List (List ℕ)) (top below left beyond : �
   pub other_rows : (i j : ℕ) → i < length rows → j < width_of rows → (i < top) ⊎ (below ≤ i) → Leaves e rows i j
   pub other_columns : (i j : ℕ) → i < length rows → j < width_of rows → (j < left) ⊎ (beyond ≤ j) → Leaves e rows i j
 
--- two lines of an axis have the same cell at a position, and the same mark
+-- two lines of an axis have the same number at a position of a grid
 abbrev pub SameAt : Axis → ℕ → ℕ → List (List ℕ) → ℕ → Type 0
 SameAt axis first second rows k =
     cell_at rows (place_on axis first k).0 (place_on axis first k).1 ≡ cell_at rows (place_on axis second k).0 (place_on axis second k).1
 
+-- they have the same cell there, and the same mark
 abbrev pub AreAlikeAt : Axis → ℕ → ℕ → Design → ℕ → Type 0
 AreAlikeAt axis first second d k = SameAt axis first second d.rows k × SameAt axis first second d.marks k
 

@@ -9,6 +9,7 @@ mod facts;
 mod fault;
 mod idle;
 mod kept;
+pub mod laws;
 mod moving;
 mod painting;
 mod parts;

@@ -45,8 +45,8 @@ impl Model for Studio {
 }
 
 impl Studio {
-    /// A studio with a document and no history. Its depth, 1 to `MAX_DEPTH`, is how many edits it keeps. It takes all
-    /// the memory that the history itself needs.
+    /// A studio with a document and no history. Its depth, 1 to `MAX_DEPTH`, is how many edits it keeps. It takes the
+    /// memory for that many at once; what is kept of an edit takes memory where the edit is prepared.
     pub fn start(alloc: Global, document: Document, depth: u16) -> Result<Studio, AllocError>
         requires { (0 < depth) × (depth ≤ MAX_DEPTH) }
         ensures { IfOk result (λ s. s ≡ history (design_of document) [] [] depth) }

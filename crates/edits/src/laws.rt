@@ -1,0 +1,8 @@
+//! A law of documents that are seen cell by cell. The function does nothing, and its contract is the law.
+
+ghost use Rattle.edits.specs.Laws.{MarksAreGivens};
+
+/// Where a document's givens lie in its picture, as they do in each document, exactly the givens are marked.
+pub fn marks_are_givens()
+    ensures { MarksAreGivens }
+{}
