@@ -51,16 +51,17 @@ given_is_marked h w givens i j in_rows in_columns one = has_mark givens i j (sym
 pub all_marked : MarksAreGivens
 all_marked rows givens inside i j =
     let h = length rows in
-    let w = width_of rows in
-    ((λ has. mark_is_given h w givens i j (inside i j has).0 (inside i j has).1 has),
-    (λ one. elim (cases_lt i h) [
-      | inl in_rows ↦
-          elim (cases_lt j w) [
-            | inl in_columns ↦ given_is_marked h w givens i j in_rows in_columns one
-            | inr past ↦ absurd (omega (arith, one, cell_at-past_columns h w (marks_of h w givens) i j (grid_is_grid h w (mark_at givens)) past))
-          ]
-      | inr past ↦ absurd (omega (arith, one, cell_at-past_rows (marks_of h w givens) i j (omega (arith, length-grid h w (mark_at givens)))))
-    ]))
+    let w = width_of rows in (
+      (λ has. mark_is_given h w givens i j (inside i j has).0 (inside i j has).1 has),
+      (λ one. elim (cases_lt i h) [
+        | inl in_rows ↦
+            elim (cases_lt j w) [
+              | inl in_columns ↦ given_is_marked h w givens i j in_rows in_columns one
+              | inr past ↦ absurd (omega (arith, one, cell_at-past_columns h w (marks_of h w givens) i j (grid_is_grid h w (mark_at givens)) past))
+            ]
+        | inr past ↦ absurd (omega (arith, one, cell_at-past_rows (marks_of h w givens) i j (omega (arith, length-grid h w (mark_at givens)))))
+      ]),
+    )
 
 pub is_design : (colours : Colours) (rows : List (List ℕ)) (givens : List ℕ) → IsPalette colours → IsPicture rows → AreColoured rows colours → IsDesign (design colours rows (marks_of (length rows) (width_of rows) givens))
 is_design colours rows givens palette picture coloured = record {
