@@ -1,11 +1,11 @@
 #!/usr/bin/env bash
 # Refuses each growth of a book in turn: starting it, making a step, adding it, copying the book and asking for a reason
-# (`justify`), and keeping what stands of it (`retract`). Until no growth is left to refuse, the test that calls again after
-# a refusal must pass each time: each refused call answers by memory, and leaves the book as it was. It takes some 20
-# seconds a growth.
+# (`justify`), keeping what stands of it (`retract`), and closing it and running a schedule (`propagate`). Until no growth is
+# left to refuse, the test that calls again after a refusal must pass each time: each refused call answers by memory, and
+# leaves a book that it was lent as it was. It takes some 20 seconds a growth.
 set -euo pipefail
 cd "$(dirname "$0")/../crates"
-for crate in justify retract; do
+for crate in justify retract propagate; do
     for n in $(seq 1 100); do
         # The other tests may fail, or be cut off: they want all growths, or much time where they are not built to be fast.
         out=$(cd "$crate" && rt try --test --seconds 2 --fail-alloc "$n" 2>&1) || true
