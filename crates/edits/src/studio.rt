@@ -2,7 +2,7 @@
 
 ghost use Rattle.std.specs.Prelude.{◌≡◌, ◌<◌, ◌≤◌, [], None, IfErr, IfOk, IfSome, length, option_copied, option_map, slice_get};
 ghost use Rattle.circular_buffer.specs.Buffer.{last_item};
-ghost use Rattle.clues.specs.Change.{back};
+ghost use Rattle.clues.specs.Change.{IsChangeOf, back};
 ghost use Rattle.edits.specs.Change.{moves_of};
 ghost use Rattle.edits.specs.Design.{design_of};
 ghost use Rattle.edits.specs.Fault.{edit_fault};
@@ -96,6 +96,7 @@ impl Studio {
         ensures ready { IfOk result (λ p. IsPlanFor self.now p) }
         ensures next { IfOk result (λ p. advanced self.now p.advance ≡ after_edit self.now edit.now) }
         ensures change { IfOk result (λ p. IsChangeBy (moves_of edit.now self.now.document.rows) self.now.document.rows p.document.rows p.change) }
+        ensures exact { IfOk result (λ p. IsChangeOf p.change self.now.document.rows p.document.rows) }
     {
         edit_of(alloc, &self.document, edit)
     }
@@ -108,6 +109,7 @@ impl Studio {
         ensures next { IfOk result (λ p. advanced self.now p.advance ≡ undone self.now) }
         ensures change { IfOk result (λ p. IfSome (last_turn self.now.past) (λ turn.
             IsChangeBy (back (moves_of turn.edit turn.document.rows)) self.now.document.rows p.document.rows p.change)) }
+        ensures exact { IfOk result (λ p. IsChangeOf p.change self.now.document.rows p.document.rows) }
     {
         let Some(entry) = self.past.back() else {
             return Err(EditFault::UndoEmpty);
@@ -124,6 +126,7 @@ impl Studio {
         ensures next { IfOk result (λ p. advanced self.now p.advance ≡ redone self.now) }
         ensures change { IfOk result (λ p. IfSome (first_turn self.now.future) (λ turn.
             IsChangeBy (moves_of turn.edit self.now.document.rows) self.now.document.rows p.document.rows p.change)) }
+        ensures exact { IfOk result (λ p. IsChangeOf p.change self.now.document.rows p.document.rows) }
     {
         let Some(entry) = self.future.front() else {
             return Err(EditFault::RedoEmpty);

@@ -3,15 +3,12 @@ ghost use Rattle.std.specs.Prelude.{◌<◌, ◌≤◌};
 use crate::{Edit, EditFault, Entry};
 use picture::{Axis, CellSet, Document, LineId, Palette, Picture, Rgb};
 use std::alloc::{AllocError, Global};
-use std::test::Fail;
+use std::process::Abort;
 
-mod changing;
 mod growing;
 mod history;
-mod history_growing;
 mod listing;
 mod refusing;
-mod reverting;
 
 const WHITE: Rgb = Rgb {
     r: 255,
@@ -72,59 +69,80 @@ fn add(rgb: Rgb) -> Edit {
     Edit::AddColour { rgb }
 }
 
-// The document after a list of edits.
-fn after_all(alloc: Global, document: Document, edits: &[Edit]) -> Result<Document, EditFault> {
+// The document after an edit that is accepted.
+fn made(rt: &impl Abort, alloc: Global, document: &Document, edit: Edit) -> Document {
+    after(alloc, document, edit).expect(rt, "no fault")
+}
+
+// The document after a list of edits, each of which is accepted.
+fn all_made(rt: &impl Abort, alloc: Global, document: Document, edits: &[Edit]) -> Document {
     let mut document = document;
     for edit in edits {
-        document = after(alloc, &document, *edit)?;
+        document = made(rt, alloc, &document, *edit);
     }
-    Ok(document)
+    document
+}
+
+// A blank document with white, black and red in its palette.
+fn coloured(rt: &impl Abort, alloc: Global, height: u8, width: u8) -> Document {
+    assert!(rt; height > 0 && height <= 120 && width > 0 && width <= 120);
+    let blank = blank(alloc, height, width).expect(rt, "memory");
+    all_made(rt, alloc, blank, &[add(BLACK), add(RED)])
+}
+
+// The document with a blank cell in this colour.
+fn with_colour(
+    rt: &impl Abort,
+    alloc: Global,
+    document: Document,
+    row: u8,
+    col: u8,
+    colour: u8,
+) -> Document {
+    if colour == 0 {
+        return document;
+    }
+    made(rt, alloc, &document, paint(row, col, colour))
+}
+
+// A document with these cells, row after row, in white, black and red.
+fn drawn(rt: &impl Abort, alloc: Global, height: u8, width: u8, cells: &[u8]) -> Document {
+    let mut document = coloured(rt, alloc, height, width);
+    let mut at = 0u8;
+    for cell in cells {
+        let (row, col) = (at / width.max(1), at % width.max(1));
+        document = with_colour(rt, alloc, document, row, col, *cell);
+        at = at.saturating_add(1);
+    }
+    document
+}
+
+// The colour of a cell, if it lies in the picture.
+fn colour_at(picture: &Picture, row: u8, col: u8) -> Option<u8> {
+    if row < picture.height() && col < picture.width() {
+        Some(picture.cell(row, col))
+    } else {
+        None
+    }
 }
 
 // `ab/b.`, where a is black, b is red and the last cell is a given.
-fn corner(alloc: Global) -> Result<Document, Fail> {
-    let edits = [
-        add(BLACK),
-        add(RED),
-        paint(0, 0, 1),
-        paint(0, 1, 2),
-        paint(1, 0, 2),
-        pin(1, 1),
-    ];
-    Ok(after_all(alloc, blank(alloc, 2, 2)?, &edits).map_err(|fault| fault.name())?)
+fn corner(rt: &impl Abort, alloc: Global) -> Document {
+    let document = drawn(rt, alloc, 2, 2, &[1, 2, 2, 0]);
+    made(rt, alloc, &document, pin(1, 1))
 }
 
-// `..` with a colour added, its second cell painted and pinned, and the rows above and below it
+// `.a` with its second cell given, and a row above it
 #[test]
-fn a_given_moves_with_its_line(rt: HostRuntime) -> Result<(), Fail> {
-    let document = blank(rt.alloc(), 1, 2)?;
-    let document = after(rt.alloc(), &document, Edit::AddColour { rgb: BLACK })?;
-    assert_eq!(rt; document.palette.number_of(BLACK), Some(1));
-    let document = after(rt.alloc(), &document, paint(0, 1, 1))?;
-    let document = after(rt.alloc(), &document, Edit::Pin { row: 0, col: 1 })?;
-    assert!(rt; document.givens.has(0, 1));
-    let document = after(rt.alloc(), &document, Edit::InsertLine { line: row(0) })?;
-    assert!(rt; document.givens.has(1, 1));
-    assert!(rt; !document.givens.has(0, 1));
-    assert_eq!(rt; document.picture.height(), 2);
-    Ok(())
-}
-
-#[test]
-fn lines_are_refused_at_the_limits(rt: HostRuntime) -> Result<(), Fail> {
-    let tall = blank(rt.alloc(), 120, 1)?;
-    let insert = |at: u8| Edit::InsertLine { line: row(at) }.refusal(&tall);
-    assert_eq!(rt; insert(120), Some(EditFault::TooLarge));
-    assert_eq!(rt; insert(121), Some(EditFault::Place));
-    let flat = blank(rt.alloc(), 1, 2)?;
-    let delete = Edit::DeleteLine { line: row(0) };
-    assert_eq!(rt; delete.refusal(&flat), Some(EditFault::LastLine));
-    Ok(())
+fn a_given_moves_with_its_line(rt: HostRuntime) {
+    let document = drawn(&rt, rt.alloc(), 1, 2, &[0, 1]);
+    let edits = [pin(0, 1), Edit::InsertLine { line: row(0) }];
+    let document = all_made(&rt, rt.alloc(), document, &edits);
+    assert!(&rt; document.givens.has(1, 1) && !document.givens.has(0, 1));
+    assert_eq!(&rt; document.picture.height(), 2);
 }
 
 #[test]
 fn faults_are_named(rt: HostRuntime) {
-    assert_eq!(rt; EditFault::Place.name(), "Place");
-    assert_eq!(rt; EditFault::PaletteFull.name(), "PaletteFull");
-    assert_eq!(rt; EditFault::RedoEmpty.name(), "RedoEmpty");
+    assert_eq!(&rt; EditFault::PaletteFull.name(), "PaletteFull");
 }

@@ -1,14 +1,9 @@
-//! Each growth of memory may be refused. Where the check runs these tests none is, and `bench/refuse_edits.sh` runs them
-//! again and again with another one refused each time.
+//! Each growth of memory may be refused. Where the check runs these tests none is, and `bench/refuse_edits.sh` runs
+//! them again and again with another one refused each time.
 
-ghost use Rattle.std.specs.Prelude.{◌≡◌, None};
-ghost use Rattle.edits.specs.Design.{design_of};
-ghost use Rattle.edits.specs.Fault.{edit_fault};
-ghost use Rattle.edits.specs.Note.{IsEntry, IsStep, note_of};
-
-use super::reverting::are_same;
+use super::history::{Call, fault_of, shows};
 use super::*;
-use std::process::Abort;
+use crate::Studio;
 
 // Whether a growth may be refused, or none is.
 #[derive(Clone, Copy, PartialEq, Eq)]
@@ -17,115 +12,105 @@ enum Memory {
     Ample,
 }
 
-// The entry of an edit, made again where a growth was refused.
-fn entry_of(
-    rt: &impl Abort,
-    alloc: Global,
-    memory: Memory,
-    document: &Document,
-    edit: &Edit,
-) -> Entry
-    requires { edit_fault (design_of document.now) edit.now ≡ None }
-    ensures { IsEntry (design_of document.now) (note_of result) }
-{
-    match Entry::of(alloc, document, edit) {
-        Ok(entry) => entry,
-        Err(_) => {
-            assert!(rt; memory == Memory::Refused);
-            Entry::of(alloc, document, edit).expect(rt, "only one growth is refused")
-        }
-    }
-}
-
-// The document after an edit, made again where a growth was refused.
-fn applied(rt: &impl Abort, memory: Memory, entry: &Entry, document: &Document) -> Document
-    requires { IsEntry (design_of document.now) (note_of entry.now) }
-    ensures { IsStep (design_of document.now) (note_of entry.now) (design_of result) }
-{
-    match entry.apply(document) {
-        Ok(after) => after,
-        Err(_) => {
-            assert!(rt; memory == Memory::Refused);
-            entry
-                .apply(document)
-                .expect(rt, "only one growth is refused")
-        }
-    }
-}
-
-// The document before an edit, made again where a growth was refused.
-fn taken_back(
-    rt: &impl Abort,
-    memory: Memory,
-    entry: &Entry,
-    before: &Document,
-    after: &Document,
-) -> Document
-    requires { IsStep (design_of before.now) (note_of entry.now) (design_of after.now) }
-{
-    match entry.revert(after) {
+// A blank row of two cells, from a second try where a growth was refused.
+fn first_document(rt: &impl Abort, memory: Memory, alloc: Global) -> Document {
+    match blank(alloc, 1, 2) {
         Ok(document) => document,
         Err(_) => {
             assert!(rt; memory == Memory::Refused);
-            entry.revert(after).expect(rt, "only one growth is refused")
+            blank(alloc, 1, 2).expect(rt, "only one growth is refused")
         }
     }
 }
 
-// The document after an edit, which was taken back once.
-fn gone_through(
-    rt: &impl Abort,
-    alloc: Global,
-    memory: Memory,
-    document: &Document,
-    edit: Edit,
-) -> Document {
-    assert!(rt; edit.refusal(document).is_none());
-    let entry = entry_of(rt, alloc, memory, document, &edit);
-    let after = applied(rt, memory, &entry, document);
-    let before = taken_back(rt, memory, &entry, document, &after);
-    assert!(rt; are_same(&before, document) && !are_same(&after, document));
-    after
-}
-
-// A blank picture of two rows, made again where a growth was refused.
-fn start(rt: &impl Abort, alloc: Global, memory: Memory) -> Document {
-    match blank(alloc, 2, 2) {
-        Ok(document) => document,
+// A studio with it, from a second try where a growth was refused.
+fn started(rt: &impl Abort, memory: Memory, alloc: Global) -> Studio {
+    let first = first_document(rt, memory, alloc);
+    let second = first_document(rt, memory, alloc);
+    match Studio::start(alloc, first, 4) {
+        Ok(studio) => studio,
         Err(_) => {
             assert!(rt; memory == Memory::Refused);
-            blank(alloc, 2, 2).expect(rt, "only one growth is refused")
+            Studio::start(alloc, second, 4).expect(rt, "only one growth is refused")
         }
     }
 }
 
-// Edits one after another: a colour, a paint, a given, and its row out and another in.
-fn go(rt: &impl Abort, alloc: Global, memory: Memory) {
-    let edits = [
-        add(BLACK),
-        paint(0, 1, 1),
-        pin(0, 1),
-        Edit::SetColour {
-            colour: 1,
-            rgb: RED,
+// Asks a studio that shows these cells, and asks it again where a growth was refused: that is answered by want of memory,
+// and the studio is as it was.
+fn asks(
+    rt: &impl Abort,
+    memory: Memory,
+    alloc: Global,
+    studio: &mut Studio,
+    cells: &[u8],
+    call: Call,
+) {
+    let lengths = (studio.past_len(), studio.future_len());
+    if let Some(fault) = fault_of(alloc, studio, call) {
+        assert!(rt; memory == Memory::Refused && fault == EditFault::Memory);
+        assert!(rt; (studio.past_len(), studio.future_len()) == lengths);
+        shows(rt, studio, cells);
+        assert!(rt; fault_of(alloc, studio, call).is_none());
+    }
+}
+
+// Edits one after another: a colour, a paint, a given, and its column out.
+const EDITS: [Edit; 4] = [
+    Edit::AddColour { rgb: BLACK },
+    Edit::Paint {
+        row: 0,
+        col: 1,
+        colour: 1,
+    },
+    Edit::Pin { row: 0, col: 1 },
+    Edit::DeleteLine {
+        line: LineId {
+            axis: Axis::Down,
+            at: 1,
         },
-        Edit::InsertLine { line: row(0) },
-        Edit::DeleteLine { line: row(1) },
-    ];
-    let mut document = start(rt, alloc, memory);
-    for edit in edits {
-        document = gone_through(rt, alloc, memory, &document, edit);
+    },
+];
+
+// The cells before an edit of that number.
+fn cells_before(number: usize) -> &'static [u8] {
+    match number {
+        0 | 1 => &[0, 0],
+        2 | 3 => &[0, 1],
+        _ => &[0],
     }
-    assert_eq!(rt; document.picture.height(), 2);
-    assert_eq!(rt; document.palette.number_of(RED), Some(1));
+}
+
+// Makes the edits, takes them all back and makes two of them again.
+fn goes_on(rt: &impl Abort, memory: Memory, alloc: Global) {
+    let mut studio = started(rt, memory, alloc);
+    for (number, edit) in EDITS.iter().enumerate() {
+        let cells = cells_before(number);
+        asks(rt, memory, alloc, &mut studio, cells, Call::Make(*edit));
+    }
+    for number in 0..4 {
+        let cells = cells_before(4 - number);
+        asks(rt, memory, alloc, &mut studio, cells, Call::Undo);
+    }
+    for number in 0..2 {
+        asks(
+            rt,
+            memory,
+            alloc,
+            &mut studio,
+            cells_before(number),
+            Call::Redo,
+        );
+    }
+    shows(rt, &studio, &[0, 1]);
 }
 
 #[test]
 fn a_refused_growth_changes_nothing(rt: HostRuntime) {
-    go(&rt, rt.alloc(), Memory::Refused);
+    goes_on(&rt, Memory::Refused, rt.alloc());
 }
 
 #[test]
 fn ample_memory_is_enough(rt: HostRuntime) {
-    go(&rt, rt.alloc(), Memory::Ample);
+    goes_on(&rt, Memory::Ample, rt.alloc());
 }

@@ -1,15 +1,14 @@
 //! Every edit of every picture of two by two in three colours, with every set of givens, against a plain reference.
 
-ghost use Rattle.std.specs.Prelude.{◌≡◌, ◌<◌, None};
-ghost use Rattle.edits.specs.Design.{design_of};
-ghost use Rattle.edits.specs.Fault.{edit_fault};
-ghost use Rattle.clues.specs.Change.{lines_after};
+ghost use Rattle.std.specs.Prelude.{◌≡◌, ◌<◌};
+ghost use Rattle.edits.specs.History.{IsPlanFor};
+ghost use Rattle.clues.specs.Change.{IsChangeOf, lines_after};
 ghost use Rattle.picture.specs.Rows.{lines_along};
 
 use super::*;
 use crate::places::place_on;
+use crate::{Prepared, Studio};
 use clues::Change;
-use std::process::Abort;
 
 // A cell's colour, and whether it is given.
 #[derive(Clone, Copy, Debug, PartialEq, Eq)]
@@ -226,9 +225,9 @@ fn expected_fault(document: &Document, edit: Edit) -> Option<EditFault> {
 fn has_other_cells(old: &Document, new: &Document, from: LineId, to: LineId) -> bool {
     for k in 0..4 {
         let (row, col) = place_on(from.axis, from.at, k);
-        let before = spot_of(old, row, col).map(|spot| spot.colour);
+        let before = colour_at(&old.picture, row, col);
         let (row, col) = place_on(to.axis, to.at, k);
-        if before != spot_of(new, row, col).map(|spot| spot.colour) {
+        if before != colour_at(&new.picture, row, col) {
             return true;
         }
     }
@@ -246,7 +245,11 @@ fn see_line(
 )
     requires { line.at < lines_after line.axis change.now.moves }
 {
-    assert!(rt; change.origin(line) == from);
+    let origin = change.origin(line);
+    assert!(rt; origin == from);
+    if let Some(from) = origin {
+        assert!(rt; change.image(from) == Some(line));
+    }
     let touched = match from {
         None => true,
         Some(from) => has_other_cells(old, new, from, line),
@@ -290,34 +293,85 @@ fn reversed(edit: Edit) -> Edit {
     }
 }
 
-// Makes an edit and takes it back.
-fn go_and_return(rt: &impl Abort, alloc: Global, document: &Document, edit: Edit)
-    requires { edit_fault (design_of document.now) edit ≡ None }
-{
-    let entry = Entry::of(alloc, document, &edit).expect(rt, "memory");
-    let after = entry.apply(document).expect(rt, "memory");
-    assert!(rt; is_expected(document, edit, &after));
-    see_lines(rt, &entry.change(document, &after), document, &after, edit);
-    let before = entry.revert(&after).expect(rt, "memory");
-    assert!(rt; is_expected(document, IDLE, &before));
-    let back = entry.change_back(document, &after);
-    see_lines(rt, &back, &after, document, reversed(edit));
-}
-
 // An edit that leaves each cell as it is.
 const IDLE: Edit = Edit::Recolour {
     source: 0,
     target: 0,
 };
 
-fn see_edit(rt: &impl Abort, alloc: Global, document: &Document, edit: Edit) {
+// Compares what a change that was prepared says, where an edit moves the lines as it is to.
+fn see_prepared(rt: &impl Abort, studio: &Studio, prepared: &Prepared, edit: Edit)
+    requires { IsChangeOf prepared.now.change studio.now.document.rows prepared.now.document.rows }
+{
+    see_lines(
+        rt,
+        prepared.change(),
+        studio.document(),
+        prepared.document(),
+        edit,
+    );
+}
+
+// Goes on from a studio's document to the one that an edit of another document is to give.
+fn go_on(rt: &impl Abort, studio: &mut Studio, prepared: Prepared, document: &Document, edit: Edit)
+    requires { IsPlanFor studio.old prepared }
+{
+    studio.commit(prepared);
+    assert!(rt; is_expected(document, edit, studio.document()));
+}
+
+// Takes an edit of a document back.
+fn go_back(rt: &impl Abort, studio: &mut Studio, document: &Document, edit: Edit) {
+    let prepared = studio.prepare_undo().expect(rt, "an edit to undo");
+    see_prepared(rt, studio, &prepared, reversed(edit));
+    go_on(rt, studio, prepared, document, IDLE);
+    assert!(rt; studio.past_len() == 0 && studio.future_len() == 1);
+}
+
+// Makes an edit of a document again.
+fn go_forth(rt: &impl Abort, studio: &mut Studio, document: &Document, edit: Edit) {
+    let prepared = studio.prepare_redo().expect(rt, "an edit to redo");
+    see_prepared(rt, studio, &prepared, edit);
+    go_on(rt, studio, prepared, document, edit);
+    assert!(rt; studio.past_len() == 1 && studio.future_len() == 0);
+}
+
+// Makes an edit that was prepared, takes it back, makes it again and takes it back.
+fn go_and_return(
+    rt: &impl Abort,
+    studio: &mut Studio,
+    prepared: Prepared,
+    document: &Document,
+    edit: Edit,
+)
+    requires { IsPlanFor studio.old prepared }
+{
+    go_on(rt, studio, prepared, document, edit);
+    assert!(rt; studio.past_len() == 1 && studio.future_len() == 0);
+    go_back(rt, studio, document, edit);
+    go_forth(rt, studio, document, edit);
+    go_back(rt, studio, document, edit);
+}
+
+// Tries an edit of the document with which a studio starts.
+fn see_edit(rt: &impl Abort, alloc: Global, studio: &mut Studio, document: &Document, edit: Edit) {
     let fault = expected_fault(document, edit);
-    match edit.refusal(document) {
-        Some(other) => assert!(rt; fault == Some(other)),
-        None => {
+    match studio.prepare(alloc, &edit) {
+        Err(other) => assert!(rt; fault == Some(other)),
+        Ok(prepared) => {
             assert!(rt; fault.is_none());
-            go_and_return(rt, alloc, document, edit);
+            see_prepared(rt, studio, &prepared, edit);
+            go_and_return(rt, studio, prepared, document, edit);
         }
+    }
+}
+
+// Tries each of these edits of a document.
+pub(super) fn see_edits(rt: &impl Abort, alloc: Global, document: &Document, edits: &[Edit]) {
+    let copy = document.copy().expect(rt, "memory");
+    let mut studio = Studio::start(alloc, copy, 1).expect(rt, "memory");
+    for edit in edits {
+        see_edit(rt, alloc, &mut studio, document, *edit);
     }
 }
 
@@ -392,15 +446,11 @@ fn with_spot(
     col: u8,
     spot: Spot,
 ) -> Document {
-    let mut document = document;
-    if spot.colour > 0 {
-        document = after(alloc, &document, paint(row, col, spot.colour)).expect(rt, "memory");
+    let document = with_colour(rt, alloc, document, row, col, spot.colour);
+    if !spot.given {
+        return document;
     }
-    if spot.given {
-        document = after(alloc, &document, pin(row, col)).expect(rt, "memory");
-    }
-    assert!(rt; spot_of(&document, row, col) == Some(spot));
-    document
+    made(rt, alloc, &document, pin(row, col))
 }
 
 // Tries each edit of the pictures whose first three cells are these colours, with each set of givens.
@@ -415,16 +465,13 @@ fn see_pictures(rt: &impl Abort, alloc: Global, start: &Document, edits: &[Edit]
             };
             document = with_spot(rt, alloc, document, (at / 2) as u8, (at % 2) as u8, spot);
         }
-        for edit in edits {
-            see_edit(rt, alloc, &document, *edit);
-        }
+        see_edits(rt, alloc, &document, edits);
     }
 }
 
 #[test]
 fn each_edit_of_each_small_picture_is_as_expected(rt: HostRuntime) {
-    let start = blank(rt.alloc(), 2, 2).expect(&rt, "memory");
-    let start = after_all(rt.alloc(), start, &[add(BLACK), add(RED)]).expect(&rt, "memory");
+    let start = coloured(&rt, rt.alloc(), 2, 2);
     let edits = all_edits(rt.alloc()).expect(&rt, "memory");
     for colours in 0..27 {
         see_pictures(&rt, rt.alloc(), &start, &edits, colours);

@@ -1,155 +1,126 @@
+use super::listing::see_edits;
 use super::*;
 
-fn fill(top: u8, left: u8, bottom: u8, right: u8, colour: u8) -> Edit {
-    Edit::Fill {
-        top,
-        left,
-        bottom,
-        right,
-        colour,
+// Paints, fills and recolourings of a picture of two by two in three colours, with numbers up to one too many.
+fn push_cell_edits(edits: &mut Vec<Edit>) -> Result<(), AllocError> {
+    for at in 0..36 {
+        edits.push(paint(at / 12, at / 4 % 3, at % 4))?;
     }
-}
-
-fn recolour(source: u8, target: u8) -> Edit {
-    Edit::Recolour { source, target }
-}
-
-fn swap(axis: Axis, first: u8, second: u8) -> Edit {
-    Edit::SwapLines {
-        axis,
-        first,
-        second,
+    for at in 0..16 {
+        edits.push(Edit::Recolour {
+            source: at / 4,
+            target: at % 4,
+        })?;
     }
+    for at in 0..162 {
+        edits.push(Edit::Fill {
+            top: at / 54,
+            left: at / 27 % 2,
+            bottom: at / 9 % 3,
+            right: at / 3 % 3,
+            colour: 1 + at % 3,
+        })?;
+    }
+    Ok(())
 }
 
-fn set(colour: u8, rgb: Rgb) -> Edit {
-    Edit::SetColour { colour, rgb }
+// The same of pins and lines.
+fn push_place_edits(edits: &mut Vec<Edit>) -> Result<(), AllocError> {
+    for at in 0..9 {
+        let (row, col) = (at / 3, at % 3);
+        edits.push(pin(row, col))?;
+        edits.push(Edit::Unpin { row, col })?;
+        let axis = if at % 2 == 0 {
+            Axis::Across
+        } else {
+            Axis::Down
+        };
+        edits.push(Edit::SwapLines {
+            axis,
+            first: row,
+            second: col,
+        })?;
+        let line = LineId { axis, at: at / 2 };
+        edits.push(Edit::InsertLine { line })?;
+        edits.push(Edit::DeleteLine { line })?;
+    }
+    Ok(())
+}
+
+// Colours for each number of a palette of three, and one more, that are there or not.
+fn push_colour_edits(edits: &mut Vec<Edit>) -> Result<(), AllocError> {
+    for rgb in [WHITE, BLACK, RED, red(1)] {
+        edits.push(add(rgb))?;
+        for colour in 0..4 {
+            edits.push(Edit::SetColour { colour, rgb })?;
+        }
+    }
+    Ok(())
+}
+
+fn all_edits(alloc: Global) -> Result<Vec<Edit>, AllocError> {
+    let mut edits = Vec::new(alloc);
+    push_cell_edits(&mut edits)?;
+    push_place_edits(&mut edits)?;
+    push_colour_edits(&mut edits)?;
+    Ok(edits)
+}
+
+// `ab/b.`, whose last cell is given: places, lines and colours that are not there, and edits that change nothing
+#[test]
+fn the_first_fault_is_answered(rt: HostRuntime) {
+    let edits = all_edits(rt.alloc()).expect(&rt, "memory");
+    let document = corner(&rt, rt.alloc());
+    see_edits(&rt, rt.alloc(), &document, &edits);
 }
 
 fn red(r: u16) -> Rgb {
     Rgb { r, g: 0, b: 0 }
 }
 
-// on `ab/b.`
-#[test]
-fn edits_of_cells_are_refused(rt: HostRuntime) -> Result<(), Fail> {
-    let document = corner(rt.alloc())?;
-    let cases = [
-        (paint(2, 0, 1), EditFault::Place),
-        (paint(0, 2, 1), EditFault::Place),
-        (paint(0, 0, 3), EditFault::Colour),
-        (paint(0, 0, 1), EditFault::NoChange),
-        (fill(0, 0, 2, 1, 1), EditFault::Place),
-        (fill(0, 0, 1, 2, 1), EditFault::Place),
-        (fill(1, 0, 0, 1, 1), EditFault::Place),
-        (fill(0, 1, 1, 0, 1), EditFault::Place),
-        (fill(0, 0, 1, 1, 3), EditFault::Colour),
-        (fill(1, 1, 1, 1, 0), EditFault::NoChange),
-        (recolour(3, 1), EditFault::Colour),
-        (recolour(1, 3), EditFault::Colour),
-        (recolour(1, 1), EditFault::NoChange),
-    ];
-    for (edit, fault) in cases {
-        assert_eq!(rt; edit.refusal(&document), Some(fault));
+fn set(colour: u8, r: u16) -> Edit {
+    Edit::SetColour {
+        colour,
+        rgb: red(r),
     }
-    Ok(())
 }
 
-// on `ab/b.`, whose last cell is given
-#[test]
-fn edits_of_lines_and_givens_are_refused(rt: HostRuntime) -> Result<(), Fail> {
-    let document = corner(rt.alloc())?;
-    let cases = [
-        (Edit::InsertLine { line: row(3) }, EditFault::Place),
-        (Edit::DeleteLine { line: row(2) }, EditFault::Place),
-        (Edit::DeleteLine { line: column(2) }, EditFault::Place),
-        (swap(Axis::Across, 2, 0), EditFault::Place),
-        (swap(Axis::Down, 0, 2), EditFault::Place),
-        (swap(Axis::Across, 1, 1), EditFault::NoChange),
-        (pin(2, 0), EditFault::Place),
-        (pin(0, 2), EditFault::Place),
-        (pin(1, 1), EditFault::NoChange),
-        (Edit::Unpin { row: 2, col: 0 }, EditFault::Place),
-        (Edit::Unpin { row: 0, col: 2 }, EditFault::Place),
-        (Edit::Unpin { row: 0, col: 0 }, EditFault::NoChange),
-    ];
-    for (edit, fault) in cases {
-        assert_eq!(rt; edit.refusal(&document), Some(fault));
-    }
-    Ok(())
+// Compares the fault of an edit.
+fn refuses(rt: &impl Abort, document: &Document, edit: Edit, fault: EditFault) {
+    assert!(rt; edit.refusal(document) == Some(fault));
 }
 
-// on a palette of white, black and red up to 255
+// samples of up to 255
 #[test]
-fn edits_of_colours_are_refused(rt: HostRuntime) -> Result<(), Fail> {
-    let document = corner(rt.alloc())?;
-    let cases = [
-        (add(red(256)), EditFault::SampleOver),
-        (add(BLACK), EditFault::DuplicateColour),
-        (add(WHITE), EditFault::DuplicateColour),
-        (set(3, red(1)), EditFault::Colour),
-        (set(1, red(256)), EditFault::SampleOver),
-        (set(1, RED), EditFault::DuplicateColour),
-        (set(0, red(1)), EditFault::Background),
-        (set(1, BLACK), EditFault::NoChange),
-    ];
-    for (edit, fault) in cases {
-        assert_eq!(rt; edit.refusal(&document), Some(fault));
-    }
-    Ok(())
-}
-
-// where more than one condition holds, on `ab/b.`
-#[test]
-fn the_first_fault_is_answered(rt: HostRuntime) -> Result<(), Fail> {
-    let document = corner(rt.alloc())?;
-    let cases = [
-        (paint(2, 0, 3), EditFault::Place),
-        (fill(1, 0, 0, 1, 3), EditFault::Place),
-        (recolour(3, 3), EditFault::Colour),
-        (swap(Axis::Across, 2, 2), EditFault::Place),
-        (Edit::Unpin { row: 2, col: 2 }, EditFault::Place),
-        (set(3, red(256)), EditFault::Colour),
-        (set(3, RED), EditFault::Colour),
-        (set(0, red(256)), EditFault::SampleOver),
-        (set(0, RED), EditFault::DuplicateColour),
-        (set(0, WHITE), EditFault::Background),
-    ];
-    for (edit, fault) in cases {
-        assert_eq!(rt; edit.refusal(&document), Some(fault));
-    }
-    Ok(())
+fn samples_are_refused_before_places_in_the_palette(rt: HostRuntime) {
+    let document = coloured(&rt, rt.alloc(), 1, 1);
+    refuses(&rt, &document, add(red(256)), EditFault::SampleOver);
+    refuses(&rt, &document, set(1, 256), EditFault::SampleOver);
+    refuses(&rt, &document, set(0, 256), EditFault::SampleOver);
+    refuses(&rt, &document, set(3, 256), EditFault::Colour);
 }
 
 // a palette of 16 colours
 #[test]
-fn a_full_palette_takes_no_colour(rt: HostRuntime) -> Result<(), Fail> {
-    let mut document = blank(rt.alloc(), 1, 1)?;
-    for r in 0..15 {
-        document = after(rt.alloc(), &document, add(red(r))).map_err(|fault| fault.name())?;
+fn a_full_palette_takes_no_colour(rt: HostRuntime) {
+    let mut document = coloured(&rt, rt.alloc(), 1, 1);
+    for r in 1..14 {
+        document = made(&rt, rt.alloc(), &document, add(red(r)));
     }
-    assert_eq!(rt;
-        add(red(15)).refusal(&document),
-        Some(EditFault::PaletteFull)
-    );
-    assert_eq!(rt;
-        add(red(14)).refusal(&document),
-        Some(EditFault::PaletteFull)
-    );
-    assert_eq!(rt;
-        add(red(256)).refusal(&document),
-        Some(EditFault::SampleOver)
-    );
-    Ok(())
+    refuses(&rt, &document, add(red(15)), EditFault::PaletteFull);
+    refuses(&rt, &document, add(red(13)), EditFault::PaletteFull);
+    refuses(&rt, &document, add(red(256)), EditFault::SampleOver);
+}
+
+fn delete(line: LineId) -> Edit {
+    Edit::DeleteLine { line }
 }
 
 #[test]
-fn the_only_line_stays(rt: HostRuntime) -> Result<(), Fail> {
-    let document = blank(rt.alloc(), 1, 1)?;
-    let delete = |line: LineId| Edit::DeleteLine { line }.refusal(&document);
-    assert_eq!(rt; delete(row(0)), Some(EditFault::LastLine));
-    assert_eq!(rt; delete(column(0)), Some(EditFault::LastLine));
-    assert_eq!(rt; delete(row(1)), Some(EditFault::Place));
-    assert_eq!(rt; delete(column(1)), Some(EditFault::Place));
-    Ok(())
+fn the_only_line_stays(rt: HostRuntime) {
+    let document = coloured(&rt, rt.alloc(), 1, 1);
+    refuses(&rt, &document, delete(row(0)), EditFault::LastLine);
+    refuses(&rt, &document, delete(column(0)), EditFault::LastLine);
+    refuses(&rt, &document, delete(row(1)), EditFault::Place);
+    refuses(&rt, &document, delete(column(1)), EditFault::Place);
 }

@@ -45,3 +45,6 @@ returns-clause-change c =
     let d : Design = design_of c.self.inside.document in
     let first : slice_get c.self.inside.future.items 0 ≡ Some c.in-Some.entry.now = sym c.in-Some.ensures in
     rw (← c.self.view_is, first_turn_is d c.self.inside.future.items c.in-Some.entry.now first) c.in_ok-redo_of.ensures.change
+
+pub returns-clause-exact : goal.returns-clause-exact
+returns-clause-exact c = rw (← c.self.view_is) c.in_ok-redo_of.ensures.change.exact

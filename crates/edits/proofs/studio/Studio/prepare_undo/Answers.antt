@@ -49,3 +49,10 @@ returns-clause-change c =
     let last : last_item c.self.inside.past.items ≡ Some c.in-Some.entry.now = sym c.in-Some.ensures in
     rw (← c.self.view_is, last_turn_is d c.self.inside.past.items c.in-Some.entry.now last)
     (c.in_ok-undo_of.ensures (reverted d (note_of c.in-Some.entry.now)) (last_step d c.self.inside.past.items c.in-Some.entry.now last c.self.invariant.are_past).0).change
+
+pub returns-clause-exact : goal.returns-clause-exact
+returns-clause-exact c =
+    let d : Design = design_of c.self.inside.document in
+    let last : last_item c.self.inside.past.items ≡ Some c.in-Some.entry.now = sym c.in-Some.ensures in
+    rw (← c.self.view_is)
+    (c.in_ok-undo_of.ensures (reverted d (note_of c.in-Some.entry.now)) (last_step d c.self.inside.past.items c.in-Some.entry.now last c.self.invariant.are_past).0).change.exact
