@@ -1,18 +1,17 @@
 -- The first fault and the tree: there is none exactly where the lines are a tree that proves the picture.
-use Rattle.std.proofs.Common.{◌≡◌, ◌⊎◌, ℕ, ◌+◌, ◌-◌, ◌<◌, ◌≤◌, ◌↔◌, List, [], ◌∷◌, ◌++◌, Bool, true, false, Option, None, Some, Result, Ok, Err, append_assoc, length, get_or, refl, sym, ap, subst, ◌∙◌, arith, inl, inr}
+use Rattle.std.proofs.Common.{◌≡◌, ℕ, ◌+◌, ◌-◌, List, [], ◌∷◌, ◌++◌, Option, None, Some, Result, Ok, Err, append_assoc, get_or, refl, sym, ap, subst, ◌∙◌, inl, inr}
 use Rattle.std.specs.Prelude.{IfErr, OnOk, IsBitSet}
 use Rattle.std.proofs.lemmas.List.{append-nil}
 use Rattle.picture.specs.declared.line_id.LineId.{LineId}
 use Rattle.picture.specs.Picture.{IsPicture}
 use Rattle.picture.specs.Rows.{cell_at, line_of}
-use Rattle.clues.specs.ClueBook.{clue_at, clues_of}
-use Rattle.line_settle.specs.FactSets.{Gains, IsOn, Leaves, with_given, row_on, col_on}
+use Rattle.line_settle.specs.FactSets.{with_given, row_on, col_on}
 use Rattle.line_settle.proofs.AlongLemmas.{shape_sym, shape_trans}
 use Rattle.line_settle.proofs.ForceLemmas.{on_or_not}
 use Rattle.line_settle.proofs.GridLemmas.{cell_on}
 use Rattle.line_settle.proofs.LawLemmas.{one_line, same_facts}
 use Rattle.certificate.specs.declared.fault.CertFault.{CertFault}
-use Rattle.certificate.specs.declared.fault.CertFault.TheVariants.{Place, NotDead, NotDone, Ended, Trailing, Memory}
+use Rattle.certificate.specs.declared.fault.CertFault.TheVariants.{Memory}
 use Rattle.certificate.specs.declared.line.LineNumber.{LineNumber}
 use Rattle.certificate.specs.declared.line.CellNumber.{CellNumber}
 use Rattle.certificate.specs.declared.line.CertLine.{CertLine}

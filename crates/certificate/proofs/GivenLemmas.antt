@@ -1,5 +1,5 @@
 -- Givens held one by one.
-use Rattle.std.proofs.Common.{◌≡◌, ◌⊎◌, ℕ, zero, suc, ◌+◌, ◌-◌, ◌*◌, ◌<◌, ◌≤◌, List, [], ◌∷◌, Option, None, Some, length, get_or, drop, drop-cons, add-one, refl, sym, ap, subst, ◌∙◌, arith, inl, inr}
+use Rattle.std.proofs.Common.{◌≡◌, ℕ, ◌+◌, ◌-◌, ◌*◌, ◌<◌, ◌≤◌, List, [], ◌∷◌, Option, Some, length, get_or, drop, drop-cons, add-one, refl, sym, ap, subst, ◌∙◌, arith, inl, inr}
 use Rattle.line_settle.specs.FactSets.{with_given}
 use Rattle.certificate.specs.declared.fault.CertFault.{CertFault}
 use Rattle.certificate.specs.declared.fault.CertFault.TheVariants.{Place}

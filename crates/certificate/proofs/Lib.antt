@@ -3,6 +3,8 @@ pub mod Exactness
 pub mod GivenLemmas
 pub mod PendingLemmas
 pub mod ReadLemmas
+pub mod RoundTrip
+pub mod Sending
 pub mod ShowingLemmas
 pub mod Soundness
 pub mod WalkLemmas

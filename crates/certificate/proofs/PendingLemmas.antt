@@ -1,5 +1,5 @@
 -- Notes pushed and popped, and what waits.
-use Rattle.std.proofs.Common.{◌≡◌, ℕ, ◌^◌, ◌<◌, List, [], ◌∷◌, ◌++◌, Bool, true, false, refl, sym, ap, subst, ◌∙◌, arith, length, set, get_or, map, reverse, append_assoc}
+use Rattle.std.proofs.Common.{◌≡◌, ℕ, ◌^◌, ◌<◌, List, [], ◌∷◌, ◌++◌, true, refl, sym, ap, subst, ◌∙◌, length, set, reverse}
 use Rattle.std.proofs.lemmas.List.{reverse-append, set-get_or, set-set, get_or-set_same}
 use Rattle.picture.specs.Rows.{width_of, row_at, cell_at, with_cell}
 use Rattle.line_settle.specs.FactSets.{SameShape}

@@ -1,5 +1,5 @@
 -- Lines read one by one: what is read so far, and what is left to read.
-use Rattle.std.proofs.Common.{◌≡◌, ℕ, ◌+◌, ◌<◌, ◌≤◌, Bool, true, false, cond, List, [], ◌∷◌, ◌++◌, length, Option, None, Some, Result, Ok, Err, append_assoc, refl, sym, ap, subst, ◌∙◌, arith, inl, inr}
+use Rattle.std.proofs.Common.{◌≡◌, ℕ, ◌+◌, ◌<◌, ◌≤◌, Bool, true, false, cond, List, [], ◌∷◌, ◌++◌, Option, None, Some, Result, Ok, Err, append_assoc, refl, sym, ap, subst, ◌∙◌, arith, inl, inr}
 use Rattle.std.specs.Prelude.{nat_le}
 use Rattle.std.proofs.lemmas.Bool.{le-leb}
 use Rattle.std.proofs.lemmas.Bool.Decides.{leb_tells}
@@ -10,7 +10,7 @@ use Rattle.certificate.specs.declared.fault.CertFault.TheVariants.{BadLine}
 use Rattle.certificate.specs.declared.line.CellNumber.{CellNumber}
 use Rattle.certificate.specs.declared.line.CertLine.{CertLine}
 use Rattle.certificate.specs.Cert.{AreOrdered, AreWritable, IsShort, IsWritable, rank}
-use Rattle.certificate.specs.Text.{cert_line, given_line, given_lines, lines_of, or_bad, take_given, tree_lines, with_given_before}
+use Rattle.certificate.specs.Text.{cert_line, given_line, given_lines, or_bad, take_given, tree_lines, with_given_before}
 
 -- ---- the lines
 

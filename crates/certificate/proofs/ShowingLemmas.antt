@@ -1,11 +1,11 @@
 -- Masks with one colour alone.
-use Rattle.std.proofs.Common.{◌≡◌, ℕ, ◌*◌, ◌%◌, ◌^◌, ◌<◌, ◌≤◌, ◌↔◌, List, [], sym, ap, subst, ◌∙◌, arith, inl, inr, length, get_or, bit_and}
+use Rattle.std.proofs.Common.{◌≡◌, ℕ, ◌*◌, ◌%◌, ◌^◌, ◌<◌, ◌≤◌, ◌↔◌, List, [], sym, subst, ◌∙◌, arith, inl, inr, length, bit_and}
 use Rattle.std.specs.Prelude.{IsBitSet}
 use Rattle.std.specs.Int.{bit_not, w16}
-use Rattle.std.proofs.lemmas.Bool.{cases_eq, cases_lt}
+use Rattle.std.proofs.lemmas.Bool.{cases_eq}
 use Rattle.std.proofs.lemmas.List.{get_or_past}
-use Rattle.picture.specs.Rows.{width_of, row_at, cell_at}
-use Rattle.line_settle.specs.FactSets.{Leaves, SameShape}
+use Rattle.picture.specs.Rows.{row_at}
+use Rattle.line_settle.specs.FactSets.{Leaves}
 use Rattle.line_settle.proofs.MaskLemmas.{no_bit, power_has, same_bits, shifted, without_bit}
 
 -- no bit is left beside one exactly where every bit is that one

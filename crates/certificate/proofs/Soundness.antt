@@ -1,5 +1,5 @@
 -- What a tree proves is true: no other picture lies inside its facts.
-use Rattle.std.proofs.Common.{◌≡◌, ℕ, zero, suc, ◌+◌, ◌-◌, ◌^◌, ◌<◌, ◌≤◌, ◌↔◌, List, [], ◌∷◌, ◌⊎◌, replicate, Bool, true, false, eqb, length, get_or, refl, sym, ap, subst, ◌∙◌, arith, inl, inr, eqb-true}
+use Rattle.std.proofs.Common.{◌≡◌, ℕ, zero, suc, ◌+◌, ◌-◌, ◌^◌, ◌<◌, ◌≤◌, List, [], ◌∷◌, ◌⊎◌, replicate, eqb, length, get_or, refl, sym, ap, subst, ◌∙◌, arith, inl, inr}
 use Rattle.std.specs.Prelude.{IsBitSet}
 use Rattle.std.specs.Int.{bit_at}
 use Rattle.std.proofs.lemmas.Nat.Bits.{bit_at-lt}
@@ -15,16 +15,16 @@ use Rattle.clues.specs.ClueBook.{Clues, clue_at, clues_of}
 use Rattle.clues.proofs.LineClues.{clue_at-clues_of}
 use Rattle.line_settle.specs.declared.line_engine.Outcome.{Outcome}
 use Rattle.line_settle.specs.Fitting.{Fits}
-use Rattle.line_settle.specs.FactSets.{Gains, IsOn, Leaves, SameShape, col_on, row_on, with_given}
-use Rattle.line_settle.proofs.AlongLemmas.{same_has_line, same_line_length, shape_sym, shape_trans}
+use Rattle.line_settle.specs.FactSets.{Gains, Leaves, SameShape, col_on, row_on, with_given}
+use Rattle.line_settle.proofs.AlongLemmas.{same_has_line, same_line_length, shape_trans}
 use Rattle.line_settle.proofs.ForceLemmas.{on_or_not}
 use Rattle.line_settle.proofs.GridLemmas.{all_left, at_with_cell, cell_on, off_with_cell, shape_with_cell}
 use Rattle.line_settle.proofs.LawLemmas.{fits_narrowed}
-use Rattle.line_settle.proofs.MaskLemmas.{bit_is_set, power_has, set_bit}
+use Rattle.line_settle.proofs.MaskLemmas.{power_has, set_bit}
 use Rattle.certificate.specs.declared.line.LineNumber.{LineNumber}
 use Rattle.certificate.specs.declared.line.CellNumber.{CellNumber}
 use Rattle.certificate.specs.Cert.{Certificate}
-use Rattle.certificate.specs.Puzzle.{HasCellNumber, HasCellNumbers, HasLineNumber, IsDead, IsForced, IsTwin, IsUnique, KeepsGivens, ShowsOnly, base_of, blank_for, colours_of, held, line_id, split_at, with_givens}
+use Rattle.certificate.specs.Puzzle.{HasCellNumber, HasCellNumbers, HasLineNumber, IsDead, IsForced, IsUnique, KeepsGivens, base_of, blank_for, colours_of, held, line_id, with_givens}
 use Rattle.certificate.specs.Tree.{Tree, Trees, done, dead, forced, split, none, more, Proves, EachProves, IsProof}
 
 -- A picture lies in facts: they have its shape, and in each of its cells they leave its colour.

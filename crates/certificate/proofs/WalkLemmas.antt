@@ -1,5 +1,5 @@
 -- The walk over the lines: what a call needs to know, and what is first from the beginning.
-use Rattle.std.proofs.Common.{◌≡◌, ◌⊎◌, ℕ, suc, ◌+◌, ◌-◌, ◌<◌, ◌≤◌, ◌↔◌, List, [], ◌∷◌, ◌++◌, Bool, true, false, Option, None, Some, Result, Ok, Err, IsTrue, length, map, get_or, drop, drop-cons, add-one, add_assoc, refl, sym, ap, subst, ◌∙◌, arith, inl, inr}
+use Rattle.std.proofs.Common.{◌≡◌, ℕ, ◌+◌, ◌-◌, ◌<◌, ◌≤◌, ◌↔◌, List, [], ◌∷◌, ◌++◌, Bool, true, false, Option, Some, Ok, Err, IsTrue, length, get_or, drop, drop-cons, add-one, refl, sym, ap, subst, ◌∙◌, arith, inl, inr}
 use Rattle.std.proofs.lemmas.List.{length-map}
 use Rattle.std.proofs.lemmas.List.FromFn.{length-range_with_len}
 use Rattle.std.specs.List.{range_with_len}
@@ -7,22 +7,22 @@ use Rattle.picture.specs.declared.line_id.Axis.{Axis}
 use Rattle.picture.specs.declared.line_id.Axis.TheVariants.{Across, Down}
 use Rattle.picture.specs.declared.line_id.LineId.{LineId}
 use Rattle.picture.specs.Picture.{IsPicture}
-use Rattle.picture.specs.Rows.{width_of, row_at, line_along, line_of, lines_along, HasLine}
+use Rattle.picture.specs.Rows.{width_of, line_along, line_of, lines_along, HasLine}
 use Rattle.clues.specs.declared.block.Block.{Block}
 use Rattle.clues.specs.Clue.{clue_of}
 use Rattle.clues.specs.ClueBook.{Clues, clue_at, clues_along, clues_of, first_clues, HasClue}
 use Rattle.line_settle.specs.declared.line_engine.Outcome.{Outcome}
 use Rattle.line_settle.specs.Fitting.{CanFit}
-use Rattle.line_settle.specs.FactSets.{Gains, SameShape}
-use Rattle.line_settle.proofs.AlongLemmas.{same_has_line, same_line_length, shape_trans}
+use Rattle.line_settle.specs.FactSets.{Gains}
+use Rattle.line_settle.proofs.AlongLemmas.{same_line_length, shape_trans}
 use Rattle.certificate.specs.declared.fault.CertFault.{CertFault}
-use Rattle.certificate.specs.declared.fault.CertFault.TheVariants.{Place, NotDead, NotDone, Ended, Trailing, Memory}
+use Rattle.certificate.specs.declared.fault.CertFault.TheVariants.{Trailing}
 use Rattle.certificate.specs.declared.line.LineNumber.{LineNumber}
 use Rattle.certificate.specs.declared.line.CertLine.{CertLine}
-use Rattle.certificate.specs.declared.line.CertLine.TheVariants.{Line, Split, Dead, Done}
+use Rattle.certificate.specs.declared.line.CertLine.TheVariants.{Line, Done}
 use Rattle.certificate.specs.declared.notes.Note.{Note}
 use Rattle.certificate.specs.Puzzle.{HasLineNumber, IsDead, line_id}
-use Rattle.certificate.specs.FirstFault.{AnswersFirst, FirstFault, HasFault, Leads}
+use Rattle.certificate.specs.FirstFault.{AnswersFirst, FirstFault}
 use Rattle.certificate.specs.Walk.{AreInside, CanCheck, IsWalk, Takes, pending, waiting}
 use Rattle.certificate.proofs.PendingLemmas.{moved_inside}
 

@@ -5,3 +5,4 @@ pub mod Puzzle
 pub mod Text
 pub mod Tree
 pub mod Walk
+pub mod Writing

@@ -5,6 +5,7 @@ mod cert;
 mod checking;
 mod fault;
 mod forcing;
+pub mod laws;
 mod line;
 mod notes;
 mod places;
@@ -12,12 +13,14 @@ mod reading;
 mod showing;
 mod walk;
 mod words;
+mod writing;
 
 pub use cert::Cert;
 pub use checking::check_cert;
 pub use fault::CertFault;
 pub use line::{CellNumber, CertLine, LineNumber};
 pub use reading::read_cert;
+pub use writing::write_cert;
 
 #[cfg(test)]
 mod tests;

@@ -6,6 +6,8 @@ use picture::{Axis, Picture};
 use std::alloc::{AllocError, Global};
 use std::process::Abort;
 
+mod writing;
+
 // The first row, and so on, as a certificate names them.
 const TOP: LineNumber = LineNumber {
     axis: Axis::Across,

@@ -1,4 +1,3 @@
-use Rattle.std.proofs.Common.{◌+◌, drop}
 use Rattle.line_settle.specs.FactSets.{SameShape}
 use Rattle.certificate.proofs.GivenLemmas.{BaseSoFar}
 use Rattle.certificate.proofs.checking.set_givens.Given as goal

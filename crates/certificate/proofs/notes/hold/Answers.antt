@@ -1,6 +1,5 @@
-use Rattle.std.proofs.Common.{◌≡◌, ℕ, List, ap, sym, refl, ◌∙◌, reverse}
+use Rattle.std.proofs.Common.{ℕ, List, ap, sym, refl, ◌∙◌, reverse}
 use Rattle.picture.specs.Rows.{with_cell}
-use Rattle.certificate.specs.declared.notes.Note.{Note}
 use Rattle.certificate.specs.Walk.{pending}
 use Rattle.certificate.proofs.PendingLemmas.{cell_kept, hold_waits}
 use Rattle.certificate.proofs.notes.hold.Goals as goal

@@ -1,4 +1,4 @@
-use Rattle.std.proofs.Common.{inl, inr, refl}
+use Rattle.std.proofs.Common.{inr, refl}
 use Rattle.certificate.proofs.WalkLemmas.{found_clue, found_short, not_dead}
 use Rattle.certificate.proofs.walk.take_dead.Goals as goal
 

@@ -1,4 +1,4 @@
-use Rattle.std.proofs.Common.{[], inl, inr, refl, arith, ◌∙◌, sym, subst}
+use Rattle.std.proofs.Common.{[], inr, refl, arith, ◌∙◌, sym, subst}
 use Rattle.std.proofs.lemmas.Result.{err_from_is_err_and}
 use Rattle.certificate.specs.Walk.{CanCheck}
 use Rattle.certificate.proofs.WalkLemmas.{refused_first, taken_first, trailing_first}
