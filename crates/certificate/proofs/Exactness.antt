@@ -6,10 +6,9 @@ use Rattle.picture.specs.declared.line_id.LineId.{LineId}
 use Rattle.picture.specs.Picture.{IsPicture}
 use Rattle.picture.specs.Rows.{cell_at, line_of}
 use Rattle.line_settle.specs.FactSets.{with_given, row_on, col_on}
-use Rattle.line_settle.proofs.AlongLemmas.{shape_sym, shape_trans}
-use Rattle.line_settle.proofs.ForceLemmas.{on_or_not}
-use Rattle.line_settle.proofs.GridLemmas.{cell_on}
-use Rattle.line_settle.proofs.LawLemmas.{one_line, same_facts}
+use Rattle.line_settle.specs.GridLaws.{shape_sym, shape_trans, cell_on}
+use Rattle.line_settle.specs.ForceLaws.{on_or_not}
+use Rattle.line_settle.specs.FitLaws.{one_line, same_facts}
 use Rattle.certificate.specs.declared.fault.CertFault.{CertFault}
 use Rattle.certificate.specs.declared.fault.CertFault.TheVariants.{Memory}
 use Rattle.certificate.specs.declared.line.LineNumber.{LineNumber}

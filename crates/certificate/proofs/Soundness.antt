@@ -12,15 +12,14 @@ use Rattle.picture.specs.declared.line_id.LineId.{LineId}
 use Rattle.picture.specs.Picture.{IsPicture}
 use Rattle.picture.specs.Rows.{width_of, row_at, cell_at, with_cell, line_along, line_of, lines_along, HasLine}
 use Rattle.clues.specs.ClueBook.{Clues, clue_at, clues_of}
-use Rattle.clues.proofs.LineClues.{clue_at-clues_of}
+use Rattle.clues.specs.BookLaws.{clue_at-clues_of}
 use Rattle.line_settle.specs.declared.line_engine.Outcome.{Outcome}
 use Rattle.line_settle.specs.Fitting.{Fits}
 use Rattle.line_settle.specs.FactSets.{Gains, Leaves, SameShape, col_on, row_on, with_given}
-use Rattle.line_settle.proofs.AlongLemmas.{same_has_line, same_line_length, shape_trans}
-use Rattle.line_settle.proofs.ForceLemmas.{on_or_not}
-use Rattle.line_settle.proofs.GridLemmas.{all_left, at_with_cell, cell_on, off_with_cell, shape_with_cell}
-use Rattle.line_settle.proofs.LawLemmas.{fits_narrowed}
-use Rattle.line_settle.proofs.MaskLemmas.{power_has, set_bit}
+use Rattle.line_settle.specs.GridLaws.{same_has_line, same_line_length, shape_trans, all_left, at_with_cell, cell_on, off_with_cell, shape_with_cell}
+use Rattle.line_settle.specs.ForceLaws.{on_or_not}
+use Rattle.line_settle.specs.FitLaws.{fits_narrowed}
+use Rattle.picture.specs.BitLaws.{power_has, set_bit}
 use Rattle.certificate.specs.declared.line.LineNumber.{LineNumber}
 use Rattle.certificate.specs.declared.line.CellNumber.{CellNumber}
 use Rattle.certificate.specs.Cert.{Certificate}

@@ -14,7 +14,7 @@ use Rattle.clues.specs.ClueBook.{Clues, clue_at, clues_along, clues_of, first_cl
 use Rattle.line_settle.specs.declared.line_engine.Outcome.{Outcome}
 use Rattle.line_settle.specs.Fitting.{CanFit}
 use Rattle.line_settle.specs.FactSets.{Gains}
-use Rattle.line_settle.proofs.AlongLemmas.{same_line_length, shape_trans}
+use Rattle.line_settle.specs.GridLaws.{same_line_length, shape_trans}
 use Rattle.certificate.specs.declared.fault.CertFault.{CertFault}
 use Rattle.certificate.specs.declared.fault.CertFault.TheVariants.{Trailing}
 use Rattle.certificate.specs.declared.line.LineNumber.{LineNumber}

@@ -57,7 +57,7 @@ pub(crate) fn is_dead<E: LineEngine>(
     }
 }
 
-#[tactic(auto, using(line_settle::proofs::AlongLemmas::places))]
+#[tactic(auto, using(line_settle::specs::AlongLaws::places))]
 // Gives the cell at a place of a line other colours, with a note.
 fn hold_at(
     facts: &mut Facts,

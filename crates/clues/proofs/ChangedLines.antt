@@ -14,7 +14,8 @@ use Rattle.picture.specs.Rows.{HasLine, line_along, line_of, lines_along}
 use Rattle.clues.specs.declared.places.Places.{Places}
 use Rattle.clues.specs.declared.places.Places.TheVariants.{Kept, Inserted, Deleted, Swapped}
 use Rattle.clues.specs.Places.{new_place, old_place, reversed, count_after, AreAmong, IsNewAt, ChangesLength}
-use Rattle.clues.specs.Change.{AreMoves, Changes, FollowsCells, HasSize, HaveSizes, IsOldLine, Moves, TouchesChanged, crossing, image_of, line_at, lines_after, lines_before, origin_of, places_along, still}
+use Rattle.clues.specs.Change.{AreMoves, Changes, FollowsCells, HasSize, HaveSizes, IsOldLine, Moves, TouchesChanged, image_of, line_at, lines_after, lines_before, origin_of, places_along, still}
+use Rattle.picture.specs.Crossing.{crossing}
 use Rattle.clues.proofs.MovedLines.{old_place-new_place, origin_of-image}
 
 -- how long a line is

@@ -13,7 +13,8 @@ use Rattle.clues.specs.declared.places.Places.{Places}
 use Rattle.clues.specs.declared.places.Places.TheVariants.{Kept, Inserted, Deleted, Swapped}
 use Rattle.clues.specs.Places.{exchanged, new_place, count_after, AreAmong, IsNewAt, ChangesLength}
 use Rattle.picture.specs.LineSet.{Lines, no_names}
-use Rattle.clues.specs.Change.{AreMoves, Changes, FollowsSwap, HasSize, IsTouched, IsOldLine, Follows, crossing, line_at, lines_before, lines_after, image_of, moved_along, still}
+use Rattle.clues.specs.Change.{AreMoves, Changes, FollowsSwap, HasSize, IsTouched, IsOldLine, Follows, line_at, lines_before, lines_after, image_of, moved_along, still}
+use Rattle.picture.specs.Crossing.{crossing}
 use Rattle.clues.proofs.MovedLines.{origin_of-image}
 use Rattle.clues.proofs.ChangedLines.{length-line_along}
 

@@ -9,7 +9,8 @@ use Rattle.picture.specs.Picture.{IsPicture}
 use Rattle.picture.specs.Rows.{line_along, lines_along, without_line}
 use Rattle.clues.specs.declared.places.Places.TheVariants.{Inserted, Deleted}
 use Rattle.clues.specs.Places.{new_place, IsNewAt}
-use Rattle.clues.specs.Change.{AgreesOff, AreMoves, Changes, Follows, HasSize, HaveSizes, IsChangeOf, IsOldLine, IsTouched, crossing, line_at, lines_after, lines_before, moved_along}
+use Rattle.clues.specs.Change.{AgreesOff, AreMoves, Changes, Follows, HasSize, HaveSizes, IsChangeOf, IsOldLine, IsTouched, line_at, lines_after, lines_before, moved_along}
+use Rattle.picture.specs.Crossing.{crossing}
 use Rattle.clues.proofs.MovedLines.{old_place-new_place}
 use Rattle.clues.proofs.ChangedLines.{only_changed, touches_changed}
 use Rattle.clues.proofs.EditedPictures.{deletes, edited, edited_picture, first_row, image_of-along, lines_before-along, moved_line, origin}

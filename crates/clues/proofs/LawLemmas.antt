@@ -12,7 +12,7 @@ use Rattle.picture.specs.Rows.{lines_along, row_at, width_of, with_cell, with_li
 use Rattle.clues.specs.ClueBook.{Clues, HasClue, clue_at, clues_along}
 use Rattle.clues.specs.Change.{AreMoves, Changes, IsTouched, Moves, back, image_of, line_at, lines_after, lines_before, origin_of, places_along}
 use Rattle.clues.specs.Laws.{BooksAreTheirClues, CluesAreOfLines, ImagesAreLines, InsertedLinesAgree, IsAtPlace, MovesGoBack, UntouchedCluesStand}
-use Rattle.clues.proofs.LineClues.{clue_at-clues_of, length_along-clues_of}
+use Rattle.clues.specs.BookLaws.{clue_at-clues_of, length_along-clues_of}
 use Rattle.clues.proofs.MovedLines.{can_refresh, clues_stand, new_place-among, origin_of-image}
 use Rattle.clues.proofs.RefreshedClues.{no_origin_touched}
 use Rattle.clues.proofs.ChangedLines.{image_of-origin, image_of-parts}

@@ -6,11 +6,11 @@ use Rattle.clues.specs.declared.places.Places.TheVariants.{Kept, Inserted, Delet
 use Rattle.picture.specs.declared.line_id.LineId.{LineId}
 use Rattle.picture.specs.Rows.{HasLine, line_of, lines_along}
 use Rattle.picture.specs.declared.line_id.Axis.{Axis}
-use Rattle.clues.proofs.LineClues.{clue_at-clues_of, has_clue-clues_of, length_along-clues_of}
 use Rattle.clues.specs.Clue.{clue_of}
 use Rattle.clues.specs.ClueBook.{clue_at, clues_of}
 use Rattle.clues.specs.Change.{CanRefresh, Changes, Follows, IsTouched, KeepsClues, Moves, image_of, line_at, origin_of, places_along}
 use Rattle.clues.specs.Places.{new_place, old_place, count_after, AreAmong}
+use Rattle.clues.specs.BookLaws.{clue_at-clues_of, has_clue-clues_of, length_along-clues_of}
 
 -- a line that is still there came from its old place
 pub old_place-new_place : (places : Places) (at to : ℕ) → new_place places at ≡ Some to → old_place places to ≡ Some at

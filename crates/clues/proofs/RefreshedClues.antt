@@ -14,9 +14,10 @@ use Rattle.clues.specs.declared.block.Block.{Block}
 use Rattle.clues.specs.declared.places.Places.{Places}
 use Rattle.clues.specs.declared.places.Places.TheVariants.{Kept, Inserted, Deleted, Swapped}
 use Rattle.clues.specs.ClueBook.{Clues, HasClue, clue_at, clues_along, clues_from, clues_of, first_clues}
-use Rattle.clues.specs.Change.{CanRefresh, Changes, CountsClues, EachAlong, IsNewClue, IsOldClue, IsTouched, KeepsClues, crossing, line_at, origin_of, places_along}
+use Rattle.clues.specs.Change.{CanRefresh, Changes, CountsClues, EachAlong, IsNewClue, IsOldClue, IsTouched, KeepsClues, line_at, origin_of, places_along}
+use Rattle.picture.specs.Crossing.{crossing}
 use Rattle.clues.specs.Places.{old_place, IsNewAt, ChangesLength}
-use Rattle.clues.proofs.LineClues.{clue_at-clues_of, has_clue-clues_of, length_along-clues_of}
+use Rattle.clues.specs.BookLaws.{clue_at-clues_of, has_clue-clues_of, length_along-clues_of}
 use Rattle.clues.proofs.EditedPictures.{new_or_old}
 use Rattle.clues.proofs.MovedLines.{origin_of-image}
 

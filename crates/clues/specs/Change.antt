@@ -4,6 +4,7 @@ use Rattle.picture.specs.declared.line_id.Axis.{Axis}
 use Rattle.picture.specs.declared.line_id.Axis.TheVariants.{Across, Down}
 use Rattle.picture.specs.declared.line_id.LineId.{LineId}
 use Rattle.picture.specs.declared.picture.TheConstants.{MAX_SIDE}
+use Rattle.picture.specs.Crossing.{crossing}
 use Rattle.picture.specs.LineSet.{Lines, HasName}
 use Rattle.picture.specs.Picture.{IsPicture}
 use Rattle.picture.specs.Rows.{lines_along, line_of, line_deleted, width_of, HasLine}
@@ -27,10 +28,6 @@ pub record Changes : Type 0 where
   pub marked : Lines
 
 -- the way of the lines that cross
-abbrev pub crossing : Axis → Axis
-crossing Across = Down
-crossing Down = Across
-
 abbrev pub line_at : Axis → ℕ → LineId
 line_at axis at = record { axis = axis; at = at }
 

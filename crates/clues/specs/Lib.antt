@@ -3,3 +3,5 @@ pub mod Clue
 pub mod ClueBook
 pub mod Laws
 pub mod Places
+pub mod RunLaws
+pub mod BookLaws

@@ -7,7 +7,8 @@ ghost use Rattle.picture.specs.Picture.{IsPicture};
 ghost use Rattle.picture.specs.Rows.{HasLine, line_deleted, line_inserted, lines_swapped};
 ghost use Rattle.clues.specs.Change.{AgreesOff, AreMoves, Follows, FollowsCells, FollowsSwap, HasSize, HaveSizes};
 ghost use Rattle.clues.specs.Change.{IsChanged, IsChangeOf, IsSize, IsTouched, Stays, TouchesChanged};
-ghost use Rattle.clues.specs.Change.{crossing, image_of, lines_after, lines_before, moved_along, origin_of};
+ghost use Rattle.clues.specs.Change.{image_of, lines_after, lines_before, moved_along, origin_of};
+ghost use Rattle.picture.specs.Crossing.{crossing};
 ghost use Rattle.clues.specs.Change.{places_along, still};
 
 use crate::clue_book::line_count;
@@ -220,7 +221,7 @@ impl Change {
         requires { position < lines_before (crossing axis) self.now.moves }
         ensures { IsTrue result ↔ Stays self.now.moves axis position }
     {
-        self.places(crossing(axis)).new_place(position) == Some(position)
+        self.places(axis.crossing()).new_place(position) == Some(position)
     }
 
     /// Whether a line of the new picture is touched.
@@ -230,7 +231,7 @@ impl Change {
         ensures moves { AreMoves self.now.moves }
     {
         self.places(line.axis).is_new(line.at)
-            || self.places(crossing(line.axis)).changes_length()
+            || self.places(line.axis.crossing()).changes_length()
             || self.marked.has(line)
     }
 
@@ -257,16 +258,6 @@ impl Change {
             Axis::Across => self.rows,
             Axis::Down => self.columns,
         }
-    }
-}
-
-// The way of the lines that cross.
-fn crossing(axis: Axis) -> Axis
-    ensures { result ≡ crossing axis }
-{
-    match axis {
-        Axis::Across => Axis::Down,
-        Axis::Down => Axis::Across,
     }
 }
 

@@ -9,7 +9,8 @@ use Rattle.picture.specs.declared.line_id.LineId.{LineId}
 use Rattle.picture.specs.Picture.{IsPicture}
 use Rattle.picture.specs.Rows.{width_of, cell_at, line_along, line_deleted, line_of, lines_along, lines_swapped, HasLine}
 use Rattle.clues.specs.declared.places.Places.TheVariants.{Swapped}
-use Rattle.clues.specs.Change.{AgreesOff, Changes, FollowsCells, FollowsSwap, IsChangeOf, IsTouched, back, crossing, moved_along}
+use Rattle.clues.specs.Change.{AgreesOff, Changes, FollowsCells, FollowsSwap, IsChangeOf, IsTouched, back, moved_along}
+use Rattle.picture.specs.Crossing.{crossing}
 use Rattle.clues.specs.Laws.{IsAtPlace, IsOnLine}
 use Rattle.edits.specs.declared.edit.Edit.{Edit}
 use Rattle.edits.specs.declared.edit.Edit.TheVariants.{InsertLine, SwapLines}

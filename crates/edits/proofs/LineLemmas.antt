@@ -8,7 +8,8 @@ use Rattle.picture.specs.declared.line_id.Axis.{Axis}
 use Rattle.picture.specs.declared.line_id.Axis.TheVariants.{Across, Down}
 use Rattle.picture.specs.declared.line_id.LineId.{LineId}
 use Rattle.picture.specs.Rows.{width_of, row_at, cell_at, lines_along, with_line, without_line, lines_swapped}
-use Rattle.clues.specs.Change.{crossing, line_at}
+use Rattle.clues.specs.Change.{line_at}
+use Rattle.picture.specs.Crossing.{crossing}
 use Rattle.edits.specs.Design.{IsGrid}
 use Rattle.edits.specs.Note.{Cell, joined, with_cells, cells_of_line, givens_of_line, cells_along, cell_on, given_on, place_on, as_mark}
 use Rattle.edits.proofs.CellLemmas.{Has, joined_has, joined_from, with_cells_give}

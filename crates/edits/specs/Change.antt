@@ -5,7 +5,8 @@ use Rattle.picture.specs.declared.line_id.Axis.TheVariants.{Across, Down}
 use Rattle.picture.specs.declared.line_id.LineId.{LineId}
 use Rattle.picture.specs.Rows.{width_of, cell_at}
 use Rattle.clues.specs.declared.places.Places.TheVariants.{Inserted, Deleted, Swapped}
-use Rattle.clues.specs.Change.{Moves, crossing, moved_along, still}
+use Rattle.clues.specs.Change.{Moves, moved_along, still}
+use Rattle.picture.specs.Crossing.{crossing}
 use Rattle.clues.specs.Laws.{IsOnLine}
 use Rattle.edits.specs.declared.edit.Edit.{Edit}
 use Rattle.edits.specs.declared.edit.Edit.TheVariants.{InsertLine, DeleteLine, SwapLines}

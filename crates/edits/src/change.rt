@@ -12,9 +12,9 @@ ghost use Rattle.edits.specs.Painting.{SameAt};
 use crate::edit::Edit;
 use crate::entry::Entry;
 use crate::facts::know;
-use crate::places::{crossing, line_length, place_on};
+use crate::places::{line_length, place_on};
 use clues::{Change, Places};
-use picture::{Axis, Document, LineId, Picture};
+use picture::{Axis, Document, LineId, MAX_SIDE, Picture};
 
 impl Entry {
     ghost use Rattle.clues.specs.Change.{back};
@@ -117,7 +117,7 @@ fn touch_cell(change: &mut Change, row: u8, col: u8)
 // The change between a picture and the one with a line inserted.
 fn of_insertion(old: &Picture, new: &Picture, line: LineId) -> Change
     requires place { line.at ≤ lines_along line.axis old.now }
-    requires room { lines_along line.axis old.now < 120 }
+    requires room { lines_along line.axis old.now < MAX_SIDE }
     requires agrees { AgreesOff line old.now new.now }
     ensures moves { result.moves
         ≡ moved_along line.axis (Places.Inserted line.at) (length old.now) (width_of old.now) }
@@ -157,7 +157,7 @@ fn of_swap(old: &Picture, new: &Picture, axis: Axis, first: u8, second: u8) -> C
     for at in 0..line_length(old, axis) {
         if !is_same_at(old, axis, first, second, at) {
             change.touch(LineId {
-                axis: crossing(axis),
+                axis: axis.crossing(),
                 at,
             });
         }

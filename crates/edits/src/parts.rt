@@ -12,7 +12,7 @@ use crate::cells::{paint_cells, put_cells, put_givens};
 use crate::edit::Edit;
 use crate::moving::moved_givens;
 use clues::Change;
-use picture::{Axis, Document, LineId, Rgb};
+use picture::{Axis, Document, LineId, MAX_SIDE, Rgb};
 use std::alloc::AllocError;
 
 /// The document with the cells of a list painted.
@@ -61,7 +61,7 @@ pub(crate) fn with_cells(
 /// The document with a line of background inserted.
 pub(crate) fn inserted(document: &Document, line: LineId) -> Result<Document, AllocError>
     requires place { line.at ≤ lines_along line.axis document.now.picture }
-    requires room { lines_along line.axis document.now.picture < 120 }
+    requires room { lines_along line.axis document.now.picture < MAX_SIDE }
     requires coloured { AreColoured (line_inserted document.now.picture line) document.now.palette }
     ensures { IfOk result (λ d. design_of d
         ≡ design document.now.palette (line_inserted document.now.picture line) (line_inserted (design_of document.now).marks line)) }
@@ -245,7 +245,7 @@ pub(crate) fn restored(
     givens: &[(u8, u8)],
 ) -> Result<Document, AllocError>
     requires place { line.at ≤ lines_along line.axis document.now.picture }
-    requires room { lines_along line.axis document.now.picture < 120 }
+    requires room { lines_along line.axis document.now.picture < MAX_SIDE }
     requires blank { AreColoured (line_inserted document.now.picture line) document.now.palette }
     requires cells { All (IsCellIn (line_inserted document.now.picture line)) cells.now }
     requires givens { All (IsPlaceIn (line_inserted document.now.picture line)) givens.now }

@@ -2,10 +2,9 @@
 
 ghost use Rattle.std.specs.Prelude.{◌≡◌, ◌<◌, ◌≤◌, length};
 ghost use Rattle.picture.specs.Rows.{lines_along, width_of};
-ghost use Rattle.clues.specs.Change.{crossing};
 ghost use Rattle.edits.specs.Note.{cells_along, place_on};
 
-use picture::{Axis, Picture};
+use picture::{Axis, MAX_SIDE, Picture};
 
 /// The row and the column of a position along a line.
 pub(crate) fn place_on(axis: Axis, at: u8, position: u8) -> (u8, u8)
@@ -20,7 +19,7 @@ pub(crate) fn place_on(axis: Axis, at: u8, position: u8) -> (u8, u8)
 /// How many lines a picture has along an axis.
 pub(crate) fn line_count(picture: &Picture, axis: Axis) -> u8
     ensures value { result ≡ lines_along axis picture.now }
-    ensures fits { result ≤ 120 }
+    ensures fits { result ≤ MAX_SIDE }
 {
     match axis {
         Axis::Across => picture.height(),
@@ -31,20 +30,10 @@ pub(crate) fn line_count(picture: &Picture, axis: Axis) -> u8
 /// How many cells the lines of an axis have.
 pub(crate) fn line_length(picture: &Picture, axis: Axis) -> u8
     ensures value { result ≡ cells_along axis picture.now }
-    ensures fits { result ≤ 120 }
+    ensures fits { result ≤ MAX_SIDE }
 {
     match axis {
         Axis::Across => picture.width(),
         Axis::Down => picture.height(),
-    }
-}
-
-/// The way of the lines that cross.
-pub(crate) fn crossing(axis: Axis) -> Axis
-    ensures { result ≡ crossing axis }
-{
-    match axis {
-        Axis::Across => Axis::Down,
-        Axis::Down => Axis::Across,
     }
 }

@@ -5,12 +5,11 @@ use Rattle.std.proofs.lemmas.Bool.{cases_eq}
 use Rattle.picture.specs.declared.line_id.LineId.{LineId}
 use Rattle.picture.specs.Rows.{cell_at}
 use Rattle.line_settle.specs.FactSets.{Leaves, SameShape, ExcludesAt, row_on, col_on}
-use Rattle.line_settle.proofs.AlongLemmas.{shape_refl, shape_trans}
 use Rattle.justify.specs.declared.premise.Premise.{Premise}
 use Rattle.justify.specs.declared.step.Step.{Step}
-use Rattle.justify.specs.Premises.{premise_at, Says}
-use Rattle.justify.specs.Steps.{Draws}
+use Rattle.justify.specs.Premises.{premise_at}
 use Rattle.justify.specs.Book.{GainDrawn}
+use Rattle.line_settle.specs.GridLaws.{shape_refl, shape_trans}
 
 -- one of the first n premises says that colour k is not in a cell
 pub record DrawnSoFar (line : LineId) (premises : List Premise) (n row col k : ℕ) : Type 0 where

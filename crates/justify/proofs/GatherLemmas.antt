@@ -4,9 +4,9 @@ use Rattle.std.specs.Prelude.{IsBitSet}
 use Rattle.std.specs.Int.{from_bool}
 use Rattle.std.proofs.lemmas.Bool.{cases_eq, cases_lt}
 use Rattle.std.proofs.lemmas.List.{get_or_past, get_or-take}
-use Rattle.line_settle.proofs.MaskLemmas.{no_bit}
 use Rattle.justify.specs.declared.premise.Premise.{Premise}
 use Rattle.justify.specs.Premises.{premise, premise_at, Gathers}
+use Rattle.picture.specs.BitLaws.{no_bit}
 
 -- the first `count` premises are those of the first n cells
 pub record Gathered (masks : List ℕ) (n : ℕ) (found : List Premise) (count : ℕ) : Type 0 where

@@ -1,27 +1,24 @@
 -- The laws of books.
-use Rattle.std.proofs.Common.{◌≡◌, ℕ, zero, suc, ◌+◌, ◌<◌, ◌≤◌, ◌⊎◌, ◌↔◌, List, [], ◌∷◌, ◌++◌, length, refl, sym, ap, ◌∙◌, subst, arith, inl, inr, get_or}
+use Rattle.std.proofs.Common.{◌≡◌, ℕ, zero, suc, ◌<◌, ◌≤◌, List, [], ◌∷◌, ◌++◌, length, refl, sym, ap, ◌∙◌, subst, arith, inl, inr, get_or}
 use Rattle.std.specs.Prelude.{IsBitSet}
 use Rattle.std.proofs.lemmas.Bool.{cases_eq}
 use Rattle.picture.specs.declared.line_id.LineId.{LineId}
 use Rattle.picture.specs.Rows.{cell_at, line_of, width_of, HasLine}
 use Rattle.clues.specs.declared.block.Block.{Block}
 use Rattle.clues.specs.ClueBook.{Clues, clue_at}
-use Rattle.line_settle.specs.declared.line_engine.Outcome.{Outcome}
 use Rattle.line_settle.specs.declared.line_engine.Outcome.TheVariants.{Narrowed, Dead}
 use Rattle.line_settle.specs.Fitting.{CanHave}
 use Rattle.line_settle.specs.Narrowing.{Narrows}
-use Rattle.line_settle.specs.FactSets.{IsFacts, Leaves, Excludes, SameShape, IsWithin, IsClosed, IsClosedLine, IsOn, Gains, row_on, col_on}
-use Rattle.line_settle.proofs.AlongLemmas.{same_line_length, same_has_line, shape_sym, shape_trans}
-use Rattle.line_settle.proofs.GridLemmas.{cell_on}
-use Rattle.line_settle.proofs.LawLemmas.{have_left, have_narrowed}
-use Rattle.line_settle.proofs.MaskLemmas.{same_bits, bit_below}
+use Rattle.line_settle.specs.FactSets.{Leaves, IsWithin, IsClosed, IsClosedLine, Gains, row_on, col_on}
 use Rattle.justify.specs.declared.step.Step.{Step}
-use Rattle.justify.specs.Premises.{Mentions, Says}
-use Rattle.justify.specs.Forcing.{CanHaveWithout}
+use Rattle.justify.specs.Premises.{Says}
 use Rattle.justify.specs.Steps.{step_at, Draws, IsForced, IsTrimmed}
-use Rattle.justify.specs.Book.{Account, IsAccount, IsKnownBefore, IsDrawnBefore, AreFactsBehind, CanFollow, CanAdd, GainDrawn, Adds, IsDerivation, AreTrimmed}
+use Rattle.justify.specs.Book.{Account, IsAccount, IsDrawnBefore, CanAdd, GainDrawn, Adds, IsDerivation, AreTrimmed}
 use Rattle.justify.specs.Making.{IsNewStep}
 use Rattle.justify.specs.Laws.{FactsAreWhatIsKnown, NewStepsFollow, NewStepsDerive, DerivationsGrow, DerivationsStayInside}
+use Rattle.line_settle.specs.GridLaws.{same_line_length, same_has_line, shape_sym, shape_trans, cell_on}
+use Rattle.line_settle.specs.FitLaws.{have_left, have_narrowed}
+use Rattle.picture.specs.BitLaws.{same_bits, bit_below}
 use Rattle.justify.proofs.SaidLemmas.{bit_or_not}
 use Rattle.justify.proofs.PlaceLemmas.{one_along, drawn_or_not}
 use Rattle.justify.proofs.BookLemmas.{step_before, step_last, one_longer}

@@ -1,14 +1,15 @@
 -- Masks of a line made from premises, turned, and compared.
-use Rattle.std.proofs.Common.{◌≡◌, ℕ, ◌+◌, ◌-◌, ◌<◌, ◌≤◌, ◌^◌, ◌↔◌, ◌⊎◌, List, length, refl, sym, ap, ◌∙◌, subst, arith, inl, inr, get_or, set, bit_and, get_or-set_same, get_or-set_other}
+use Rattle.std.proofs.Common.{◌≡◌, ℕ, ◌+◌, ◌-◌, ◌<◌, ◌≤◌, ◌^◌, ◌↔◌, List, length, refl, sym, ap, ◌∙◌, subst, arith, inl, inr, get_or, set, bit_and, get_or-set_same, get_or-set_other}
 use Rattle.std.specs.Prelude.{IsBitSet}
-use Rattle.std.specs.Int.{bit_at, bit_not, trailing_zeros, w16}
+use Rattle.std.specs.Int.{bit_at, trailing_zeros, w16}
 use Rattle.std.proofs.lemmas.Bool.{cases_eq, cases_lt}
 use Rattle.std.proofs.lemmas.List.{get_or_past, length-set}
 use Rattle.std.proofs.lemmas.Nat.Bits.{bit_at_and, bit_at-lt, bit_at_not, bit_at-trailing_zeros}
-use Rattle.line_settle.proofs.MaskLemmas.{bit_is_set, set_bit, no_bit, bit_below, full_has, without_bit}
 use Rattle.justify.specs.declared.premise.Premise.{Premise}
-use Rattle.justify.specs.Premises.{premise_at, ArePremises, Mentions, Says, IsComplement, KeepsLost, LeavesRest, HasSaid}
-use Rattle.justify.proofs.SaidLemmas.{below_or_none, bit_or_not, mentions_or_not}
+use Rattle.justify.specs.Premises.{premise_at, ArePremises, IsComplement, KeepsLost, LeavesRest, HasSaid}
+use Rattle.picture.specs.BitLaws.{bit_is_set, set_bit, no_bit, bit_below}
+use Rattle.line_settle.specs.MaskLaws.{full_has, without_bit}
+use Rattle.justify.proofs.SaidLemmas.{mentions_or_not}
 
 -- ---- bits
 

@@ -1,22 +1,21 @@
 -- The new step of a line, from what an evaluation left and what was found to be needed.
-use Rattle.std.proofs.Common.{◌≡◌, ℕ, ◌<◌, ◌^◌, List, length, refl, sym, ap, ◌∙◌, subst, arith, inl, inr, get_or, set, get_or-set_same, get_or-set_other}
+use Rattle.std.proofs.Common.{◌≡◌, ℕ, ◌<◌, List, length, refl, sym, ap, ◌∙◌, subst, arith, inl, inr, get_or, set, get_or-set_same, get_or-set_other}
 use Rattle.std.specs.Prelude.{IsBitSet}
 use Rattle.std.proofs.lemmas.Bool.{cases_eq, cases_lt}
 use Rattle.std.proofs.lemmas.List.{get_or_past, length-set}
 use Rattle.picture.specs.declared.line_id.LineId.{LineId}
 use Rattle.clues.specs.declared.block.Block.{Block}
-use Rattle.line_settle.specs.declared.line_engine.Outcome.{Outcome}
 use Rattle.line_settle.specs.declared.line_engine.Outcome.TheVariants.{Narrowed}
 use Rattle.line_settle.specs.Fitting.{CanHave}
 use Rattle.line_settle.specs.Narrowing.{Narrows}
-use Rattle.line_settle.proofs.MaskLemmas.{no_bit, bit_below, full_has}
 use Rattle.line_settle.specs.LeavingOut.{ForcesAll, LeavesOut}
 use Rattle.justify.specs.declared.premise.Premise.{Premise}
-use Rattle.justify.specs.declared.step.Step.{Step}
 use Rattle.justify.specs.Premises.{premise_at, Gathers, IsComplement, KeepsLost, Mentions, Says, SaysBut}
 use Rattle.justify.specs.Forcing.{CanHaveWithout}
 use Rattle.justify.specs.Needs.{AreNeeded, DrawsLess}
 use Rattle.justify.specs.Making.{DrawsNothing, IsNewStep}
+use Rattle.picture.specs.BitLaws.{no_bit, bit_below}
+use Rattle.line_settle.specs.MaskLaws.{full_has}
 use Rattle.justify.proofs.SaidLemmas.{bit_or_not}
 use Rattle.justify.proofs.LineMaskLemmas.{some_bit}
 use Rattle.justify.proofs.ForcingLemmas.{have_without, without_have}

@@ -3,12 +3,11 @@ use Rattle.std.proofs.Common.{◌≡◌, ℕ, ◌*◌, ◌%◌, ◌^◌, ◌<◌
 use Rattle.std.specs.Prelude.{IsBitSet}
 use Rattle.std.proofs.lemmas.Bool.{cases_eq, cases_lt}
 use Rattle.std.proofs.lemmas.List.{get_or_past, get_or-replicate, length-replicate}
-use Rattle.picture.specs.Rows.{cell_at, line_of}
+use Rattle.picture.specs.Rows.{line_of}
 use Rattle.clues.specs.declared.block.Block.{Block}
 use Rattle.clues.specs.ClueBook.{Clues, clue_at}
 use Rattle.line_settle.specs.Fitting.{CanHave}
 use Rattle.line_settle.specs.FactSets.{Leaves, row_on, col_on}
-use Rattle.line_settle.proofs.MaskLemmas.{no_bit, power_has, shifted}
 use Rattle.line_settle.specs.LeavingOut.{ForcesAll}
 use Rattle.justify.specs.declared.premise.Premise.{Premise}
 use Rattle.justify.specs.declared.step.Step.{Step}
@@ -18,6 +17,8 @@ use Rattle.justify.specs.Steps.{step_at, Draws, IsForced}
 use Rattle.justify.specs.Book.{Account, CanFollow, IsAccount, IsDerivation, IsDrawnBefore}
 use Rattle.justify.specs.Needs.{AreNeeded}
 use Rattle.justify.specs.Reasons.{Argues, Supports}
+use Rattle.picture.specs.BitLaws.{no_bit, power_has}
+use Rattle.line_settle.specs.MaskLaws.{shifted}
 use Rattle.justify.proofs.SaidLemmas.{says_or_not}
 use Rattle.justify.proofs.ForcingLemmas.{have_without}
 

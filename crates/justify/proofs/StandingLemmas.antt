@@ -1,6 +1,5 @@
 -- Whether a line forces what a step draws.
-use Rattle.std.proofs.Common.{◌≡◌, ℕ, ◌<◌, ◌≤◌, ◌↔◌, Bool, true, false, List, length, refl, sym, ap, ◌∙◌, subst, arith, inl, inr, get_or, IsTrue, MatchBool}
-use Rattle.std.specs.Prelude.{IsBitSet}
+use Rattle.std.proofs.Common.{◌≡◌, ℕ, ◌<◌, ◌≤◌, ◌↔◌, Bool, true, false, List, length, refl, sym, subst, arith, get_or, IsTrue, MatchBool}
 use Rattle.std.proofs.lemmas.Bool.{false≢true}
 use Rattle.std.proofs.lemmas.List.{length-map}
 use Rattle.picture.specs.declared.line_id.Axis.{Axis}

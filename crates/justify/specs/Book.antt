@@ -1,5 +1,5 @@
 -- A book of steps over a base: a reason for each exclusion.
-use Rattle.std.specs.Prelude.{◌≡◌, ℕ, ◌+◌, ◌<◌, ◌⊎◌, ◌↔◌, List, [], ◌∷◌, ◌++◌, length, Option, MatchOption}
+use Rattle.std.specs.Prelude.{◌≡◌, ℕ, ◌<◌, ◌⊎◌, ◌↔◌, List, [], ◌∷◌, ◌++◌, length}
 use Rattle.picture.specs.Rows.{line_of, width_of, HasLine}
 use Rattle.clues.specs.ClueBook.{Clues, clue_at}
 use Rattle.line_settle.specs.FactSets.{IsFacts, Leaves, Excludes, SameShape, row_on, col_on}

@@ -1,5 +1,5 @@
 -- Laws of books.
-use Rattle.std.specs.Prelude.{◌≡◌, ℕ, ◌<◌, ◌↔◌, List, length}
+use Rattle.std.specs.Prelude.{ℕ, ◌↔◌, List, length}
 use Rattle.picture.specs.declared.line_id.LineId.{LineId}
 use Rattle.picture.specs.Rows.{line_of, HasLine}
 use Rattle.clues.specs.declared.block.Block.{Block}
@@ -7,9 +7,9 @@ use Rattle.clues.specs.ClueBook.{Clues, clue_at}
 use Rattle.line_settle.specs.declared.line_engine.Outcome.TheVariants.{Narrowed}
 use Rattle.line_settle.specs.FactSets.{Excludes, Gains, IsClosed, IsClosedLine, IsWithin}
 use Rattle.justify.specs.declared.step.Step.{Step}
-use Rattle.justify.specs.Steps.{step_at, IsForced, IsTrimmed}
+use Rattle.justify.specs.Steps.{IsForced, IsTrimmed}
 use Rattle.justify.specs.Book.{Account, IsAccount, IsKnownBefore, AreFactsBehind, CanAdd, Adds, IsDerivation, AreTrimmed}
-use Rattle.justify.specs.Making.{IsNewStep, DrawsNothing}
+use Rattle.justify.specs.Making.{IsNewStep}
 
 -- what the facts behind some steps exclude is what is known by then
 abbrev pub FactsAreWhatIsKnown : Type 0

@@ -1,5 +1,5 @@
 -- The premises that a line needs for what it draws, found among all that is excluded on it.
-use Rattle.std.specs.Prelude.{◌≡◌, ℕ, ◌<◌, ◌↔◌, List, length, slice_index, IsBitSet}
+use Rattle.std.specs.Prelude.{ℕ, ◌<◌, ◌↔◌, List, length, slice_index, IsBitSet}
 use Rattle.clues.specs.declared.block.Block.{Block}
 use Rattle.justify.specs.declared.premise.Premise.{Premise}
 use Rattle.justify.specs.Premises.{Mentions, Says, SaysBut}

@@ -5,18 +5,20 @@
 #![tactic(auto)]
 
 ghost use Rattle.std.specs.Prelude.{◌≡◌, ◌≤◌, length};
+ghost use Rattle.picture.specs.declared.picture.TheConstants.{MAX_SIDE};
 
 mod sweeping;
 
 use anyhow::{Context, Result, bail, ensure};
 use clues::{Block, Clue};
 use line_settle::{LineEngine, MaskEngine, Outcome, PlainEngine};
+use picture::MAX_SIDE;
 use std::alloc::{AllocError, Global};
 use std::env;
 use sweeping::{draw, leave_out_often};
 
 // How many cells a line has at the most.
-const MOST: usize = 120;
+const MOST: usize = MAX_SIDE as usize;
 
 /// Which cells have one colour left before the evaluation.
 #[derive(Clone, Copy, Debug, PartialEq, Eq)]
@@ -46,7 +48,7 @@ struct Task {
     len: u8,
     settled: Settled,
     rounds: u32,
-    ghost short: { cells ≤ 120 },
+    ghost short: { cells ≤ MAX_SIDE },
 }
 
 fn main(rt: HostRuntime) -> Result<()> {
@@ -127,7 +129,7 @@ fn left_in(task: &Task, cell: usize) -> u16 {
 
 // Evaluates the line, and says how often, and how many cells have more than one colour in the end.
 fn evaluate<E: LineEngine>(alloc: Global, engine: &mut E, task: &Task) -> Result<(u64, usize)>
-    requires { 120 ≤ E.longest engine.old }
+    requires { MAX_SIDE ≤ E.longest engine.old }
 {
     let clue = clue_of(alloc, task)?;
     let mut left = [u16::MAX; MOST];

@@ -6,8 +6,9 @@ use Rattle.picture.specs.Rows.{width_of, cell_at, with_cell}
 use Rattle.picture.specs.Picture.{IsPicture}
 use Rattle.picture.specs.CellSet.{HasCell}
 use Rattle.line_settle.specs.FactSets.{SameShape, IsOpen, Leaves, MakesBaseRow}
-use Rattle.line_settle.proofs.MaskLemmas.{shifted, power_has, full_has, bit_below}
-use Rattle.line_settle.proofs.GridLemmas.{shape_with_cell, at_with_cell, off_with_cell}
+use Rattle.line_settle.specs.MaskLaws.{shifted, full_has}
+use Rattle.picture.specs.BitLaws.{power_has, bit_below}
+use Rattle.line_settle.specs.GridLaws.{shape_with_cell, at_with_cell, off_with_cell}
 
 pub given_open : (givens : List ℕ) (picture : List (List ℕ)) (row col mask k : ℕ) → HasCell givens row col → cell_at picture row col < 16 → mask ≡ 1 * 2 ^ cell_at picture row col % 65536 → IsBitSet mask k ↔ IsOpen givens picture row col k
 given_open givens picture row col mask k g h e =

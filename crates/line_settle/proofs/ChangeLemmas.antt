@@ -4,9 +4,10 @@ use Rattle.std.proofs.lemmas.Bool.{cases_eq}
 use Rattle.picture.specs.declared.line_id.LineId.{LineId}
 use Rattle.picture.specs.LineSet.{Lines, HasName, PutsName}
 use Rattle.picture.specs.Rows.{line_of, HasLine}
-use Rattle.line_settle.specs.Crossing.{CrossesChange, crossing_at}
+use Rattle.line_settle.specs.Crossing.{CrossesChange}
+use Rattle.picture.specs.Crossing.{crossing_at}
 use Rattle.line_settle.specs.FactSets.{IsFacts, HoldsLine}
-use Rattle.line_settle.proofs.AlongLemmas.{Written, with_place, written_none, written_more, written_all, written_apart}
+use Rattle.line_settle.specs.AlongLaws.{Written, with_place, written_none, written_more, written_all, written_apart}
 
 -- ---- the cells
 

@@ -3,8 +3,8 @@ use Rattle.std.proofs.Common.{◌≡◌, ℕ, zero, suc, ◌+◌, ◌-◌, ◌*�
 use Rattle.std.proofs.lemmas.Bool.{cases_eq, cases_lt}
 use Rattle.std.proofs.lemmas.List.{get_or_past, length-set, take-replicate, drop-replicate}
 use Rattle.picture.specs.Rows.{rows_of, width_of, row_at, cell_at}
-use Rattle.picture.proofs.FlatLemmas.{length-rows_of, length-row, cell_at-rows_of, place_inside}
 use Rattle.line_settle.specs.FactSets.{AreMasks, IsFacts}
+use Rattle.picture.specs.FlatLaws.{length-rows_of, length-row, cell_at-rows_of, place_inside}
 
 cell_below : (height width : ℕ) (masks : List ℕ) → AreMasks height width masks → (i j : ℕ) → cell_at (rows_of height width masks) i j < 2 ^ 16
 cell_below height width masks is i j =

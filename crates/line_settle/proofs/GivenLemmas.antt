@@ -2,16 +2,16 @@
 use Rattle.std.proofs.Common.{◌≡◌, ℕ, ◌^◌, ◌<◌, List, [], ◌↔◌, refl, sym, ap, subst, ◌∙◌, arith, inl, inr, length, get_or, replicate}
 use Rattle.std.specs.Prelude.{IsBitSet}
 use Rattle.std.proofs.lemmas.Bool.{cases_eq, cases_lt}
-use Rattle.std.proofs.lemmas.List.{get_or_past, get_or-replicate, length-replicate}
+use Rattle.std.proofs.lemmas.List.{get_or_past, get_or-replicate}
 use Rattle.picture.specs.CellSet.{HasCell, PutsCell}
 use Rattle.picture.specs.Picture.{IsPicture}
 use Rattle.picture.specs.Rows.{width_of, row_at, cell_at}
 use Rattle.line_settle.specs.FactSets.{SameShape, IsBase, IsOpen, Leaves, nothing_excluded, with_given}
 use Rattle.line_settle.specs.Laws.{BaseIsCellByCell}
-use Rattle.line_settle.proofs.MaskLemmas.{only_is_power, same_bits, bit_below, full_has, no_bit, power_has}
-use Rattle.line_settle.proofs.GridLemmas.{all_left, shape_with_cell, at_with_cell, off_with_cell}
-use Rattle.line_settle.proofs.AlongLemmas.{shape_trans, shape_sym}
-use Rattle.line_settle.proofs.LawLemmas.{same_facts}
+use Rattle.line_settle.specs.MaskLaws.{only_is_power, full_has}
+use Rattle.picture.specs.BitLaws.{same_bits, bit_below, no_bit, power_has}
+use Rattle.line_settle.specs.GridLaws.{full_shape, all_left, shape_with_cell, at_with_cell, off_with_cell, shape_trans, shape_sym}
+use Rattle.line_settle.specs.FitLaws.{same_facts}
 
 -- ---- one cell
 
@@ -74,18 +74,6 @@ one_base picture is givens same h facts others b c = same_inside picture facts o
 ))
 
 -- ---- no givens
-
-full_shape : (picture : List (List ℕ)) → IsPicture picture → SameShape picture (nothing_excluded (length picture) (width_of picture))
-full_shape picture is =
-    let height = length picture in
-    let row = replicate (width_of picture) 65535 in
-    record {
-      rows = sym (length-replicate height row);
-      each = λ i. elim (cases_lt i height) [
-        | inl l ↦ is.rectangular i l ∙ (sym (length-replicate (width_of picture) 65535) ∙ ap length (sym (get_or-replicate height i row [] l)))
-        | inr p ↦ ap length (get_or_past picture i [] p) ∙ ap length (sym (get_or_past (replicate height row) i [] (let n = length-replicate height row in omega arith)))
-      ];
-    }
 
 full_base : (picture : List (List ℕ)) → IsPicture picture → (givens : List ℕ) → ((row col : ℕ) → HasCell givens row col → ⊥) → IsBase givens picture (nothing_excluded (length picture) (width_of picture))
 full_base picture is givens n = record {

@@ -17,7 +17,6 @@ pub mod AlongLemmas
 pub mod ChangeLemmas
 pub mod LawLemmas
 pub mod GivenLemmas
-pub mod ForceLemmas
 pub mod WritingLemmas
 pub mod FittingLemmas
 pub mod PositionLemmas

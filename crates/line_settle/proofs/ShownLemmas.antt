@@ -10,14 +10,15 @@ use Rattle.std.proofs.lemmas.List.Elements.{All-get_or, All-from_get_or}
 use Rattle.std.proofs.lemmas.Grind.{same_number_lists}
 use Rattle.clues.specs.declared.block.Block.{Block}
 use Rattle.clues.specs.Clue.{clue_of, blocks_of}
-use Rattle.clues.proofs.Runs.{clue_of-run, clue_of-last_run, replicate-more}
 use Rattle.line_settle.specs.declared.line_engine.Outcome.TheVariants.{Narrowed, Dead}
 use Rattle.line_settle.specs.Fitting.{Fits, CanHave}
 use Rattle.line_settle.specs.Narrowing.{Narrows}
 use Rattle.line_settle.specs.Spelling.{allows}
 use Rattle.line_settle.specs.Masks.{IsOnly}
 use Rattle.line_settle.specs.Shown.{lowest_colour, IsShown, AreShown, lowest_colours}
-use Rattle.line_settle.proofs.MaskLemmas.{no_bit, power_has, bit_below, only_is_power, lowest_of_power}
+use Rattle.clues.specs.RunLaws.{clue_of-run, clue_of-last_run, replicate-more}
+use Rattle.picture.specs.BitLaws.{no_bit, power_has, bit_below}
+use Rattle.line_settle.specs.MaskLaws.{only_is_power, lowest_of_power}
 use Rattle.line_settle.proofs.FittingLemmas.{allows_bit, bit_allows}
 use Rattle.line_settle.proofs.NarrowLemmas.{zeros, narrows_dead}
 use Rattle.line_settle.proofs.ClueLemmas.{no_block}

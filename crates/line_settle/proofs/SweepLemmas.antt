@@ -14,10 +14,11 @@ use Rattle.line_settle.specs.Marking.{finish_marked, finishes_marked, reach_mark
 use Rattle.line_settle.specs.Positions.{has}
 use Rattle.line_settle.specs.Spelling.{pattern_of, allows, finish_step, finishes, reach_step, reaches}
 use Rattle.line_settle.specs.StateSets.{AreStates, Shares, ArePatternSets}
+use Rattle.picture.specs.BitLaws.{bit_below}
+use Rattle.line_settle.specs.MaskLaws.{full_has}
 use Rattle.line_settle.proofs.BitLemmas.{allows_none}
 use Rattle.line_settle.proofs.FillLemmas.{reach_step_agree}
 use Rattle.line_settle.proofs.FittingLemmas.{allows_bit, bit_allows, too_long, have_fits}
-use Rattle.line_settle.proofs.MaskLemmas.{bit_below, full_has}
 use Rattle.line_settle.proofs.PositionLemmas.{has_power, has_one}
 use Rattle.line_settle.proofs.StateSetLemmas.{in_and, and_in, in_or, left_in, right_in, in_none, has_member}
 use Rattle.line_settle.proofs.StepLemmas.{finish_crosses, reached_by_step}

@@ -13,3 +13,8 @@ pub mod Positions
 pub mod Shown
 pub mod Spelling
 pub mod StateSets
+pub mod MaskLaws
+pub mod GridLaws
+pub mod AlongLaws
+pub mod FitLaws
+pub mod ForceLaws

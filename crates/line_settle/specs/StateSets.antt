@@ -1,5 +1,6 @@
 -- Sets of the states of a pattern: state q is bit q of a number.
 use Rattle.std.specs.Prelude.{◌≡◌, ℕ, ◌+◌, ◌^◌, ◌<◌, ◌≤◌, ◌↔◌, List, Bool, true, length, slice_index}
+use Rattle.picture.specs.declared.picture.TheConstants.{MAX_SIDE}
 use Rattle.line_settle.specs.declared.state_sets.Moves.{Moves}
 use Rattle.line_settle.specs.declared.state_sets.PatternSets.{PatternSets}
 use Rattle.line_settle.specs.Spelling.{allows, waits}
@@ -15,7 +16,7 @@ Shares a b = (q : ℕ) × (has a q ≡ true) × (has b q ≡ true)
 
 -- which states a cell with one of the mask's colours leads on to the next one, and which it can leave as they are
 pub record MovesBy (pattern : List ℕ) (mask : ℕ) (moves : Moves) : Type 0 where
-  pub short : length pattern ≤ 121
+  pub short : length pattern ≤ MAX_SIDE + 1
   pub advancing : (q : ℕ) → (has moves.advancing q ≡ true) ↔ ((q + 1 < length pattern) × (allows mask (slice_index pattern (q + 1)) ≡ true))
   pub resting : (q : ℕ) → (has moves.resting q ≡ true) ↔ ((q < length pattern) × (waits pattern q ≡ true) × (allows mask 0 ≡ true))
 
@@ -36,7 +37,7 @@ pub record HasColours (pattern : List ℕ) (n colours : ℕ) : Type 0 where
 pub record ArePatternSets (pattern : List ℕ) (sets : PatternSets) : Type 0 where
   pub end : ℕ
   pub is_end : end + 1 ≡ length pattern
-  pub short : length pattern ≤ 121
+  pub short : length pattern ≤ MAX_SIDE + 1
   pub next : AreNext pattern end sets.next
   pub waiting : AreWaiting pattern (length pattern) sets.waiting
   pub colours : HasColours pattern end sets.colours

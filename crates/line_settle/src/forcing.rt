@@ -3,7 +3,8 @@ ghost use Rattle.picture.specs.declared.line_id.LineId.{LineId};
 ghost use Rattle.picture.specs.LineSet.{HasName};
 ghost use Rattle.picture.specs.Rows.{line_of, with_cell, HasLine};
 ghost use Rattle.line_settle.specs.Counting.{counted};
-ghost use Rattle.line_settle.specs.Crossing.{CrossesChange, crossing_at};
+ghost use Rattle.line_settle.specs.Crossing.{CrossesChange};
+ghost use Rattle.picture.specs.Crossing.{crossing_at};
 ghost use Rattle.line_settle.specs.FactSets.{Gains, HoldsLine, IsFacts, row_on, col_on};
 
 use crate::facts::Facts;

@@ -9,6 +9,7 @@ use crate::block_steps::meets;
 use crate::pattern::allows;
 use crate::position_tables::see_colour;
 use clues::Block;
+use picture::MAX_SIDE;
 
 /// How a cell moves a line along a pattern: the states from which it can lead on to the next one, and those that it can
 /// leave as they are.
@@ -94,7 +95,7 @@ impl PatternSets {
     /// The sets of a clue's pattern, block by block.
     pub fn of(blocks: &[Block]) -> PatternSets
         requires blocks_of_clue { IsClue blocks.now }
-        requires short { length (pattern_of blocks.now) ≤ 121 }
+        requires short { length (pattern_of blocks.now) ≤ MAX_SIDE + 1 }
         ensures { ArePatternSets (pattern_of blocks.now) result }
     {
         let mut next = [0u128; 16];

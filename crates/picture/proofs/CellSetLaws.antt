@@ -9,7 +9,7 @@ use Rattle.std.proofs.lemmas.List.Sums.{get_or-le-sum_by}
 use Rattle.std.proofs.lemmas.Nat.{zero_from_ones, ones_le_self}
 use Rattle.picture.specs.CellSet.{IsCellSet, HasCell, cell_count, no_cells}
 use Rattle.picture.specs.Laws.{SameCellsAreEqual, CellsAreMembers, CellsComeBack}
-use Rattle.picture.proofs.BitLemmas.{zero_has_none, bit_or_not, bit_below, same_bits_below}
+use Rattle.picture.specs.BitLaws.{no_bit, bit_or_not, bit_below, same_bits_below}
 
 pub same_cells : SameCellsAreEqual
 same_cells one other is_one is_other same =
@@ -20,14 +20,14 @@ cell_inside : (cells : List ℕ) (row col : ℕ) → IsCellSet cells → HasCell
 cell_inside cells row col is has = (
   elim (cases_lt row (length cells)) [
     | inl lt ↦ omega (arith, lt, is.rows)
-    | inr past ↦ absurd (zero_has_none col (subst (λ mask. IsBitSet mask col) (get_or_past cells row 0 past) has))
+    | inr past ↦ absurd (no_bit col (subst (λ mask. IsBitSet mask col) (get_or_past cells row 0 past) has))
   ],
   bit_below (get_or cells row 0) 120 col (is.within row) has,
 )
 
 cell_in_none : (row col : ℕ) → ¬ HasCell no_cells row col
 unfolding no_cells
-cell_in_none row col has = zero_has_none col (subst (λ mask. IsBitSet mask col) (none row) has)
+cell_in_none row col has = no_bit col (subst (λ mask. IsBitSet mask col) (none row) has)
   where
     none : (row : ℕ) → get_or {A = ℕ} (replicate 120 0) row 0 ≡ 0
     none row = elim (cases_lt row 120) [

@@ -7,7 +7,8 @@ use Rattle.std.proofs.lemmas.List.{get_or-set_same, get_or-set_other, get_or_pas
 use Rattle.std.proofs.lemmas.List.Sums.{sum_by-set}
 use Rattle.std.proofs.lemmas.Nat.{ones-le}
 use Rattle.picture.specs.CellSet.{IsCellSet, HasCell, PutsCell, TakesOutCell, cell_count}
-use Rattle.picture.proofs.BitLemmas.{cleared, raised, raised_small, cleared_small, same_bits, bits_more, bits_fewer}
+use Rattle.picture.specs.BitLaws.{same_bits, bits_more, bits_fewer}
+use Rattle.picture.proofs.BitLemmas.{cleared, raised, raised_small, cleared_small}
 
 module _ (masks : List ℕ) (row col : ℕ) (is : IsCellSet masks) (lt : row < length masks) (inside : col < 120) where
   -- one cell taken out of the set

@@ -5,14 +5,14 @@ use Rattle.std.specs.Int.{bit_at, trailing_zeros, w128}
 use Rattle.std.proofs.lemmas.Nat.{shr-shr, shr_le}
 use Rattle.std.proofs.lemmas.Nat.Bits.{bit_at-trailing_zeros, bit_at-zero}
 use Rattle.picture.specs.LineSet.{IsClearFrom, IsFirstBit}
-use Rattle.picture.proofs.BitLemmas.{set_is_one, bit_below}
+use Rattle.picture.specs.BitLaws.{set_bit, bit_is_set, bit_below}
 
 -- a bit of what is left of a mask without its lowest ones
 onward_bit : (mask from i : ℕ) → bit_at (mask / 2 ^ from) i ≡ bit_at mask (from + i)
 onward_bit mask from i = ap (λ n. n % 2) (shr-shr mask from i)
 
 bit_of_onward : (mask from at : ℕ) → from ≤ at → IsBitSet mask at → bit_at (mask / 2 ^ from) (at - from) ≡ 1
-bit_of_onward mask from at on is = onward_bit mask from (at - from) ∙ (ap (bit_at mask) (let e : from + (at - from) ≡ at = omega arith in e) ∙ (set_is_one mask at).0 is)
+bit_of_onward mask from at on is = onward_bit mask from (at - from) ∙ (ap (bit_at mask) (let e : from + (at - from) ≡ at = omega arith in e) ∙ set_bit mask at is)
 
 pub clear_from : (mask from : ℕ) → mask / 2 ^ from ≡ 0 → IsClearFrom mask from
 clear_from mask from none at on is =
@@ -26,7 +26,7 @@ module _ (mask from : ℕ) (small : mask < 2 ^ 120) (some : 0 < mask / 2 ^ from)
   lowest = bit_at-trailing_zeros w128 (mask / 2 ^ from) some (omega (arith, small, shr_le mask from))
 
   is_lowest : IsBitSet mask (from + trailing_zeros w128 (mask / 2 ^ from))
-  is_lowest = (set_is_one mask (from + trailing_zeros w128 (mask / 2 ^ from))).1 (sym (onward_bit mask from (trailing_zeros w128 (mask / 2 ^ from))) ∙ lowest.1)
+  is_lowest = bit_is_set mask (from + trailing_zeros w128 (mask / 2 ^ from)) (sym (onward_bit mask from (trailing_zeros w128 (mask / 2 ^ from))) ∙ lowest.1)
 
   pub first_is : IsFirstBit mask from (from + trailing_zeros w128 (mask / 2 ^ from))
   first_is = record {

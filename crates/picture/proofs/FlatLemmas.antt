@@ -1,8 +1,7 @@
 -- Rows that lie in one flat list.
 use Rattle.std.proofs.Common.{◌≡◌, ℕ, zero, suc, ◌+◌, ◌*◌, ◌-◌, ◌<◌, ◌≤◌, List, [], ◌∷◌, ◌++◌, length, get_or, set, take, drop, map, replicate, arith, refl, ap, ◌∙◌, sym, subst}
 use Rattle.std.proofs.Common.{inl, inr}
-use Rattle.std.proofs.lemmas.List.{get_or_past, length-take, length-drop, get_or-take, get_or-drop, drop-drop, take-append-drop, take-replicate, drop-replicate, take-set-le, drop-set-lt, drop-set-add, length-set, length-map, get_or-map, ext_get_or, get_or-set_same, get_or-set_other}
-use Rattle.std.proofs.Math.Seq.{take-set-lt}
+use Rattle.std.proofs.lemmas.List.{get_or_past, length-drop, take-append-drop, take-replicate, drop-replicate, length-set, length-map, get_or-map, ext_get_or, get_or-set_same, get_or-set_other}
 use Rattle.std.proofs.lemmas.Bool.{cases_lt, cases_eq}
 use Rattle.std.specs.Cmp.Lexicographic.{pointwise}
 use Rattle.std.specs.Prelude.{IsTrue}
@@ -11,43 +10,11 @@ use Rattle.std.proofs.lemmas.Slice.Eq.{slice_eq-Decides}
 use Rattle.std.proofs.lemmas.Bool.Decides.{Decides-eqb}
 use Rattle.picture.specs.declared.line_id.Axis.TheVariants.{Across, Down}
 use Rattle.picture.specs.declared.line_id.LineId.{LineId}
-use Rattle.picture.specs.Rows.{rows_of, width_of, row_at, cell_at, with_cell, line_along, line_of, lines_along, HasLine}
+use Rattle.picture.specs.Rows.{rows_of, width_of, row_at, cell_at, line_along, line_of, lines_along, HasLine}
 use Rattle.picture.specs.Picture.{IsPicture, AreCells}
 use Rattle.picture.specs.Line.{spaced}
 use Rattle.picture.proofs.LineLemmas.{length-spaced, get_or-spaced}
-
-pub length-rows_of : (height width : ℕ) (cells : List ℕ) → length (rows_of height width cells) ≡ height
-length-rows_of zero width cells = refl
-length-rows_of (suc height) width cells = ap suc (length-rows_of height width (drop width cells))
-
--- a row is a part of the flat list
-pub row_at-rows_of : (height width : ℕ) (cells : List ℕ) (i : ℕ) → i < height → row_at (rows_of height width cells) i ≡ take width (drop (i * width) cells)
-row_at-rows_of zero width cells i lt = absurd (omega (arith, lt))
-row_at-rows_of (suc height) width cells zero lt = let none : 0 * width ≡ 0 = omega arith in rw none refl
-row_at-rows_of (suc height) width cells (suc i) lt =
-    row_at-rows_of height width (drop width cells) i (omega arith)
-    ∙ ap (take width) (drop-drop (i * width) width cells ∙ ap (λ k. drop k cells) (omega arith))
-
-pub place_inside : (height width i j : ℕ) → i < height → j < width → i * width + j < height * width
-place_inside zero width i j lt in_row = absurd (omega (arith, lt))
-place_inside (suc height) width zero j lt in_row = let base : 0 ≤ height * width = omega arith in omega arith
-place_inside (suc height) width (suc i) j lt in_row = let h = place_inside height width i j (omega (arith, lt)) in_row in omega (arith, h)
-
-row_inside : (height width i : ℕ) → i < height → i * width + width ≤ height * width
-row_inside zero width i lt = absurd (omega (arith, lt))
-row_inside (suc height) width zero lt = let base : 0 ≤ height * width = omega arith in omega arith
-row_inside (suc height) width (suc i) lt = let h = row_inside height width i (omega (arith, lt)) in omega (arith, h)
-
-pub length-row : (height width : ℕ) (cells : List ℕ) (i : ℕ) → length cells ≡ height * width → i < height → length (row_at (rows_of height width cells) i) ≡ width
-length-row height width cells i count lt =
-    rw (row_at-rows_of height width cells i lt)
-    (let room = row_inside height width i lt in omega (arith, length-take width (drop (i * width) cells), length-drop (i * width) cells, count, room))
-
-pub cell_at-rows_of : (height width : ℕ) (cells : List ℕ) (i j : ℕ) → i < height → j < width → cell_at (rows_of height width cells) i j ≡ get_or cells (i * width + j) 0
-cell_at-rows_of height width cells i j lt in_row =
-    ap (λ (row : List ℕ). get_or row j 0) (row_at-rows_of height width cells i lt)
-    ∙ get_or-take width (drop (i * width) cells) j 0 in_row
-    ∙ get_or-drop (i * width) cells j 0
+use Rattle.picture.specs.FlatLaws.{length-rows_of, row_at-rows_of, place_inside, length-row, cell_at-rows_of}
 
 pub cell_at_small : (height width : ℕ) (cells : List ℕ) (limit : ℕ) → length cells ≡ height * width → 0 < limit → ((k : ℕ) → get_or cells k 0 < limit) → (i j : ℕ) → cell_at (rows_of height width cells) i j < limit
 cell_at_small height width cells limit count some small i j =
@@ -108,17 +75,6 @@ column_is_spaced height width cells j in_row =
     ∙ sym (get_or-map (λ (row : List ℕ). get_or row j 0) (rows_of height width cells) i [] 0 (omega (arith, length-rows_of height width cells))))
 
 -- ---- one cell changed
-
-pub rows_of-set : (height width : ℕ) (cells : List ℕ) (i j x : ℕ) → i < height → j < width → rows_of height width (set cells (i * width + j) x) ≡ with_cell (rows_of height width cells) i j x
-rows_of-set zero width cells i j x lt in_row = absurd (omega (arith, lt))
-rows_of-set (suc height) width cells zero j x lt in_row =
-    let at : 0 * width + j ≡ j = omega arith in
-    rw (at, take-set-lt width cells j x in_row, drop-set-lt width cells j x in_row) refl
-rows_of-set (suc height) width cells (suc i) j x lt in_row =
-    let at : suc i * width + j ≡ width + (i * width + j) = omega arith in
-    let later : width ≤ width + (i * width + j) = omega arith in
-    rw (at, take-set-le width cells (width + (i * width + j)) x later, drop-set-add width cells (i * width + j) x)
-    (ap (λ (rows : List (List ℕ)). take width cells ∷ rows) (rows_of-set height width (drop width cells) i j x (omega (arith, lt)) in_row))
 
 pub are_cells_set : (height width : ℕ) (cells : List ℕ) (k x : ℕ) → AreCells height width cells → x < 16 → AreCells height width (set cells k x)
 are_cells_set height width cells k x is small = record {

@@ -6,7 +6,7 @@ use Rattle.std.proofs.lemmas.List.{append-nil, append_assoc, length-append, leng
 use Rattle.std.proofs.lemmas.List.Edits.{swap_is, length-insert, length-remove, length-swap, remove-append_right, remove-append_left}
 use Rattle.picture.specs.Picture.{AreCells}
 use Rattle.picture.specs.Rows.{rows_of}
-use Rattle.picture.proofs.FlatLemmas.{length-rows_of, row_at-rows_of}
+use Rattle.picture.specs.FlatLaws.{length-rows_of, row_at-rows_of}
 
 -- ---- what holds of each element
 

@@ -7,7 +7,6 @@ pub mod FlatLemmas
 pub mod GridLemmas
 pub mod LineEditLemmas
 pub mod LineLemmas
-pub mod LineSetLaws
 pub mod LineSetLemmas
 pub mod OrderLemmas
 pub mod PaletteLemmas

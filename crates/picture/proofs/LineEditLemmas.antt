@@ -8,7 +8,8 @@ use Rattle.picture.specs.declared.line_id.Axis.TheVariants.{Across, Down}
 use Rattle.picture.specs.declared.line_id.LineId.{LineId}
 use Rattle.picture.specs.Picture.{AreCells, part, with_part}
 use Rattle.picture.specs.Rows.{rows_of, width_of, row_at, lines_along, with_line, without_line, line_inserted, line_deleted, lines_swapped}
-use Rattle.picture.proofs.FlatLemmas.{facts, length-rows_of, row_at-rows_of}
+use Rattle.picture.specs.FlatLaws.{length-rows_of, row_at-rows_of}
+use Rattle.picture.proofs.FlatLemmas.{facts}
 use Rattle.picture.proofs.GridLemmas.{IsRow, IsGrid, every_set, every_at, concat-append, concat-rows_of, rows_of-concat, grid_of, cells_of, grid-row_inserted, grid-row_removed, grid-rows_swapped, grid-mapped, inserts_cell, removes_cell, swaps_cells, with_gap, without_cell, with_exchange}
 
 -- ---- whole rows in the flat list

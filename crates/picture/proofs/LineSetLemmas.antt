@@ -7,10 +7,7 @@ use Rattle.picture.specs.declared.line_id.Axis.TheVariants.{Across, Down}
 use Rattle.picture.specs.declared.line_id.LineId.{LineId}
 use Rattle.picture.specs.LineSet.{Lines, IsLineSet, mask_along, PutsName, TakesOutName}
 use Rattle.picture.proofs.BitLemmas.{cleared, raised, raised_small, cleared_small}
-
--- a name is its axis and its place
-pub same_name : (a b : LineId) → a.axis ≡ b.axis → a.at ≡ b.at → a ≡ b
-same_name a b axis at = λ i. record { axis = axis i; at = at i }
+use Rattle.picture.specs.LineSetLaws.{same_name}
 
 abbrev bit_out : ℕ → ℕ → ℕ
 bit_out mask k = bit_and mask (bit_not w128 (1 * 2 ^ k % 2 ^ 128))

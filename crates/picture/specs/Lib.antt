@@ -1,5 +1,6 @@
 pub mod CellSet
 pub mod Content
+pub mod Crossing
 pub mod Document
 pub mod Laws
 pub mod Line
@@ -9,3 +10,6 @@ pub mod Picture
 pub mod Reading
 pub mod Rows
 pub mod Writing
+pub mod BitLaws
+pub mod FlatLaws
+pub mod LineSetLaws

@@ -1,3 +1,6 @@
+ghost use Rattle.std.specs.Prelude.{◌≡◌};
+ghost use Rattle.picture.specs.Crossing.{crossing, crossing_at};
+
 /// The way in which a line runs.
 #[derive(Clone, Copy, Debug, PartialEq, Eq)]
 pub enum Axis {
@@ -7,9 +10,31 @@ pub enum Axis {
     Down,
 }
 
+impl Axis {
+    /// The axis of the lines that cross the lines along this one.
+    pub fn crossing(self) -> Axis
+        ensures { result ≡ crossing self }
+    {
+        match self {
+            Axis::Across => Axis::Down,
+            Axis::Down => Axis::Across,
+        }
+    }
+}
+
 /// The name of a row or of a column: its axis, and its place from 0.
 #[derive(Clone, Copy, Debug, PartialEq, Eq)]
 pub struct LineId {
     pub axis: Axis,
     pub at: u8,
+}
+
+impl LineId {
+    /// The line that crosses this one at a place along it.
+    pub fn crossing(self, at: u8) -> LineId
+        ensures { result ≡ crossing_at self at }
+    {
+        let axis = self.axis.crossing();
+        LineId { axis, at }
+    }
 }

@@ -396,3 +396,19 @@ fn names_come_in_turn(rt: HostRuntime) {
         assert_eq!(rt; lines.first_from(axis, from), first);
     }
 }
+
+// Rows are crossed by columns, and columns by rows.
+#[test]
+fn a_line_is_crossed_along_the_other_axis(rt: HostRuntime) {
+    assert_eq!(rt; Axis::Across.crossing(), Axis::Down);
+    let column = LineId {
+        axis: Axis::Down,
+        at: 7,
+    };
+    let row = LineId {
+        axis: Axis::Across,
+        at: 3,
+    };
+    assert_eq!(rt; column.crossing(3), row);
+    assert_eq!(rt; row.crossing(7), column);
+}

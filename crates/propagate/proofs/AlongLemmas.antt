@@ -6,9 +6,8 @@ use Rattle.picture.specs.declared.line_id.Axis.{Axis}
 use Rattle.picture.specs.declared.line_id.Axis.TheVariants.{Across, Down}
 use Rattle.picture.specs.declared.line_id.LineId.{LineId}
 use Rattle.picture.specs.LineSet.{Lines, IsClearFrom, IsFirstBit, HasName, PutsName, PutsNames, mask_along, no_names}
-use Rattle.picture.proofs.LineSetLaws.{members}
-use Rattle.picture.proofs.LineSetLemmas.{same_name}
 use Rattle.propagate.specs.LineNames.{PutsAlong}
+use Rattle.picture.specs.LineSetLaws.{members, same_name}
 use Rattle.propagate.proofs.NameLemmas.{same_lines}
 
 -- the names before a place are put on

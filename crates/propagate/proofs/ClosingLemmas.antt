@@ -7,20 +7,20 @@ use Rattle.picture.specs.declared.line_id.Axis.TheVariants.{Across, Down}
 use Rattle.picture.specs.declared.line_id.LineId.{LineId}
 use Rattle.picture.specs.LineSet.{Lines, HasName, TakesOutName, no_names}
 use Rattle.picture.specs.Rows.{width_of, cell_at, line_of, lines_along, HasLine}
-use Rattle.picture.proofs.LineSetLemmas.{same_name}
 use Rattle.clues.specs.ClueBook.{Clues, clue_at}
 use Rattle.line_settle.specs.declared.line_engine.Outcome.{Outcome}
 use Rattle.line_settle.specs.declared.line_engine.Outcome.TheVariants.{Narrowed, Dead}
 use Rattle.line_settle.specs.Fitting.{CanFit}
 use Rattle.line_settle.specs.FactSets.{IsFacts, IsClosed, IsWithin, SameShape, Gains, row_on, col_on}
-use Rattle.line_settle.proofs.GridLemmas.{cell_on}
-use Rattle.line_settle.proofs.AlongLemmas.{place_on, same_line_length, same_has_line, shape_refl, shape_trans, shape_sym, same_list}
-use Rattle.line_settle.proofs.LawLemmas.{tighter_fits, within_tighter, fits_narrowed}
-use Rattle.line_settle.proofs.ForceLemmas.{on_or_not, gains_grows, gains_inside, gains_closes}
-use Rattle.line_settle.specs.Crossing.{other_axis, crossing_at, CrossesChange}
+use Rattle.line_settle.specs.Crossing.{CrossesChange}
+use Rattle.picture.specs.Crossing.{crossing, crossing_at}
 use Rattle.propagate.specs.Closing.{AreClosable, IsQuietLine, QuietOutside, Closes, PutsCrossing}
 use Rattle.propagate.specs.LineNames.{AreLinesOf}
-use Rattle.picture.proofs.LineSetLaws.{cases_name, members}
+use Rattle.picture.specs.LineSetLaws.{same_name, cases_name, members}
+use Rattle.line_settle.specs.GridLaws.{cell_on, same_line_length, same_has_line, shape_refl, shape_trans, shape_sym, same_list}
+use Rattle.line_settle.specs.AlongLaws.{place_on}
+use Rattle.line_settle.specs.FitLaws.{tighter_fits, within_tighter, fits_narrowed}
+use Rattle.line_settle.specs.ForceLaws.{on_or_not, gains_grows, gains_inside, gains_closes}
 
 -- ---- cells on a line
 
@@ -28,7 +28,7 @@ at_on : (facts : List (List ℕ)) (line : LineId) (row col i : ℕ) → row ≡ 
 at_on facts line row col i r c = ap (λ n. cell_at facts n col) r ∙ (ap (λ n. cell_at facts (row_on line.axis line.at i) n) c ∙ sym (cell_on facts line i))
 
 -- two lines that share a cell are one line, or they cross there
-shared_cell : (a b : Axis) (at bt i j : ℕ) → row_on b bt j ≡ row_on a at i → col_on b bt j ≡ col_on a at i → ((b ≡ a) × (bt ≡ at)) ⊎ ((b ≡ other_axis a) × (i ≡ bt))
+shared_cell : (a b : Axis) (at bt i j : ℕ) → row_on b bt j ≡ row_on a at i → col_on b bt j ≡ col_on a at i → ((b ≡ a) × (bt ≡ at)) ⊎ ((b ≡ crossing a) × (i ≡ bt))
 shared_cell Across Across at bt i j r c = inl (refl, r)
 shared_cell Across Down at bt i j r c = inr (refl, sym c)
 shared_cell Down Across at bt i j r c = inr (refl, sym r)
@@ -62,7 +62,7 @@ module _ (clues : Clues) (line : LineId) (old new : List (List ℕ)) (outcome : 
         fits = (f.0, fits_narrowed (clue_at clues line) (line_of old line) f.0 (line_of new line) outcome f.1 n);
       }
 
-  unchanged_cell : (other : LineId) → (other ≡ line → ⊥) → (CrossesChange line (line_of old line) (line_of new line) other → ⊥) → (row col i : ℕ) → row ≡ row_on line.axis line.at i → col ≡ col_on line.axis line.at i → other.axis ≡ other_axis line.axis → i ≡ other.at → cell_at new row col ≡ cell_at old row col
+  unchanged_cell : (other : LineId) → (other ≡ line → ⊥) → (CrossesChange line (line_of old line) (line_of new line) other → ⊥) → (row col i : ℕ) → row ≡ row_on line.axis line.at i → col ≡ col_on line.axis line.at i → other.axis ≡ crossing line.axis → i ≡ other.at → cell_at new row col ≡ cell_at old row col
   unchanged_cell other d n row col i r c ax at = elim (cases_eq (get_or (line_of old line) i 0) (get_or (line_of new line) i 0)) [
     | inl e ↦ at_on new line row col i r c ∙ (sym e ∙ sym (at_on old line row col i r c))
     | inr differs ↦ elim (cases_lt i (length (line_of old line))) [
@@ -99,7 +99,7 @@ module _ (clues : Clues) (line : LineId) (old new : List (List ℕ)) (outcome : 
         subst P (sym (unchanged_line other d (λ x. not ((p.names other).1 (inr x))))) before
   ]
 
-crossing_has : (axis : Axis) (at i : ℕ) (rows : List (List ℕ)) → row_on axis at i < length rows → col_on axis at i < width_of rows → i < lines_along (other_axis axis) rows
+crossing_has : (axis : Axis) (at i : ℕ) (rows : List (List ℕ)) → row_on axis at i < length rows → col_on axis at i < width_of rows → i < lines_along (crossing axis) rows
 crossing_has Across at i rows r c = c
 crossing_has Down at i rows r c = r
 

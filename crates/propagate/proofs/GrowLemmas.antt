@@ -8,16 +8,12 @@ use Rattle.std.proofs.lemmas.List.{append_assoc, append-nil}
 use Rattle.picture.specs.declared.line_id.LineId.{LineId}
 use Rattle.picture.specs.LineSet.{Lines, HasName, PutsNames, TakesOutName, name_count, no_names}
 use Rattle.picture.specs.Rows.{line_of}
-use Rattle.picture.proofs.LineSetLaws.{no_names_counted}
-use Rattle.picture.proofs.UnionLemmas.{put_all_counts}
 use Rattle.clues.specs.ClueBook.{Clues, clue_at}
 use Rattle.line_settle.specs.declared.line_engine.Outcome.TheVariants.{Narrowed}
 use Rattle.line_settle.specs.declared.meter.Meter.{Meter}
 use Rattle.line_settle.specs.Counting.{Counts}
 use Rattle.line_settle.specs.FactSets.{IsFacts, IsWithin}
 use Rattle.line_settle.specs.Fitting.{CanFit}
-use Rattle.line_settle.proofs.AlongLemmas.{same_has_line, shape_sym, shape_trans}
-use Rattle.line_settle.proofs.LawLemmas.{counting_adds, tighter_fits, within_tighter}
 use Rattle.justify.specs.declared.step.Step.{Step}
 use Rattle.justify.specs.Steps.{step_at, IsTrimmed}
 use Rattle.justify.specs.Book.{Account, AreTrimmed, IsAccount, IsDerivation}
@@ -27,6 +23,9 @@ use Rattle.propagate.specs.declared.fault.CloseFault.{CloseFault}
 use Rattle.propagate.specs.declared.fault.CloseFault.TheVariants.{Dead, Memory}
 use Rattle.propagate.specs.ClosingBooks.{ClosesBook, IsClosedBook, SufficeToClose}
 use Rattle.propagate.specs.Turns.{cells_drawn, steps_added, Grows, Turn}
+use Rattle.picture.specs.LineSetLaws.{no_names_counted, put_all_counts}
+use Rattle.line_settle.specs.GridLaws.{same_has_line, shape_sym, shape_trans}
+use Rattle.line_settle.specs.FitLaws.{counting_adds, tighter_fits, within_tighter}
 use Rattle.propagate.proofs.ClosingLemmas.{Closing, closing_ends, closing_goes_on, within_trans}
 use Rattle.propagate.proofs.NameLemmas.{take_counts}
 use Rattle.propagate.proofs.WorkLemmas.{crossing_put, left_to_do, less_to_do, nothing_counted}

@@ -10,11 +10,10 @@ use Rattle.picture.specs.declared.line_id.Axis.TheVariants.{Across, Down}
 use Rattle.picture.specs.declared.line_id.LineId.{LineId}
 use Rattle.picture.specs.LineSet.{Lines, IsLineSet, HasName, PutsName, TakesOutName, name_count, no_names}
 use Rattle.picture.specs.Rows.{width_of}
-use Rattle.picture.proofs.BitLemmas.{same_bits}
-use Rattle.picture.proofs.LineSetLaws.{members, more_put, fewer_out}
-use Rattle.line_settle.proofs.MaskLemmas.{bit_is_set, set_bit, no_bit}
 use Rattle.propagate.specs.Agenda.{IsStack, name_at}
 use Rattle.propagate.specs.LineNames.{AllLines}
+use Rattle.picture.specs.BitLaws.{same_bits, bit_is_set, set_bit, no_bit}
+use Rattle.picture.specs.LineSetLaws.{members, more_put, fewer_out}
 
 -- ---- names
 

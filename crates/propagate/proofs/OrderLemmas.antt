@@ -7,13 +7,13 @@ use Rattle.picture.specs.declared.line_id.Axis.{Axis}
 use Rattle.picture.specs.declared.line_id.Axis.TheVariants.{Across, Down}
 use Rattle.picture.specs.declared.line_id.LineId.{LineId}
 use Rattle.picture.specs.LineSet.{Lines, IsLineSet, IsClearFrom, IsFirstBit, HasName, mask_along, no_names}
-use Rattle.picture.proofs.LineSetLaws.{members}
-use Rattle.line_settle.specs.Crossing.{other_axis}
+use Rattle.picture.specs.Crossing.{crossing}
 use Rattle.propagate.specs.Agenda.{name_at}
 use Rattle.propagate.specs.Orders.{IsNextRound, Pile, PutsNewest, pile, place_along, place_of, places_on, round}
+use Rattle.picture.specs.LineSetLaws.{members}
 use Rattle.propagate.proofs.NameLemmas.{no_name_is_empty}
 
-axis_or_other : (axis other : Axis) → (other ≡ axis) ⊎ (other ≡ other_axis axis)
+axis_or_other : (axis other : Axis) → (other ≡ axis) ⊎ (other ≡ crossing axis)
 axis_or_other Across Across = inl refl
 axis_or_other Across Down = inr refl
 axis_or_other Down Across = inr refl
@@ -29,7 +29,7 @@ on_behind : (axis : Axis) (from at : ℕ) → at < from → from ≤ 120 → pla
 on_behind Across from at h l = omega arith
 on_behind Down from at h l = omega arith
 
-on_crossing : (axis : Axis) (from at : ℕ) → from ≤ 120 → at < 120 → places_on (place_along axis from) (place_along (other_axis axis) at) ≡ at + 120 - from
+on_crossing : (axis : Axis) (from at : ℕ) → from ≤ 120 → at < 120 → places_on (place_along axis from) (place_along (crossing axis) at) ≡ at + 120 - from
 on_crossing Across from at h l = omega arith
 on_crossing Down from at h l = omega arith
 
@@ -40,7 +40,7 @@ module _ (lines : Lines) (axis : Axis) (from : ℕ) (is : IsLineSet lines) (with
   along : (line : LineId) → line.axis ≡ axis → places_on (place_along axis from) (place_of line) ≡ places_on (place_along axis from) (place_along axis line.at)
   along line e = ap (λ a. places_on (place_along axis from) (place_along a line.at)) e
 
-  across : (line : LineId) → HasName lines line → line.axis ≡ other_axis axis → places_on (place_along axis from) (place_of line) ≡ line.at + 120 - from
+  across : (line : LineId) → HasName lines line → line.axis ≡ crossing axis → places_on (place_along axis from) (place_of line) ≡ line.at + 120 - from
   across line has e = ap (λ a. places_on (place_along axis from) (place_along a line.at)) e ∙ on_crossing axis from line.at within (members.inside lines line is has)
 
   bit_along : (line : LineId) (a : Axis) → line.axis ≡ a → HasName lines line → IsBitSet (mask_along a lines) line.at
@@ -65,13 +65,13 @@ module _ (lines : Lines) (axis : Axis) (from : ℕ) (is : IsLineSet lines) (with
         ];
       }
 
-  module _ (clear : IsClearFrom (mask_along axis lines) from) (crossing : Axis) (other_is : crossing ≡ other_axis axis) where
+  module _ (clear : IsClearFrom (mask_along axis lines) from) (others : Axis) (other_is : others ≡ crossing axis) where
     behind : (line : LineId) → line.axis ≡ axis → HasName lines line → line.at < from
     behind line e has = elim (cases_lt line.at from) [ inl l ↦ l | inr g ↦ absurd (clear line.at g (bit_along line axis e has)) ]
 
-    pub next_crossing : (at : ℕ) → IsFirstBit (mask_along crossing lines) 0 at → IsNextRound (round lines (place_along axis from)) (record { axis = crossing; at = at })
+    pub next_crossing : (at : ℕ) → IsFirstBit (mask_along others lines) 0 at → IsNextRound (round lines (place_along axis from)) (record { axis = others; at = at })
     next_crossing at f =
-        let here : places_on (place_along axis from) (place_along crossing at) ≡ at + 120 - from = across (record { axis = crossing; at = at }) f.is_set other_is in
+        let here : places_on (place_along axis from) (place_along others at) ≡ at + 120 - from = across (record { axis = others; at = at }) f.is_set other_is in
         record {
           waits = f.is_set;
           first = λ other has. elim (axis_or_other axis other.axis) [
@@ -84,15 +84,15 @@ module _ (lines : Lines) (axis : Axis) (from : ℕ) (is : IsLineSet lines) (with
             | inr e ↦
                 let there = across other has e in
                 elim (cases_lt other.at at) [
-                  | inl l ↦ absurd (f.first other.at (omega arith) l (bit_along other crossing (e ∙ sym other_is) has))
+                  | inl l ↦ absurd (f.first other.at (omega arith) l (bit_along other others (e ∙ sym other_is) has))
                   | inr m ↦ omega arith
                 ]
           ];
         }
 
-    module _ (none : IsClearFrom (mask_along crossing lines) 0) where
-      none_across : (line : LineId) → line.axis ≡ other_axis axis → HasName lines line → ⊥
-      none_across line e has = none line.at (omega arith) (bit_along line crossing (e ∙ sym other_is) has)
+    module _ (none : IsClearFrom (mask_along others lines) 0) where
+      none_across : (line : LineId) → line.axis ≡ crossing axis → HasName lines line → ⊥
+      none_across line e has = none line.at (omega arith) (bit_along line others (e ∙ sym other_is) has)
 
       pub next_behind : (at : ℕ) → IsFirstBit (mask_along axis lines) 0 at → IsNextRound (round lines (place_along axis from)) (record { axis = axis; at = at })
       next_behind at f =

@@ -9,14 +9,14 @@ use Rattle.picture.specs.Picture.{IsPicture}
 use Rattle.picture.specs.declared.line_id.LineId.{LineId}
 use Rattle.picture.specs.Rows.{row_at, cell_at, line_along, line_of, lines_along, HasLine}
 use Rattle.clues.specs.ClueBook.{Clues, clue_at, clues_of}
-use Rattle.clues.proofs.LineClues.{clue_at-clues_of}
 use Rattle.line_settle.specs.FactSets.{IsClosed, IsWithin, SameShape, Leaves, row_on, col_on}
-use Rattle.line_settle.proofs.MaskLemmas.{no_bit, power_has}
-use Rattle.line_settle.proofs.GridLemmas.{cell_on}
-use Rattle.line_settle.proofs.AlongLemmas.{same_line_length, same_has_line, shape_sym, shape_trans}
 use Rattle.line_settle.specs.Fitting.{CanFit, Fits}
 use Rattle.propagate.specs.Filling.{Fills, LeavesPicture, only}
+use Rattle.propagate.specs.FillingLaws.{fills_fewer}
 use Rattle.propagate.specs.Laws.{ClosingKeepsFillings, OnlyIsClosed, PictureStays}
+use Rattle.clues.specs.BookLaws.{clue_at-clues_of}
+use Rattle.picture.specs.BitLaws.{no_bit, power_has}
+use Rattle.line_settle.specs.GridLaws.{cell_on, same_line_length, same_has_line, shape_sym, shape_trans}
 
 abbrev powers : List ℕ → List ℕ
 powers row = map (λ (colour : ℕ). 2 ^ colour) row
@@ -136,14 +136,6 @@ fills_more clues base facts picture shape w f = record {
   same_shape = shape_trans f.same_shape shape;
   has_clues = f.has_clues;
   leaves = leaves_within picture facts w;
-}
-
-fills_fewer : (clues : Clues) (base facts picture : List (List ℕ)) → IsWithin base facts → Fills clues facts picture → Fills clues base picture
-fills_fewer clues base facts picture w f = record {
-  is_picture = f.is_picture;
-  same_shape = shape_trans f.same_shape (shape_sym w.same_shape);
-  has_clues = f.has_clues;
-  leaves = λ row col inside. w.leaves row col (cell_at picture row col) (f.leaves row col inside);
 }
 
 -- each line of a picture fits the facts that leave it alone

@@ -9,7 +9,6 @@ use Rattle.clues.specs.ClueBook.{Clues, clue_at}
 use Rattle.line_settle.specs.Fitting.{CanFit}
 use Rattle.line_settle.specs.FactSets.{IsClosed, IsLeast, IsWithin, SameShape}
 use Rattle.line_settle.specs.Laws.{LeastIsUnique}
-use Rattle.line_settle.proofs.AlongLemmas.{same_has_line, shape_refl, shape_trans}
 use Rattle.justify.specs.declared.step.Step.{Step}
 use Rattle.justify.specs.Book.{Account, IsAccount, IsDerivation}
 use Rattle.justify.specs.Laws.{DerivationsStayInside}
@@ -19,6 +18,7 @@ use Rattle.propagate.specs.Closing.{AreClosable}
 use Rattle.propagate.specs.Schedule.{AreAfter, IsAfterSchedule, IsDeadInTurn, RunsSchedule}
 use Rattle.propagate.specs.Turns.{Grows, TakesTurn, TakeTurns, Turn}
 use Rattle.propagate.specs.Laws.{SchedulesFillBooks}
+use Rattle.line_settle.specs.GridLaws.{same_has_line, shape_refl, shape_trans}
 use Rattle.propagate.proofs.ClosingLemmas.{same_sizes, within_trans}
 use Rattle.propagate.proofs.ScheduleLemmas.{schedules_lead_inside}
 use Rattle.propagate.proofs.GrowLemmas.{grown, grows_none, grows_on}

@@ -11,12 +11,9 @@ use Rattle.picture.specs.Rows.{line_of, HasLine}
 use Rattle.clues.specs.declared.block.Block.{Block}
 use Rattle.clues.specs.ClueBook.{Clues, clue_at}
 use Rattle.line_settle.specs.declared.line_engine.Outcome.TheVariants.{Narrowed, Dead}
-use Rattle.line_settle.specs.Crossing.{CrossesChange, crossing_at}
+use Rattle.line_settle.specs.Crossing.{CrossesChange}
+use Rattle.picture.specs.Crossing.{crossing_at}
 use Rattle.line_settle.specs.FactSets.{Gains, Leaves, row_on, col_on}
-use Rattle.line_settle.proofs.AlongLemmas.{shape_refl}
-use Rattle.line_settle.proofs.GridLemmas.{cell_on}
-use Rattle.line_settle.proofs.LawLemmas.{have_left}
-use Rattle.line_settle.proofs.MaskLemmas.{bit_is_set, same_bits}
 use Rattle.justify.specs.declared.premise.Premise.{Premise}
 use Rattle.justify.specs.declared.step.Step.{Step}
 use Rattle.justify.specs.Premises.{premise_at, ArePremises, Mentions, Says}
@@ -25,6 +22,9 @@ use Rattle.justify.specs.Book.{Account, Adds, GainDrawn, IsAccount, IsDerivation
 use Rattle.justify.specs.Laws.{DerivationsGrow, NewStepsDerive, NewStepsFollow}
 use Rattle.justify.specs.Making.{DrawsNothing, IsNewStep}
 use Rattle.propagate.specs.Turns.{CrossesDrawn, Turn}
+use Rattle.line_settle.specs.GridLaws.{shape_refl, cell_on}
+use Rattle.line_settle.specs.FitLaws.{have_left}
+use Rattle.picture.specs.BitLaws.{bit_is_set, same_bits}
 
 -- ---- the lines that cross a step where it draws
 

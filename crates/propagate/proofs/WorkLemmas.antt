@@ -1,12 +1,12 @@
 -- How much is left to do, and how much was done.
-use Rattle.std.proofs.Common.{◌≡◌, ℕ, zero, suc, ◌+◌, ◌^◌, ◌<◌, ◌≤◌, List, length, get_or, ◌==◌, ◌/◌, ◌↔◌, cond, Bool, true, false, eq-eqb, eqb-true, refl, sym, ap, subst, ◌∙◌, arith, inl, inr, bit_and}
+use Rattle.std.proofs.Common.{◌≡◌, ℕ, zero, suc, ◌+◌, ◌^◌, ◌<◌, ◌≤◌, List, length, get_or, ◌==◌, ◌/◌, ◌↔◌, cond, Bool, true, false, eq-eqb, eqb-true, refl, sym, ap, subst, ◌∙◌, arith, inl, inr}
 use Rattle.std.specs.Prelude.{IsBitSet, count_ones}
 use Rattle.std.specs.Int.{bit_at}
 use Rattle.std.specs.Int.Count.{ones_step}
 use Rattle.std.proofs.lemmas.Bool.{cases_eq}
 use Rattle.std.proofs.lemmas.List.{length-map}
-use Rattle.std.proofs.lemmas.Nat.{and_le_r, ones_le_self}
-use Rattle.std.proofs.lemmas.Nat.Bits.{bit_at_and, bit_at-lt, bit_at-suc, bit_at-zero, bit_at_lowest, same_from_bits}
+use Rattle.std.proofs.lemmas.Nat.{ones_le_self}
+use Rattle.std.proofs.lemmas.Nat.Bits.{bit_at-lt, bit_at-suc, bit_at-zero, bit_at_lowest, same_from_bits}
 use Rattle.picture.specs.declared.line_id.Axis.{Axis}
 use Rattle.picture.specs.declared.line_id.Axis.TheVariants.{Across, Down}
 use Rattle.picture.specs.declared.line_id.LineId.{LineId}
@@ -18,13 +18,13 @@ use Rattle.line_settle.specs.declared.line_engine.Outcome.TheVariants.{Narrowed,
 use Rattle.line_settle.specs.declared.meter.Meter.{Meter}
 use Rattle.line_settle.specs.Counting.{Counts, counted}
 use Rattle.line_settle.specs.FactSets.{IsFacts, IsWithin, Gains}
-use Rattle.line_settle.proofs.MaskLemmas.{bit_is_set, set_bit, same_bits, no_bit}
-use Rattle.line_settle.proofs.GridLemmas.{cell_along}
-use Rattle.line_settle.proofs.LawLemmas.{counting_adds}
 use Rattle.propagate.specs.Closing.{change, changes, PutsCrossing, Evaluates, Draws, Works}
-use Rattle.picture.proofs.LineSetLaws.{no_names_counted}
-use Rattle.picture.proofs.UnionLemmas.{put_all_counts}
-use Rattle.line_settle.specs.Crossing.{CrossesChange, other_axis}
+use Rattle.line_settle.specs.Crossing.{CrossesChange}
+use Rattle.picture.specs.Crossing.{crossing}
+use Rattle.picture.specs.BitLaws.{fewer_le, bit_is_set, same_bits, no_bit}
+use Rattle.line_settle.specs.GridLaws.{cell_along}
+use Rattle.line_settle.specs.FitLaws.{counting_adds}
+use Rattle.picture.specs.LineSetLaws.{no_names_counted, put_all_counts}
 use Rattle.propagate.proofs.NameLemmas.{take_counts}
 
 -- ---- cells that differ
@@ -40,14 +40,6 @@ change_some before after d = by (before == after) refl
     by false e = refl
 
 -- ---- masks
-
-fewer_le : (a b : ℕ) → ((k : ℕ) → IsBitSet a k → IsBitSet b k) → a ≤ b
-fewer_le a b h =
-    let e : bit_and a b ≡ a = same_bits (bit_and a b) a (λ k. (
-      (λ s. let x = set_bit (bit_and a b) k s in let y = bit_at_and a b k in let l = bit_at-lt a k in let m = bit_at-lt b k in bit_is_set a k (omega arith)),
-      (λ s. let x = set_bit a k s in let z = set_bit b k (h k s) in let y = bit_at_and a b k in bit_is_set (bit_and a b) k (omega arith)),
-    )) in
-    omega (arith, and_le_r a b)
 
 -- a mask that changes gets smaller
 mask_drops : (a b : ℕ) → ((k : ℕ) → IsBitSet b k → IsBitSet a k) → b + change a b ≤ a
@@ -189,7 +181,7 @@ module _ (line : LineId) (before after : List ℕ) (changed : Lines) (is : (othe
     | inr d ↦ let l = bit_at-lt (mask_along axis changed) k in omega arith
   ]
 
-  none_along : (axis : Axis) → (other_axis line.axis ≡ axis → ⊥) → count_ones (mask_along axis changed) ≡ 0
+  none_along : (axis : Axis) → (crossing line.axis ≡ axis → ⊥) → count_ones (mask_along axis changed) ≡ 0
   none_along axis d =
       let none : mask_along axis changed ≡ 0 = same_bits (mask_along axis changed) 0 (λ k. (
         (λ s. let x = (is (record { axis = axis; at = k })).0 s in absurd (d (sym (ap (λ (l : LineId). l.axis) x.is_crossing)))),
@@ -201,14 +193,14 @@ module _ (line : LineId) (before after : List ℕ) (changed : Lines) (is : (othe
   unfolding allowed
   few_along axis = omega (arith, ones_at_most (length before) (mask_along axis changed) allowed (bit_allowed axis) (bit_past axis), changes_sum before after (length before))
 
-  few_by_axis : (axis : Axis) → other_axis line.axis ≡ axis → name_count changed ≤ changes before after (length before)
+  few_by_axis : (axis : Axis) → crossing line.axis ≡ axis → name_count changed ≤ changes before after (length before)
   few_by_axis Across e = let none = none_along Down (λ x. let y : Across ≡ Down = sym e ∙ x in absurd cc) in let few = few_along Across in omega arith
   few_by_axis Down e = let none = none_along Across (λ x. let y : Down ≡ Across = sym e ∙ x in absurd cc) in let few = few_along Down in omega arith
 
   pub crossing_put : (old new : Lines) → PutsNames old new changed → PutsCrossing line before after old new
   crossing_put old new puts =
       let counts = put_all_counts old new changed puts in
-      let few = few_by_axis (other_axis line.axis) refl in
+      let few = few_by_axis (crossing line.axis) refl in
       record {
         names = λ other. (
           (λ s. elim ((puts other).0 s) [ inl o ↦ inl o | inr x ↦ inr ((is other).0 x) ]),

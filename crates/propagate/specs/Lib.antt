@@ -2,6 +2,7 @@ pub mod Agenda
 pub mod Closing
 pub mod ClosingBooks
 pub mod Filling
+pub mod FillingLaws
 pub mod LineNames
 pub mod Orders
 pub mod Schedule

@@ -5,7 +5,8 @@ use Rattle.picture.specs.LineSet.{Lines, HasName, name_count}
 use Rattle.picture.specs.Rows.{line_of}
 use Rattle.clues.specs.ClueBook.{Clues, clue_at}
 use Rattle.line_settle.specs.declared.line_engine.Outcome.TheVariants.{Narrowed}
-use Rattle.line_settle.specs.Crossing.{CrossesChange, crossing_at}
+use Rattle.line_settle.specs.Crossing.{CrossesChange}
+use Rattle.picture.specs.Crossing.{crossing_at}
 use Rattle.line_settle.specs.FactSets.{Gains}
 use Rattle.justify.specs.declared.fault.StepFault.{StepFault}
 use Rattle.justify.specs.declared.fault.StepFault.TheVariants as step

@@ -1,6 +1,5 @@
 ghost use Rattle.std.specs.Prelude.{◌≡◌, ◌<◌, ◌≤◌, MatchOption};
 ghost use Rattle.picture.specs.LineSet.{PutsName, PutsNames, no_names};
-ghost use Rattle.line_settle.specs.Crossing.{other_axis};
 ghost use Rattle.propagate.specs.Agenda.{Takes};
 ghost use Rattle.propagate.specs.Orders.{IsNextRound, TakesNextRound, place_along, round};
 
@@ -97,22 +96,12 @@ fn next_line(lines: &LineSet, axis: Axis, from: u8) -> Option<LineId>
     if let Some(at) = lines.first_from(axis, from) {
         return Some(LineId { axis, at });
     }
-    let crossing = crossing_axis(axis);
+    let crossing = axis.crossing();
     if let Some(at) = lines.first_from(crossing, 0) {
         return Some(LineId { axis: crossing, at });
     }
     match lines.first_from(axis, 0) {
         Some(at) => Some(LineId { axis, at }),
         None => None,
-    }
-}
-
-// The axis of the lines that cross the lines of an axis.
-fn crossing_axis(axis: Axis) -> Axis
-    ensures { result ≡ other_axis axis }
-{
-    match axis {
-        Axis::Across => Axis::Down,
-        Axis::Down => Axis::Across,
     }
 }

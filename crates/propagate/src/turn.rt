@@ -3,7 +3,6 @@ ghost use Rattle.picture.specs.LineSet.{HasName, name_count};
 ghost use Rattle.picture.specs.Rows.{line_of, HasLine};
 ghost use Rattle.clues.specs.ClueBook.{clue_at};
 ghost use Rattle.line_settle.specs.Counting.{Counts};
-ghost use Rattle.line_settle.specs.Crossing.{crossing_at};
 ghost use Rattle.line_settle.specs.FactSets.{IsFacts};
 ghost use Rattle.line_settle.specs.Fitting.{CanFit};
 ghost use Rattle.justify.specs.Premises.{ArePremises, Mentions};
@@ -61,18 +60,7 @@ fn crossing_drawn(step: &Step) -> LineSet
 {
     let mut lines = LineSet::empty();
     for premise in step.drawn.as_slice() {
-        lines.put(crossing(step.line, premise.at));
+        lines.put(step.line.crossing(premise.at));
     }
     lines
-}
-
-// The line that crosses a line at a place.
-fn crossing(line: LineId, at: u8) -> LineId
-    ensures { result ≡ crossing_at line at }
-{
-    let axis = match line.axis {
-        Axis::Across => Axis::Down,
-        Axis::Down => Axis::Across,
-    };
-    LineId { axis, at }
 }

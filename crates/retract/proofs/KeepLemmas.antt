@@ -7,7 +7,8 @@ use Rattle.picture.specs.declared.line_id.Axis.{Axis}
 use Rattle.picture.specs.declared.line_id.Axis.TheVariants.{Across, Down}
 use Rattle.picture.specs.declared.line_id.LineId.{LineId}
 use Rattle.picture.specs.Rows.{HasLine, line_along, line_of, lines_along}
-use Rattle.clues.specs.Change.{AreMoves, Moves, crossing, image_of, lines_after, lines_before}
+use Rattle.clues.specs.Change.{AreMoves, Moves, image_of, lines_after, lines_before}
+use Rattle.picture.specs.Crossing.{crossing}
 use Rattle.clues.specs.ClueBook.{Clues, clue_at}
 use Rattle.clues.specs.Laws.{ImagesAreLines}
 use Rattle.line_settle.specs.FactSets.{IsFacts, SameShape, row_on, col_on}

@@ -4,7 +4,8 @@ use Rattle.picture.specs.declared.line_id.Axis.{Axis}
 use Rattle.picture.specs.declared.line_id.LineId.{LineId}
 use Rattle.picture.specs.LineSet.{Lines, HasName}
 use Rattle.picture.specs.Rows.{line_of, lines_along, HasLine}
-use Rattle.clues.specs.Change.{Moves, Stays, crossing, image_of, lines_after, lines_before}
+use Rattle.clues.specs.Change.{Moves, Stays, image_of, lines_after, lines_before}
+use Rattle.picture.specs.Crossing.{crossing}
 use Rattle.clues.specs.ClueBook.{Clues, clue_at}
 use Rattle.line_settle.specs.Fitting.{CanFit}
 use Rattle.line_settle.specs.FactSets.{IsClosedLine}

@@ -2,7 +2,8 @@
 use Rattle.std.specs.Prelude.{◌≡◌, ℕ, ◌⊎◌, List, [], ◌∷◌, ◌++◌, length, Some, IsBitSet}
 use Rattle.picture.specs.declared.line_id.Axis.{Axis}
 use Rattle.picture.specs.declared.line_id.LineId.{LineId}
-use Rattle.clues.specs.Change.{Moves, Stays, crossing, image_of, lines_after, lines_before}
+use Rattle.clues.specs.Change.{Moves, Stays, image_of, lines_after, lines_before}
+use Rattle.picture.specs.Crossing.{crossing}
 use Rattle.clues.specs.ClueBook.{Clues, clue_at, clues_along}
 use Rattle.line_settle.specs.FactSets.{Excludes, row_on, col_on}
 use Rattle.justify.specs.declared.premise.Premise.{Premise}

@@ -12,10 +12,8 @@ use Rattle.picture.specs.Picture.{IsPicture}
 use Rattle.picture.specs.Rows.{width_of, row_at, cell_at, lines_along, with_cell}
 use Rattle.clues.specs.ClueBook.{Clues, clues_along, clues_of}
 use Rattle.line_settle.specs.FactSets.{IsFacts, IsWithin, Leaves, SameShape}
-use Rattle.line_settle.proofs.AlongLemmas.{shape_refl, shape_sym, shape_trans}
-use Rattle.line_settle.proofs.GridLemmas.{at_with_cell, off_with_cell, shape_with_cell}
-use Rattle.line_settle.proofs.MaskLemmas.{bit_below, bit_is_set, power_has, set_bit}
 use Rattle.propagate.specs.Closing.{AreClosable}
+use Rattle.propagate.specs.FillingLaws.{fills_fewer}
 use Rattle.propagate.specs.Filling.{Fills}
 use Rattle.second_search.specs.declared.cell.Cell.{Cell}
 use Rattle.second_search.specs.declared.looking.Look.{Look}
@@ -23,6 +21,8 @@ use Rattle.second_search.specs.declared.looking.Look.TheVariants.{Nothing, Found
 use Rattle.second_search.specs.Branching.{FillsSome, Search, branches, colours_of, held, search_of}
 use Rattle.second_search.specs.Looking.{FindsFilling, Looks, Narrows}
 use Rattle.second_search.specs.Other.{AreSound, FindsFirst, FindsOther, HasClues, Solves}
+use Rattle.line_settle.specs.GridLaws.{shape_refl, shape_sym, shape_trans, at_with_cell, off_with_cell, shape_with_cell}
+use Rattle.picture.specs.BitLaws.{bit_below, bit_is_set, power_has, set_bit}
 use Rattle.second_search.proofs.WeightLemmas.{branches_lighter, load, load_append, no_load, load_more, weight, weight_within}
 
 -- ---- a cell held to each of its colours
@@ -85,14 +85,6 @@ some_held clues facts picture row col h l f (k ∷ ks) a = elim a [
 abbrev Each : (ℕ → Type 0) → List ℕ → Type 0
 Each P [] = Unit {0}
 Each P (x ∷ xs) = P x × Each P xs
-
-fills_fewer : (clues : Clues) (base facts picture : List (List ℕ)) → IsWithin base facts → Fills clues facts picture → Fills clues base picture
-fills_fewer clues base facts picture w f = record {
-  is_picture = f.is_picture;
-  same_shape = shape_trans f.same_shape (shape_sym w.same_shape);
-  has_clues = f.has_clues;
-  leaves = λ row col inside. w.leaves row col (cell_at picture row col) (f.leaves row col inside);
-}
 
 held_some : (clues : Clues) (facts picture : List (List ℕ)) (row col : ℕ) → row < length facts → col < length (row_at facts row) → (ks : List ℕ) → Each (Leaves facts row col) ks → FillsSome clues (held facts row col ks) picture → Fills clues facts picture
 held_some clues facts picture row col h l [] a s = absurd s

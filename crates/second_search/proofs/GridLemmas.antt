@@ -4,8 +4,7 @@ use Rattle.std.proofs.lemmas.Bool.{cases_eq, cases_lt}
 use Rattle.std.proofs.lemmas.List.{ext_get_or, get_or_past}
 use Rattle.picture.specs.Rows.{width_of, row_at, cell_at, with_cell}
 use Rattle.line_settle.specs.FactSets.{SameShape}
-use Rattle.line_settle.proofs.AlongLemmas.{shape_sym, shape_trans}
-use Rattle.line_settle.proofs.GridLemmas.{at_with_cell, off_with_cell, shape_with_cell}
+use Rattle.line_settle.specs.GridLaws.{shape_sym, shape_trans, at_with_cell, off_with_cell, shape_with_cell}
 
 -- grids of one shape with the same cells are one
 pub same_grid : (a b : List (List ℕ)) → SameShape a b → ((r c : ℕ) → cell_at a r c ≡ cell_at b r c) → a ≡ b

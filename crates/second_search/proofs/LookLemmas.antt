@@ -7,13 +7,12 @@ use Rattle.picture.specs.Rows.{width_of, row_at, cell_at, with_cell}
 use Rattle.clues.specs.ClueBook.{Clues, clues_of}
 use Rattle.line_settle.specs.Masks.{IsOnly}
 use Rattle.line_settle.specs.FactSets.{IsFacts, IsWithin, SameShape}
-use Rattle.line_settle.proofs.AlongLemmas.{shape_sym, shape_trans}
-use Rattle.line_settle.proofs.GridLemmas.{at_with_cell, off_with_cell, shape_with_cell}
-use Rattle.line_settle.proofs.MaskLemmas.{bit_below}
 use Rattle.propagate.specs.Filling.{Fills}
 use Rattle.second_search.specs.declared.looking.Look.{Look}
 use Rattle.second_search.specs.declared.looking.Look.TheVariants.{Nothing, Found, Split}
 use Rattle.second_search.specs.Looking.{Looks, Shows, ShowsRow}
+use Rattle.line_settle.specs.GridLaws.{shape_sym, shape_trans, at_with_cell, off_with_cell, shape_with_cell}
+use Rattle.picture.specs.BitLaws.{bit_below}
 use Rattle.second_search.proofs.GridLemmas.{same_inside}
 
 pub only_small : (facts : List (List ℕ)) (row col k : ℕ) → IsFacts facts → IsOnly (cell_at facts row col) k → k < 16

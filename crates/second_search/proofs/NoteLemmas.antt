@@ -7,11 +7,11 @@ use Rattle.std.proofs.lemmas.List.{reverse-append}
 use Rattle.std.proofs.lemmas.Nat.Bits.{bit_at-zero, bit_at-trailing_zeros, bit_at_clear_same, bit_at_clear_other}
 use Rattle.picture.specs.Rows.{width_of, cell_at, with_cell}
 use Rattle.line_settle.specs.FactSets.{IsFacts}
-use Rattle.line_settle.proofs.MaskLemmas.{lowest_below, shifted}
 use Rattle.second_search.specs.declared.note.CellMask.{CellMask}
 use Rattle.second_search.specs.declared.note.Note.{Note}
 use Rattle.second_search.specs.declared.note.Note.TheVariants.{Restore, Branch}
 use Rattle.second_search.specs.Branching.{AreInside, IsInside, Search, branches, colours_of, held, search_of, waiting}
+use Rattle.line_settle.specs.MaskLaws.{lowest_below, shifted}
 use Rattle.second_search.proofs.GridLemmas.{cell_back, same_cell}
 
 has : ℕ → ℕ → Bool

@@ -1,29 +1,19 @@
 -- Facts that a search may start from.
-use Rattle.std.proofs.Common.{◌≡◌, ◌≢◌, ℕ, ◌^◌, ◌<◌, ◌≤◌, ◌⊎◌, List, [], length, get_or, replicate, refl, sym, ap, subst, ◌∙◌, arith, inl, inr}
+use Rattle.std.proofs.Common.{◌≡◌, ℕ, ◌^◌, ◌<◌, ◌⊎◌, List, [], length, refl, sym, ap, subst, ◌∙◌, arith, inl, inr}
 use Rattle.std.specs.Prelude.{IsBitSet}
 use Rattle.std.proofs.lemmas.Bool.{cases_eq, cases_lt}
-use Rattle.std.proofs.lemmas.List.{get_or_past, get_or-replicate, length-replicate}
+use Rattle.std.proofs.lemmas.List.{get_or_past}
 use Rattle.picture.specs.CellSet.{HasCell, PutsCell}
 use Rattle.picture.specs.Picture.{IsPicture}
 use Rattle.picture.specs.Rows.{width_of, row_at, cell_at, with_cell}
 use Rattle.clues.specs.ClueBook.{Clues}
-use Rattle.line_settle.specs.FactSets.{IsBase, IsLeast, Leaves, SameShape, nothing_excluded, with_given}
-use Rattle.line_settle.proofs.AlongLemmas.{shape_trans}
-use Rattle.line_settle.proofs.GridLemmas.{all_left, at_with_cell, off_with_cell, shape_with_cell}
-use Rattle.line_settle.proofs.MaskLemmas.{no_bit, power_has}
-use Rattle.propagate.specs.Filling.{Fills, LeavesPicture}
+use Rattle.line_settle.specs.FactSets.{IsBase, IsLeast, Leaves, nothing_excluded, with_given}
+use Rattle.propagate.specs.Filling.{Fills}
 use Rattle.propagate.specs.Laws.{ClosingKeepsFillings}
 use Rattle.second_search.specs.Laws.{SoundFacts}
 use Rattle.second_search.specs.Other.{AreSound, Solves}
-
-full_shape : (picture : List (List ℕ)) → IsPicture picture → SameShape picture (nothing_excluded (length picture) (width_of picture))
-full_shape p is = record {
-  rows = sym (length-replicate (length p) (replicate {A = ℕ} (width_of p) 65535));
-  each = λ i. elim (cases_lt i (length p)) [
-    | inl l ↦ sym (ap length (get_or-replicate (length p) i (replicate {A = ℕ} (width_of p) 65535) [] l) ∙ (length-replicate {A = ℕ} (width_of p) 65535 ∙ sym (is.rectangular i l)))
-    | inr q ↦ ap length (get_or_past p i [] q) ∙ ap length (sym (get_or_past (replicate (length p) (replicate {A = ℕ} (width_of p) 65535)) i [] (omega (arith, length-replicate (length p) (replicate {A = ℕ} (width_of p) 65535)))))
-  ];
-}
+use Rattle.line_settle.specs.GridLaws.{full_shape, shape_trans, all_left, at_with_cell, off_with_cell, shape_with_cell}
+use Rattle.picture.specs.BitLaws.{no_bit, power_has}
 
 -- a cell of a row of a picture lies in the picture
 row_inside : (picture : List (List ℕ)) (row col : ℕ) → IsPicture picture → col < length (row_at picture row) → (row < length picture) × (col < width_of picture)

@@ -1,11 +1,10 @@
 -- What facts weigh: the sum of their masks. A search ends since what waits weighs less with each step.
-use Rattle.std.proofs.Common.{◌≡◌, ℕ, zero, suc, ◌+◌, ◌-◌, ◌*◌, ◌^◌, ◌<◌, ◌≤◌, ◌==◌, true, List, [], ◌∷◌, ◌++◌, length, get_or, set, bit_and, refl, sym, ap, subst, arith, inl, inr, eqb-true}
+use Rattle.std.proofs.Common.{◌≡◌, ℕ, zero, suc, ◌+◌, ◌-◌, ◌*◌, ◌^◌, ◌<◌, ◌≤◌, ◌==◌, true, List, [], ◌∷◌, ◌++◌, length, get_or, set, refl, sym, ap, subst, arith, inl, inr, eqb-true}
 use Rattle.std.specs.Prelude.{IsBitSet}
 use Rattle.std.specs.List.{All, filter, range_with_len}
 use Rattle.std.specs.Int.{bit_at}
 use Rattle.std.proofs.lemmas.Bool.{cases_eq}
-use Rattle.std.proofs.lemmas.Nat.{and_le_r, pow-add}
-use Rattle.std.proofs.lemmas.Nat.Bits.{bit_at_and, bit_at-lt}
+use Rattle.std.proofs.lemmas.Nat.{pow-add}
 use Rattle.std.proofs.lemmas.List.Elements.{filter_passes}
 use Rattle.std.proofs.lemmas.List.FromFn.{length-range_with_len}
 use Rattle.std.proofs.lemmas.List.Sums.{count_by-le-length, length-filter}
@@ -14,8 +13,8 @@ use Rattle.std.proofs.Math.Pow.{pow_mono, pow_pos}
 use Rattle.picture.specs.Rows.{row_at, cell_at, with_cell}
 use Rattle.line_settle.specs.Masks.{IsOnly}
 use Rattle.line_settle.specs.FactSets.{IsWithin}
-use Rattle.line_settle.proofs.MaskLemmas.{bit_is_set, power_has, same_bits, set_bit}
 use Rattle.second_search.specs.Branching.{branches, colours_of, held}
+use Rattle.picture.specs.BitLaws.{fewer_le, bit_is_set, power_has}
 
 -- the sum over a list
 abbrev total : {X : Type 0} → (X → ℕ) → List X → ℕ
@@ -44,14 +43,6 @@ pub load : List (List (List ℕ)) → ℕ
 load many = total loads many
 
 -- ---- fewer colours weigh less
-
-fewer_le : (a b : ℕ) → ((k : ℕ) → IsBitSet a k → IsBitSet b k) → a ≤ b
-fewer_le a b h =
-    let e : bit_and a b ≡ a = same_bits (bit_and a b) a (λ k. (
-      (λ s. let x = set_bit (bit_and a b) k s in let y = bit_at_and a b k in let l = bit_at-lt a k in let m = bit_at-lt b k in bit_is_set a k (omega arith)),
-      (λ s. let x = set_bit a k s in let z = set_bit b k (h k s) in let y = bit_at_and a b k in bit_is_set (bit_and a b) k (omega arith)),
-    )) in
-    omega (arith, and_le_r a b)
 
 row_le : (a b : List ℕ) → length a ≡ length b → ((i : ℕ) → get_or a i 0 ≤ get_or b i 0) → row_weight a ≤ row_weight b
 unfolding row_weight

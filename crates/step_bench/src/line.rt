@@ -1,12 +1,13 @@
 //! The line that is measured.
 
 ghost use Rattle.std.specs.Prelude.{ℕ, ◌<◌, ◌≤◌};
+ghost use Rattle.picture.specs.declared.picture.TheConstants.{MAX_SIDE};
 
 use anyhow::{Context, Result, ensure};
 use clues::{Clue, clue_of};
 use justify::Book;
 use line_settle::Facts;
-use picture::{Axis, LineId, Picture};
+use picture::{Axis, LineId, MAX_SIDE, Picture};
 use std::alloc::Global;
 
 pub const TOP: LineId = LineId {
@@ -15,7 +16,7 @@ pub const TOP: LineId = LineId {
 };
 
 /// How many cells a line has at the most.
-pub const MOST: usize = 120;
+pub const MOST: usize = MAX_SIDE as usize;
 
 /// A line of blocks of one length with one cell between each two, in all colours in turn, and what is known of it.
 #[derive(Drop)]
@@ -23,7 +24,7 @@ pub struct Line {
     cells: [u8; MOST],
     left: [u16; MOST],
     count: usize,
-    ghost short: { count ≤ 120 },
+    ghost short: { count ≤ MAX_SIDE },
 }
 
 impl Line {

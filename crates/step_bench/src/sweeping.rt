@@ -3,6 +3,7 @@ ghost use Rattle.line_settle.specs.LeavingOut.{ForcesAll};
 
 use clues::Clue;
 use line_settle::{LineEngine, leave_out};
+use picture::MAX_SIDE;
 
 // Takes the colours of some masks out of others.
 fn take_out(left: &[u16], out: &[u16], drawn: &mut [u16])
@@ -37,7 +38,7 @@ pub fn draw<E: LineEngine>(
 pub fn leave_out_often(clue: &Clue, drawn: &[u16], left: &[u16], rounds: u32, kept: &mut [u16])
     requires same_drawn { length drawn.now ≡ length left.now }
     requires same_kept { length kept.old ≡ length left.now }
-    requires short { length left.now ≤ 120 }
+    requires short { length left.now ≤ MAX_SIDE }
     requires forced { ForcesAll clue.now left.now drawn.now }
 {
     for _ in 0..rounds {

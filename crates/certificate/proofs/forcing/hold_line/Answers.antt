@@ -1,5 +1,6 @@
 use Rattle.std.proofs.Common.{arith, refl, ◌∙◌}
-use Rattle.line_settle.proofs.AlongLemmas.{shape_sym, written_more, written_all}
+use Rattle.line_settle.specs.GridLaws.{shape_sym}
+use Rattle.line_settle.specs.AlongLaws.{written_more, written_all}
 use Rattle.certificate.proofs.PendingLemmas.{moved_inside}
 use Rattle.certificate.proofs.forcing.hold_line.Goals as goal
 

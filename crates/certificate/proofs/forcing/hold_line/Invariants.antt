@@ -1,6 +1,6 @@
 use Rattle.std.proofs.Common.{◌≡◌, length, reverse}
 use Rattle.picture.specs.Rows.{width_of}
-use Rattle.line_settle.proofs.AlongLemmas.{Written}
+use Rattle.line_settle.specs.AlongLaws.{Written}
 use Rattle.certificate.specs.Walk.{AreInside, pending}
 use Rattle.certificate.proofs.forcing.hold_line.Given as goal
 

@@ -1,6 +1,5 @@
 use Rattle.std.proofs.Common.{◌∙◌}
-use Rattle.line_settle.proofs.AlongLemmas.{shape_trans}
-use Rattle.line_settle.proofs.GridLemmas.{shape_with_cell}
+use Rattle.line_settle.specs.GridLaws.{shape_trans, shape_with_cell}
 use Rattle.certificate.proofs.PendingLemmas.{popped_waits, popped_inside}
 use Rattle.certificate.proofs.notes.end_branch.Goals as goal
 

@@ -1,6 +1,6 @@
 use Rattle.std.proofs.Common.{◌≡◌, ℕ, List, [], ◌++◌, ap, sym, ◌∙◌, reverse}
 use Rattle.picture.specs.Rows.{cell_at}
-use Rattle.line_settle.proofs.MaskLemmas.{bit_below}
+use Rattle.picture.specs.BitLaws.{bit_below}
 use Rattle.certificate.specs.Puzzle.{branches}
 use Rattle.certificate.specs.Walk.{pending}
 use Rattle.certificate.proofs.PendingLemmas.{no_branch, one_branch}

@@ -2,7 +2,7 @@
 use Rattle.std.proofs.Common.{◌≡◌, length}
 use Rattle.std.proofs.lemmas.Bool.Decides.{Decides-at, Decides-like, Decides-eqb}
 use Rattle.clues.specs.Clue.{clue_of}
-use Rattle.clues.proofs.Runs.{last_run-matches}
+use Rattle.clues.specs.RunLaws.{last_run-matches}
 use Rattle.clues.proofs.matching.is_clue_of.Goals as goal
 
 pub returns : goal.returns

@@ -6,7 +6,7 @@ use Rattle.picture.specs.LineSet.{Lines}
 use Rattle.picture.specs.Rows.{with_cell, lines_along}
 use Rattle.clues.specs.ClueBook.{clues_of}
 use Rattle.clues.specs.Change.{CanRefresh, image_of, line_at, lines_after, still}
-use Rattle.clues.proofs.LineClues.{has_clue-clues_of}
+use Rattle.clues.specs.BookLaws.{has_clue-clues_of}
 use Rattle.clues.proofs.tests.an_untouched_line_keeps_its_clue.Goals as goal
 
 one_line : (colour : ℕ) (axis : Axis) → lines_along axis ((colour ∷ []) ∷ []) ≡ lines_after axis (still 1 1)

@@ -1,7 +1,7 @@
-use Rattle.std.proofs.Common.{◌≡◌, ℕ, ◌<◌, List, length, subst, sym, ap, ◌∙◌, arith}
+use Rattle.std.proofs.Common.{◌≡◌, List, length, subst, sym, ap, ◌∙◌, arith}
 use Rattle.picture.specs.Rows.{line_of}
-use Rattle.line_settle.proofs.AlongLemmas.{same_has_line, same_line_length}
 use Rattle.justify.specs.declared.premise.Premise.{Premise}
+use Rattle.line_settle.specs.GridLaws.{same_has_line, same_line_length}
 use Rattle.justify.proofs.GainLemmas.{Gaining, gaining_more, gaining_all}
 use Rattle.justify.proofs.StandingLemmas.{place_inside}
 use Rattle.justify.proofs.book.gain_drawn.Goals as goal

@@ -1,5 +1,4 @@
-use Rattle.std.proofs.Common.{◌≡◌, ◌+◌, ◌<◌, ◌^◌, ℕ, ap, not, eqb, eq-eqb, ne_eqb, ◌∙◌, arith, subst, sym, refl, get_or, set, length}
-use Rattle.std.specs.Int.{from_bool}
+use Rattle.std.proofs.Common.{◌+◌, ◌<◌, ◌^◌, ℕ, ap, not, eqb, eq-eqb, ne_eqb, arith, subst, sym, refl, get_or, set, length}
 use Rattle.justify.specs.Premises.{premise}
 use Rattle.justify.proofs.GatherLemmas.{Gathered, gathered_none, gathered_more, gathered_all}
 use Rattle.justify.proofs.masks.gather.Goals as goal

@@ -1,4 +1,3 @@
-use Rattle.std.proofs.Common.{length}
 use Rattle.justify.proofs.LineMaskLemmas.{Rest}
 use Rattle.justify.proofs.masks.leave_rest.Given as goal
 

@@ -1,6 +1,6 @@
-use Rattle.std.proofs.Common.{◌≡◌, ◌<◌, ◌↔◌, ℕ, List, length, subst, sym, ◌∙◌, arith, IsTrue, MatchBool}
+use Rattle.std.proofs.Common.{◌≡◌, ◌↔◌, ℕ, List, length, subst, ◌∙◌, arith, IsTrue, MatchBool}
 use Rattle.justify.specs.declared.premise.Premise.{Premise}
-use Rattle.justify.specs.Premises.{HasSaid, LeavesRest, Mentions}
+use Rattle.justify.specs.Premises.{HasSaid, LeavesRest}
 use Rattle.justify.specs.Steps.{IsForced}
 use Rattle.justify.proofs.StandingLemmas.{forced_is, mentions_same}
 use Rattle.justify.proofs.standing.is_forced_on.Goals as goal

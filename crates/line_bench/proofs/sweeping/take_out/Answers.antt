@@ -1,9 +1,9 @@
-use Rattle.std.proofs.Common.{◌≡◌, ℕ, ◌-◌, ◌<◌, arith, inl, inr, subst, bit_and, length, get_or}
+use Rattle.std.proofs.Common.{ℕ, ◌-◌, ◌<◌, arith, inl, inr, subst, bit_and, length, get_or}
 use Rattle.std.specs.Prelude.{IsBitSet}
+use Rattle.line_settle.specs.MaskLaws.{without_bit}
 use Rattle.std.proofs.Math.ListN.{set}
 use Rattle.std.proofs.lemmas.Bool.{cases_eq}
 use Rattle.std.proofs.lemmas.List.{get_or-set_same, get_or-set_other}
-use Rattle.line_settle.proofs.MaskLemmas.{without_bit}
 use Rattle.line_bench.proofs.sweeping.take_out.Goals as goal
 
 pub loop-i-preserved : goal.loop-i-preserved

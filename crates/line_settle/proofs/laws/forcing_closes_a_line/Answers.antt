@@ -1,4 +1,4 @@
-use Rattle.line_settle.proofs.ForceLemmas.{closes_a_line}
+use Rattle.line_settle.proofs.LawLemmas.{closes_a_line}
 use Rattle.line_settle.proofs.laws.forcing_closes_a_line.Goals as goal
 
 pub returns : goal.returns

@@ -1,6 +1,6 @@
 use Rattle.std.proofs.Common.{ℕ, refl, sym, ◌∙◌, subst, arith}
 use Rattle.picture.specs.LineSet.{Lines}
-use Rattle.line_settle.proofs.ForceLemmas.{gains_grows}
+use Rattle.line_settle.specs.ForceLaws.{gains_grows}
 use Rattle.propagate.proofs.AlongLemmas.{filled}
 use Rattle.propagate.proofs.ClosingLemmas.{Closing, closing_dies, closing_ends, closing_goes_on, closing_starts}
 use Rattle.propagate.proofs.WorkLemmas.{working_dies, working_goes_on, working_starts, less_to_do}

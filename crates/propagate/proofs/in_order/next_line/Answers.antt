@@ -9,13 +9,13 @@ returns-in-Some c =
 pub returns-in-Some-first_from : goal.returns-in-Some-first_from
 returns-in-Some-first_from c =
     let f = c.in-Some-first_from.ensures.value in
-    (f.within, next_crossing c.args.lines.now c.args.axis c.args.from c.in_default.ensures.set c.requires c.in_default.ensures.value _ c.crossing_axis-crossing.ensures _ f)
+    (f.within, next_crossing c.args.lines.now c.args.axis c.args.from c.in_default.ensures.set c.requires c.in_default.ensures.value _ c.crossing-crossing.ensures _ f)
 
 pub returns-in-Some-first_from-2 : goal.returns-in-Some-first_from-2
 returns-in-Some-first_from-2 c =
     let f = c.in-Some-first_from-2.ensures.value in
-    (f.within, next_behind c.args.lines.now c.args.axis c.args.from c.in_default.ensures.set c.requires c.in_default.ensures.value _ c.crossing_axis-crossing.ensures c.in_default-first_from.ensures.value _ f)
+    (f.within, next_behind c.args.lines.now c.args.axis c.args.from c.in_default.ensures.set c.requires c.in_default.ensures.value _ c.crossing-crossing.ensures c.in_default-first_from.ensures.value _ f)
 
 pub returns-in-None : goal.returns-in-None
 returns-in-None c =
-    no_next c.args.lines.now c.args.axis c.args.from c.in_default.ensures.set c.requires c.in_default.ensures.value _ c.crossing_axis-crossing.ensures c.in_default-first_from.ensures.value c.in-None.ensures.value
+    no_next c.args.lines.now c.args.axis c.args.from c.in_default.ensures.set c.requires c.in_default.ensures.value _ c.crossing-crossing.ensures c.in_default-first_from.ensures.value c.in-None.ensures.value

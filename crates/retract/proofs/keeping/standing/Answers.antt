@@ -6,7 +6,8 @@ use Rattle.justify.specs.declared.step.Step.{Step}
 use Rattle.justify.specs.Premises.{Mentions}
 use Rattle.justify.specs.Book.{CanAdd}
 use Rattle.justify.specs.Steps.{step_at}
-use Rattle.clues.specs.Change.{crossing, lines_before}
+use Rattle.clues.specs.Change.{lines_before}
+use Rattle.picture.specs.Crossing.{crossing}
 use Rattle.retract.specs.Standing.{Stands, moved}
 use Rattle.retract.proofs.KeepLemmas.{drawn_within, premises_within, step_read}
 use Rattle.retract.proofs.SoFarLemmas.{can_add, so_far_all, so_far_gone, so_far_kept, so_far_none}

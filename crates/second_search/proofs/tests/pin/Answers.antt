@@ -1,8 +1,8 @@
 use Rattle.std.proofs.Common.{List, ℕ, ◌<◌, ◌^◌, ◌∙◌, ap, subst, sym}
 use Rattle.picture.specs.Rows.{cell_at, with_cell}
 use Rattle.clues.specs.ClueBook.{clues_of}
-use Rattle.line_settle.proofs.MaskLemmas.{shifted}
 use Rattle.second_search.specs.Other.{AreSound}
+use Rattle.line_settle.specs.MaskLaws.{shifted}
 use Rattle.second_search.proofs.tests.pin.Goals as goal
 
 pub returns : goal.returns

@@ -1,7 +1,6 @@
 use Rattle.std.proofs.Common.{◌≡◌, ℕ, ◌<◌, List, length, subst, sym, ap, ◌∙◌}
 use Rattle.picture.specs.Rows.{line_of}
 use Rattle.clues.specs.declared.block.Block.{Block}
-use Rattle.clues.specs.ClueBook.{clue_at}
 use Rattle.justify.specs.declared.step.Step.{Step}
 use Rattle.justify.specs.Premises.{Says}
 use Rattle.justify.specs.Forcing.{ForcesFrom}

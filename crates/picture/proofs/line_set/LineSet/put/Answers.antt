@@ -1,6 +1,6 @@
 use Rattle.picture.specs.LineSet.{Lines}
+use Rattle.picture.specs.LineSetLaws.{known_put, more_put}
 use Rattle.picture.proofs.LineSetLemmas.{row_in, column_in, row_in_table, column_in_table}
-use Rattle.picture.proofs.LineSetLaws.{known_put, more_put}
 use Rattle.picture.proofs.line_set.LineSet.put.Goals as goal
 
 pub returns-in-Across : goal.returns-in-Across

@@ -1,6 +1,6 @@
 use Rattle.picture.specs.LineSet.{Lines}
+use Rattle.picture.specs.LineSetLaws.{absent_out, fewer_out}
 use Rattle.picture.proofs.LineSetLemmas.{row_out, column_out, row_out_table, column_out_table}
-use Rattle.picture.proofs.LineSetLaws.{absent_out, fewer_out}
 use Rattle.picture.proofs.line_set.LineSet.take_out.Goals as goal
 
 pub returns-in-Across : goal.returns-in-Across

@@ -1,6 +1,7 @@
 use Rattle.std.proofs.Common.{◌∙◌, ap, arith}
 use Rattle.picture.specs.Rows.{with_cell}
-use Rattle.picture.proofs.FlatLemmas.{facts, place_inside, rows_of-set}
+use Rattle.picture.specs.FlatLaws.{place_inside, rows_of-set}
+use Rattle.picture.proofs.FlatLemmas.{facts}
 use Rattle.picture.proofs.picture.Picture.set.Goals as goal
 
 pub index_mut-requires : goal.index_mut-requires

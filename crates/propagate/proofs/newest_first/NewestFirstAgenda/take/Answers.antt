@@ -1,7 +1,7 @@
 use Rattle.std.proofs.Common.{◌≡◌, ◌-◌, ◌<◌, sym, ap, ◌∙◌, arith}
 use Rattle.picture.specs.LineSet.{no_names}
-use Rattle.picture.proofs.LineSetLaws.{members}
 use Rattle.propagate.specs.Orders.{Pile}
+use Rattle.picture.specs.LineSetLaws.{members}
 use Rattle.propagate.proofs.NameLemmas.{few_names, below_one, popped_one}
 use Rattle.propagate.proofs.OrderLemmas.{newest_taken}
 use Rattle.propagate.proofs.newest_first.NewestFirstAgenda.take.Goals as goal

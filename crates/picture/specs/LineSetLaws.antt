@@ -1,5 +1,5 @@
--- Sets of names of lines as sets: which are one, and what their counts say.
-use Rattle.std.proofs.Common.{◌≡◌, ℕ, ◌+◌, ◌^◌, ◌<◌, refl, sym, ap, ◌∙◌, subst, inl, inr, arith}
+-- Laws of sets of names of lines: which are one, and what their counts say.
+use Rattle.std.proofs.Common.{◌≡◌, ℕ, ◌+◌, ◌^◌, ◌<◌, ◌≤◌, refl, sym, ap, ◌∙◌, subst, inl, inr, arith}
 use Rattle.std.specs.Prelude.{IsBitSet, ◌⊎◌, count_ones}
 use Rattle.std.proofs.lemmas.Bool.{cases_eq}
 use Rattle.std.proofs.lemmas.Nat.{zero_from_ones, ones_le_self}
@@ -8,8 +8,12 @@ use Rattle.picture.specs.declared.line_id.Axis.TheVariants.{Across, Down}
 use Rattle.picture.specs.declared.line_id.LineId.{LineId}
 use Rattle.picture.specs.LineSet.{Lines, IsLineSet, mask_along, HasName, PutsName, TakesOutName, name_count, no_names}
 use Rattle.picture.specs.Laws.{SameNamesAreEqual, NamesAreMembers, NamesComeBack}
-use Rattle.picture.proofs.BitLemmas.{zero_has_none, bit_or_not, bit_below, same_bits, same_bits_below, bits_more}
-use Rattle.picture.proofs.LineSetLemmas.{same_name}
+use Rattle.picture.specs.LineSet.{PutsNames}
+use Rattle.picture.specs.BitLaws.{no_bit, bit_or_not, bit_below, same_bits, same_bits_below, bits_more, few_ones_of, fewer_ones_of}
+
+-- a name is its axis and its place
+pub same_name : (a b : LineId) → a.axis ≡ b.axis → a.at ≡ b.at → a ≡ b
+same_name a b axis at = λ i. record { axis = axis i; at = at i }
 
 across : ℕ → LineId
 across at = record { axis = Across; at = at }
@@ -31,7 +35,7 @@ small_along lines is Across = is.rows_within
 small_along lines is Down = is.columns_within
 
 name_in_none : (line : LineId) → ¬ HasName no_names line
-name_in_none line has = zero_has_none line.at (subst (λ mask. IsBitSet mask line.at) (none line.axis) has)
+name_in_none line has = no_bit line.at (subst (λ mask. IsBitSet mask line.at) (none line.axis) has)
   where
     none : (axis : Axis) → mask_along axis no_names ≡ 0
     none Across = refl
@@ -133,5 +137,14 @@ module _ (old new : Lines) (line : LineId) where
     (λ is. ((takes other).0 is).0),
     (λ had. (takes other).1 (had, λ e. absent (subst (HasName old) e had))),
   ))
+
+-- names put into a set make it no smaller, and no larger than by their own number
+pub put_all_counts : (old new names : Lines) → PutsNames old new names → (name_count old ≤ name_count new) × (name_count new ≤ name_count old + name_count names)
+put_all_counts old new names puts =
+    let rows = few_ones_of old.rows names.rows new.rows (λ k. (puts (record { axis = Across; at = k })).0) in
+    let columns = few_ones_of old.columns names.columns new.columns (λ k. (puts (record { axis = Down; at = k })).0) in
+    let kept_rows = fewer_ones_of new.rows old.rows (λ k is. (puts (record { axis = Across; at = k })).1 (inl is)) in
+    let kept_columns = fewer_ones_of new.columns old.columns (λ k is. (puts (record { axis = Down; at = k })).1 (inl is)) in
+    (omega arith, omega arith)
 
 pub ruleset laws = (same_names, members, come_back)

@@ -1,4 +1,4 @@
--- What forcing a line does to facts.
+-- Laws of what forcing a line does to facts.
 use Rattle.std.proofs.Common.{◌≡◌, ℕ, List, refl, sym, ap, subst, ◌∙◌, ◌⊎◌, inl, inr, get_or}
 use Rattle.std.specs.Prelude.{IsBitSet}
 use Rattle.std.proofs.lemmas.Bool.{cases_eq}
@@ -9,10 +9,8 @@ use Rattle.picture.specs.Rows.{cell_at, line_of}
 use Rattle.clues.specs.declared.block.Block.{Block}
 use Rattle.line_settle.specs.declared.line_engine.Outcome.{Outcome}
 use Rattle.line_settle.specs.FactSets.{Gains, IsClosedLine, IsOn, IsWithin, Leaves, col_on, row_on}
-use Rattle.line_settle.specs.Laws.{ForcingClosesALine}
-use Rattle.line_settle.proofs.GridLemmas.{cell_on}
-use Rattle.line_settle.proofs.AlongLemmas.{shape_sym, shape_trans}
-use Rattle.line_settle.proofs.LawLemmas.{have_left, have_narrowed, tighter_have, within_tighter}
+use Rattle.line_settle.specs.GridLaws.{cell_on, shape_sym, shape_trans}
+use Rattle.line_settle.specs.FitLaws.{have_left, have_narrowed, tighter_have, within_tighter}
 
 on_along : (axis : Axis) (at row col : ℕ) → ((i : ℕ) × (row ≡ row_on axis at i) × (col ≡ col_on axis at i)) ⊎ ((i : ℕ) × (row ≡ row_on axis at i) × (col ≡ col_on axis at i) → ⊥)
 on_along Across at row col = elim (cases_eq row at) [ inl e ↦ inl (col, e, refl) | inr n ↦ inr (λ o. n o.1) ]
@@ -56,6 +54,3 @@ gains_inside clue line old new outcome g others w closed = record {
 
 pub gains_closes : (clue : List Block) (line : LineId) (old new : List (List ℕ)) (outcome : Outcome) → Gains clue line old new outcome → IsClosedLine clue (line_of new line)
 gains_closes clue line old new outcome g = λ i k s. have_narrowed clue (line_of old line) (line_of new line) outcome g.narrows i k ((g.narrows.exact i k).0 s)
-
-pub closes_a_line : ForcingClosesALine
-closes_a_line = record { grows = gains_grows; stays_inside = gains_inside; closes = gains_closes }
