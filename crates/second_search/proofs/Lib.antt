@@ -4,3 +4,6 @@ pub mod LookLemmas
 pub mod WeightLemmas
 pub mod FindLemmas
 pub mod SoundLemmas
+pub mod ChainLemmas
+pub mod GrowLemmas
+pub mod RowLemmas

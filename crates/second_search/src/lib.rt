@@ -6,9 +6,11 @@ mod finding;
 pub mod laws;
 mod looking;
 mod note;
+mod parts;
 mod pending;
 
 pub use finding::{find_first, find_other};
+pub use parts::Parts;
 
 #[cfg(test)]
 mod tests;

@@ -10,6 +10,7 @@ use picture::{CellSet, Picture};
 use std::alloc::Global;
 use std::process::Abort;
 
+mod flooded;
 mod listing;
 
 use listing::{Cells, has_other, is_other, next_cells};

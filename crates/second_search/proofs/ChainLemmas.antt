@@ -1,0 +1,123 @@
+-- Chains of open cells, and the masks of open cells.
+use Rattle.std.proofs.Common.{◌≡◌, ◌≢◌, ℕ, ◌*◌, ◌%◌, ◌^◌, ◌<◌, ◌⊎◌, ◌↔◌, List, [], length, get_or, refl, sym, ap, subst, ◌∙◌, arith, inl, inr, bit_and, Bool, true, false, not, nat_eq, IsTrue, eq-eqb, ne_eqb}
+use Rattle.std.specs.Prelude.{IsBitSet}
+use Rattle.std.specs.Int.{bit_at, bit_not, trailing_zeros, w16}
+use Rattle.std.proofs.lemmas.Bool.{cases_eq, cases_lt}
+use Rattle.std.proofs.lemmas.List.{get_or_past}
+use Rattle.std.proofs.lemmas.Nat.{and_le_l, bit_set_by_shift}
+use Rattle.std.proofs.lemmas.Nat.Bits.{shr_and_one, bit_at-zero, bit_at_above, bit_at-trailing_zeros, bit_at_clear_same, bit_at_clear_other}
+use Rattle.picture.specs.Rows.{width_of, row_at, cell_at}
+use Rattle.line_settle.specs.FactSets.{IsFacts}
+use Rattle.second_search.specs.Parts.{HasTwoColours, IsChained, IsOpenCell, ShareLine, begins, goes_on}
+
+-- ---- bits
+
+pub one_bit : (n k : ℕ) → IsBitSet n k → bit_at n k ≡ 1
+one_bit n k is = sym (shr_and_one n k) ∙ (bit_set_by_shift n k).1 is
+
+pub bit_of_one : (n k : ℕ) → bit_at n k ≡ 1 → IsBitSet n k
+bit_of_one n k one = (bit_set_by_shift n k).0 (shr_and_one n k ∙ one)
+
+pub zero_has_none : (k : ℕ) → IsBitSet 0 k → ⊥
+zero_has_none k is = let one = one_bit 0 k is in let none = bit_at-zero k in absurd (omega arith)
+
+pub bit_or_not : (n k : ℕ) → IsBitSet n k ⊎ (IsBitSet n k → ⊥)
+bit_or_not n k = elim (cases_eq (bit_and n (2 ^ k)) 0) [ inl e ↦ inr (λ is. is e) | inr d ↦ inl d ]
+
+below_sixteen : (mask k : ℕ) → mask < 2 ^ 16 → IsBitSet mask k → k < 16
+below_sixteen mask k small is = elim (cases_lt k 16) [
+  | inl l ↦ l
+  | inr p ↦ let one = one_bit mask k is in let none = bit_at_above mask 16 k small p in absurd (omega arith)
+]
+
+-- ---- masks with more than one colour
+
+pub none_has_two : (mask : ℕ) → mask ≡ 0 → HasTwoColours mask → ⊥
+none_has_two mask e h = zero_has_none h.one (let P : ℕ → Type 0 = λ m. IsBitSet m h.one in subst P e h.has_one)
+
+abbrev pub but_lowest : ℕ → ℕ
+but_lowest mask = bit_and mask (bit_not w16 (1 * 2 ^ trailing_zeros w16 mask % 65536))
+
+lower_mask : (mask : ℕ) → mask < 2 ^ 16 → but_lowest mask < 2 ^ 16
+lower_mask mask small = let l = and_le_l mask (bit_not w16 (1 * 2 ^ trailing_zeros w16 mask % 65536)) in omega arith
+
+-- a colour beside the lowest one
+pub two_colours : (mask : ℕ) → 0 < mask → mask < 2 ^ 16 → but_lowest mask < 2 ^ 16 → but_lowest mask ≢ 0 → HasTwoColours mask
+two_colours mask some small less d =
+    let t = bit_at-trailing_zeros w16 mask some small in
+    let u = bit_at-trailing_zeros w16 (but_lowest mask) (omega arith) less in
+    let low = trailing_zeros w16 mask in
+    let next = trailing_zeros w16 (but_lowest mask) in
+    let gone = bit_at_clear_same w16 mask low t.0 in
+    let apart : next ≢ low = λ e. absurd (let x = ap (bit_at (but_lowest mask)) e in let y = u.1 in omega arith) in
+    record {
+      one = low;
+      other = next;
+      has_one = bit_of_one mask low t.1;
+      has_other = bit_of_one mask next (sym (bit_at_clear_other w16 mask low t.0 next u.0 apart) ∙ u.1);
+      differ = λ e. apart (sym e);
+    }
+
+only_lowest : (mask k : ℕ) → 0 < mask → mask < 2 ^ 16 → but_lowest mask ≡ 0 → IsBitSet mask k → k ≡ trailing_zeros w16 mask
+only_lowest mask k some small e is =
+    let t = bit_at-trailing_zeros w16 mask some small in
+    let low = trailing_zeros w16 mask in
+    elim (cases_eq k low) [
+      | inl same ↦ same
+      | inr d ↦ absurd (
+          let same = bit_at_clear_other w16 mask low t.0 k (below_sixteen mask k small is) d in
+          let none = ap (λ m. bit_at m k) e in
+          let zero = bit_at-zero k in
+          let one = one_bit mask k is in
+          omega arith)
+    ]
+
+pub one_colour : (mask : ℕ) → 0 < mask → mask < 2 ^ 16 → but_lowest mask ≡ 0 → HasTwoColours mask → ⊥
+one_colour mask some small e h = h.differ (only_lowest mask h.one some small e h.has_one ∙ sym (only_lowest mask h.other some small e h.has_other))
+
+-- the test for it
+pub tests_two : (mask : ℕ) → 0 < mask → mask < 2 ^ 16 → IsTrue (not (nat_eq (but_lowest mask) 0)) ↔ HasTwoColours mask
+tests_two mask some small = elim (cases_eq (but_lowest mask) 0) [
+  | inl e ↦
+      let P : Bool → Type 0 = λ b. IsTrue (not b) ↔ HasTwoColours mask in
+      subst P (sym (eq-eqb (but_lowest mask) 0 e)) ((λ (t : false ≡ true). absurd cc), (λ h. absurd (one_colour mask some small e h)))
+  | inr d ↦
+      let P : Bool → Type 0 = λ b. IsTrue (not b) ↔ HasTwoColours mask in
+      subst P (sym (ne_eqb (but_lowest mask) 0 d)) ((λ t. two_colours mask some small (lower_mask mask small) d), (λ h. refl))
+]
+
+-- ---- chains
+
+-- an open cell lies in the facts
+pub open_inside : (facts : List (List ℕ)) (row col : ℕ) → IsFacts facts → IsOpenCell facts row col → (row < length facts) × (col < width_of facts)
+open_inside facts row col is h = elim (cases_lt row (length facts)) [
+  | inl l ↦ (
+    l,
+    elim (cases_lt col (width_of facts)) [
+      | inl m ↦ m
+      | inr p ↦ absurd (none_has_two (cell_at facts row col) (get_or_past (row_at facts row) col 0 (let r = is.rectangular row l in omega arith)) h)
+    ],
+  )
+  | inr p ↦ absurd (none_has_two (cell_at facts row col) (ap (λ (cells : List ℕ). get_or cells col 0) (get_or_past facts row [] p)) h)
+]
+
+pub share_back : (row col r c : ℕ) → ShareLine row col r c → ShareLine r c row col
+share_back row col r c (inl e) = inl (sym e)
+share_back row col r c (inr e) = inr (sym e)
+
+-- a chain ends in an open cell
+pub chain_end : (facts : List (List ℕ)) (row col r c : ℕ) → IsChained facts row col r c → IsOpenCell facts r c
+chain_end facts row col _ _ (begins o) = o
+chain_end facts row col _ _ (goes_on r c s d chain share o) = o
+
+pub chain_on : (facts : List (List ℕ)) (row col r c s d : ℕ) → IsChained facts row col r c → IsChained facts r c s d → IsChained facts row col s d
+chain_on facts row col r c _ _ h (begins o) = h
+chain_on facts row col r c _ _ h (goes_on s d t e chain share o) = goes_on s d t e (chain_on facts row col r c s d h chain) share o
+
+pub chain_back : (facts : List (List ℕ)) (row col r c : ℕ) → IsChained facts row col r c → IsChained facts r c row col
+chain_back facts row col _ _ (begins o) = begins o
+chain_back facts row col _ _ (goes_on r c s d chain share o) =
+    chain_on facts s d r c row col (goes_on s d r c (begins o) (share_back r c s d share) (chain_end facts row col r c chain)) (chain_back facts row col r c chain)
+
+pub chain_in_row : (facts : List (List ℕ)) (row col c : ℕ) → IsOpenCell facts row col → IsOpenCell facts row c → IsChained facts row col row c
+chain_in_row facts row col c o p = goes_on row col row c (begins o) (inl refl) p
