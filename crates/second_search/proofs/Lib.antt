@@ -7,3 +7,7 @@ pub mod SoundLemmas
 pub mod ChainLemmas
 pub mod GrowLemmas
 pub mod RowLemmas
+pub mod PickLemmas
+pub mod PartLemmas
+pub mod StayLemmas
+pub mod PartLaws

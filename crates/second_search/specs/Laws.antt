@@ -1,11 +1,16 @@
--- Laws of facts that a search may start from.
-use Rattle.std.specs.Prelude.{ℕ, ◌<◌, List, length}
+-- Laws of facts that a search may start from, and of parts.
+use Rattle.std.specs.Prelude.{◌≡◌, ℕ, ◌<◌, ◌↔◌, List, length}
+use Rattle.picture.specs.declared.line_id.LineId.{LineId}
 use Rattle.picture.specs.CellSet.{HasCell, PutsCell}
 use Rattle.picture.specs.Picture.{IsPicture}
-use Rattle.picture.specs.Rows.{width_of}
+use Rattle.picture.specs.Rows.{width_of, cell_at}
 use Rattle.clues.specs.ClueBook.{Clues}
+use Rattle.clues.specs.Laws.{IsOnLine}
 use Rattle.line_settle.specs.FactSets.{IsBase, IsLeast, nothing_excluded, with_given}
-use Rattle.second_search.specs.Other.{AreSound}
+use Rattle.line_settle.specs.Masks.{IsOnly}
+use Rattle.propagate.specs.Filling.{Fills, only}
+use Rattle.second_search.specs.Other.{AreSound, IsOther}
+use Rattle.second_search.specs.Parts.{AreParts, GoesThrough, IsOpenCell, IsOtherFilling, IsPart, IsScene, KeepsLines, part_at, picked}
 
 -- Facts that exclude nothing are sound where there is no given, and so is the base of any givens. They stay sound with a given
 -- more, when its cell is left the picture's colour alone, and when they are closed for the clues.
@@ -14,3 +19,37 @@ pub record SoundFacts : Type 0 where
   pub base : (clues : Clues) (givens : List ℕ) (picture base : List (List ℕ)) → IsPicture picture → IsBase givens picture base → AreSound clues givens picture base
   pub one_more : (clues : Clues) (givens more : List ℕ) (picture facts : List (List ℕ)) (row col : ℕ) → IsPicture picture → row < length picture → col < width_of picture → PutsCell givens more row col → AreSound clues givens picture facts → AreSound clues more picture (with_given picture facts row col)
   pub settled : (clues : Clues) (givens : List ℕ) (picture facts settled : List (List ℕ)) → IsLeast clues facts settled → AreSound clues givens picture facts → AreSound clues givens picture settled
+
+-- ---- parts
+
+-- Two parts that share a cell are one, and a part has with a cell all open cells of each line through it. Its cells are
+-- open and lie in the picture; a cell of the picture that is not open has the picture's colour alone left.
+pub record PartsAreApart : Type 0 where
+  pub one : (facts parts : List (List ℕ)) → AreParts facts parts → (i j row col : ℕ) → i < length parts → j < length parts → HasCell (part_at parts i) row col → HasCell (part_at parts j) row col → i ≡ j
+  pub whole_lines : (facts : List (List ℕ)) (cells : List ℕ) (line : LineId) (row col : ℕ) → IsPart facts cells → GoesThrough line cells → IsOnLine line row col → IsOpenCell facts row col → HasCell cells row col
+  pub open_cells : (facts : List (List ℕ)) (cells : List ℕ) (row col : ℕ) → IsPart facts cells → HasCell cells row col → IsOpenCell facts row col
+  pub inside : (clues : Clues) (givens : List ℕ) (facts picture : List (List ℕ)) (row col : ℕ) → IsScene clues givens facts picture → IsOpenCell facts row col → (row < length picture) × (col < width_of picture)
+  pub settled : (clues : Clues) (givens : List ℕ) (facts picture : List (List ℕ)) (row col : ℕ) → IsScene clues givens facts picture → row < length picture → col < width_of picture → (IsOpenCell facts row col → ⊥) → IsOnly (cell_at facts row col) (cell_at picture row col)
+
+-- Another picture exists exactly where some part has another filling. With the colours of another picture on one part
+-- where it differs, and the picture's elsewhere, there is another filling of that part: each line is one of the two pictures'.
+pub record PartsDecide : Type 0 where
+  pub one_part : (clues : Clues) (givens : List ℕ) (facts picture other : List (List ℕ)) (cells : List ℕ) (row col : ℕ) → IsScene clues givens facts picture → IsPart facts cells → IsOther clues givens picture other
+      → HasCell cells row col → (cell_at other row col ≡ cell_at picture row col → ⊥) → IsOtherFilling clues givens picture cells (picked cells other picture)
+  pub some_part : (clues : Clues) (givens : List ℕ) (facts picture : List (List ℕ)) (parts : List (List ℕ)) → IsScene clues givens facts picture → AreParts facts parts
+      → ((other : List (List ℕ)) × IsOther clues givens picture other) ↔ ((i : ℕ) × ((i < length parts) × ((other : List (List ℕ)) × IsOtherFilling clues givens picture (part_at parts i) other)))
+
+-- The other fillings of a part are what fills the facts on the part, with the picture's colour alone left elsewhere.
+abbrev pub FillingsAreOfFacts : Type 0
+FillingsAreOfFacts = (clues : Clues) (givens : List ℕ) (facts picture other : List (List ℕ)) (cells : List ℕ) → IsScene clues givens facts picture
+    → IsOtherFilling clues givens picture cells other ↔ (Fills clues (picked cells facts (only picture)) other × (other ≡ picture → ⊥))
+
+-- A part whose lines are the same in two scenes is a part in both, and has another filling in the one exactly where it has
+-- one in the other: its colours on the part, with the other scene's picture elsewhere.
+pub record FillingsStay : Type 0 where
+  pub part : (clues clues_after : Clues) (facts picture facts_after picture_after : List (List ℕ)) (cells : List ℕ) → KeepsLines clues facts picture clues_after facts_after picture_after cells → IsPart facts cells → IsPart facts_after cells
+  pub carried : (clues clues_after : Clues) (givens givens_after : List ℕ) (facts picture facts_after picture_after other : List (List ℕ)) (cells : List ℕ) → IsScene clues givens facts picture → IsScene clues_after givens_after facts_after picture_after
+      → KeepsLines clues facts picture clues_after facts_after picture_after cells → IsPart facts cells → IsOtherFilling clues givens picture cells other → IsOtherFilling clues_after givens_after picture_after cells (picked cells other picture_after)
+  pub back : (clues clues_after : Clues) (facts picture facts_after picture_after : List (List ℕ)) (cells : List ℕ) → KeepsLines clues facts picture clues_after facts_after picture_after cells → KeepsLines clues_after facts_after picture_after clues facts picture cells
+  pub none : (clues clues_after : Clues) (givens givens_after : List ℕ) (facts picture facts_after picture_after : List (List ℕ)) (cells : List ℕ) → IsScene clues givens facts picture → IsScene clues_after givens_after facts_after picture_after
+      → KeepsLines clues facts picture clues_after facts_after picture_after cells → IsPart facts cells → ((other : List (List ℕ)) → IsOtherFilling clues givens picture cells other → ⊥) → (other : List (List ℕ)) → IsOtherFilling clues_after givens_after picture_after cells other → ⊥

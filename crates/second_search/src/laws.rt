@@ -1,8 +1,10 @@
 //! Laws of the definitions in `specs/`. Each function does nothing, and its contract is the law.
 
-ghost use Rattle.second_search.specs.Laws.{SoundFacts};
+ghost use Rattle.second_search.specs.Laws.{FillingsAreOfFacts, FillingsStay, PartsAreApart, PartsDecide, SoundFacts};
 
-use propagate::laws::closing_keeps_fillings;
+use clues::laws::{books_are_their_clues, clues_are_of_lines};
+use picture::laws::cells_are_members;
+use propagate::laws::{closing_keeps_fillings, only_is_closed};
 
 /// Facts that exclude nothing are sound where there is no given, and so is the base of any givens; facts stay sound with
 /// a given more, and when they are closed.
@@ -10,4 +12,37 @@ pub fn sound_facts()
     ensures { SoundFacts }
 {
     closing_keeps_fillings();
+}
+
+/// Two parts that share a cell are one, and a part has with a cell all open cells of each line through it. Its cells are
+/// open and lie in the picture; a cell of the picture that is not open has the picture's colour alone left.
+pub fn parts_are_apart()
+    ensures { PartsAreApart }
+{}
+
+/// Another picture exists exactly where some part has another filling: with its colours on one part where it differs, and
+/// the picture's elsewhere, there is another filling of that part.
+pub fn parts_decide()
+    ensures { PartsDecide }
+{
+    clues_are_of_lines();
+    books_are_their_clues();
+    cells_are_members();
+}
+
+/// The other fillings of a part are what fills the facts on the part, with the picture's colour alone left elsewhere.
+pub fn fillings_are_of_facts()
+    ensures { FillingsAreOfFacts }
+{
+    only_is_closed();
+}
+
+/// A part whose lines are the same in two scenes is a part in both, and has another filling in the one exactly where it
+/// has one in the other: its colours on the part, with the other scene's picture elsewhere.
+pub fn fillings_stay()
+    ensures { FillingsStay }
+{
+    clues_are_of_lines();
+    books_are_their_clues();
+    cells_are_members();
 }

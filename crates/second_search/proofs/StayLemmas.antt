@@ -1,0 +1,135 @@
+-- A part whose lines are the same in two scenes.
+use Rattle.std.proofs.Common.{◌≡◌, ℕ, ◌<◌, List, length, refl, sym, ap, subst, ◌∙◌, arith, inl, inr}
+use Rattle.std.specs.Prelude.{slice_index}
+use Rattle.picture.specs.declared.line_id.Axis.TheVariants.{Across, Down}
+use Rattle.picture.specs.declared.line_id.LineId.{LineId}
+use Rattle.picture.specs.CellSet.{HasCell}
+use Rattle.picture.specs.Laws.{CellsAreMembers}
+use Rattle.picture.specs.Rows.{width_of, cell_at, line_of, HasLine}
+use Rattle.clues.specs.Clue.{clue_of}
+use Rattle.clues.specs.ClueBook.{Clues}
+use Rattle.clues.specs.Laws.{BooksAreTheirClues, CluesAreOfLines, IsOnLine}
+use Rattle.second_search.specs.Laws.{FillingsStay}
+use Rattle.second_search.specs.Parts.{GoesThrough, HasTwoColours, IsChained, IsOpenCell, IsOtherFilling, IsPart, IsScene, KeepsLines, ShareLine, begins, goes_on, picked}
+use Rattle.second_search.proofs.ChainLemmas.{bit_or_not}
+use Rattle.second_search.proofs.PartLemmas.{part_open, picked_picture, through_or_not}
+use Rattle.second_search.proofs.PickLemmas.{cells_along, clue_known, off_part, on_part, same_along, same_cells, same_clues, same_count, same_len, shape_of_picked}
+
+-- the row and the column of a cell
+abbrev row_through : ℕ → LineId
+row_through row = record { axis = Across; at = row }
+
+abbrev column_through : ℕ → LineId
+column_through col = record { axis = Down; at = col }
+
+in_row : (cells : List ℕ) (row col : ℕ) → HasCell cells row col → GoesThrough (row_through row) cells
+in_row cells row col h = record { row = row; col = col; has = h; on_line = refl }
+
+in_column : (cells : List ℕ) (row col : ℕ) → HasCell cells row col → GoesThrough (column_through col) cells
+in_column cells row col h = record { row = row; col = col; has = h; on_line = refl }
+
+open_by : (m n : ℕ) → m ≡ n → HasTwoColours m → HasTwoColours n
+open_by m n e h = subst HasTwoColours e h
+
+-- ---- the part
+
+module _ (clues clues_after : Clues) (facts picture facts_after picture_after : List (List ℕ)) (cells : List ℕ) where
+  left_same : KeepsLines clues facts picture clues_after facts_after picture_after cells → (line : LineId) (row col : ℕ) → GoesThrough line cells → IsOnLine line row col → cell_at facts row col ≡ cell_at facts_after row col
+  left_same k line row col t on = cells_along facts facts_after line.axis line.at row col (k line t).left on
+
+  shown_same : KeepsLines clues facts picture clues_after facts_after picture_after cells → (line : LineId) (row col : ℕ) → GoesThrough line cells → IsOnLine line row col → cell_at picture row col ≡ cell_at picture_after row col
+  shown_same k line row col t on = cells_along picture picture_after line.axis line.at row col (k line t).shown on
+
+  open_after : KeepsLines clues facts picture clues_after facts_after picture_after cells → (row col : ℕ) → HasCell cells row col → IsOpenCell facts row col → IsOpenCell facts_after row col
+  open_after k row col h o = open_by (cell_at facts row col) (cell_at facts_after row col) (left_same k (row_through row) row col (in_row cells row col h) refl) o
+
+  open_before : KeepsLines clues facts picture clues_after facts_after picture_after cells → (r c s d : ℕ) → HasCell cells r c → ShareLine r c s d → IsOpenCell facts_after s d → IsOpenCell facts s d
+  open_before k r c s d h (inl e) o = open_by (cell_at facts_after s d) (cell_at facts s d) (sym (left_same k (row_through r) s d (in_row cells r c h) (sym e))) o
+  open_before k r c s d h (inr e) o = open_by (cell_at facts_after s d) (cell_at facts s d) (sym (left_same k (column_through c) s d (in_column cells r c h) (sym e))) o
+
+  chain_after : KeepsLines clues facts picture clues_after facts_after picture_after cells → (row col : ℕ) → ((r c : ℕ) → IsChained facts row col r c → HasCell cells r c) → (r c : ℕ) → IsChained facts row col r c → IsChained facts_after row col r c
+  chain_after k row col all _ _ (begins o) = begins (open_after k row col (all row col (begins o)) o)
+  chain_after k row col all _ _ (goes_on r c s d chain share o) = goes_on r c s d (chain_after k row col all r c chain) share (open_after k s d (all s d (goes_on r c s d chain share o)) o)
+
+  chain_before : KeepsLines clues facts picture clues_after facts_after picture_after cells → (row col : ℕ) → IsOpenCell facts row col → ((r c : ℕ) → IsChained facts row col r c → HasCell cells r c) → (r c : ℕ) → IsChained facts_after row col r c → IsChained facts row col r c
+  chain_before k row col first all _ _ (begins o) = begins first
+  chain_before k row col first all _ _ (goes_on r c s d chain share o) =
+      let before = chain_before k row col first all r c chain in
+      goes_on r c s d before share (open_before k r c s d (all r c before) share o)
+
+  pub part_after : KeepsLines clues facts picture clues_after facts_after picture_after cells → IsPart facts cells → IsPart facts_after cells
+  part_after k p = record {
+    row = p.row;
+    col = p.col;
+    from = record {
+      set = p.from.set;
+      is_open = open_after k p.row p.col ((p.from.members p.row p.col).1 (begins p.from.is_open)) p.from.is_open;
+      members = λ r c. (
+        (λ h. chain_after k p.row p.col (λ s d. (p.from.members s d).1) r c ((p.from.members r c).0 h)),
+        (λ chain. (p.from.members r c).1 (chain_before k p.row p.col p.from.is_open (λ s d. (p.from.members s d).1) r c chain)),
+      );
+      first = p.from.first;
+    };
+  }
+
+  pub keeps_back : KeepsLines clues facts picture clues_after facts_after picture_after cells → KeepsLines clues_after facts_after picture_after clues facts picture cells
+  keeps_back k line t = let same = k line t in record { before = same.after; after = same.before; clue = sym same.clue; left = sym same.left; shown = sym same.shown }
+
+-- ---- its other fillings
+
+module _ (of_lines : CluesAreOfLines) (books : BooksAreTheirClues) (members : CellsAreMembers) where
+  pub carried_filling : (clues clues_after : Clues) (givens givens_after : List ℕ) (facts picture facts_after picture_after other : List (List ℕ)) (cells : List ℕ) → IsScene clues givens facts picture → IsScene clues_after givens_after facts_after picture_after
+      → KeepsLines clues facts picture clues_after facts_after picture_after cells → IsPart facts cells → IsOtherFilling clues givens picture cells other → IsOtherFilling clues_after givens_after picture_after cells (picked cells other picture_after)
+  carried_filling clues clues_after givens givens_after facts picture facts_after picture_after other cells s t k p f =
+      let new = picked cells other picture_after in
+      let rect = t.is_picture.rectangular in
+      let shape = shape_of_picked cells other picture_after rect in
+      let like = f.is_other.solves.same_shape in
+      let inside : (r c : ℕ) → HasCell cells r c → (r < length picture_after) × (c < width_of picture_after) = λ r c h. ((k (row_through r) (in_row cells r c h)).after, (k (column_through c) (in_column cells r c h)).after) in
+      let on : (r c : ℕ) → HasCell cells r c → cell_at new r c ≡ cell_at other r c = λ r c h. on_part cells other picture_after r c (inside r c h).0 (inside r c h).1 h in
+      let off : (r c : ℕ) → (HasCell cells r c → ⊥) → cell_at new r c ≡ cell_at picture_after r c = λ r c n. off_part cells other picture_after r c rect n in
+      let shown : (line : LineId) (r c : ℕ) → GoesThrough line cells → IsOnLine line r c → cell_at picture r c ≡ cell_at picture_after r c = shown_same clues clues_after facts picture facts_after picture_after cells k in
+      let clue : (line : LineId) → HasLine new line → clue_of (line_of new line) ≡ clue_of (line_of picture_after line) = λ line has. elim (through_or_not cells line members p.from.set) [
+        | inl through ↦
+            let same = k line through in
+            let long = same_len new picture_after shape line.axis line.at ∙ (ap length (sym same.shown) ∙ sym (same_len other picture like line.axis line.at)) in
+            let one = same_along new other line.axis line.at long (λ r c at. elim (bit_or_not (slice_index cells r) c) [
+              | inl h ↦ on r c h
+              | inr n ↦ off r c n ∙ (sym (shown line r c through at) ∙ sym (f.elsewhere r c n))
+            ]) in
+            let n = same_count other picture like line.axis in
+            let here = same.before in
+            ap clue_of one ∙ (clue_known of_lines clues other line f.is_other.solves.has_clues (omega arith) ∙ (same.clue ∙ sym (clue_known of_lines clues_after picture_after line t.has_clues same.after)))
+        | inr none ↦ ap clue_of (same_along new picture_after line.axis line.at (same_len new picture_after shape line.axis line.at) (λ r c at. off r c (λ h. none (record { row = r; col = c; has = h; on_line = at }))))
+      ] in
+      let after = part_after clues clues_after facts picture facts_after picture_after cells k p in
+      record {
+        is_other = record {
+          solves = record {
+            is_picture = picked_picture cells other picture_after f.is_other.solves.is_picture.colours t.is_picture on;
+            same_shape = shape;
+            has_clues = same_clues of_lines books new picture_after shape clue ∙ t.has_clues;
+            keeps_givens = λ r c g. elim (bit_or_not (slice_index cells r) c) [
+              | inr n ↦ off r c n
+              | inl h ↦ absurd (
+                  let o = part_open facts_after cells r c after h in
+                  o.differ (t.sound.hold_givens r c o.one g o.has_one ∙ sym (t.sound.hold_givens r c o.other g o.has_other)))
+            ];
+          };
+          differs = λ e. f.is_other.differs (same_cells other picture like (λ r c. elim (bit_or_not (slice_index cells r) c) [
+            | inl h ↦ sym (on r c h) ∙ (ap (λ x. cell_at x r c) e ∙ sym (shown (row_through r) r c (in_row cells r c h) refl))
+            | inr n ↦ f.elsewhere r c n
+          ]));
+        };
+        elsewhere = off;
+      }
+
+  pub all_stays : FillingsStay
+  all_stays = record {
+    part = part_after;
+    carried = carried_filling;
+    back = keeps_back;
+    none = λ clues clues_after givens givens_after facts picture facts_after picture_after cells s t k p none other f.
+        none (picked cells other picture)
+        (carried_filling clues_after clues givens_after givens facts_after picture_after facts picture other cells t s (keeps_back clues clues_after facts picture facts_after picture_after cells k) (part_after clues clues_after facts picture facts_after picture_after cells k p) f);
+  }
