@@ -10,10 +10,11 @@ use Rattle.picture.specs.Rows.{cell_at, lines_along, row_at, width_of}
 use Rattle.clues.specs.Change.{Changes, IsChangeOf, CanRefresh, lines_after}
 use Rattle.clues.specs.ClueBook.{Clues, clues_along, clues_of}
 use Rattle.clues.specs.Laws.{CluesAreOfLines, UntouchedCluesStand}
-use Rattle.line_settle.specs.FactSets.{IsFacts, IsLeast, Leaves, SameShape}
+use Rattle.line_settle.specs.FactSets.{IsClosedLine, IsFacts, IsLeast, Leaves, SameShape}
+use Rattle.line_settle.specs.Fitting.{CanFit}
 use Rattle.line_settle.specs.Laws.{LeastIsUnique}
+use Rattle.line_settle.specs.Outside.{EachOutside}
 use Rattle.justify.specs.Book.{Account, account, AreTrimmed, IsAccount, IsDerivation}
-use Rattle.retract.specs.Dirty.{ClosedOutside, FitsOutside}
 use Rattle.retract.specs.Standing.{HaveBooks}
 use Rattle.propagate.specs.Closing.{AreClosable, HasDeadLine, QuietOutside}
 use Rattle.propagate.specs.declared.fault.CloseFault.{CloseFault}
@@ -66,7 +67,7 @@ module _ (change : Changes) (old new : List (List ℕ)) (is : IsChangeOf change 
 
 -- ---- closing
 
-pub quiet_outside : (clues : Clues) (facts : List (List ℕ)) (dirty : Lines) → ClosedOutside clues facts dirty → FitsOutside clues facts dirty → QuietOutside clues facts dirty
+pub quiet_outside : (clues : Clues) (facts : List (List ℕ)) (dirty : Lines) → EachOutside IsClosedLine clues facts dirty → EachOutside CanFit clues facts dirty → QuietOutside clues facts dirty
 quiet_outside clues facts dirty closed fits line has not = record { closed = closed line has not; fits = fits line has not }
 
 -- a picture's own clues never come to a dead line

@@ -9,6 +9,7 @@ pub mod LeavingOut
 pub mod Marking
 pub mod Masks
 pub mod Narrowing
+pub mod Outside
 pub mod Positions
 pub mod Shown
 pub mod Spelling

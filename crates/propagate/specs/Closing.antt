@@ -11,6 +11,7 @@ use Rattle.line_settle.specs.declared.meter.Meter.{Meter}
 use Rattle.line_settle.specs.Counting.{Counts}
 use Rattle.line_settle.specs.Crossing.{CrossesChange}
 use Rattle.line_settle.specs.Fitting.{CanFit}
+pub use Rattle.line_settle.specs.Outside.{EachFits, EachOutside}
 use Rattle.line_settle.specs.FactSets.{IsClosedLine, IsClosed, IsLeast, IsWithin, Gains}
 
 -- the facts have the sizes of the clues, and no line of theirs is longer than an engine takes
@@ -27,12 +28,7 @@ pub record IsQuietLine (clue : List Block) (left : List ℕ) : Type 0 where
 
 -- each line but those of a set is quiet
 abbrev pub QuietOutside : Clues → List (List ℕ) → Lines → Type 0
-QuietOutside clues facts lines =
-    (line : LineId) → HasLine facts line → (HasName lines line → ⊥) → IsQuietLine (clue_at clues line) (line_of facts line)
-
--- some list fits each line
-abbrev pub EachFits : Clues → List (List ℕ) → Type 0
-EachFits clues facts = (line : LineId) → HasLine facts line → CanFit (clue_at clues line) (line_of facts line)
+QuietOutside = EachOutside IsQuietLine
 
 -- a line that no list fits, whichever closed facts hold the base
 pub record HasDeadLine (clues : Clues) (base : List (List ℕ)) : Type 0 where

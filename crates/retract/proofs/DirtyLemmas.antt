@@ -12,7 +12,8 @@ use Rattle.clues.specs.ClueBook.{Clues, clue_at}
 use Rattle.clues.specs.declared.block.Block.{Block}
 use Rattle.line_settle.specs.Fitting.{CanFit}
 use Rattle.line_settle.specs.FactSets.{IsClosed, IsClosedLine}
-use Rattle.retract.specs.Dirty.{AreDirty, AreDirtyAlong, ClosedOutside, EachFits, FitsOutside, IsClean, IsDecided}
+use Rattle.line_settle.specs.Outside.{EachFits, EachOutside}
+use Rattle.retract.specs.Dirty.{AreDirty, AreDirtyAlong, IsClean, IsDecided}
 
 is_clean : (moves : Moves) (old new : Clues) (before after : List (List ℕ)) (dirty : Lines) (line : LineId) → IsDecided moves old new before after dirty line → (HasName dirty line → ⊥) → IsClean moves old new before after line
 is_clean moves old new before after dirty line decided not_named = elim decided [ inl named ↦ absurd (not_named named.0) | inr clean ↦ clean.1 ]
@@ -24,10 +25,10 @@ stays_true P moves old new before after dirty is each line has not_named =
     let same = clean.says_the_same in
     rw (same.same_clue, same.same_facts) (each same.from same.has_line)
 
-pub closed_outside : (moves : Moves) (old new : Clues) (before after : List (List ℕ)) (dirty : Lines) → AreDirty moves old new before after dirty → IsClosed old before → ClosedOutside new after dirty
+pub closed_outside : (moves : Moves) (old new : Clues) (before after : List (List ℕ)) (dirty : Lines) → AreDirty moves old new before after dirty → IsClosed old before → EachOutside IsClosedLine new after dirty
 closed_outside moves old new before after dirty is closed = stays_true IsClosedLine moves old new before after dirty is closed
 
-pub fits_outside : (moves : Moves) (old new : Clues) (before after : List (List ℕ)) (dirty : Lines) → AreDirty moves old new before after dirty → EachFits old before → FitsOutside new after dirty
+pub fits_outside : (moves : Moves) (old new : Clues) (before after : List (List ℕ)) (dirty : Lines) → AreDirty moves old new before after dirty → EachFits old before → EachOutside CanFit new after dirty
 fits_outside moves old new before after dirty is fits = stays_true CanFit moves old new before after dirty is fits
 
 -- the same names, the same decision

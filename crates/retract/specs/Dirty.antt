@@ -7,8 +7,6 @@ use Rattle.picture.specs.Rows.{line_of, lines_along, HasLine}
 use Rattle.clues.specs.Change.{Moves, Stays, image_of, lines_after, lines_before}
 use Rattle.picture.specs.Crossing.{crossing}
 use Rattle.clues.specs.ClueBook.{Clues, clue_at}
-use Rattle.line_settle.specs.Fitting.{CanFit}
-use Rattle.line_settle.specs.FactSets.{IsClosedLine}
 use Rattle.retract.specs.Standing.{KeepsLength}
 
 -- facts of the sizes before and after
@@ -53,15 +51,3 @@ pub record AreDirty (moves : Moves) (old new : Clues) (before after : List (List
 pub record AreDirtyAlong (axis : Axis) (moves : Moves) (old new : Clues) (before after : List (List ℕ)) (dirty : Lines) : Type 0 where
   pub inside : (line : LineId) → line.axis ≡ axis → HasName dirty line → HasLine after line
   pub decided : (line : LineId) → line.axis ≡ axis → HasLine after line → IsDecided moves old new before after dirty line
-
--- each line that is not named is closed, or has a list that fits
-abbrev pub ClosedOutside : Clues → List (List ℕ) → Lines → Type 0
-ClosedOutside clues facts lines =
-    (line : LineId) → HasLine facts line → (HasName lines line → ⊥) → IsClosedLine (clue_at clues line) (line_of facts line)
-
-abbrev pub FitsOutside : Clues → List (List ℕ) → Lines → Type 0
-FitsOutside clues facts lines =
-    (line : LineId) → HasLine facts line → (HasName lines line → ⊥) → CanFit (clue_at clues line) (line_of facts line)
-
-abbrev pub EachFits : Clues → List (List ℕ) → Type 0
-EachFits clues facts = (line : LineId) → HasLine facts line → CanFit (clue_at clues line) (line_of facts line)

@@ -4,10 +4,12 @@ ghost use Rattle.std.specs.Prelude.{◌≡◌, ℕ, [], length, IfOk};
 ghost use Rattle.picture.specs.declared.line_id.Axis.{Axis};
 ghost use Rattle.picture.specs.Rows.{lines_along};
 ghost use Rattle.clues.specs.Change.{lines_after};
-ghost use Rattle.line_settle.specs.FactSets.{IsClosed};
+ghost use Rattle.line_settle.specs.FactSets.{IsClosed, IsClosedLine};
+ghost use Rattle.line_settle.specs.Fitting.{CanFit};
+ghost use Rattle.line_settle.specs.Outside.{EachFits, EachOutside};
 ghost use Rattle.justify.specs.Book.{AreTrimmed, IsDerivation};
 ghost use Rattle.retract.specs.Standing.{AreStanding, HaveBooks};
-ghost use Rattle.retract.specs.Dirty.{AreDirty, ClosedOutside, EachFits, FitsOutside};
+ghost use Rattle.retract.specs.Dirty.{AreDirty};
 
 use crate::dirty::dirty_lines;
 use crate::standing::standing_line;
@@ -46,9 +48,9 @@ pub fn keep(
     ensures derivation { IfOk result (λ kept. IsDerivation new.now kept.book) }
     ensures trimmed { AreTrimmed old.now book.now → IfOk result (λ kept. AreTrimmed new.now kept.book) }
     ensures closed { IsClosed old.now book.now.facts
-        → IfOk result (λ kept. ClosedOutside new.now kept.book.facts kept.dirty) }
+        → IfOk result (λ kept. EachOutside IsClosedLine new.now kept.book.facts kept.dirty) }
     ensures fits { EachFits old.now book.now.facts
-        → IfOk result (λ kept. FitsOutside new.now kept.book.facts kept.dirty) }
+        → IfOk result (λ kept. EachOutside CanFit new.now kept.book.facts kept.dirty) }
 {
     let kept = standing(alloc, book, old, new, change, base)?;
     let dirty = dirty_lines(old, new, change, book.facts(), kept.facts());
