@@ -13,6 +13,8 @@ use propagate::InOrder;
 use std::alloc::Global;
 use std::process::Abort;
 
+mod strokes;
+
 const NOTHING_DONE: Meter = Meter {
     evaluations: 0,
     trials: 0,
