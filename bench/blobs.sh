@@ -1,0 +1,34 @@
+# Sourced by the scripts that measure on pictures of blobs.
+# draw_blobs FOLDER ROWS: writes pictures of blobs to the folder as P3 texts, 60 and 120 cells wide and as high, in 2, 4 and 15
+# colours, each a file SIDExROWS-COLOURS-colours. None has more rows than ROWS. The same pictures come each time.
+draw_blobs() {
+    python3 - "$1" "$2" <<'PY'
+import pathlib
+import random
+import sys
+
+folder, most = pathlib.Path(sys.argv[1]), int(sys.argv[2])
+for side in (60, 120):
+    for colours in (2, 4, 15):
+        rng = random.Random(side * 100 + colours)
+        cells = [[0] * side for _ in range(side)]
+        for _ in range(side):
+            row, col, size = rng.randrange(side), rng.randrange(side), rng.randrange(2, side // 6)
+            colour = rng.randrange(colours)
+            for r in range(max(0, row - size), min(side, row + size)):
+                for c in range(max(0, col - size), min(side, col + size)):
+                    if (r - row) ** 2 + (c - col) ** 2 <= size * size:
+                        cells[r][c] = colour
+        triple = lambda k: "255 255 255" if k == 0 else f"{k * 16} {255 - k * 16} 0"
+        rows = cells[:most]
+        text = f"P3\n{side} {len(rows)}\n255\n" + "".join(triple(k) + "\n" for row in rows for k in row)
+        (folder / f"{side:03}x{len(rows):03}-{colours:02}-colours").write_text(text)
+PY
+}
+
+# How many instructions a program takes, by callgrind: `instructions FILE PROGRAM WORD..` gives it the file as standard input.
+instructions() {
+    local input=$1
+    shift
+    valgrind --tool=callgrind --callgrind-out-file=/dev/null "$@" <"$input" 2>&1 >/dev/null | sed -n 's/.*Collected : //p'
+}
