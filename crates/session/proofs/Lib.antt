@@ -1,0 +1,4 @@
+pub mod CountLemmas
+pub mod NumberLemmas
+pub mod TableLemmas
+pub mod WordLemmas

@@ -1,0 +1,5 @@
+pub mod Faults
+pub mod Numbers
+pub mod Parse
+pub mod Table
+pub mod Words

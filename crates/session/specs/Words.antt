@@ -1,0 +1,48 @@
+-- The words of a line.
+use Rattle.std.specs.Prelude.{◌≡◌, ℕ, ◌<◌, Bool, true, false, ◌||◌, ◌==◌, List, [], ◌∷◌, length, filter, Option, None, Some, nat_eq}
+use Rattle.std.proofs.Common.{refl}
+use Rattle.std.specs.Borrow.{Bor}
+use Rattle.std.specs.Cmp.Lexicographic.{pointwise}
+use Rattle.std.specs.List.{slice_split}
+
+-- a space or a TAB
+abbrev pub is_blank : ℕ → Bool
+is_blank b = (b == 32) || (b == 9)
+
+abbrev pub has_byte : List ℕ → Bool
+has_byte [] = false
+has_byte (b ∷ bytes) = true
+
+-- the pieces between blanks that have a byte
+unfoldable pub words_of : List ℕ → List (List ℕ)
+words_of line = filter has_byte (slice_split is_blank line)
+
+-- the bytes are these
+abbrev pub is_word : List ℕ → List ℕ → Bool
+is_word bytes word = pointwise nat_eq bytes word
+
+-- ---- what functions that cut a line answer
+
+-- the pieces between blanks of what stands behind one, if there is one
+abbrev pub pieces_behind : Option (Bor (List ℕ)) → List (List ℕ)
+pieces_behind None = []
+pieces_behind (Some rest) = slice_split is_blank rest.now
+
+-- the first word of a line and what stands behind it, if the line has a word
+abbrev pub IsFirstWord : List ℕ → Option (Bor (List ℕ) × Bor (List ℕ)) → Type 0
+IsFirstWord line None = words_of line ≡ []
+IsFirstWord line (Some x) = (words_of line ≡ x.0.now ∷ words_of x.1.now) × (length x.1.now < length line)
+
+-- ---- worked lines
+
+three_words : words_of (9 ∷ 97 ∷ 32 ∷ 32 ∷ 98 ∷ 99 ∷ 9 ∷ 100 ∷ []) ≡ (97 ∷ []) ∷ (98 ∷ 99 ∷ []) ∷ (100 ∷ []) ∷ []
+unfolding words_of
+three_words = refl
+
+blanks_alone : words_of (32 ∷ 9 ∷ []) ≡ []
+unfolding words_of
+blanks_alone = refl
+
+return_is_no_blank : words_of (97 ∷ 13 ∷ []) ≡ (97 ∷ 13 ∷ []) ∷ []
+unfolding words_of
+return_is_no_blank = refl
