@@ -11,3 +11,8 @@ pub mod PickLemmas
 pub mod PartLemmas
 pub mod StayLemmas
 pub mod PartLaws
+pub mod ComingLemmas
+pub mod CountLemmas
+pub mod KeepLemmas
+pub mod AloneLemmas
+pub mod JudgeLemmas

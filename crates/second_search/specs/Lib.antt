@@ -4,3 +4,7 @@ pub mod Growing
 pub mod Branching
 pub mod Looking
 pub mod Laws
+pub mod Searching
+pub mod Stepping
+pub mod Through
+pub mod Judging

@@ -1,8 +1,10 @@
 //! Laws of the definitions in `specs/`. Each function does nothing, and its contract is the law.
 
 ghost use Rattle.second_search.specs.Laws.{FillingsAreOfFacts, FillingsStay, PartsAreApart, PartsDecide, SoundFacts};
+ghost use Rattle.second_search.specs.Searching.{CostsAreUnique};
 
 use clues::laws::{books_are_their_clues, clues_are_of_lines};
+use line_settle::laws::least_is_unique;
 use picture::laws::cells_are_members;
 use propagate::laws::{closing_keeps_fillings, only_is_closed};
 
@@ -45,4 +47,11 @@ pub fn fillings_stay()
     clues_are_of_lines();
     books_are_their_clues();
     cells_are_members();
+}
+
+/// The search of facts in the fixed order ends after one number of splits at most: their cost.
+pub fn costs_are_unique()
+    ensures { CostsAreUnique }
+{
+    least_is_unique();
 }

@@ -2,15 +2,21 @@
 #![tactic(auto)]
 
 mod cell;
+mod coming;
+mod counting;
 mod finding;
+mod keeper;
 pub mod laws;
 mod looking;
 mod note;
+mod part_search;
 mod parts;
 mod pending;
+mod scene;
 
 pub use finding::{find_first, find_other};
 pub use parts::Parts;
+pub use scene::Scene;
 
 #[cfg(test)]
 mod tests;

@@ -5,7 +5,8 @@ ghost use Rattle.picture.specs.Rows.{width_of, cell_at};
 ghost use Rattle.line_settle.specs.Masks.{IsOnly};
 ghost use Rattle.line_settle.specs.FactSets.{SameShape};
 ghost use Rattle.propagate.specs.Closing.{AreClosable};
-ghost use Rattle.second_search.specs.Looking.{AreSettled, IsUnsettled, Looks, Shows, ShowsRow};
+ghost use Rattle.second_search.specs.Looking.{AreSettled, Looks, Shows, ShowsRow};
+ghost use Rattle.second_search.specs.Searching.{IsFirstUnsettled};
 
 use crate::cell::Cell;
 use clues::ClueBook;
@@ -88,8 +89,8 @@ fn look_at_shown(
 }
 
 // The first cell in row order in which not just one colour is left.
-fn first_unsettled(facts: &Facts) -> Option<Cell>
-    ensures { MatchOption result (AreSettled facts.now) (IsUnsettled facts.now) }
+pub(crate) fn first_unsettled(facts: &Facts) -> Option<Cell>
+    ensures { MatchOption result (AreSettled facts.now) (IsFirstUnsettled facts.now) }
 {
     for row in 0..facts.height() {
         match unsettled_in_row(facts, row) {
@@ -106,7 +107,8 @@ fn unsettled_in_row(facts: &Facts, row: u8) -> Option<u8>
     ensures { MatchOption
         result
         ((col : ℕ) → col < width_of facts.now → (k : ℕ) × IsOnly (cell_at facts.now row col) k)
-        (λ col. (col < width_of facts.now) × ((k : ℕ) → IsOnly (cell_at facts.now row col) k → ⊥)) }
+        (λ col. (col < width_of facts.now) × ((k : ℕ) → IsOnly (cell_at facts.now row col) k → ⊥)
+        × ((c : ℕ) → c < col → (k : ℕ) × IsOnly (cell_at facts.now row c) k)) }
 {
     for col in 0..facts.width() {
         let Some(_) = facts.shown(row, col) else {
@@ -117,7 +119,7 @@ fn unsettled_in_row(facts: &Facts, row: u8) -> Option<u8>
 }
 
 // The picture that settled facts show.
-fn shown_picture(alloc: Global, facts: &Facts) -> Result<Picture, AllocError>
+pub(crate) fn shown_picture(alloc: Global, facts: &Facts) -> Result<Picture, AllocError>
     requires { AreSettled facts.now }
     ensures { IfOk result (Shows facts.now) }
 {

@@ -1,0 +1,174 @@
+-- What facts come to is one, and from it what a search does next.
+use Rattle.std.proofs.Common.{◌≡◌, ℕ, zero, suc, ◌+◌, ◌<◌, ◌≤◌, ◌⊎◌, Option, None, Some, List, [], ◌∷◌, ◌++◌, length, get_or, refl, sym, ap, subst, ◌∙◌, arith, inl, inr, Result, Ok, Err}
+use Rattle.std.specs.Prelude.{IsBitSet, IfOk}
+use Rattle.std.specs.declared.alloc.AllocError.{AllocError}
+use Rattle.std.proofs.lemmas.Bool.{cases_eq, cases_lt}
+use Rattle.picture.specs.declared.line_id.LineId.{LineId}
+use Rattle.picture.specs.Rows.{width_of, row_at, cell_at, line_of}
+use Rattle.clues.specs.ClueBook.{Clues}
+use Rattle.line_settle.specs.Laws.{LeastIsUnique}
+use Rattle.line_settle.specs.Masks.{IsOnly}
+use Rattle.line_settle.specs.FactSets.{IsFacts, IsLeast, SameShape}
+use Rattle.line_settle.specs.GridLaws.{same_has_line, shape_sym, shape_trans}
+use Rattle.line_settle.specs.declared.line_engine.Outcome.{Outcome}
+use Rattle.line_settle.specs.declared.line_engine.Outcome.TheVariants.{Narrowed}
+use Rattle.propagate.specs.Closing.{Closes, HasDeadLine}
+use Rattle.second_search.specs.declared.cell.Cell.{Cell}
+use Rattle.second_search.specs.declared.coming.Coming.{Coming}
+use Rattle.second_search.specs.declared.coming.Coming.TheVariants.{Dies, Ends, Splits}
+use Rattle.second_search.specs.Branching.{branches}
+use Rattle.second_search.specs.Looking.{IsUnsettled, Shows}
+use Rattle.second_search.specs.Parts.{IsBefore}
+use Rattle.second_search.specs.Searching.{Comes, ComesClosed, CostsAreUnique, IsFirstUnsettled, Searches, SettlesTo, none_waits, is_dead, is_known, is_other, is_split}
+use Rattle.second_search.proofs.GridLemmas.{same_inside}
+
+-- ---- what facts come to is one
+
+abbrev Agree : Coming → Coming → Type 0
+Agree Dies Dies = Unit {0}
+Agree Dies (Ends q) = ⊥
+Agree Dies (Splits t d) = ⊥
+Agree (Ends p) Dies = ⊥
+Agree (Ends p) (Ends q) = p ≡ q
+Agree (Ends p) (Splits t d) = ⊥
+Agree (Splits s c) Dies = ⊥
+Agree (Splits s c) (Ends q) = ⊥
+Agree (Splits s c) (Splits t d) = (s ≡ t) × (c ≡ d)
+
+alive : (clues : Clues) (facts settled : List (List ℕ)) → SettlesTo clues facts settled → HasDeadLine clues facts → ⊥
+alive clues facts settled s d = d.dead settled s.least.closed s.least.holds (s.fits d.line (same_has_line facts settled d.line s.least.holds.same_shape d.has))
+
+one_only : (mask other j k : ℕ) → mask ≡ other → IsOnly mask j → IsOnly other k → j ≡ k
+one_only mask other j k e a b = let P : ℕ → Type 0 = λ m. IsBitSet m j in (b j).0 (subst P e ((a j).1 refl))
+
+-- settled facts show one picture
+one_shown : (settled p q : List (List ℕ)) → IsFacts settled → Shows settled p → Shows settled q → p ≡ q
+one_shown settled p q is a b =
+    let rows = b.same_shape.rows in
+    let wide : width_of q ≡ width_of settled = b.same_shape.each 0 in
+    same_inside p q (width_of q) (shape_trans a.same_shape (shape_sym b.same_shape)) b.is_picture.rectangular (λ r c h l.
+    one_only (cell_at settled r c) (cell_at settled r c) (cell_at p r c) (cell_at q r c) refl (a.only r c (omega arith) (omega arith)) (b.only r c (omega arith) (omega arith)))
+
+same_place : (c d : Cell) → c.row ≡ d.row → c.col ≡ d.col → c ≡ d
+same_place c d e f = ap (λ (r : ℕ). let x : Cell = record { row = r; col = c.col } in x) e ∙ ap (λ (k : ℕ). let x : Cell = record { row = d.row; col = k } in x) f
+
+one_first : (facts : List (List ℕ)) (c d : Cell) → IsFirstUnsettled facts c → IsFirstUnsettled facts d → c ≡ d
+one_first facts c d a b = elim (cases_lt c.row d.row) [
+  | inl l ↦ absurd (not_before c d a b (inl l))
+  | inr p ↦ elim (cases_lt d.row c.row) [
+    | inl m ↦ absurd (not_before d c b a (inl m))
+    | inr q ↦ elim (cases_lt c.col d.col) [
+      | inl l ↦ absurd (not_before c d a b (inr ((let e : c.row ≡ d.row = omega arith in e), l)))
+      | inr r ↦ elim (cases_lt d.col c.col) [
+        | inl m ↦ absurd (not_before d c b a (inr ((let e : d.row ≡ c.row = omega arith in e), m)))
+        | inr s ↦ same_place c d (omega arith) (omega arith)
+      ]
+    ]
+  ]
+]
+  where
+    not_before : (x y : Cell) → IsFirstUnsettled facts x → IsFirstUnsettled facts y → IsBefore x.row x.col y.row y.col → ⊥
+    not_before x y f g e = let o = g.before x.row x.col f.is.in_columns e in f.is.unsettled o.0 o.1
+
+not_both : (settled facts picture : List (List ℕ)) (cell : Cell) → settled ≡ facts → Shows settled picture → IsFirstUnsettled facts cell → ⊥
+not_both settled facts picture cell e s f =
+    let P : List (List ℕ) → Type 0 = λ x. Shows x picture in
+    let t : Shows facts picture = subst P e s in
+    f.is.unsettled (cell_at picture cell.row cell.col) (t.only cell.row cell.col f.is.in_rows f.is.in_columns)
+
+module _ (unique : LeastIsUnique) (clues : Clues) (facts : List (List ℕ)) where
+  one_settled : (s t : List (List ℕ)) → SettlesTo clues facts s → SettlesTo clues facts t → s ≡ t
+  one_settled s t a b = unique clues facts s t a.least b.least
+
+  agree : (a b : Coming) → Comes clues facts a → Comes clues facts b → Agree a b
+  agree Dies Dies h k = tt
+  agree Dies (Ends q) h k = alive clues facts k.0 k.1.0 h
+  agree Dies (Splits t d) h k = alive clues facts t k.0 h
+  agree (Ends p) Dies h k = alive clues facts h.0 h.1.0 k
+  agree (Ends p) (Ends q) h k =
+      let P : List (List ℕ) → Type 0 = λ x. Shows x p in
+      one_shown k.0 p q k.1.0.are_facts (subst P (one_settled h.0 k.0 h.1.0 k.1.0) h.1.1) k.1.1
+  agree (Ends p) (Splits t d) h k = not_both h.0 t p d (one_settled h.0 t h.1.0 k.0) h.1.1 k.1
+  agree (Splits s c) Dies h k = alive clues facts s h.0 k
+  agree (Splits s c) (Ends q) h k = not_both k.0 s q c (one_settled k.0 s k.1.0 h.0) k.1.1 h.1
+  agree (Splits s c) (Splits t d) h k =
+      let e = one_settled s t h.0 k.0 in
+      let P : List (List ℕ) → Type 0 = λ x. IsFirstUnsettled x c in
+      (e, one_first t c d (subst P e h.1) k.1)
+
+-- ---- what a search does next
+
+-- what is left to search where the first facts come to something, and what is found behind it
+abbrev pub Leads : Clues → List (List ℕ) → List (List (List ℕ)) → Coming → Option (List (List ℕ)) → ℕ → Type 0
+Leads clues known others Dies found n = Searches clues known others found n
+Leads clues known others (Ends p) found n = ((p ≡ known) × Searches clues known others found n) ⊎ ((p ≡ known → ⊥) × ((found ≡ Some p) × (n ≡ 0)))
+Leads clues known others (Splits s c) found n = (m : ℕ) × ((n ≡ suc m) × Searches clues known (branches s c.row c.col (cell_at s c.row c.col) ++ others) found m)
+
+abbrev Begins : Clues → List (List ℕ) → List (List (List ℕ)) → Option (List (List ℕ)) → ℕ → Type 0
+Begins clues known [] found n = (found ≡ None) × (n ≡ 0)
+Begins clues known (facts ∷ others) found n = (coming : Coming) × (Comes clues facts coming × Leads clues known others coming found n)
+
+begins : (clues : Clues) (known : List (List ℕ)) (waiting : List (List (List ℕ))) (found : Option (List (List ℕ))) (n : ℕ) → Searches clues known waiting found n → Begins clues known waiting found n
+begins clues known _ _ _ none_waits = (refl, refl)
+begins clues known _ _ _ (is_dead facts others found n c s) = (Dies, (c, s))
+begins clues known _ _ _ (is_known facts others found n c s) = (Ends known, (c, inl (refl, s)))
+begins clues known _ _ _ (is_other facts others picture c d) = (Ends picture, (c, inr (d, (refl, refl))))
+begins clues known _ _ _ (is_split facts others settled cell found n c s) = (Splits settled cell, (c, (n, (refl, s))))
+
+leads_as : (clues : Clues) (known : List (List ℕ)) (others : List (List (List ℕ))) (found : Option (List (List ℕ))) (n : ℕ) (a b : Coming) → Agree a b → Leads clues known others a found n → Leads clues known others b found n
+leads_as clues known others found n Dies Dies g l = l
+leads_as clues known others found n Dies (Ends q) g l = absurd g
+leads_as clues known others found n Dies (Splits t d) g l = absurd g
+leads_as clues known others found n (Ends p) Dies g l = absurd g
+leads_as clues known others found n (Ends p) (Ends q) g l = let P : List (List ℕ) → Type 0 = λ x. Leads clues known others (Ends x) found n in subst P g l
+leads_as clues known others found n (Ends p) (Splits t d) g l = absurd g
+leads_as clues known others found n (Splits s c) Dies g l = absurd g
+leads_as clues known others found n (Splits s c) (Ends q) g l = absurd g
+leads_as clues known others found n (Splits s c) (Splits t d) g l =
+    let P : List (List ℕ) → Type 0 = λ x. Leads clues known others (Splits x c) found n in
+    let Q : Cell → Type 0 = λ x. Leads clues known others (Splits t x) found n in
+    subst Q g.1 (subst P g.0 l)
+
+-- a search of facts that come to something goes on as that leads
+pub leads : LeastIsUnique → (clues : Clues) (known facts : List (List ℕ)) (others : List (List (List ℕ))) (coming : Coming) (found : Option (List (List ℕ))) (n : ℕ) → Comes clues facts coming → Searches clues known (facts ∷ others) found n → Leads clues known others coming found n
+leads unique clues known facts others coming found n c s =
+    let b = begins clues known (facts ∷ others) found n s in
+    leads_as clues known others found n b.0 coming (agree unique clues facts b.0 coming b.1.0 c) b.1.1
+
+pub nothing_waits : (clues : Clues) (known : List (List ℕ)) (found : Option (List (List ℕ))) (n : ℕ) → Searches clues known [] found n → (found ≡ None) × (n ≡ 0)
+nothing_waits clues known found n s = begins clues known [] found n s
+
+-- ---- facts that were closed
+
+comes_of : (clues : Clues) (facts settled : List (List ℕ)) (outcome : Outcome) → Closes clues facts settled outcome → outcome ≡ Narrowed → (coming : Coming) → ComesClosed settled coming → Comes clues facts coming
+comes_of clues facts settled outcome c e Dies h = absurd h
+comes_of clues facts settled outcome c e (Ends picture) h = (settled, (record { are_facts = h.0; least = c.least e; fits = c.fits e }, h.1))
+comes_of clues facts settled outcome c e (Splits more cell) h =
+    let P : List (List ℕ) → Type 0 = λ x. SettlesTo clues facts x × IsFirstUnsettled x cell in
+    subst P (sym h.0) (record { are_facts = h.1.0; least = c.least e; fits = c.fits e }, h.1.1)
+
+pub comes_closed : (clues : Clues) (facts first settled : List (List ℕ)) (outcome : Outcome) (coming : Result Coming AllocError) → first ≡ facts → Closes clues first settled outcome → outcome ≡ Narrowed → IfOk coming (ComesClosed settled) → IfOk coming (Comes clues facts)
+comes_closed clues facts first settled outcome (Ok coming) same c e h =
+    let P : List (List ℕ) → Type 0 = λ x. Closes clues x settled outcome in
+    comes_of clues facts settled outcome (subst P same c) e coming h
+comes_closed clues facts first settled outcome (Err fault) same c e h = h
+
+-- ---- a search ends in one way
+
+one_search : LeastIsUnique → (clues : Clues) (known : List (List ℕ)) (waiting : List (List (List ℕ))) (found : Option (List (List ℕ))) (n : ℕ) → Searches clues known waiting found n → (other : Option (List (List ℕ))) (m : ℕ) → Searches clues known waiting other m → n ≡ m
+one_search unique clues known _ _ _ none_waits other m t = sym (nothing_waits clues known other m t).1
+one_search unique clues known _ _ _ (is_dead facts others found n c s) other m t = one_search unique clues known others found n s other m (leads unique clues known facts others Dies other m c t)
+one_search unique clues known _ _ _ (is_known facts others found n c s) other m t = elim (leads unique clues known facts others (Ends known) other m c t) [
+  | inl l ↦ one_search unique clues known others found n s other m l.1
+  | inr d ↦ absurd (d.0 refl)
+]
+one_search unique clues known _ _ _ (is_other facts others picture c d) other m t = elim (leads unique clues known facts others (Ends picture) other m c t) [
+  | inl l ↦ absurd (d l.0)
+  | inr r ↦ sym r.1.1
+]
+one_search unique clues known _ _ _ (is_split facts others settled cell found n c s) other m t =
+    let l = leads unique clues known facts others (Splits settled cell) other m c t in
+    ap suc (one_search unique clues known (branches settled cell.row cell.col (cell_at settled cell.row cell.col) ++ others) found n s other l.0 l.1.1) ∙ sym l.1.0
+
+pub costs_are_unique : LeastIsUnique → CostsAreUnique
+costs_are_unique unique clues known facts m n h k = one_search unique clues known (facts ∷ []) h.0 m h.1 k.0 n k.1

@@ -1,0 +1,256 @@
+-- A search that counts its splits: what waits ends as the first facts do, but for the splits made so far.
+use Rattle.std.proofs.Common.{◌≡◌, ℕ, zero, suc, ◌+◌, ◌-◌, ◌*◌, ◌^◌, ◌<◌, ◌≤◌, ◌⊎◌, Option, None, Some, List, [], ◌∷◌, ◌++◌, length, min, refl, sym, ap, subst, ◌∙◌, arith, inl, inr}
+use Rattle.picture.specs.Rows.{cell_at}
+use Rattle.clues.specs.ClueBook.{Clues}
+use Rattle.line_settle.specs.declared.meter.Meter.{Meter}
+use Rattle.line_settle.specs.Counting.{Counts}
+use Rattle.line_settle.specs.Laws.{CountsAdd, LeastIsUnique}
+use Rattle.second_search.specs.declared.cell.Cell.{Cell}
+use Rattle.second_search.specs.declared.coming.Coming.{Coming}
+use Rattle.second_search.specs.declared.coming.Coming.TheVariants.{Dies, Ends, Splits}
+use Rattle.second_search.specs.declared.counting.Ending.{Ending}
+use Rattle.second_search.specs.declared.counting.Ending.TheVariants as ending
+use Rattle.second_search.specs.declared.counting.Step.{Step}
+use Rattle.second_search.specs.declared.counting.Step.TheVariants as step
+use Rattle.second_search.specs.Branching.{Search, branches, search_of}
+use Rattle.second_search.specs.Searching.{Allows, Comes, EndsAs, HasCost, KeepsOutside, Searches, none_waits, is_dead, is_known, is_other, is_split, raised}
+use Rattle.second_search.specs.Stepping.{Compares, IsOneLess, SplitsAt, Steps}
+use Rattle.second_search.proofs.ComingLemmas.{leads}
+use Rattle.second_search.proofs.KeepLemmas.{EachKeeps, each_branch}
+use Rattle.second_search.proofs.WeightLemmas.{branches_lighter, load, load_append, load_more, weight, weight_within}
+use Rattle.std.proofs.Math.Pow.{pow_mono, pow_pos}
+use Rattle.picture.specs.Rows.{row_at}
+
+-- the search of what waits ends as that of the first facts, with n splits less
+pub record Going (clues : Clues) (known first : List (List ℕ)) (waiting : List (List (List ℕ))) (n : ℕ) : Type 0 where
+  pub on : (found : Option (List (List ℕ))) (m : ℕ) → Searches clues known waiting found m → Searches clues known (first ∷ []) found (m + n)
+  pub back : (found : Option (List (List ℕ))) (m : ℕ) → Searches clues known (first ∷ []) found m → (k : ℕ) × ((m ≡ k + n) × Searches clues known waiting found k)
+
+pub going_starts : (clues : Clues) (known first : List (List ℕ)) → Going clues known first (first ∷ []) 0
+going_starts clues known first = record {
+  on = λ found m s. let P : ℕ → Type 0 = λ x. Searches clues known (first ∷ []) found x in subst P (let e : m ≡ m + 0 = omega arith in e) s;
+  back = λ found m s. (m, ((let e : m ≡ m + 0 = omega arith in e), s));
+}
+
+pub going_passes : LeastIsUnique → (clues : Clues) (known first facts : List (List ℕ)) (others : List (List (List ℕ))) (n : ℕ) → Going clues known first (facts ∷ others) n → Comes clues facts Dies ⊎ Comes clues facts (Ends known) → Going clues known first others n
+going_passes unique clues known first facts others n g (inl c) = record {
+  on = λ found m s. g.on found m (is_dead facts others found m c s);
+  back = λ found m s. let b = g.back found m s in (b.0, (b.1.0, leads unique clues known facts others Dies found b.0 c b.1.1));
+}
+going_passes unique clues known first facts others n g (inr c) = record {
+  on = λ found m s. g.on found m (is_known facts others found m c s);
+  back = λ found m s.
+      let b = g.back found m s in (
+        b.0,
+        (
+          b.1.0,
+          elim (leads unique clues known facts others (Ends known) found b.0 c b.1.1) [
+            | inl l ↦ l.1
+            | inr d ↦ absurd (d.0 refl)
+          ],
+        ),
+      );
+}
+
+pub going_splits : LeastIsUnique → (clues : Clues) (known first facts settled : List (List ℕ)) (cell : Cell) (others : List (List (List ℕ))) (n : ℕ) → Going clues known first (facts ∷ others) n → Comes clues facts (Splits settled cell) → Going clues known first (branches settled cell.row cell.col (cell_at settled cell.row cell.col) ++ others) (suc n)
+going_splits unique clues known first facts settled cell others n g c = record {
+  on = λ found m s.
+      let P : ℕ → Type 0 = λ x. Searches clues known (first ∷ []) found x in
+      subst P (let e : suc m + n ≡ m + suc n = omega arith in e) (g.on found (suc m) (is_split facts others settled cell found m c s));
+  back = λ found m s.
+      let b = g.back found m s in
+      let l = leads unique clues known facts others (Splits settled cell) found b.0 c b.1.1 in
+      let same = b.1.0 in
+      let more = l.1.0 in
+      (l.0, ((let e : m ≡ l.0 + suc n = omega arith in e), l.1.1));
+}
+
+-- ---- how it ends
+
+-- what is left of an allowance after n splits
+abbrev pub IsLeft : Option ℕ → ℕ → Option ℕ → Type 0
+IsLeft None n left = left ≡ None
+IsLeft (Some most) n left = (m : ℕ) × ((left ≡ Some m) × (most ≡ m + n))
+
+pub all_left : (allowance : Option ℕ) → IsLeft allowance 0 allowance
+all_left None = refl
+all_left (Some most) = (most, (refl, (let e : most ≡ most + 0 = omega arith in e)))
+
+pub one_less : (allowance left rest : Option ℕ) (n : ℕ) → IsLeft allowance n left → IsOneLess left rest → IsLeft allowance (suc n) rest
+one_less None left rest n h l = let P : Option ℕ → Type 0 = λ x. IsOneLess x rest in subst P h l
+one_less (Some most) left rest n h l =
+    let P : Option ℕ → Type 0 = λ x. IsOneLess x rest in
+    let less : IsOneLess (Some h.0) rest = subst P h.1.0 l in
+    let a = less.1.0 in
+    let b = h.1.1 in
+    (less.0, (less.1.1, (let e : most ≡ less.0 + suc n = omega arith in e)))
+
+allowed : (allowance left : Option ℕ) (n : ℕ) → IsLeft allowance n left → Allows allowance n
+allowed None left n h = tt
+allowed (Some most) left n h = let b = h.1.1 in omega arith
+
+abbrev some_left : Option ℕ → ℕ
+some_left None = 0
+some_left (Some n) = n
+
+used : (allowance left : Option ℕ) (n : ℕ) → IsLeft allowance n left → left ≡ Some 0 → allowance ≡ Some n
+used None left n h e = absurd (let x : None ≡ Some 0 = sym h ∙ e in absurd cc)
+used (Some most) left n h e =
+    let z : h.0 ≡ 0 = ap some_left (sym h.1.0 ∙ e) in
+    let b = h.1.1 in
+    ap Some (let s : most ≡ n = omega arith in s)
+
+pub ends_with_nothing : (clues : Clues) (known first : List (List ℕ)) (waiting : List (List (List ℕ))) (n : ℕ) (allowance left : Option ℕ) → Going clues known first waiting n → waiting ≡ [] → IsLeft allowance n left → EndsAs clues known first allowance ending.Nothing n
+ends_with_nothing clues known first waiting n allowance left g e l =
+    let P : List (List (List ℕ)) → Type 0 = λ x. Searches clues known x None 0 in
+    let s : Searches clues known (first ∷ []) None (0 + n) = g.on None 0 (subst P (sym e) none_waits) in
+    let Q : ℕ → Type 0 = λ x. Searches clues known (first ∷ []) None x in
+    (subst Q (let z : 0 + n ≡ n = omega arith in z) s, allowed allowance left n l)
+
+pub ends_with_other : (clues : Clues) (known first facts picture : List (List ℕ)) (others : List (List (List ℕ))) (n : ℕ) (allowance left : Option ℕ) → Going clues known first (facts ∷ others) n → Comes clues facts (Ends picture) → (picture ≡ known → ⊥) → IsLeft allowance n left → EndsAs clues known first allowance (ending.Found picture) n
+ends_with_other clues known first facts picture others n allowance left g c d l =
+    let s : Searches clues known (first ∷ []) (Some picture) (0 + n) = g.on (Some picture) 0 (is_other facts others picture c d) in
+    let Q : ℕ → Type 0 = λ x. Searches clues known (first ∷ []) (Some picture) x in
+    (subst Q (let z : 0 + n ≡ n = omega arith in z) s, allowed allowance left n l)
+
+pub ends_broken_off : LeastIsUnique → (clues : Clues) (known first facts settled : List (List ℕ)) (cell : Cell) (others : List (List (List ℕ))) (n : ℕ) (allowance left : Option ℕ) → Going clues known first (facts ∷ others) n → Comes clues facts (Splits settled cell) → left ≡ Some 0 → IsLeft allowance n left → EndsAs clues known first allowance ending.BrokenOff n
+ends_broken_off unique clues known first facts settled cell others n allowance left g c z l = (
+  used allowance left n l z,
+  (λ cost h.
+      let b = g.back h.0 cost h.1 in
+      let m = leads unique clues known facts others (Splits settled cell) h.0 b.0 c b.1.1 in
+      let e = b.1.0 in
+      let f = m.1.0 in
+      omega arith),
+)
+
+-- ---- the count
+
+pub raised_again : (start before after n : ℕ) → before ≡ raised start n → after ≡ raised before 1 → after ≡ raised start (suc n)
+raised_again start before after n a b = omega arith
+
+pub raised_none : (count : ℕ) → count < 2 ^ 32 → count ≡ raised count 0
+raised_none count l = omega arith
+
+-- ---- while facts wait
+
+-- what waits ends as the first facts do, but for the splits that were made and counted; outside of the part nothing changed
+pub record Counting (clues : Clues) (known first : List (List ℕ)) (cells : List ℕ) (allowance : Option ℕ) (start : ℕ) (waiting : List (List (List ℕ))) (left : Option ℕ) (count : ℕ) : Type 0 where
+  pub made : ℕ
+  pub going : Going clues known first waiting made
+  pub is_left : IsLeft allowance made left
+  pub counted : count ≡ raised start made
+  pub keeps : EachKeeps cells known waiting
+
+pub counting_starts : (clues : Clues) (known first : List (List ℕ)) (cells : List ℕ) (allowance : Option ℕ) (start : ℕ) (s : Search) → KeepsOutside cells known first → start < 2 ^ 32 → s ≡ search_of first [] → Counting clues known first cells allowance start (s.at_hand ∷ s.behind) allowance start
+counting_starts clues known first cells allowance start s k l e =
+    let P : Search → Type 0 = λ x. Counting clues known first cells allowance start (x.at_hand ∷ x.behind) allowance start in
+    subst P (sym e) (record {
+      made = 0;
+      going = going_starts clues known first;
+      is_left = all_left allowance;
+      counted = raised_none start l;
+      keeps = (k, tt);
+    })
+
+pub counting_at : (clues : Clues) (known first : List (List ℕ)) (cells : List ℕ) (allowance : Option ℕ) (start : ℕ) (waiting : List (List (List ℕ))) (s : Search) (left : Option ℕ) (count : ℕ) → Counting clues known first cells allowance start waiting left count → waiting ≡ s.at_hand ∷ s.behind → Counting clues known first cells allowance start (s.at_hand ∷ s.behind) left count
+counting_at clues known first cells allowance start waiting s left count c e =
+    let P : List (List (List ℕ)) → Type 0 = λ x. Counting clues known first cells allowance start x left count in
+    subst P e c
+
+pub counting_passes : LeastIsUnique → (clues : Clues) (known first : List (List ℕ)) (cells : List ℕ) (allowance : Option ℕ) (start : ℕ) (s t : Search) (left rest : Option ℕ) (count more : ℕ) → Counting clues known first cells allowance start (s.at_hand ∷ s.behind) left count → Steps clues known s t left rest count more step.Passed → Counting clues known first cells allowance start t.behind rest more
+counting_passes unique clues known first cells allowance start s t left rest count more c h =
+    let P : Option ℕ → Type 0 = λ x. IsLeft allowance c.made x in
+    let Q : List (List (List ℕ)) → Type 0 = λ x. Going clues known first x c.made in
+    let R : List (List (List ℕ)) → Type 0 = λ x. EachKeeps cells known x in
+    let e = ap (λ (x : Search). x.behind) (sym h.1.0) in
+    record {
+      made = c.made;
+      going = subst Q e (going_passes unique clues known first s.at_hand s.behind c.made c.going h.0);
+      is_left = subst P (sym h.1.1.0) c.is_left;
+      counted = h.1.1.1 ∙ c.counted;
+      keeps = subst R e c.keeps.1;
+    }
+
+pub counting_splits : LeastIsUnique → (clues : Clues) (known first : List (List ℕ)) (cells : List ℕ) (allowance : Option ℕ) (start : ℕ) (s t : Search) (left rest : Option ℕ) (count more : ℕ) → Counting clues known first cells allowance start (s.at_hand ∷ s.behind) left count → Steps clues known s t left rest count more step.Split → Counting clues known first cells allowance start t.behind rest more
+counting_splits unique clues known first cells allowance start s t left rest count more c h =
+    let Q : List (List (List ℕ)) → Type 0 = λ x. Going clues known first x (suc c.made) in
+    let R : List (List (List ℕ)) → Type 0 = λ x. EachKeeps cells known x in
+    let e = ap (λ (x : Search). x.behind) (sym h.0.new_is) in
+    record {
+      made = suc c.made;
+      going = subst Q e (going_splits unique clues known first s.at_hand h.0.settled h.0.cell s.behind c.made c.going h.0.comes);
+      is_left = one_less allowance left rest c.made c.is_left h.1.0;
+      counted = raised_again start count more c.made c.counted h.1.1;
+      keeps = subst R e (each_branch clues cells known s.at_hand h.0.settled h.0.cell s.behind c.keeps h.0.comes);
+    }
+
+-- ---- how it ends, counted
+
+pub counted_nothing : (clues : Clues) (known first : List (List ℕ)) (cells : List ℕ) (allowance : Option ℕ) (start : ℕ) (waiting : List (List (List ℕ))) (left : Option ℕ) (count : ℕ) → Counting clues known first cells allowance start waiting left count → waiting ≡ [] → (n : ℕ) × ((count ≡ raised start n) × EndsAs clues known first allowance ending.Nothing n)
+counted_nothing clues known first cells allowance start waiting left count c e = (c.made, (c.counted, ends_with_nothing clues known first waiting c.made allowance left c.going e c.is_left))
+
+pub counted_other : (clues : Clues) (known first picture : List (List ℕ)) (cells : List ℕ) (allowance : Option ℕ) (start : ℕ) (s t : Search) (left rest : Option ℕ) (count more : ℕ) → Counting clues known first cells allowance start (s.at_hand ∷ s.behind) left count → Steps clues known s t left rest count more (step.Other picture) → (n : ℕ) × ((more ≡ raised start n) × EndsAs clues known first allowance (ending.Found picture) n)
+counted_other clues known first picture cells allowance start s t left rest count more c h =
+    (c.made, (h.1 ∙ c.counted, ends_with_other clues known first s.at_hand picture s.behind c.made allowance left c.going h.0.0 h.0.1 c.is_left))
+
+pub counted_halted : LeastIsUnique → (clues : Clues) (known first : List (List ℕ)) (cells : List ℕ) (allowance : Option ℕ) (start : ℕ) (s t : Search) (left rest : Option ℕ) (count more : ℕ) → Counting clues known first cells allowance start (s.at_hand ∷ s.behind) left count → Steps clues known s t left rest count more step.Halted → (n : ℕ) × ((more ≡ raised start n) × EndsAs clues known first allowance ending.BrokenOff n)
+counted_halted unique clues known first cells allowance start s t left rest count more c h =
+    (c.made, (h.1.1 ∙ c.counted, ends_broken_off unique clues known first s.at_hand h.0.0 h.0.1.0 s.behind c.made allowance left c.going h.0.1.1 h.1.0 c.is_left))
+
+-- ---- what waits weighs less
+
+pub passes_lighter : (clues : Clues) (known : List (List ℕ)) (s t u : Search) (left rest : Option ℕ) (count more : ℕ) → Steps clues known s t left rest count more step.Passed → t.behind ≡ u.at_hand ∷ u.behind → load (u.at_hand ∷ u.behind) < load (s.at_hand ∷ s.behind)
+passes_lighter clues known s t u left rest count more h e =
+    let all : load s.behind ≡ load (u.at_hand ∷ u.behind) = ap load (ap (λ (x : Search). x.behind) (sym h.1.0) ∙ e) in
+    let head = load_more s.at_hand s.behind in
+    let p = pow_pos (5 * weight s.at_hand) in
+    omega arith
+
+pub splits_lighter : (clues : Clues) (known : List (List ℕ)) (s t u : Search) (left rest : Option ℕ) (count more : ℕ) → Steps clues known s t left rest count more step.Split → t.behind ≡ u.at_hand ∷ u.behind → load (u.at_hand ∷ u.behind) < load (s.at_hand ∷ s.behind)
+splits_lighter clues known s t u left rest count more h e =
+    let settled = h.0.settled in
+    let cell = h.0.cell in
+    let to = h.0.comes.0 in
+    let at = h.0.comes.1.is in
+    let front = branches settled cell.row cell.col (cell_at settled cell.row cell.col) in
+    let rect = to.are_facts.rectangular cell.row at.in_rows in
+    let inside = at.in_columns in
+    let wide : cell.col < length (row_at settled cell.row) = omega arith in
+    let less = weight_within s.at_hand settled to.least.holds in
+    let most = pow_mono {i = 5 * weight settled} {j = 5 * weight s.at_hand} (omega arith) in
+    let light = branches_lighter settled cell.row cell.col at.in_rows wide at.unsettled in
+    let all : load (front ++ s.behind) ≡ load (u.at_hand ∷ u.behind) = ap load (ap (λ (x : Search). x.behind) (sym h.0.new_is) ∙ e) in
+    let both = load_append front s.behind in
+    let head = load_more s.at_hand s.behind in
+    omega arith
+
+-- ---- the engine's work
+
+pub counts_none : (meter : Meter) (calls : ℕ) → meter.evaluations < 2 ^ 64 → meter.trials < 2 ^ 64 → calls < 2 ^ 64 → (evaluations : ℕ) × Counts evaluations 0 meter meter calls calls
+counts_none meter calls a b c = (0, record { evaluations = omega arith; trials = omega arith; calls = omega arith })
+
+pub counts_more : CountsAdd → (start between end : Meter) (p q r : ℕ) → (evaluations : ℕ) × Counts evaluations 0 start between p q → (evaluations : ℕ) × Counts evaluations 0 between end q r → (evaluations : ℕ) × Counts evaluations 0 start end p r
+counts_more add start between end p q r a b = (a.0 + b.0, add a.0 0 b.0 0 start between end p q r a.1 b.1)
+
+-- ---- one look
+
+-- a picture compared with the known one
+pub compared : (clues : Clues) (known facts picture : List (List ℕ)) (s : Search) (coming : Coming) (left : Option ℕ) (count : ℕ) (found : Step) → facts ≡ s.at_hand → coming ≡ Ends picture → Comes clues facts coming → Compares known picture found → Steps clues known s s left left count count found
+compared clues known facts picture s coming left count found e f c h =
+    let P : List (List ℕ) → Type 0 = λ x. Comes clues x coming in
+    let Q : Coming → Type 0 = λ x. Comes clues s.at_hand x in
+    by found (subst Q f (subst P e c)) h
+  where
+    by : (found : Step) → Comes clues s.at_hand (Ends picture) → Compares known picture found → Steps clues known s s left left count count found
+    by step.Passed c e = let R : List (List ℕ) → Type 0 = λ x. Comes clues s.at_hand (Ends x) in (inr (subst R e c), (refl, (refl, refl)))
+    by step.Split c e = absurd e
+    by (step.Other other) c e =
+        let R : List (List ℕ) → Type 0 = λ x. Comes clues s.at_hand (Ends x) in
+        ((subst R (sym e.0) c, (λ d. e.1 (sym e.0 ∙ d))), refl)
+    by step.Halted c e = absurd e
+
+pub steps_as : (clues : Clues) (known : List (List ℕ)) (s t : Search) (left rest : Option ℕ) (count more : ℕ) (found named : Step) → found ≡ named → Steps clues known s t left rest count more found → Steps clues known s t left rest count more named
+steps_as clues known s t left rest count more found named e h =
+    let P : Step → Type 0 = λ x. Steps clues known s t left rest count more x in
+    subst P e h

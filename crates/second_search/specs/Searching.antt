@@ -1,0 +1,93 @@
+-- The search in a fixed order, with its count of splits.
+use Rattle.std.specs.Prelude.{◌≡◌, ℕ, suc, ◌+◌, ◌-◌, ◌^◌, ◌<◌, ◌≤◌, Option, None, Some, List, [], ◌∷◌, ◌++◌, length, min}
+use Rattle.picture.specs.declared.line_id.Axis.{Axis}
+use Rattle.picture.specs.declared.line_id.Axis.TheVariants.{Across, Down}
+use Rattle.picture.specs.declared.line_id.LineId.{LineId}
+use Rattle.picture.specs.CellSet.{HasCell}
+use Rattle.picture.specs.LineSet.{Lines, HasName}
+use Rattle.picture.specs.Rows.{width_of, row_at, cell_at}
+use Rattle.clues.specs.ClueBook.{Clues}
+use Rattle.line_settle.specs.Masks.{IsOnly}
+use Rattle.line_settle.specs.FactSets.{IsFacts, IsLeast, SameShape}
+use Rattle.propagate.specs.Closing.{EachFits, HasDeadLine}
+use Rattle.propagate.specs.Filling.{only}
+use Rattle.second_search.specs.declared.cell.Cell.{Cell}
+use Rattle.second_search.specs.declared.coming.Coming.{Coming}
+use Rattle.second_search.specs.declared.coming.Coming.TheVariants.{Dies, Ends, Splits}
+use Rattle.second_search.specs.declared.counting.Ending.{Ending}
+use Rattle.second_search.specs.declared.counting.Ending.TheVariants.{Nothing, Found, BrokenOff}
+use Rattle.second_search.specs.Branching.{branches}
+use Rattle.second_search.specs.Looking.{IsUnsettled, Shows}
+use Rattle.second_search.specs.Parts.{IsBefore, picked}
+
+-- the least closed facts over others, where some list fits each line under them
+pub record SettlesTo (clues : Clues) (facts settled : List (List ℕ)) : Type 0 where
+  pub are_facts : IsFacts settled
+  pub least : IsLeast clues facts settled
+  pub fits : EachFits clues settled
+
+-- The first cell in row order in which not just one colour is left. Where some list fits each line no cell is left without a
+-- colour, so this is the first open cell.
+pub record IsFirstUnsettled (facts : List (List ℕ)) (cell : Cell) : Type 0 where
+  pub is : IsUnsettled facts cell
+  pub before : (r c : ℕ) → c < width_of facts → IsBefore r c cell.row cell.col → (k : ℕ) × IsOnly (cell_at facts r c) k
+
+-- What facts come to when they are closed: no list fits some line; or each cell has one colour left, and these make a
+-- picture; or there is a first open cell.
+abbrev pub Comes : Clues → List (List ℕ) → Coming → Type 0
+Comes clues facts Dies = HasDeadLine clues facts
+Comes clues facts (Ends picture) = (settled : List (List ℕ)) × (SettlesTo clues facts settled × Shows settled picture)
+Comes clues facts (Splits settled cell) = SettlesTo clues facts settled × IsFirstUnsettled settled cell
+
+-- the same of facts that are closed already
+abbrev pub ComesClosed : List (List ℕ) → Coming → Type 0
+ComesClosed settled Dies = ⊥
+ComesClosed settled (Ends picture) = IsFacts settled × Shows settled picture
+ComesClosed settled (Splits facts cell) = (facts ≡ settled) × (IsFacts settled × IsFirstUnsettled settled cell)
+
+-- The search through the facts that wait, the first of them first, for another picture than a known one: what it finds, and
+-- how often it splits. Facts that come to a first open cell are split: those with this cell held to each colour left, in
+-- rising number, wait in their place.
+pub data Searches (clues : Clues) (known : List (List ℕ)) : List (List (List ℕ)) → Option (List (List ℕ)) → ℕ → Type 0 where
+  none_waits : Searches clues known [] None 0
+  is_dead : (facts : List (List ℕ)) (others : List (List (List ℕ))) (found : Option (List (List ℕ))) (n : ℕ) → Comes clues facts Dies → Searches clues known others found n → Searches clues known (facts ∷ others) found n
+  is_known : (facts : List (List ℕ)) (others : List (List (List ℕ))) (found : Option (List (List ℕ))) (n : ℕ) → Comes clues facts (Ends known) → Searches clues known others found n → Searches clues known (facts ∷ others) found n
+  is_other : (facts : List (List ℕ)) (others : List (List (List ℕ))) (picture : List (List ℕ)) → Comes clues facts (Ends picture) → (picture ≡ known → ⊥) → Searches clues known (facts ∷ others) (Some picture) 0
+  is_split : (facts : List (List ℕ)) (others : List (List (List ℕ))) (settled : List (List ℕ)) (cell : Cell) (found : Option (List (List ℕ))) (n : ℕ) → Comes clues facts (Splits settled cell) → Searches clues known (branches settled cell.row cell.col (cell_at settled cell.row cell.col) ++ others) found n → Searches clues known (facts ∷ others) found (suc n)
+
+-- the facts in which a part is searched: those on the part, and elsewhere a picture's colours alone
+abbrev pub alone : List ℕ → List (List ℕ) → List (List ℕ) → List (List ℕ)
+alone cells facts picture = picked cells facts (only picture)
+
+-- how often the search from some facts splits until it ends
+abbrev pub HasCost : Clues → List (List ℕ) → List (List ℕ) → ℕ → Type 0
+HasCost clues known facts n = (found : Option (List (List ℕ))) × Searches clues known (facts ∷ []) found n
+
+-- facts have one cost at most
+abbrev pub CostsAreUnique : Type 0
+CostsAreUnique = (clues : Clues) (known facts : List (List ℕ)) (m n : ℕ) → HasCost clues known facts m → HasCost clues known facts n → m ≡ n
+
+-- so many splits are allowed, where none means that any number is
+abbrev pub Allows : Option ℕ → ℕ → Type 0
+Allows None n = Unit {0}
+Allows (Some most) n = n ≤ most
+
+-- How the search from some facts ends after n splits: it found nothing or another picture, by so many splits as are allowed; or
+-- it was broken off at the allowance, since it costs more.
+abbrev pub EndsAs : Clues → List (List ℕ) → List (List ℕ) → Option ℕ → Ending → ℕ → Type 0
+EndsAs clues known facts allowance Nothing n = Searches clues known (facts ∷ []) None n × Allows allowance n
+EndsAs clues known facts allowance (Found picture) n = Searches clues known (facts ∷ []) (Some picture) n × Allows allowance n
+EndsAs clues known facts allowance BrokenOff n = (allowance ≡ Some n) × ((cost : ℕ) → HasCost clues known facts cost → n < cost)
+
+-- outside of some cells the facts leave a picture's colour alone
+pub record KeepsOutside (cells : List ℕ) (picture facts : List (List ℕ)) : Type 0 where
+  pub same_shape : SameShape picture facts
+  pub outside : (row col : ℕ) → col < length (row_at facts row) → (HasCell cells row col → ⊥) → IsOnly (cell_at facts row col) (cell_at picture row col)
+
+-- a set has the names of all lines that go through some cells
+abbrev pub NamesLinesOf : List ℕ → Lines → Type 0
+NamesLinesOf cells lines = (row col : ℕ) → HasCell cells row col → HasName lines (record { axis = Across; at = row }) × HasName lines (record { axis = Down; at = col })
+
+-- a count of splits after n more, which stays at the largest 32-bit number
+abbrev pub raised : ℕ → ℕ → ℕ
+raised count n = min (count + n) (2 ^ 32 - 1)

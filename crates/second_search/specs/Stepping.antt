@@ -1,0 +1,42 @@
+-- One look at the facts at hand, in a search that counts its splits.
+use Rattle.std.specs.Prelude.{◌≡◌, ℕ, suc, ◌⊎◌, Bool, true, false, Option, None, Some, List, ◌++◌}
+use Rattle.picture.specs.Rows.{cell_at}
+use Rattle.clues.specs.ClueBook.{Clues}
+use Rattle.second_search.specs.declared.cell.Cell.{Cell}
+use Rattle.second_search.specs.declared.coming.Coming.TheVariants.{Dies, Ends, Splits}
+use Rattle.second_search.specs.declared.counting.Step.{Step}
+use Rattle.second_search.specs.declared.counting.Step.TheVariants.{Passed, Split, Other, Halted}
+use Rattle.second_search.specs.Branching.{Search, branches, search_of}
+use Rattle.second_search.specs.Searching.{Comes, raised}
+
+-- what is left of an allowance after one split more
+abbrev pub IsOneLess : Option ℕ → Option ℕ → Type 0
+IsOneLess None new = new ≡ None
+IsOneLess (Some n) new = (m : ℕ) × ((n ≡ suc m) × (new ≡ Some m))
+
+-- one split is taken off what is left of an allowance, and counted; or none is left
+abbrev pub Spends : Option ℕ → Option ℕ → ℕ → ℕ → Bool → Type 0
+Spends old new count more true = IsOneLess old new × (more ≡ raised count 1)
+Spends old new count more false = (old ≡ Some 0) × ((new ≡ old) × (more ≡ count))
+
+-- a picture is the known one, or another
+abbrev pub Compares : List (List ℕ) → List (List ℕ) → Step → Type 0
+Compares known picture Passed = picture ≡ known
+Compares known picture Split = ⊥
+Compares known picture (Other other) = (other ≡ picture) × (picture ≡ known → ⊥)
+Compares known picture Halted = ⊥
+
+-- the facts at hand have a first open cell, and are split there
+pub record SplitsAt (clues : Clues) (old new : Search) : Type 0 where
+  pub settled : List (List ℕ)
+  pub cell : Cell
+  pub comes : Comes clues old.at_hand (Splits settled cell)
+  pub new_is : new ≡ search_of settled (branches settled cell.row cell.col (cell_at settled cell.row cell.col) ++ old.behind)
+
+-- What a look at the facts at hand led to: they are done with, and others wait in their place where they were split; or another
+-- picture was found; or no split is left.
+abbrev pub Steps : Clues → List (List ℕ) → Search → Search → Option ℕ → Option ℕ → ℕ → ℕ → Step → Type 0
+Steps clues known old new left rest count more Passed = (Comes clues old.at_hand Dies ⊎ Comes clues old.at_hand (Ends known)) × ((new ≡ old) × ((rest ≡ left) × (more ≡ count)))
+Steps clues known old new left rest count more Split = SplitsAt clues old new × (IsOneLess left rest × (more ≡ raised count 1))
+Steps clues known old new left rest count more (Other picture) = (Comes clues old.at_hand (Ends picture) × (picture ≡ known → ⊥)) × (more ≡ count)
+Steps clues known old new left rest count more Halted = ((settled : List (List ℕ)) × ((cell : Cell) × Comes clues old.at_hand (Splits settled cell))) × ((left ≡ Some 0) × (more ≡ count))

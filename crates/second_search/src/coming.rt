@@ -1,0 +1,63 @@
+//! What facts come to when they are closed, exactly: a dead line, a picture, or a first open cell.
+
+ghost use Rattle.std.specs.Prelude.{◌≡◌, ℕ, IfOk};
+ghost use Rattle.line_settle.specs.Counting.{Counts};
+ghost use Rattle.line_settle.specs.FactSets.{IsFacts};
+ghost use Rattle.propagate.specs.Closing.{AreClosable, EachFits, QuietOutside};
+ghost use Rattle.propagate.specs.LineNames.{AreLinesOf};
+ghost use Rattle.second_search.specs.Looking.{Shows};
+ghost use Rattle.second_search.specs.Searching.{Comes, ComesClosed};
+
+use crate::cell::Cell;
+use crate::looking::{first_unsettled, shown_picture};
+use clues::ClueBook;
+use line_settle::{Facts, LineEngine, Meter, Outcome};
+use picture::{LineSet, Picture};
+use propagate::{InOrder, close_facts};
+use std::alloc::{AllocError, Global};
+
+// What facts come to: no list fits some line, or they leave one picture, or a cell is to be split.
+#[derive(Drop)]
+pub(crate) enum Coming {
+    Dies,
+    Ends(Picture),
+    Splits(Facts, Cell),
+}
+
+// Closes facts and looks at what they leave. Each line that is not named has to be quiet.
+pub(crate) fn come_to<E: LineEngine>(
+    alloc: Global,
+    engine: &mut E,
+    book: &ClueBook,
+    facts: &Facts,
+    lines: &LineSet,
+    meter: &mut Meter,
+) -> Result<Coming, AllocError>
+    requires closable { AreClosable book.now (E.longest engine.old) facts.now }
+    requires lines { AreLinesOf facts.now lines.now }
+    requires quiet { QuietOutside book.now facts.now lines.now }
+    ensures comes { IfOk result (Comes book.now facts.now) }
+    ensures counts { (evaluations : ℕ) × Counts evaluations 0 meter.old meter.new (E.calls engine.old) (E.calls engine.new) }
+    ensures same_longest { E.longest engine.new ≡ E.longest engine.old }
+{
+    let _ = engine.calls();
+    let _evaluations = meter.evaluations;
+    let _trials = meter.trials;
+    let mut settled = facts.copy()?;
+    let mut agenda = InOrder::make();
+    match close_facts(engine, &mut agenda, &mut settled, book, lines, meter) {
+        Outcome::Dead => Ok(Coming::Dies),
+        Outcome::Narrowed => split_or_end(alloc, settled),
+    }
+}
+
+// The first open cell of closed facts, or the picture that they leave.
+fn split_or_end(alloc: Global, settled: Facts) -> Result<Coming, AllocError>
+    ensures { IfOk result (ComesClosed settled) }
+{
+    let _ = settled.height();
+    match first_unsettled(&settled) {
+        Some(cell) => Ok(Coming::Splits(settled, cell)),
+        None => Ok(Coming::Ends(shown_picture(alloc, &settled)?)),
+    }
+}

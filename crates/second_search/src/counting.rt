@@ -1,0 +1,147 @@
+//! The search in a fixed order, which counts its splits and may be broken off.
+
+ghost use Rattle.std.specs.Prelude.{◌≡◌, ℕ, IfOk};
+ghost use Rattle.clues.specs.ClueBook.{clues_of};
+ghost use Rattle.line_settle.specs.Counting.{Counts};
+ghost use Rattle.propagate.specs.Closing.{AreClosable, QuietOutside};
+ghost use Rattle.propagate.specs.LineNames.{AreLinesOf};
+ghost use Rattle.second_search.specs.Searching.{EndsAs, KeepsOutside, NamesLinesOf, raised};
+ghost use Rattle.second_search.specs.Stepping.{Compares, Spends, Steps};
+
+use crate::coming::{Coming, come_to};
+use crate::pending::Pending;
+use clues::ClueBook;
+use clues::laws::clues_are_of_lines;
+use line_settle::laws::{counts_add, least_is_unique};
+use line_settle::{Facts, LineEngine, Meter};
+use picture::{CellSet, LineSet, Picture};
+use std::alloc::{AllocError, Global};
+
+// How a search ended: there is no other picture, or there is this one, or it would have split once more than allowed.
+#[derive(Drop)]
+pub(crate) enum Ending {
+    Nothing,
+    Found(Picture),
+    BrokenOff,
+}
+
+// What one look at the facts at hand led to.
+#[derive(Drop)]
+pub(crate) enum Step {
+    Passed,
+    Split,
+    Other(Picture),
+    Halted,
+}
+
+// Searches facts for another picture than a known one, which they leave alone outside of some cells. The lines named are all
+// that go through these cells, and only they are evaluated. Of the splits at most `allowance` are made, where there is one.
+pub(crate) fn search_counted<E: LineEngine>(
+    alloc: Global,
+    engine: &mut E,
+    book: &ClueBook,
+    known: &Picture,
+    cells: &CellSet,
+    lines: &LineSet,
+    facts: Facts,
+    allowance: Option<u32>,
+    meter: &mut Meter,
+    splits: &mut u32,
+) -> Result<Ending, AllocError>
+    requires clues { clues_of known.now ≡ book.now }
+    requires closable { AreClosable book.now (E.longest engine.old) facts }
+    requires outside { KeepsOutside cells.now known.now facts }
+    requires lines { AreLinesOf facts lines.now }
+    requires through { NamesLinesOf cells.now lines.now }
+    ensures ends { IfOk result (λ ending. (n : ℕ) × ((splits.new ≡ raised splits.old n) × EndsAs book.now known.now facts allowance ending n)) }
+    ensures counts { (evaluations : ℕ) × Counts evaluations 0 meter.old meter.new (E.calls engine.old) (E.calls engine.new) }
+    ensures same_longest { E.longest engine.new ≡ E.longest engine.old }
+{
+    clues_are_of_lines();
+    counts_add();
+    least_is_unique();
+    let _ = (known.height(), engine.calls(), *splits);
+    let _evaluations = meter.evaluations;
+    let _trials = meter.trials;
+    let mut pending = Pending::start(alloc, facts);
+    let mut left = allowance;
+    loop {
+        match look_once(
+            alloc,
+            engine,
+            book,
+            known,
+            lines,
+            &mut pending,
+            &mut left,
+            meter,
+            splits,
+        )? {
+            Step::Other(picture) => return Ok(Ending::Found(picture)),
+            Step::Halted => return Ok(Ending::BrokenOff),
+            Step::Passed => {}
+            Step::Split => {}
+        }
+        if !pending.advance()? {
+            return Ok(Ending::Nothing);
+        }
+    }
+}
+
+// Looks at the facts at hand once, and splits them where a split is still allowed.
+fn look_once<E: LineEngine>(
+    alloc: Global,
+    engine: &mut E,
+    book: &ClueBook,
+    known: &Picture,
+    lines: &LineSet,
+    pending: &mut Pending,
+    left: &mut Option<u32>,
+    meter: &mut Meter,
+    splits: &mut u32,
+) -> Result<Step, AllocError>
+    requires closable { AreClosable book.now (E.longest engine.old) pending.old.at_hand }
+    requires lines { AreLinesOf pending.old.at_hand lines.now }
+    requires quiet { QuietOutside book.now pending.old.at_hand lines.now }
+    ensures steps { IfOk result (Steps book.now known.now pending.old pending.new left.old left.new splits.old splits.new) }
+    ensures counts { (evaluations : ℕ) × Counts evaluations 0 meter.old meter.new (E.calls engine.old) (E.calls engine.new) }
+    ensures same_longest { E.longest engine.new ≡ E.longest engine.old }
+{
+    match come_to(alloc, engine, book, pending.at_hand(), lines, meter)? {
+        Coming::Dies => Ok(Step::Passed),
+        Coming::Ends(picture) => Ok(compare(picture, known)),
+        Coming::Splits(settled, cell) => {
+            if !spend(left, splits) {
+                return Ok(Step::Halted);
+            }
+            pending.narrow(&settled)?;
+            pending.split(cell)?;
+            Ok(Step::Split)
+        }
+    }
+}
+
+// Goes on where a picture is the known one.
+fn compare(picture: Picture, known: &Picture) -> Step
+    ensures { Compares known.now picture result }
+{
+    if picture.same(known) {
+        Step::Passed
+    } else {
+        Step::Other(picture)
+    }
+}
+
+// Counts one split, unless none is left.
+fn spend(left: &mut Option<u32>, splits: &mut u32) -> bool
+    ensures { Spends left.old left.new splits.old splits.new result }
+{
+    let more = splits.saturating_add(1);
+    match *left {
+        Some(0) => return false,
+        Some(n) => *left = Some(n - 1),
+        None => {}
+    }
+    *splits = more;
+    true
+}

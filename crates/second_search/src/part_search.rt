@@ -1,0 +1,124 @@
+//! The search of one part: the facts on it, with the picture's colours alone left elsewhere.
+
+ghost use Rattle.std.specs.Prelude.{◌≡◌, ◌≤◌, ◌<◌, ℕ, length, IfOk};
+ghost use Rattle.picture.specs.Rows.{width_of};
+ghost use Rattle.line_settle.specs.Counting.{Counts};
+ghost use Rattle.line_settle.specs.FactSets.{SameShape};
+ghost use Rattle.propagate.specs.LineNames.{AreLinesOf};
+ghost use Rattle.second_search.specs.Parts.{IsPart, IsScene};
+ghost use Rattle.second_search.specs.Searching.{EndsAs, alone, raised};
+ghost use Rattle.second_search.specs.Through.{LeavesAlone, LeavesRowAlone, PutsBoth, PutsRow, PutsThrough};
+
+use crate::counting::{Ending, search_counted};
+use crate::scene::Scene;
+use clues::laws::clues_are_of_lines;
+use line_settle::{Facts, LineEngine, Meter};
+use picture::{Axis, CellSet, LineId, LineSet, MAX_SIDE, Picture};
+use propagate::laws::only_is_closed;
+use std::alloc::{AllocError, Global};
+
+// Searches one part for another filling. Only the lines through the part are evaluated.
+pub(crate) fn search_part<E: LineEngine>(
+    alloc: Global,
+    engine: &mut E,
+    scene: &Scene,
+    cells: &CellSet,
+    allowance: Option<u32>,
+    meter: &mut Meter,
+    splits: &mut u32,
+) -> Result<Ending, AllocError>
+    requires scene { IsScene scene.now.clues.now scene.now.givens.now scene.now.facts.now scene.now.picture.now }
+    requires part { IsPart scene.now.facts.now cells.now }
+    requires tall { length scene.now.clues.now.rows ≤ E.longest engine.old }
+    requires wide { length scene.now.clues.now.columns ≤ E.longest engine.old }
+    ensures ends { IfOk result (λ ending. (n : ℕ) × ((splits.new ≡ raised splits.old n)
+        × EndsAs scene.now.clues.now scene.now.picture.now (alone cells.now scene.now.facts.now scene.now.picture.now) allowance ending n)) }
+    ensures counts { (evaluations : ℕ) × Counts evaluations 0 meter.old meter.new (E.calls engine.old) (E.calls engine.new) }
+    ensures same_longest { E.longest engine.new ≡ E.longest engine.old }
+{
+    clues_are_of_lines();
+    only_is_closed();
+    let _ = (engine.calls(), *splits, scene.facts.height());
+    let _evaluations = meter.evaluations;
+    let _trials = meter.trials;
+    let lines = lines_through(cells, scene.facts);
+    let mut facts = scene.facts.copy()?;
+    leave_alone(&mut facts, scene.picture, cells);
+    search_counted(
+        alloc,
+        engine,
+        scene.clues,
+        scene.picture,
+        cells,
+        &lines,
+        facts,
+        allowance,
+        meter,
+        splits,
+    )
+}
+
+// The names of the lines that go through some cells.
+fn lines_through(cells: &CellSet, facts: &Facts) -> LineSet
+    ensures lines { AreLinesOf facts.now result }
+    ensures through { PutsThrough cells.now facts.now result (length facts.now) }
+{
+    let mut lines = LineSet::empty();
+    for row in 0..facts.height() {
+        put_through(cells, facts, row, &mut lines);
+    }
+    lines
+}
+
+// Puts the names of the lines that go through some cells of a row into a set.
+fn put_through(cells: &CellSet, facts: &Facts, row: u8, lines: &mut LineSet)
+    requires in_rows { row < length facts.now }
+    requires lines { AreLinesOf facts.now lines.old }
+    ensures lines { AreLinesOf facts.now lines.new }
+    ensures puts { PutsRow cells.now row (width_of facts.now) lines.old lines.new }
+{
+    for col in 0..facts.width() {
+        if cells.has(row, col) {
+            put_both(lines, row, col);
+        }
+    }
+}
+
+// Puts the names of the lines through a cell into a set.
+fn put_both(lines: &mut LineSet, row: u8, col: u8)
+    requires in_rows { row < MAX_SIDE }
+    requires in_columns { col < MAX_SIDE }
+    ensures { PutsBoth row col lines.old lines.new }
+{
+    lines.put(LineId {
+        axis: Axis::Across,
+        at: row,
+    });
+    lines.put(LineId {
+        axis: Axis::Down,
+        at: col,
+    });
+}
+
+// Leaves outside of some cells a picture's colours alone.
+fn leave_alone(facts: &mut Facts, picture: &Picture, cells: &CellSet)
+    requires { SameShape picture.now facts.old }
+    ensures { LeavesAlone cells.now picture.now facts.old facts.new (length facts.old) }
+{
+    for row in 0..facts.height() {
+        leave_row_alone(facts, picture, cells, row);
+    }
+}
+
+// The same in one row.
+fn leave_row_alone(facts: &mut Facts, picture: &Picture, cells: &CellSet, row: u8)
+    requires same_shape { SameShape picture.now facts.old }
+    requires in_rows { row < length facts.old }
+    ensures { LeavesRowAlone cells.now picture.now facts.old facts.new row (width_of facts.old) }
+{
+    for col in 0..facts.width() {
+        if !cells.has(row, col) {
+            facts.set_left(row, col, 1 << picture.cell(row, col));
+        }
+    }
+}

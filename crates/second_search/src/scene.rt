@@ -1,0 +1,13 @@
+use clues::ClueBook;
+use line_settle::Facts;
+use picture::{CellSet, Picture};
+
+/// What another picture is looked for in: a picture with its clues and its givens, and facts that a search may start from. All
+/// four are only lent.
+#[derive(Clone, Copy, Drop)]
+pub struct Scene<'a> {
+    pub clues: &'a ClueBook,
+    pub givens: &'a CellSet,
+    pub facts: &'a Facts,
+    pub picture: &'a Picture,
+}
