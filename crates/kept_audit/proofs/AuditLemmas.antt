@@ -1,5 +1,5 @@
 -- What the clauses of the calls below come to for an audit.
-use Rattle.std.proofs.Common.{◌≡◌, ℕ, ◌<◌, ◌≤◌, List, [], length, inl, inr, Err, refl, sym, ap, subst, ◌∙◌, arith}
+use Rattle.std.proofs.Common.{◌≡◌, ℕ, ◌<◌, ◌≤◌, List, [], length, inl, inr, Ok, Err, refl, sym, ap, subst, ◌∙◌, arith}
 use Rattle.std.proofs.lemmas.Bool.{cases_lt}
 use Rattle.std.proofs.lemmas.List.{get_or_past}
 use Rattle.picture.specs.declared.line_id.Axis.{Axis}
@@ -7,22 +7,26 @@ use Rattle.picture.specs.declared.line_id.Axis.TheVariants.{Across, Down}
 use Rattle.picture.specs.LineSet.{Lines}
 use Rattle.picture.specs.Picture.{IsPicture}
 use Rattle.picture.specs.Rows.{cell_at, lines_along, row_at, width_of}
-use Rattle.clues.specs.Change.{Changes, IsChangeOf, CanRefresh, lines_after}
+use Rattle.clues.specs.Change.{Changes, Moves, IsChangeOf, CanRefresh, lines_after}
 use Rattle.clues.specs.ClueBook.{Clues, clues_along, clues_of}
 use Rattle.clues.specs.Laws.{CluesAreOfLines, UntouchedCluesStand}
+use Rattle.line_settle.specs.declared.meter.Meter.{Meter}
 use Rattle.line_settle.specs.FactSets.{IsClosedLine, IsFacts, IsLeast, Leaves, SameShape}
 use Rattle.line_settle.specs.Fitting.{CanFit}
 use Rattle.line_settle.specs.Laws.{LeastIsUnique}
 use Rattle.line_settle.specs.Outside.{EachOutside}
 use Rattle.justify.specs.Book.{Account, account, AreTrimmed, IsAccount, IsDerivation}
-use Rattle.retract.specs.Standing.{HaveBooks}
+use Rattle.retract.specs.Dirty.{AreDirty}
+use Rattle.retract.specs.Standing.{AreStanding, HaveBooks}
 use Rattle.propagate.specs.Closing.{AreClosable, HasDeadLine, QuietOutside}
 use Rattle.propagate.specs.declared.fault.CloseFault.{CloseFault}
 use Rattle.propagate.specs.declared.fault.CloseFault.TheVariants.{Dead, Memory}
-use Rattle.propagate.specs.ClosingBooks.{ClosesBook, IsClosedBook}
+use Rattle.propagate.specs.ClosingBooks.{BookWorks, ClosesBook, IsClosedBook}
 use Rattle.propagate.specs.Filling.{Fills}
 use Rattle.propagate.specs.Laws.{ClosingKeepsFillings}
-use Rattle.kept_audit.specs.Audit.{IsAudit, IsBaseOf}
+use Rattle.propagate.specs.LineNames.{AllLines}
+use Rattle.propagate.specs.Turns.{steps_added}
+use Rattle.kept_audit.specs.Audit.{GoesOn, IsAnew, IsAudit, IsBaseOf}
 use Rattle.kept_audit.specs.Laws.{BasesLeavePictures}
 
 -- ---- sizes
@@ -99,6 +103,34 @@ no_fault_but_memory clues kept Memory closes never = refl
 -- a book without a step is trimmed
 pub starts_trimmed : (clues : Clues) (base : List (List ℕ)) (book : Account) → book ≡ account base [] base → AreTrimmed clues book
 starts_trimmed clues base book e = let P : Account → Type 0 = λ b. AreTrimmed clues b in subst P (sym e) (λ n l. absurd (omega arith))
+
+-- ---- the work
+
+-- over a book without a step each step is added
+pub is_anew : (base : List (List ℕ)) (lines : Lines) (kept book : Account) (start end : Meter) (before after : ℕ)
+    → kept ≡ account base [] base → AllLines base lines → BookWorks lines kept (Ok book) start end before after → IsAnew base book start end before after
+is_anew base lines kept book start end before after e all works =
+    let P : Account → Type 0 = λ k. BookWorks lines k (Ok book) start end before after in
+    let w : P (account base [] base) = subst P e works in
+    record { lines = lines; all_lines = all; work = record { evaluations = w.0; counts = w.1; suffice = w.2 } }
+
+pub goes_on : (moves : Moves) (old new : Clues) (base : List (List ℕ)) (from kept to : Account) (dirty : Lines) (start end : Meter) (before after : ℕ)
+    → IsAccount kept → kept.base ≡ base → AreStanding moves old new base from.steps kept.steps → AreDirty moves old new from.facts kept.facts dirty
+    → IsClosedBook new kept to → BookWorks dirty kept (Ok to) start end before after → GoesOn moves old new from to start end before after
+goes_on moves old new base from kept to dirty start end before after is over standing are closed w =
+    let P : List (List ℕ) → Type 0 = λ b. AreStanding moves old new b from.steps kept.steps in
+    let e : base ≡ to.base = sym over ∙ sym closed.grows.base in
+    record {
+      kept = kept;
+      is_account = is;
+      over = sym closed.grows.base;
+      standing = subst P e standing;
+      added = steps_added kept to;
+      steps = closed.grows.steps;
+      dirty = dirty;
+      are_dirty = are;
+      work = record { evaluations = w.0; counts = w.1; suffice = w.2 };
+    }
 
 -- ---- bases
 

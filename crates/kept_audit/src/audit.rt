@@ -4,7 +4,7 @@ ghost use Rattle.clues.specs.Change.{IsChangeOf};
 ghost use Rattle.clues.specs.ClueBook.{clues_of};
 ghost use Rattle.line_settle.specs.FactSets.{IsLeast};
 ghost use Rattle.propagate.specs.declared.fault.CloseFault.TheVariants as fault;
-ghost use Rattle.kept_audit.specs.Audit.{IsAudit, IsBaseOf};
+ghost use Rattle.kept_audit.specs.Audit.{GoesOn, IsAnew, IsAudit, IsBaseOf};
 
 use clues::laws::{clues_are_of_lines, untouched_clues_stand};
 use clues::{Change, ClueBook};
@@ -37,6 +37,7 @@ pub fn audit_anew<E: LineEngine, A: Agenda>(
     requires wide { width_of picture.now ≤ E.longest engine.old }
     requires tall { length picture.now ≤ E.longest engine.old }
     ensures audit { IfOk result (λ audit. IsAudit picture.now base audit.clues audit.book) }
+    ensures work { IfOk result (λ audit. IsAnew base audit.book meter.old meter.new (E.calls engine.old) (E.calls engine.new)) }
     ensures memory { IfErr result (λ e. e ≡ fault.Memory) }
     ensures same_longest { E.longest engine.new ≡ E.longest engine.old }
 {
@@ -72,6 +73,8 @@ pub fn audit_again<E: LineEngine, A: Agenda>(
     ensures audit { IfOk result (λ audit. IsAudit new.now base audit.clues audit.book) }
     ensures fresh { (facts : List (List ℕ)) → IsLeast (clues_of new.now) base facts
         → IfOk result (λ audit. audit.book.facts ≡ facts) }
+    ensures goes_on { IfOk result (λ audit. GoesOn change.now.moves before.now.clues audit.clues before.now.book audit.book
+        meter.old meter.new (E.calls engine.old) (E.calls engine.new)) }
     ensures memory { IfErr result (λ e. e ≡ fault.Memory) }
     ensures same_longest { E.longest engine.new ≡ E.longest engine.old }
 {

@@ -1,6 +1,6 @@
 use Rattle.std.proofs.lemmas.Result.{err_from_is_err_and}
 use Rattle.propagate.specs.Closing.{HasDeadLine}
-use Rattle.kept_audit.proofs.AuditLemmas.{audit_of, never_dead, no_fault_but_memory, quiet_outside, same_as_fresh}
+use Rattle.kept_audit.proofs.AuditLemmas.{audit_of, goes_on, never_dead, no_fault_but_memory, quiet_outside, same_as_fresh}
 use Rattle.kept_audit.proofs.audit.audit_again.Goals as goal
 
 pub close-requires-clause-quiet : goal.close-requires-clause-quiet
@@ -30,3 +30,8 @@ returns-clause-fresh g c facts least =
     let e = c.in_ok-book.ensures in
     same_as_fresh c.least_is_unique.ensures c.args.new.now c.args.base facts c.in_ok-clues.clues c.in_ok-book-2.book
     (audit_of c.args.new.now c.args.base c.in_ok-clues.clues _ c.in_ok-book-2.book counted e.base c.in_ok-book-2.ensures.closes (c.in_ok-book-2.ensures.trimmed (e.trimmed a.trimmed))) least
+
+pub returns-clause-goes_on : goal.returns-clause-goes_on
+returns-clause-goes_on g c =
+    let e = c.in_ok-book.ensures in
+    goes_on c.args.change.now.moves c.args.before.now.clues c.in_ok-clues.clues c.args.base c.args.before.now.book c.in_ok-book.field-0.book c.in_ok-book-2.book _ _ _ _ _ c.facts.ensures.account e.base e.steps e.dirty c.in_ok-book-2.ensures.closes c.in_ok-book-2.ensures.works

@@ -1,8 +1,9 @@
 use Rattle.std.proofs.Common.{◌≡◌, List, ℕ, ap, sym, subst}
 use Rattle.picture.specs.Rows.{HasLine}
+use Rattle.propagate.specs.LineNames.{AllLines}
 use Rattle.line_settle.specs.FactSets.{SameShape}
 use Rattle.justify.specs.Book.{Account, IsDerivation}
-use Rattle.kept_audit.proofs.AuditLemmas.{audit_of, book_closable, derives_anew, starts_trimmed}
+use Rattle.kept_audit.proofs.AuditLemmas.{audit_of, book_closable, derives_anew, is_anew, starts_trimmed}
 use Rattle.kept_audit.proofs.audit.audit_anew.Goals as goal
 
 pub close-requires-clause-derivation : goal.close-requires-clause-derivation
@@ -34,3 +35,9 @@ returns-clause-audit g c =
     let over : c.in_ok-book.book.base ≡ c.args.base = ap (λ (b : Account). b.base) start in
     audit_of c.args.picture.now c.args.base c.in_ok-clues.clues c.in_ok-book.book c.in_ok-book-2.book c.in_ok-clues.ensures over c.in_ok-book-2.ensures.closes
     (c.in_ok-book-2.ensures.trimmed (starts_trimmed c.in_ok-clues.clues c.args.base c.in_ok-book.book start))
+
+pub returns-clause-work : goal.returns-clause-work
+returns-clause-work g c =
+    let P : List (List ℕ) → Type 0 = λ f. AllLines f c.all_lines-dirty.result in
+    let over : c.in_ok-book.book.facts ≡ c.args.base = ap (λ (b : Account). b.facts) c.in_ok-book.ensures in
+    is_anew c.args.base _ c.in_ok-book.book c.in_ok-book-2.book _ _ _ _ c.in_ok-book.ensures (subst P over (subst P c.facts.ensures.value c.all_lines-dirty.ensures.lines)) c.in_ok-book-2.ensures.works

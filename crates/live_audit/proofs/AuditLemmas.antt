@@ -1,0 +1,97 @@
+-- What the clauses of the calls below come to for a bench.
+use Rattle.std.proofs.Common.{◌≡◌, ℕ, ◌-◌, List, [], ◌∷◌, length, Option, Some, None, IfSome, Result, Ok, Err, IfErr, OnOk, OnErr, inl, inr, refl, sym, ap, subst, ◌∙◌, arith}
+use Rattle.std.proofs.lemmas.Option.{slice_get_cases}
+use Rattle.picture.specs.declared.document.Document.{Document}
+use Rattle.picture.specs.Document.{AreInside}
+use Rattle.picture.specs.Picture.{IsPicture}
+use Rattle.clues.specs.Change.{Changes, Moves, back}
+use Rattle.clues.specs.ClueBook.{Clues}
+use Rattle.line_settle.specs.FactSets.{IsBase, IsLeast}
+use Rattle.justify.specs.Book.{Account, IsAccount}
+use Rattle.kept_audit.specs.Audit.{IsAudit}
+use Rattle.kept_audit.specs.Laws.{BasesLeavePictures}
+use Rattle.edits.specs.declared.fault.EditFault.{EditFault}
+use Rattle.edits.specs.declared.fault.EditFault.TheVariants.{UndoEmpty, RedoEmpty, Memory}
+use Rattle.edits.specs.Change.{moves_of}
+use Rattle.edits.specs.Design.{Design, design_of}
+use Rattle.edits.specs.History.{Advance, Turn, History, IsChangeBy, advanced, or_memory, first_turn, last_turn, fault_if_empty, redo_fault, undo_fault}
+use Rattle.edits.specs.Laws.{MarksAreGivens}
+use Rattle.live_audit.specs.Bench.{AreGivens, IsAuditOf, IsBaseFor, Seen}
+use Rattle.live_audit.specs.Calls.{Accepts, CarriesOn, IsAsBefore, Refuses}
+use Rattle.live_audit.specs.Stroke.{Stroke, after_stroke, moves_back, moves_forth, stroke_fault, stroke_moves}
+
+-- the base of a document's givens
+pub base_for : MarksAreGivens → BasesLeavePictures → (d : Document) (base : List (List ℕ)) → AreInside d.givens d.picture → IsPicture d.picture → IsBase d.givens d.picture base → IsBaseFor (design_of d) base
+base_for marks leave d base inside is b = record {
+  givens = record {
+    same_shape = b.same_shape;
+    left = λ row col k r c.
+        let m = marks d.picture d.givens inside row col in
+        let l = b.left row col k r c in
+        (λ h. let o = l.0 h in (o.0, λ g. o.1 (m.1 g)), λ h. l.1 (h.0, λ g. h.1 (m.0 g)));
+  };
+  leaves = leave d.givens d.picture base is b;
+}
+
+-- an audit of a picture over the base of its document's givens, and back
+pub audit_is : (d : Design) (base : List (List ℕ)) (clues : Clues) (book : Account) → IsAudit d.rows base clues book → AreGivens d base → IsAccount book → IsAuditOf d clues book
+audit_is d base clues book a g is =
+    let e : base ≡ book.base = sym a.over in
+    let P : List (List ℕ) → Type 0 = λ b. AreGivens d b in
+    let Q : List (List ℕ) → Type 0 = λ b. IsLeast clues b book.facts in
+    record { clues_are = a.counted; givens = subst P e g; map = subst Q e a.least; fits = a.fits; account = is; derivation = a.derivation; trimmed = a.trimmed }
+
+pub audit_was : (d : Design) (clues : Clues) (book : Account) → IsAuditOf d clues book → IsAudit d.rows book.base clues book
+audit_was d clues book a = record { counted = a.clues_are; over = refl; derivation = a.derivation; least = a.map; fits = a.fits; trimmed = a.trimmed }
+
+-- ---- steps back and forth
+
+no_last : (turns : List Turn) → last_turn turns ≡ None → turns ≡ []
+no_last [] e = refl
+no_last (t ∷ turns) e = elim (slice_get_cases (t ∷ turns) (length (t ∷ turns) - 1)).1 [
+  | inl h ↦ cc (h.2)
+  | inr h ↦ absurd (omega arith)
+]
+
+no_first : (turns : List Turn) → first_turn turns ≡ None → turns ≡ []
+no_first [] e = refl
+no_first (t ∷ turns) e = cc
+
+pub back_by : (h : History) (rows : List (List ℕ)) (change : Changes) (last : Option Turn) → last ≡ last_turn h.past → undo_fault h ≡ None → IfSome last (λ t. IsChangeBy (back (moves_of t.edit t.document.rows)) h.document.rows rows change)
+    → IsChangeBy (moves_back h.document.rows last) h.document.rows rows change
+back_by h rows change (Some t) e lawful is = is
+back_by h rows change None e lawful is =
+    let none : h.past ≡ [] = no_last h.past (sym e) in
+    let refused = ap (λ turns. fault_if_empty turns UndoEmpty) none in
+    absurd cc
+
+pub forth_by : (h : History) (rows : List (List ℕ)) (change : Changes) (first : Option Turn) → first ≡ first_turn h.future → redo_fault h ≡ None → IfSome first (λ t. IsChangeBy (moves_of t.edit h.document.rows) h.document.rows rows change)
+    → IsChangeBy (moves_forth h.document.rows first) h.document.rows rows change
+forth_by h rows change (Some t) e lawful is = is
+forth_by h rows change None e lawful is =
+    let none : h.future ≡ [] = no_first h.future (sym e) in
+    let refused = ap (λ turns. fault_if_empty turns RedoEmpty) none in
+    absurd cc
+
+-- ---- strokes
+
+pub accepted : {X : Type 0} (r : Result X EditFault) (stroke : Stroke) (h : History) (old new : Seen) (advance : Advance) (moves : Moves)
+    → h ≡ old.history → stroke_fault h stroke ≡ None → advanced h advance ≡ after_stroke h stroke → moves ≡ stroke_moves h stroke
+    → OnOk r (new.history ≡ advanced old.history advance) → OnOk r (CarriesOn moves old new) → OnOk r (Accepts stroke old new)
+accepted (Ok x) stroke h old new advance moves e lawful next moved history book =
+    let P : History → Type 0 = λ k. stroke_fault k stroke ≡ None in
+    let Q : History → Type 0 = λ k. advanced k advance ≡ after_stroke k stroke in
+    let R : Moves → Type 0 = λ m. CarriesOn m old new in
+    record {
+      lawful = subst P e lawful;
+      history = history ∙ subst Q e next;
+      book = subst R (moved ∙ ap (λ (k : History). stroke_moves k stroke) e) book;
+    }
+accepted (Err fault) stroke h old new advance moves e lawful next moved history book = tt
+
+pub refused : {X : Type 0} (r : Result X EditFault) (stroke : Stroke) (h : History) (old new : Seen)
+    → h ≡ old.history → stroke_fault h stroke ≡ None → IfErr r (λ fault. fault ≡ Memory) → OnErr r (IsAsBefore old new) → IfErr r (λ fault. Refuses stroke fault old new)
+refused (Ok x) stroke h old new e lawful memory same = tt
+refused (Err fault) stroke h old new e lawful memory same =
+    let P : History → Type 0 = λ k. stroke_fault k stroke ≡ None in
+    record { first = memory ∙ sym (ap or_memory (subst P e lawful)); as_before = same }

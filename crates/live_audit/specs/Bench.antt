@@ -1,0 +1,73 @@
+-- What a caller sees of a bench, and what holds of it after every call.
+use Rattle.std.specs.Prelude.{◌≡◌, ℕ, ◌<◌, ◌≤◌, ◌↔◌, List, [], length}
+use Rattle.picture.specs.declared.picture.TheConstants.{MAX_SIDE}
+use Rattle.picture.specs.Rows.{cell_at, width_of}
+use Rattle.clues.specs.ClueBook.{Clues, clues_of}
+use Rattle.line_settle.specs.declared.meter.Meter.{Meter}
+use Rattle.line_settle.specs.FactSets.{IsLeast, Leaves, SameShape}
+use Rattle.justify.specs.Book.{Account, AreTrimmed, IsAccount, IsDerivation}
+use Rattle.propagate.specs.Closing.{EachFits}
+use Rattle.kept_audit.specs.Audit.{IsAnew, IsBaseOf}
+use Rattle.edits.specs.Design.{Design}
+use Rattle.edits.specs.History.{History, history}
+use Rattle.live_audit.specs.declared.work.Work.{Work}
+
+-- The document with those before and after it, its clues, the book of reasons, whose facts are the settled map, the counts of
+-- work, and how often the engine was called.
+pub record Seen : Type 0 where
+  pub history : History
+  pub clues : Clues
+  pub book : Account
+  pub work : Work
+  pub calls : ℕ
+
+abbrev pub seen : History → Clues → Account → Work → ℕ → Seen
+seen history clues book work calls =
+    record { history = history; clues = clues; book = book; work = work; calls = calls }
+
+-- a meter that has counted nothing
+abbrev pub nothing_done : Meter
+nothing_done = record { evaluations = 0; trials = 0 }
+
+-- the cell is a given
+abbrev pub IsGiven : Design → ℕ → ℕ → Type 0
+IsGiven d row col = cell_at d.marks row col ≡ 1
+
+-- What the givens alone exclude: in a given every colour but the picture's, and elsewhere none of the sixteen.
+pub record AreGivens (d : Design) (base : List (List ℕ)) : Type 0 where
+  pub same_shape : SameShape d.rows base
+  pub left : (row col k : ℕ) → row < length d.rows → col < width_of d.rows
+      → Leaves base row col k ↔ ((k < 16) × (IsGiven d row col → k ≡ cell_at d.rows row col))
+
+-- The clues are those of the document's picture. The base of the book is what the givens exclude, and its facts, the map, are
+-- the least ones closed under line deductions that hold the base; some list fits each line under them. The book is a derivation
+-- from the clues: each step's line forces what the step draws from the step's premises, of which none can be left out.
+pub record IsAuditOf (d : Design) (clues : Clues) (book : Account) : Type 0 where
+  pub clues_are : clues ≡ clues_of d.rows
+  pub givens : AreGivens d book.base
+  pub map : IsLeast clues book.base book.facts
+  pub fits : EachFits clues book.facts
+  pub account : IsAccount book
+  pub derivation : IsDerivation clues book
+  pub trimmed : AreTrimmed clues book
+
+-- what is seen is an audit of the present document
+abbrev pub IsAudited : Seen → Type 0
+IsAudited s = IsAuditOf s.history.document s.clues s.book
+
+-- what a bench keeps: all of that, and an engine for each line that a picture can have
+pub record IsBench (longest : ℕ) (s : Seen) : Type 0 where
+  pub audited : IsAudited s
+  pub long : MAX_SIDE ≤ longest
+
+-- A bench that begins with a document, by an engine that was called so often: no history, a book made anew in which all lines
+-- waited, and nothing searched.
+pub record Begins (d : Design) (depth calls : ℕ) (s : Seen) : Type 0 where
+  pub history : s.history ≡ history d [] [] depth
+  pub book : IsAnew s.book.base s.book nothing_done s.work.edit calls s.calls
+  pub work : s.work ≡ record { edit = s.work.edit; search = nothing_done; parts = 0; splits = 0 }
+
+-- facts that the givens of a document exclude alone, and a base of its picture
+pub record IsBaseFor (d : Design) (base : List (List ℕ)) : Type 0 where
+  pub givens : AreGivens d base
+  pub leaves : IsBaseOf d.rows base

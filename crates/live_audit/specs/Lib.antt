@@ -1,0 +1,5 @@
+pub mod Bench
+pub mod Calls
+pub mod Laws
+pub mod Reason
+pub mod Stroke
