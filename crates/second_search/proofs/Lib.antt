@@ -16,3 +16,4 @@ pub mod CountLemmas
 pub mod KeepLemmas
 pub mod AloneLemmas
 pub mod JudgeLemmas
+pub mod OneListLemmas

@@ -22,6 +22,10 @@ pub record SoundFacts : Type 0 where
 
 -- ---- parts
 
+-- All parts of facts, in the order of their first cells, are one list.
+abbrev pub PartsAreOneList : Type 0
+PartsAreOneList = (facts parts others : List (List ℕ)) → AreParts facts parts → AreParts facts others → parts ≡ others
+
 -- Two parts that share a cell are one, and a part has with a cell all open cells of each line through it. Its cells are
 -- open and lie in the picture; a cell of the picture that is not open has the picture's colour alone left.
 pub record PartsAreApart : Type 0 where

@@ -1,11 +1,11 @@
 //! Laws of the definitions in `specs/`. Each function does nothing, and its contract is the law.
 
-ghost use Rattle.second_search.specs.Laws.{FillingsAreOfFacts, FillingsStay, PartsAreApart, PartsDecide, SoundFacts};
+ghost use Rattle.second_search.specs.Laws.{FillingsAreOfFacts, FillingsStay, PartsAreApart, PartsAreOneList, PartsDecide, SoundFacts};
 ghost use Rattle.second_search.specs.Searching.{CostsAreUnique};
 
 use clues::laws::{books_are_their_clues, clues_are_of_lines};
 use line_settle::laws::least_is_unique;
-use picture::laws::cells_are_members;
+use picture::laws::{cells_are_members, same_cells_are_equal};
 use propagate::laws::{closing_keeps_fillings, only_is_closed};
 
 /// Facts that exclude nothing are sound where there is no given, and so is the base of any givens; facts stay sound with
@@ -14,6 +14,13 @@ pub fn sound_facts()
     ensures { SoundFacts }
 {
     closing_keeps_fillings();
+}
+
+/// All parts of facts, in the order of their first cells, are one list.
+pub fn parts_are_one_list()
+    ensures { PartsAreOneList }
+{
+    same_cells_are_equal();
 }
 
 /// Two parts that share a cell are one, and a part has with a cell all open cells of each line through it. Its cells are
