@@ -1,98 +1,75 @@
 -- A line written where it changes, and the lines that cross it there.
-use Rattle.std.proofs.Common.{◌≡◌, ◌≢◌, ℕ, ◌+◌, ◌<◌, ◌≤◌, ◌↔◌, List, refl, sym, ap, ◌∙◌, arith, inl, inr, length, get_or}
-use Rattle.std.proofs.lemmas.Bool.{cases_eq}
+use Rattle.std.proofs.Common.{◌≡◌, ◌≢◌, ℕ, ◌<◌, ◌≤◌, ◌^◌, ◌==◌, ◌↔◌, Bool, true, false, not, List, refl, sym, ap, ◌∙◌, arith, inl, inr, length, take, get_or, eq-eqb, ne_eqb}
+use Rattle.std.specs.Prelude.{IsBitSet}
+use Rattle.std.specs.Int.{bit_at}
+use Rattle.std.proofs.lemmas.Bool.{cases_lt, eqb-true, false≢true}
+use Rattle.std.proofs.lemmas.Bool.Decides.{eqb_tells}
+use Rattle.std.proofs.lemmas.List.{get_or-take, length-take-le}
+use Rattle.picture.specs.declared.line_id.Axis.{Axis}
 use Rattle.picture.specs.declared.line_id.LineId.{LineId}
-use Rattle.picture.specs.LineSet.{Lines, HasName, PutsName}
-use Rattle.picture.specs.Rows.{line_of, HasLine}
-use Rattle.line_settle.specs.Crossing.{CrossesChange}
-use Rattle.picture.specs.Crossing.{crossing_at}
-use Rattle.line_settle.specs.FactSets.{IsFacts, HoldsLine}
-use Rattle.line_settle.specs.AlongLaws.{Written, with_place, written_none, written_more, written_all, written_apart}
+use Rattle.picture.specs.LineSet.{Lines, HasName}
+use Rattle.picture.specs.Rows.{line_of}
+use Rattle.picture.specs.Crossing.{crossing}
+use Rattle.line_settle.specs.Crossing.{CrossesChange, differs}
+use Rattle.line_settle.specs.FactSets.{HoldsLine}
+use Rattle.line_settle.specs.Positions.{has}
+use Rattle.line_settle.proofs.AlongLemmas.{same_list, shape_refl}
+use Rattle.line_settle.proofs.ApartLemmas.{none_from}
+use Rattle.line_settle.proofs.MaskLemmas.{bit_is_set, set_bit}
+use Rattle.line_settle.proofs.PositionLemmas.{has_none}
 
--- ---- the cells
+-- ---- the places at which two lists differ
 
--- the first n cells of a line are written, and those behind them are as they were
-pub record WrittenTo (line : LineId) (old rows : List (List ℕ)) (masks : List ℕ) (n : ℕ) : Type 0 where
-  pub written : Written line old rows masks n
-  pub to_come : (j : ℕ) → n ≤ j → get_or (line_of rows line) j 0 ≡ get_or (line_of old line) j 0
+apart_is : (before after : List ℕ) (i : ℕ) → get_or before i 0 ≢ get_or after i 0 → differs before after i ≡ true
+apart_is before after i n = ap not (ne_eqb (get_or before i 0) (get_or after i 0) n)
 
-pub none_written : (line : LineId) (old : List (List ℕ)) (masks : List ℕ) → WrittenTo line old old masks 0
-none_written line old masks = record { written = written_none line old masks; to_come = λ j h. refl }
+apart_at : (before after : List ℕ) (i : ℕ) → differs before after i ≡ true → get_or before i 0 ≢ get_or after i 0
+apart_at before after i e same = false≢true (sym (ap not (eq-eqb (get_or before i 0) (get_or after i 0) same)) ∙ e)
 
-pub same_kept : (line : LineId) (old rows : List (List ℕ)) (left masks : List ℕ) (i : ℕ) → left ≡ line_of old line → get_or left i 0 ≡ get_or masks i 0 → WrittenTo line old rows masks i → WrittenTo line old rows masks (i + 1)
-same_kept line old rows left masks i is e w = record {
-  written = record {
-    same_shape = w.written.same_shape;
-    so_far = λ j l. elim (cases_eq j i) [
-      | inl k ↦ w.to_come j (omega arith) ∙ (ap (λ (xs : List ℕ). get_or xs j 0) (sym is) ∙ (ap (λ n. get_or left n 0) k ∙ (e ∙ ap (λ n. get_or masks n 0) (sym k))))
-      | inr n ↦ w.written.so_far j (omega arith)
-    ];
-    elsewhere = w.written.elsewhere;
-  };
-  to_come = λ j l. w.to_come j (omega arith);
-}
+same_at : (before after : List ℕ) (i : ℕ) → differs before after i ≡ false → get_or before i 0 ≡ get_or after i 0
+same_at before after i e = elim (eqb_tells (get_or before i 0) (get_or after i 0)) [
+  | inl t ↦ t.1
+  | inr f ↦ absurd (false≢true (sym e ∙ ap not f.0))
+]
 
-pub other_written : (line : LineId) (old rows new : List (List ℕ)) (masks : List ℕ) (i mask : ℕ) → IsFacts rows → HasLine old line → length masks ≡ length (line_of old line) → i < length masks → mask ≡ get_or masks i 0 → WrittenTo line old rows masks i → new ≡ with_place rows line i mask → WrittenTo line old new masks (i + 1)
-other_written line old rows new masks i mask is h len l e w v = record {
-  written = written_more line old rows new masks i mask is h len l e w.written v;
-  to_come = λ j m. ap (λ (f : List (List ℕ)). get_or (line_of f line) j 0) v ∙ (written_apart rows line i j mask (λ k. absurd (omega arith)) ∙ w.to_come j (omega arith));
-}
+bit_has : (a i : ℕ) → IsBitSet a i → has a i ≡ true
+unfolding has
+bit_has a i h = ap (λ n. n == 1) (set_bit a i h)
 
-pub holds_line : (line : LineId) (old rows : List (List ℕ)) (masks : List ℕ) (n : ℕ) → length masks ≡ length (line_of old line) → length masks ≤ n → WrittenTo line old rows masks n → HoldsLine line old rows masks
-holds_line line old rows masks n len l w = written_all line old rows masks n len l w.written
+has_bit : (a i : ℕ) → has a i ≡ true → IsBitSet a i
+unfolding has
+has_bit a i e = bit_is_set a i (eqb-true (bit_at a i) 1 e)
 
--- ---- the lines that cross
+-- ---- a line that does not change
 
--- one of the lines that cross the first n cells, where the cell differs
-pub record CrossesBelow (line : LineId) (before after : List ℕ) (n : ℕ) (other : LineId) : Type 0 where
-  pub is_crossing : other ≡ crossing_at line other.at
-  pub within : other.at < n
-  pub differs : get_or before other.at 0 ≢ get_or after other.at 0
+pub unchanged : (line : LineId) (old : List (List ℕ)) (masks : List ℕ) → line_of old line ≡ masks → HoldsLine line old old masks
+unchanged line old masks e = record { same_shape = shape_refl old; line_is = e; elsewhere = λ r c n. refl }
 
--- a set has just these
-abbrev pub HasCrossing : LineId → List ℕ → List ℕ → ℕ → Lines → Type 0
-HasCrossing line before after n names = (other : LineId) → HasName names other ↔ CrossesBelow line before after n other
+-- ---- the first cells of two lists, and the set of places at which the lists differ
 
-pub none_crosses : (line : LineId) (before after : List ℕ) (names : Lines) → ((other : LineId) → HasName names other → ⊥) → HasCrossing line before after 0 names
-none_crosses line before after names none other = ((λ h. absurd (none other h)), (λ x. let w = x.within in absurd (omega arith)))
+module _ (before after : List ℕ) (places cells : ℕ) (same : (i : ℕ) → cells ≤ i → get_or before i 0 ≡ get_or after i 0) (are : (i : ℕ) → has places i ≡ differs before after i) where
+  pub within_side : cells ≤ 120 → places < 2 ^ 120
+  within_side short = none_from 120 places (λ i past. are i ∙ ap not (eq-eqb (get_or before i 0) (get_or after i 0) (same i (omega arith))))
 
-further : {line : LineId} {before after : List ℕ} {i : ℕ} {other : LineId} → CrossesBelow line before after i other → CrossesBelow line before after (i + 1) other
-further x = record { is_crossing = x.is_crossing; within = (let w = x.within in omega arith); differs = x.differs }
+  pub all_same : length after ≡ length before → places ≡ 0 → take cells before ≡ take cells after
+  all_same len e = ap (take cells) (same_list before after (sym len) (λ j l. same_at before after j (sym (are j) ∙ (ap (λ p. has p j) e ∙ has_none j))))
 
-nearer : (line : LineId) (before after : List ℕ) (i : ℕ) (other : LineId) → other.at ≢ i → CrossesBelow line before after (i + 1) other → CrossesBelow line before after i other
-nearer line before after i other n x = record { is_crossing = x.is_crossing; within = (let w = x.within in omega arith); differs = x.differs }
-
-pub same_crosses : (line : LineId) (before after : List ℕ) (i : ℕ) (names : Lines) → get_or before i 0 ≡ get_or after i 0 → HasCrossing line before after i names → HasCrossing line before after (i + 1) names
-same_crosses line before after i names e h other = (
-  (λ s. further ((h other).0 s)),
-  (λ x. elim (cases_eq other.at i) [
-    | inl k ↦ absurd (x.differs (ap (λ n. get_or before n 0) k ∙ (e ∙ ap (λ n. get_or after n 0) (sym k))))
-    | inr n ↦ (h other).1 (nearer line before after i other n x)
-  ]),
-)
-
-pub other_crosses : (line : LineId) (before after : List ℕ) (i : ℕ) (names new : Lines) → get_or before i 0 ≢ get_or after i 0 → PutsName names new (crossing_at line i) → HasCrossing line before after i names → HasCrossing line before after (i + 1) new
-other_crosses line before after i names new d puts h other = (
-  (λ s. elim ((puts other).0 s) [
-    | inl old ↦ further ((h other).0 old)
-    | inr e ↦
-        let at : other.at ≡ i = ap (λ (l : LineId). l.at) e in
+  pub all_cross : (line : LineId) (axis : Axis) (names : Lines) → cells ≤ length before → axis ≡ crossing line.axis → ((other : LineId) → HasName names other ↔ ((other.axis ≡ axis) × IsBitSet places other.at)) → (other : LineId) → HasName names other ↔ CrossesChange line (take cells before) (take cells after) other
+  all_cross line axis names room e named other = (
+    (λ s.
+        let x = (named other).0 s in
+        let d = apart_at before after other.at (sym (are other.at) ∙ bit_has places other.at x.1) in
+        let inside : other.at < cells = elim (cases_lt other.at cells) [ inl l ↦ l | inr past ↦ absurd (d (same other.at past)) ] in
+        let across : other.axis ≡ crossing line.axis = x.0 ∙ e in
         record {
-          is_crossing = e ∙ ap (crossing_at line) (sym at);
-          within = omega arith;
-          differs = λ z. d (ap (λ n. get_or before n 0) (sym at) ∙ (z ∙ ap (λ n. get_or after n 0) at));
-        }
-  ]),
-  (λ x. elim (cases_eq other.at i) [
-    | inl k ↦ (puts other).1 (inr (x.is_crossing ∙ ap (crossing_at line) k))
-    | inr n ↦ (puts other).1 (inl ((h other).1 (nearer line before after i other n x)))
-  ]),
-)
-
-pub all_cross : (line : LineId) (before after : List ℕ) (n : ℕ) (names : Lines) → n ≡ length before → HasCrossing line before after n names → (other : LineId) → HasName names other ↔ CrossesChange line before after other
-all_cross line before after n names e h other = (
-  (λ s. let x = (h other).0 s in record { is_crossing = x.is_crossing; within = (let w = x.within in omega arith); differs = x.differs }),
-  (λ x. (h other).1 (record { is_crossing = x.is_crossing; within = (let w = x.within in omega arith); differs = x.differs })),
-)
-
-pub ruleset writing = (none_written)
+          is_crossing = λ i. record { axis = across i; at = other.at };
+          within = (let n = length-take-le cells before room in omega arith);
+          differs = λ z. d (sym (get_or-take cells before other.at 0 inside) ∙ (z ∙ get_or-take cells after other.at 0 inside));
+        }),
+    (λ x.
+        let inside : other.at < cells = (let w = x.within in let n = length-take-le cells before room in omega arith) in
+        (named other).1 (
+          ap (λ (l : LineId). l.axis) x.is_crossing ∙ sym e,
+          has_bit places other.at (are other.at ∙ apart_is before after other.at (λ z. x.differs (get_or-take cells before other.at 0 inside ∙ (z ∙ sym (get_or-take cells after other.at 0 inside))))),
+        )),
+  )

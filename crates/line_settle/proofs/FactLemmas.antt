@@ -27,7 +27,7 @@ pub record Known (height width : ℕ) (masks : List ℕ) (rows : List (List ℕ)
   pub facts : IsFacts rows
   pub cell : (i j : ℕ) → i < height → j < width → cell_at rows i j ≡ get_or masks (i * width + j) 0
 
-known_flat : (height width : ℕ) (masks : List ℕ) → AreMasks height width masks → Known height width masks (rows_of height width masks)
+pub known_flat : (height width : ℕ) (masks : List ℕ) → AreMasks height width masks → Known height width masks (rows_of height width masks)
 known_flat height width masks is =
     let tall = length-rows_of height width masks in
     let wide : width_of (rows_of height width masks) ≡ width = length-row height width masks 0 is.count is.has_row in

@@ -28,24 +28,24 @@ shifted : (w s a i : ℕ) → 0 < 2 ^ s → s ≤ i → i < w → has (a * 2 ^ s
 shifted w s a i p h l =
     has_bit (a * 2 ^ s % 2 ^ w) a i (i - s) (bit_low w (a * 2 ^ s) i l ∙ (ap (λ y. bit_at y i) (nothing_added (a * 2 ^ s)) ∙ bit_at_cat_high a s 0 i p h))
 
--- ---- s cells more in front of those that are gathered already
+-- ---- s cells more in front of those that are gathered already, where a test says of which cells a set has the positions
 
-pub gathered_more : (w s : ℕ) (left : List ℕ) (cells low colour here next : ℕ) → next ≡ here + s → low < 2 ^ s → ((j : ℕ) → j < s → has low j ≡ allows (get_or left (here + j) 0) colour) → ((j : ℕ) → j < w → has cells j ≡ allows (get_or left (next + j) 0) colour) → (j : ℕ) → j < w → has (bit_or (cells * 2 ^ s % 2 ^ w) low) j ≡ allows (get_or left (here + j) 0) colour
-gathered_more w s left cells low colour here next e small new before j h = has_or (cells * 2 ^ s % 2 ^ w) low j ∙ elim (cases_lt j s) [
+pub gathered_more : (w s : ℕ) (test : ℕ → Bool) (cells low here next : ℕ) → next ≡ here + s → low < 2 ^ s → ((j : ℕ) → j < s → has low j ≡ test (here + j)) → ((j : ℕ) → j < w → has cells j ≡ test (next + j)) → (j : ℕ) → j < w → has (bit_or (cells * 2 ^ s % 2 ^ w) low) j ≡ test (here + j)
+gathered_more w s test cells low here next e small new before j h = has_or (cells * 2 ^ s % 2 ^ w) low j ∙ elim (cases_lt j s) [
   | inl l ↦ ap (λ x. x || has low j) (below_shifted w s cells j l h) ∙ new j l
   | inr m ↦
       let q : next + (j - s) ≡ here + j = omega arith in
       ap (λ x. has (cells * 2 ^ s % 2 ^ w) j || x) (has_above s low j small m)
       ∙ (false_behind (has (cells * 2 ^ s % 2 ^ w) j)
       ∙ (shifted w s cells j (omega arith) m h
-      ∙ (before (j - s) (omega arith) ∙ ap (λ n. allows (get_or left n 0) colour) q)))
+      ∙ (before (j - s) (omega arith) ∙ ap test q)))
 ]
 
 -- one cell more
 pub gathered_one : (w : ℕ) (left : List ℕ) (cells low colour here next : ℕ) (b : Bool) → next ≡ here + 1 → low ≡ bool_byte b → b ≡ allows (get_or left here 0) colour → ((j : ℕ) → j < w → has cells j ≡ allows (get_or left (next + j) 0) colour) → (j : ℕ) → j < w → has (bit_or (cells * 2 ^ 1 % 2 ^ w) low) j ≡ allows (get_or left (here + j) 0) colour
 gathered_one w left cells low colour here next b e is new before =
     let P : ℕ → Type 0 = λ n. n < 2 in
-    gathered_more w 1 left cells low colour here next e (subst P (sym is) (small b)) (λ j h.
+    gathered_more w 1 (λ n. allows (get_or left n 0) colour) cells low here next e (subst P (sym is) (small b)) (λ j h.
     let first : 0 ≡ j = omega arith in
     let place : here ≡ here + j = omega arith in
     ap (λ n. has n j) is ∙ (ap (λ n. has (bool_byte b) n) (sym first) ∙ (told b ∙ (new ∙ ap (λ n. allows (get_or left n 0) colour) place)))) before
@@ -133,7 +133,7 @@ compared-lt bit cells h =
     let Q : ℕ → Type 0 = λ n. mask_l (map (covers bit) cells) < 2 ^ n in
     subst P (sym (compared_is bit cells h)) (subst Q (length-map cells (covers bit) ∙ h) (mask_l-lt (map (covers bit) cells)))
 
-has_mask : (ms : List Bool) (i : ℕ) → has (mask_l ms) i ≡ get_or ms i false
+pub has_mask : (ms : List Bool) (i : ℕ) → has (mask_l ms) i ≡ get_or ms i false
 unfolding has
 has_mask ms i = ap (λ n. n == 1) (bit_mask_l ms i) ∙ told (get_or ms i false)
   where

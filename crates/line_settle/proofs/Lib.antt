@@ -14,6 +14,7 @@ pub mod GridLemmas
 pub mod FactLemmas
 pub mod BaseLemmas
 pub mod AlongLemmas
+pub mod WriteLemmas
 pub mod ChangeLemmas
 pub mod LawLemmas
 pub mod GivenLemmas
@@ -23,6 +24,7 @@ pub mod PositionLemmas
 pub mod SpanLemmas
 pub mod ColouringLemmas
 pub mod GatheringLemmas
+pub mod ApartLemmas
 pub mod SetStepLemmas
 pub mod LayingLemmas
 pub mod BlockLemmas

@@ -1,9 +1,9 @@
 ghost use Rattle.std.specs.Prelude.{◌≡◌, ℕ, ◌<◌, ◌≤◌, ◌↔◌, List, length, IfOk, IsTrue, MatchOption, false};
-ghost use Rattle.picture.specs.Rows.{rows_of, width_of, cell_at, with_cell};
+ghost use Rattle.picture.specs.Rows.{rows_of, width_of, cell_at, line_of, with_cell, HasLine};
 ghost use Rattle.line_settle.specs.Masks.{IsOnly};
-ghost use Rattle.line_settle.specs.FactSets.{AreMasks, IsFacts, Leaves, Excludes, ExcludesAt, nothing_excluded};
+ghost use Rattle.line_settle.specs.FactSets.{AreMasks, HoldsLine, IsFacts, Leaves, Excludes, ExcludesAt, nothing_excluded};
 
-use picture::MAX_SIDE;
+use picture::{Axis, LineId, MAX_SIDE};
 use std::alloc::{AllocError, Global};
 use std::marker::Model;
 
@@ -120,6 +120,18 @@ impl Facts {
         only_colour(self.left(row, col))
     }
 
+    // Gives the cells of a line other masks, from the left or from the top.
+    pub(crate) fn write_line(&mut self, line: LineId, masks: &[u16])
+        requires line { HasLine self.old line }
+        requires whole { length masks.now ≡ length (line_of self.old line) }
+        ensures { HoldsLine line self.old self.new masks.now }
+    {
+        match line.axis {
+            Axis::Across => write_row(&mut self.masks, self.height, self.width, line, masks),
+            Axis::Down => write_column(&mut self.masks, self.height, self.width, line, masks),
+        }
+    }
+
     /// Gives a cell another mask of colours left, in which bit k stands for colour k. So a search puts back what it noted.
     pub fn set_left(&mut self, row: u8, col: u8, mask: u16)
         requires in_rows { row < length self.old }
@@ -127,6 +139,38 @@ impl Facts {
         ensures { self.new ≡ with_cell self.old row col mask }
     {
         self.masks[row as usize * self.width as usize + col as usize] = mask;
+    }
+}
+
+// Gives the cells of a row other masks, in the flat list of all rows.
+fn write_row(cells: &mut [u16], height: u8, width: u8, line: LineId, masks: &[u16])
+    requires axis { line.axis ≡ Axis.Across }
+    requires cells { AreMasks height width cells.old }
+    requires line { HasLine (rows_of height width cells.old) line }
+    requires whole { length masks.now ≡ length (line_of (rows_of height width cells.old) line) }
+    ensures cells { AreMasks height width cells.new }
+    ensures holds { HoldsLine line (rows_of height width cells.old) (rows_of height width cells.new) masks.now }
+{
+    for col in 0..width {
+        cells[usize::from(line.at) * usize::from(width) + usize::from(col)] = masks[usize::from(
+            col,
+        )];
+    }
+}
+
+// The same for a column.
+fn write_column(cells: &mut [u16], height: u8, width: u8, line: LineId, masks: &[u16])
+    requires axis { line.axis ≡ Axis.Down }
+    requires cells { AreMasks height width cells.old }
+    requires line { HasLine (rows_of height width cells.old) line }
+    requires whole { length masks.now ≡ length (line_of (rows_of height width cells.old) line) }
+    ensures cells { AreMasks height width cells.new }
+    ensures holds { HoldsLine line (rows_of height width cells.old) (rows_of height width cells.new) masks.now }
+{
+    for row in 0..height {
+        cells[usize::from(row) * usize::from(width) + usize::from(line.at)] = masks[usize::from(
+            row,
+        )];
     }
 }
 

@@ -1,16 +1,16 @@
-ghost use Rattle.std.specs.Prelude.{◌≡◌, ◌<◌, ◌≤◌, ◌↔◌, length};
+ghost use Rattle.std.specs.Prelude.{◌≡◌, ℕ, ◌≤◌, ◌↔◌, length, slice_index, take};
 ghost use Rattle.picture.specs.declared.line_id.LineId.{LineId};
 ghost use Rattle.picture.specs.LineSet.{HasName};
-ghost use Rattle.picture.specs.Rows.{line_of, with_cell, HasLine};
+ghost use Rattle.picture.specs.Rows.{line_of, HasLine};
 ghost use Rattle.line_settle.specs.Counting.{counted};
 ghost use Rattle.line_settle.specs.Crossing.{CrossesChange};
-ghost use Rattle.picture.specs.Crossing.{crossing_at};
-ghost use Rattle.line_settle.specs.FactSets.{Gains, HoldsLine, IsFacts, row_on, col_on};
+ghost use Rattle.line_settle.specs.FactSets.{Gains, HoldsLine};
 
 use crate::facts::Facts;
 use crate::line_engine::{LineEngine, Outcome};
+use crate::positions::places_apart;
 use clues::Clue;
-use picture::{Axis, LineId, LineSet, MAX_SIDE};
+use picture::{LineId, LineSet, MAX_SIDE};
 
 // No line has more cells.
 const MOST_CELLS: usize = MAX_SIDE as usize;
@@ -65,52 +65,32 @@ pub fn force_crossing<E: LineEngine>(
     let cells = usize::from(facts.line_len(line));
     facts.copy_line(line, &mut left[..cells]);
     let outcome = engine.narrow(count, clue, &left[..cells], &mut out[..cells]);
-    let changed = write_line(facts, line, &left[..cells], &out[..cells]);
+    let changed = write_changes(facts, line, cells, &left, &out);
     Forced { outcome, changed }
 }
 
-#[tactic(auto, using(crate::proofs::ChangeLemmas::writing))]
-// Gives the cells of a line other masks, and says which lines cross it where they differ from the old ones.
-fn write_line(facts: &mut Facts, line: LineId, left: &[u16], masks: &[u16]) -> LineSet
+// Gives the first cells of a line other masks where some differ from the old ones, and says which lines cross it there.
+fn write_changes(
+    facts: &mut Facts,
+    line: LineId,
+    cells: usize,
+    left: &[u16],
+    masks: &[u16],
+) -> LineSet
     requires line { HasLine facts.old line }
-    requires old { left.now ≡ line_of facts.old line }
-    requires whole { length masks.now ≡ length left.now }
-    requires short { length masks.now ≤ MAX_SIDE }
-    ensures holds { HoldsLine line facts.old facts.new masks.now }
-    ensures changed { (other : LineId) → HasName result other ↔ CrossesChange line left.now masks.now other }
+    requires room { cells ≤ MAX_SIDE }
+    requires cells { cells ≡ length (line_of facts.old line) }
+    requires old { take cells left.now ≡ line_of facts.old line }
+    requires whole { length left.now ≡ MAX_SIDE }
+    requires same_length { length masks.now ≡ length left.now }
+    requires same_behind { (i : ℕ) → cells ≤ i → slice_index left.now i ≡ slice_index masks.now i }
+    ensures holds { HoldsLine line facts.old facts.new (take cells masks.now) }
+    ensures changed { (other : LineId)
+        → HasName result other ↔ CrossesChange line (take cells left.now) (take cells masks.now) other }
 {
-    let mut changed = LineSet::empty();
-    for i in 0..masks.len() {
-        if left[i] != masks[i] {
-            set_left_at(facts, line, i as u8, masks[i]);
-            changed.put(crossing(line, i as u8));
-        }
+    let places = places_apart(left, masks, cells);
+    if places != 0 {
+        facts.write_line(line, &masks[..cells]);
     }
-    changed
-}
-
-// The line that crosses a line at a place.
-fn crossing(line: LineId, at: u8) -> LineId
-    ensures { result ≡ crossing_at line at }
-{
-    let axis = match line.axis {
-        Axis::Across => Axis::Down,
-        Axis::Down => Axis::Across,
-    };
-    LineId { axis, at }
-}
-
-#[tactic(auto, using(crate::proofs::AlongLemmas::places))]
-// Gives the cell at a place of a line another mask.
-fn set_left_at(facts: &mut Facts, line: LineId, i: u8, mask: u16)
-    requires line { HasLine facts.old line }
-    requires place { i < length (line_of facts.old line) }
-    ensures value { facts.new ≡ with_cell facts.old (row_on line.axis line.at i) (col_on line.axis line.at i) mask }
-    ensures facts { IsFacts facts.old }
-{
-    let _ = facts.height();
-    match line.axis {
-        Axis::Across => facts.set_left(line.at, i, mask),
-        Axis::Down => facts.set_left(i, line.at, mask),
-    }
+    LineSet::along(line.axis.crossing(), places)
 }

@@ -1,4 +1,5 @@
-ghost use Rattle.std.specs.Prelude.{◌≡◌, ℕ, ◌+◌, ◌<◌, ◌≤◌, ◌&&◌, ◌||◌, ◌==◌, Bool, length, slice_index};
+ghost use Rattle.std.specs.Prelude.{◌≡◌, ℕ, ◌+◌, ◌*◌, ◌/◌, ◌<◌, ◌≤◌, ◌&&◌, ◌||◌, ◌==◌, Bool, length, slice_index};
+ghost use Rattle.line_settle.specs.Crossing.{differs};
 ghost use Rattle.line_settle.specs.Spelling.{allows};
 ghost use Rattle.line_settle.specs.Positions.{has, AreSpans, AreSpansOf, IsColoured};
 
@@ -162,6 +163,35 @@ pub fn cells_with(left: &[u16], colour: u8) -> u128
     // The last eight cells together: some of them once more, which changes nothing.
     let last = left.len() - 8;
     cells | (u128::from(eight_with(left, last, colour)) << last)
+}
+
+#[inline]
+// The places among the eight from `first` on at which two lists of masks differ, compared together.
+fn eight_apart(before: &[u16], after: &[u16], first: usize) -> u64
+    requires room { first + 8 ≤ length before.now }
+    requires same_length { length after.now ≡ length before.now }
+    ensures each { (i : ℕ) → i < 8 → has result i ≡ differs before.now after.now (first + i) }
+    ensures no_more { result < 256 }
+{
+    let old = u16x8::from_slice(&before[first..]);
+    let new = u16x8::from_slice(&after[first..]);
+    old.simd_ne(new).to_bitmask()
+}
+
+/// The places at which two lists of masks differ, which are all below `cells`. The lists reach to the end of the eight
+/// places in which the last of these lies.
+pub fn places_apart(before: &[u16], after: &[u16], cells: usize) -> u128
+    requires same_length { length after.now ≡ length before.now }
+    requires room { 8 * ((cells + 7) / 8) ≤ length before.now }
+    requires short { length before.now < 128 }
+    requires same_behind { (i : ℕ) → cells ≤ i → slice_index before.now i ≡ slice_index after.now i }
+    ensures { (i : ℕ) → has result i ≡ differs before.now after.now i }
+{
+    let mut places = 0u128;
+    for chunk in (0..(cells + 7) / 8).rev() {
+        places = (places << 8) | u128::from(eight_apart(before, after, 8 * chunk));
+    }
+    places
 }
 
 #[tactic(auto, using(crate::proofs::ColouringLemmas::colouring))]

@@ -1,6 +1,6 @@
 //! A set of names of rows and columns, in a fixed table.
 
-ghost use Rattle.std.specs.Prelude.{◌≡◌, ◌+◌, ◌^◌, ◌<◌, ◌≤◌, ◌↔◌, IsTrue, MatchOption};
+ghost use Rattle.std.specs.Prelude.{◌≡◌, ◌+◌, ◌^◌, ◌<◌, ◌≤◌, ◌↔◌, IsBitSet, IsTrue, MatchOption};
 ghost use Rattle.picture.specs.LineSet.{IsClearFrom, IsFirstBit, IsLineSet, HasName, PutsName, PutsNames, TakesOutName, mask_along, name_count, no_names};
 
 use crate::line_id::{Axis, LineId};
@@ -38,6 +38,19 @@ impl LineSet {
             rows: 0,
             columns: 0,
         }
+    }
+
+    /// The names along an axis at the places of a mask: bit n of it stands for the line at place n.
+    pub fn along(axis: Axis, places: u128) -> LineSet
+        requires { places < 2 ^ MAX_SIDE }
+        ensures members { (line : LineId) → HasName result line ↔ ((line.axis ≡ axis) × IsBitSet places line.at) }
+        ensures set { IsLineSet result }
+    {
+        let (rows, columns) = match axis {
+            Axis::Across => (places, 0),
+            Axis::Down => (0, places),
+        };
+        LineSet { rows, columns }
     }
 
     /// Whether the set has a name.

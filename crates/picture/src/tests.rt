@@ -143,6 +143,19 @@ fn a_set_of_lines_keeps_what_was_put(rt: HostRuntime) {
     }
 }
 
+#[test]
+fn a_mask_names_lines_along_an_axis(rt: HostRuntime) {
+    let lines = LineSet::along(Axis::Down, 0x80_0000_0000_0000_0000_0000_0000_0001);
+    assert_eq!(rt; lines.len(), 2);
+    for (axis, at, has) in [
+        (Axis::Down, 0, true),
+        (Axis::Down, 119, true),
+        (Axis::Across, 0, false),
+    ] {
+        assert_eq!(rt; lines.has(LineId { axis, at }), has);
+    }
+}
+
 // Takes a few bytes at a time, and fails once it has so many.
 #[derive(Drop)]
 struct Small {

@@ -16,7 +16,7 @@ pub loop-chunk-preserved : goal.loop-chunk-preserved
 loop-chunk-preserved c =
     let left = c.args.left.now in
     let n = 8 * (length left / 8) in
-    gathered_more 128 8 (take n left) c.loop-chunk.cells c.from-in-loop-chunk.result c.args.colour (8 * (c.loop-chunk.chunk - 1)) (8 * c.loop-chunk.chunk) (omega arith) (omega arith)
+    gathered_more 128 8 (λ m. allows (get_or (take n left) m 0) c.args.colour) c.loop-chunk.cells c.from-in-loop-chunk.result (8 * (c.loop-chunk.chunk - 1)) (8 * c.loop-chunk.chunk) (omega arith) (omega arith)
     (λ j h. ap (λ m. has m j) c.from-in-loop-chunk.ensures ∙ (c.eight_with.ensures.each j h ∙ ap (λ m. allows m c.args.colour) (sym (get_or-take n left (8 * (c.loop-chunk.chunk - 1) + j) 0 (omega arith)))))
     c.loop-chunk.invariant
 

@@ -1,0 +1,19 @@
+use Rattle.std.proofs.Common.{◌≡◌, ◌+◌, ◌-◌, ◌*◌, ◌/◌, ◌<◌, ◌^◌, ◌∙◌, ap, arith, length}
+use Rattle.std.proofs.lemmas.Bool.{cases_lt}
+use Rattle.line_settle.specs.Positions.{has}
+use Rattle.line_settle.specs.Crossing.{differs}
+use Rattle.line_settle.proofs.ApartLemmas.{none_apart, all_apart}
+use Rattle.line_settle.proofs.GatheringLemmas.{gathered_more}
+use Rattle.line_settle.proofs.positions.places_apart.Goals as goal
+
+pub loop-chunk-init : goal.loop-chunk-init
+loop-chunk-init c = λ j h. none_apart c.args.before.now c.args.after.now c.args.cells (8 * ((c.args.cells + 7) / 8)) j (omega arith) c.requires.same_behind
+
+pub loop-chunk-preserved : goal.loop-chunk-preserved
+loop-chunk-preserved c =
+    gathered_more 128 8 (differs c.args.before.now c.args.after.now) c.loop-chunk.places c.from.result (8 * (c.loop-chunk.chunk - 1)) (8 * c.loop-chunk.chunk) (omega arith) (omega (arith, c.from.ensures, c.eight_apart.ensures.no_more))
+    (λ j h. ap (λ m. has m j) c.from.ensures ∙ c.eight_apart.ensures.each j h)
+    c.loop-chunk.invariant
+
+pub returns : goal.returns
+returns c = all_apart c.args.before.now c.args.after.now c.args.cells c.loop-chunk.places c.loop-chunk.chunk (omega arith) (let p = c.loop-chunk.auto.places-fits in omega arith) (omega (arith, c.requires.room, c.requires.short)) c.requires.same_behind c.loop-chunk.invariant
