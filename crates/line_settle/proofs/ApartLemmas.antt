@@ -1,5 +1,5 @@
 -- The places at which two lists of masks differ, found eight at a time.
-use Rattle.std.proofs.Common.{◌≡◌, ℕ, zero, suc, ◌+◌, ◌*◌, ◌%◌, ◌==◌, ◌^◌, ◌<◌, ◌≤◌, Bool, true, false, cond, not, List, map, eqb, eq-eqb, refl, sym, ap, subst, ◌∙◌, arith, inl, inr, length, get_or, w16}
+use Rattle.std.proofs.Common.{◌≡◌, ℕ, zero, suc, ◌+◌, ◌*◌, ◌%◌, ◌==◌, ◌^◌, ◌<◌, ◌≤◌, Bool, false, cond, not, List, map, eqb, eq-eqb, refl, sym, ap, subst, ◌∙◌, arith, inl, inr, length, get_or, w16}
 use Rattle.std.specs.Simd.Lanes.{zip2, chunk, top, mask_l}
 use Rattle.std.proofs.lemmas.Simd.{length-chunk, get_or-chunk, get_or-zip2, length-zip2, tops_compared, mask_l-mod, mask_l-lt}
 use Rattle.std.proofs.lemmas.Bool.{cases_lt, false≢true}

@@ -1,5 +1,5 @@
 -- A line written where it changes, and the lines that cross it there.
-use Rattle.std.proofs.Common.{◌≡◌, ◌≢◌, ℕ, ◌<◌, ◌≤◌, ◌^◌, ◌==◌, ◌↔◌, Bool, true, false, not, List, refl, sym, ap, ◌∙◌, arith, inl, inr, length, take, get_or, eq-eqb, ne_eqb}
+use Rattle.std.proofs.Common.{◌≡◌, ◌≢◌, ℕ, ◌<◌, ◌≤◌, ◌^◌, ◌==◌, ◌↔◌, true, false, not, List, refl, sym, ap, ◌∙◌, arith, inl, inr, length, take, get_or, eq-eqb, ne_eqb}
 use Rattle.std.specs.Prelude.{IsBitSet}
 use Rattle.std.specs.Int.{bit_at}
 use Rattle.std.proofs.lemmas.Bool.{cases_lt, eqb-true, false≢true}
@@ -13,9 +13,9 @@ use Rattle.picture.specs.Crossing.{crossing}
 use Rattle.line_settle.specs.Crossing.{CrossesChange, differs}
 use Rattle.line_settle.specs.FactSets.{HoldsLine}
 use Rattle.line_settle.specs.Positions.{has}
-use Rattle.line_settle.proofs.AlongLemmas.{same_list, shape_refl}
+use Rattle.line_settle.specs.GridLaws.{same_list, shape_refl}
 use Rattle.line_settle.proofs.ApartLemmas.{none_from}
-use Rattle.line_settle.proofs.MaskLemmas.{bit_is_set, set_bit}
+use Rattle.picture.specs.BitLaws.{bit_is_set, set_bit}
 use Rattle.line_settle.proofs.PositionLemmas.{has_none}
 
 -- ---- the places at which two lists differ

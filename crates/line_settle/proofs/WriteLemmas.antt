@@ -1,13 +1,13 @@
 -- A line written in the flat list of a grid's masks.
-use Rattle.std.proofs.Common.{◌≡◌, ℕ, ◌+◌, ◌*◌, ◌^◌, ◌<◌, ◌≤◌, List, refl, sym, ap, ◌∙◌, arith, length, get_or, set}
-use Rattle.picture.specs.declared.line_id.Axis.{Axis}
+use Rattle.std.proofs.Common.{◌≡◌, ℕ, ◌+◌, ◌*◌, ◌^◌, ◌<◌, ◌≤◌, List, sym, ap, ◌∙◌, arith, length, get_or, set}
 use Rattle.picture.specs.declared.line_id.Axis.TheVariants.{Across, Down}
 use Rattle.picture.specs.declared.line_id.LineId.{LineId}
-use Rattle.picture.specs.Rows.{rows_of, width_of, line_of, HasLine}
-use Rattle.picture.proofs.FlatLemmas.{place_inside, rows_of-set}
+use Rattle.picture.specs.Rows.{rows_of, line_of, HasLine}
+use Rattle.picture.specs.FlatLaws.{place_inside, rows_of-set}
 use Rattle.line_settle.specs.FactSets.{AreMasks, HoldsLine, row_on, col_on}
-use Rattle.line_settle.proofs.AlongLemmas.{Written, across_length, down_length, place_on, same_has_line, same_line_length, written_all, written_more, written_none}
-use Rattle.line_settle.proofs.FactLemmas.{Known, are_masks_set, known_flat}
+use Rattle.line_settle.specs.AlongLaws.{Written, across_length, down_length, place_on, written_all, written_more, written_none}
+use Rattle.line_settle.specs.GridLaws.{same_has_line, same_line_length}
+use Rattle.line_settle.proofs.FactLemmas.{are_masks_set, known_flat}
 
 -- the first n masks stand along a line, and elsewhere all is as it was
 pub record IsWriting (height width : ℕ) (old cells : List ℕ) (line : LineId) (masks : List ℕ) (n : ℕ) : Type 0 where

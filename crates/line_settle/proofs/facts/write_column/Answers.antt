@@ -1,4 +1,4 @@
-use Rattle.std.proofs.Common.{◌≡◌, ◌<◌, ◌≤◌, ◌^◌, ap, arith, length, get_or}
+use Rattle.std.proofs.Common.{◌≡◌, ◌<◌, ◌^◌, ap, arith, get_or}
 use Rattle.line_settle.proofs.WriteLemmas.{all_written, down_place, one_more, place_in, column_long}
 use Rattle.line_settle.proofs.facts.write_column.Goals as goal
 

@@ -1,4 +1,4 @@
-use Rattle.std.proofs.Common.{◌≡◌, ◌<◌, ◌≤◌, ◌^◌, ap, arith, length, get_or}
+use Rattle.std.proofs.Common.{◌≡◌, ◌<◌, ◌^◌, ap, arith, get_or}
 use Rattle.line_settle.proofs.WriteLemmas.{all_written, across_place, one_more, place_in, row_long}
 use Rattle.line_settle.proofs.facts.write_row.Goals as goal
 

@@ -1,5 +1,4 @@
-use Rattle.std.proofs.Common.{◌≡◌, sym, subst, ◌∙◌, arith, length, take}
-use Rattle.picture.specs.LineSet.{Lines, HasName}
+use Rattle.std.proofs.Common.{sym, subst, ◌∙◌, arith, take}
 use Rattle.line_settle.specs.FactSets.{HoldsLine}
 use Rattle.line_settle.proofs.ChangeLemmas.{all_cross, all_same, unchanged, within_side}
 use Rattle.line_settle.proofs.forcing.write_changes.Goals as goal

@@ -1,5 +1,4 @@
-use Rattle.std.proofs.Common.{◌≡◌, ◌+◌, ◌-◌, ◌*◌, ◌/◌, ◌<◌, ◌^◌, ◌∙◌, ap, arith, length}
-use Rattle.std.proofs.lemmas.Bool.{cases_lt}
+use Rattle.std.proofs.Common.{◌+◌, ◌-◌, ◌*◌, ◌/◌, ◌∙◌, ap, arith}
 use Rattle.line_settle.specs.Positions.{has}
 use Rattle.line_settle.specs.Crossing.{differs}
 use Rattle.line_settle.proofs.ApartLemmas.{none_apart, all_apart}
