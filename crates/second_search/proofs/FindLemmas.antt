@@ -134,7 +134,7 @@ unfolding colours_of
 each_colour mask = each_kept (λ k. bit_at mask k == 1) (λ k. IsBitSet mask k) (λ x e. bit_is_set mask x (eqb-true (bit_at mask x) 1 e)) (range_with_len 0 16)
 
 -- a picture fills facts exactly where it fills one of the branches of a cell
-split_fills : (clues : Clues) (facts picture : List (List ℕ)) (row col : ℕ) → IsFacts facts → row < length facts → col < width_of facts → Fills clues facts picture ↔ FillsSome clues (branches facts row col (cell_at facts row col)) picture
+pub split_fills : (clues : Clues) (facts picture : List (List ℕ)) (row col : ℕ) → IsFacts facts → row < length facts → col < width_of facts → Fills clues facts picture ↔ FillsSome clues (branches facts row col (cell_at facts row col)) picture
 split_fills clues facts picture row col is h l =
     let rect = is.rectangular row h in
     let l' : col < length (row_at facts row) = omega arith in (
@@ -222,15 +222,15 @@ alike_both : (first facts : List (List ℕ)) (xs ys : List (List (List ℕ))) �
 alike_both first facts [] ys s a b = b
 alike_both first facts (x ∷ xs) ys s a b = (shape_trans s a.0, alike_both first facts xs ys s a.1 b)
 
-some_front : (clues : Clues) (xs ys : List (List (List ℕ))) (picture : List (List ℕ)) → FillsSome clues xs picture → FillsSome clues (xs ++ ys) picture
+pub some_front : (clues : Clues) (xs ys : List (List (List ℕ))) (picture : List (List ℕ)) → FillsSome clues xs picture → FillsSome clues (xs ++ ys) picture
 some_front clues [] ys picture f = absurd f
 some_front clues (x ∷ xs) ys picture f = elim f [ inl here ↦ inl here | inr there ↦ inr (some_front clues xs ys picture there) ]
 
-some_behind : (clues : Clues) (xs ys : List (List (List ℕ))) (picture : List (List ℕ)) → FillsSome clues ys picture → FillsSome clues (xs ++ ys) picture
+pub some_behind : (clues : Clues) (xs ys : List (List (List ℕ))) (picture : List (List ℕ)) → FillsSome clues ys picture → FillsSome clues (xs ++ ys) picture
 some_behind clues [] ys picture f = f
 some_behind clues (x ∷ xs) ys picture f = inr (some_behind clues xs ys picture f)
 
-some_both : (clues : Clues) (xs ys : List (List (List ℕ))) (picture : List (List ℕ)) → FillsSome clues (xs ++ ys) picture → FillsSome clues xs picture ⊎ FillsSome clues ys picture
+pub some_both : (clues : Clues) (xs ys : List (List (List ℕ))) (picture : List (List ℕ)) → FillsSome clues (xs ++ ys) picture → FillsSome clues xs picture ⊎ FillsSome clues ys picture
 some_both clues [] ys picture f = inr f
 some_both clues (x ∷ xs) ys picture f = elim f [
   | inl here ↦ inl (inl here)

@@ -35,6 +35,18 @@ done_none searched splits meter calls Is a b c d e is = record {
   none = λ z. refl;
 }
 
+pub done_as : (s t a b : ℕ) (start end : Meter) (p q : ℕ) (One Is : ℕ → ℕ → Type 0) → Done s t a b start end p q One → ((m n : ℕ) → One m n → Is m n) → Done s t a b start end p q Is
+done_as s t a b start end p q One Is d turn = record {
+  searched = d.searched;
+  splits = d.splits;
+  evaluations = d.evaluations;
+  is = turn d.searched d.splits d.is;
+  searched_is = d.searched_is;
+  splits_is = d.splits_is;
+  counts = d.counts;
+  none = d.none;
+}
+
 pub done_both : CountsAdd → (s t u a b c : ℕ) (start between end : Meter) (p q r : ℕ) (One Other Is : ℕ → ℕ → Type 0) → Done s t a b start between p q One → Done t u b c between end q r Other → ((m n x y : ℕ) → One m n → Other x y → Is (m + x) (n + y)) → Done s u a c start end p r Is
 done_both add s t u a b c start between end p q r One Other Is d f join = record {
   searched = d.searched + f.searched;

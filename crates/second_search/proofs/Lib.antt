@@ -17,3 +17,7 @@ pub mod KeepLemmas
 pub mod AloneLemmas
 pub mod JudgeLemmas
 pub mod OneListLemmas
+pub mod VerdictLemmas
+pub mod EndLemmas
+pub mod TruthLemmas
+pub mod AnswerLemmas

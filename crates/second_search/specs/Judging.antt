@@ -1,5 +1,5 @@
 -- A picture judged by its parts, with what is known of each.
-use Rattle.std.specs.Prelude.{◌≡◌, ℕ, zero, suc, ◌+◌, ◌<◌, ◌≤◌, ◌⊎◌, Option, List, [], length, slice_index_or}
+use Rattle.std.specs.Prelude.{◌≡◌, ℕ, zero, suc, ◌+◌, ◌<◌, ◌≤◌, ◌⊎◌, Option, List, [], length, map, slice_index_or}
 use Rattle.clues.specs.ClueBook.{Clues}
 use Rattle.line_settle.specs.declared.meter.Meter.{Meter}
 use Rattle.line_settle.specs.Counting.{Counts}
@@ -7,9 +7,15 @@ use Rattle.second_search.specs.declared.counting.Ending.{Ending}
 use Rattle.second_search.specs.declared.counting.Ending.TheVariants as ending
 use Rattle.second_search.specs.declared.keeper.Answer.{Answer}
 use Rattle.second_search.specs.declared.keeper.Answer.TheVariants.{Unknown, Nothing, Filling}
+use Rattle.second_search.specs.declared.keeper.Verdict.{Verdict}
+use Rattle.second_search.specs.declared.keeper.Verdict.TheVariants.{Unique, Other, Undecided}
+use Rattle.second_search.specs.declared.keeper.Judged.{Judged}
+use Rattle.second_search.specs.declared.keeper.Judged.TheVariants as judged
 use Rattle.second_search.specs.declared.keeper.KeptPart.{KeptPart}
 use Rattle.second_search.specs.declared.keeper.Stop.{Stop}
 use Rattle.second_search.specs.declared.keeper.Stop.TheVariants.{Through, Found, BrokenOff}
+use Rattle.second_search.specs.Other.{IsOther}
+use Rattle.second_search.specs.Parts.{AreParts, IsOtherFilling}
 use Rattle.second_search.specs.Searching.{EndsAs, alone, raised}
 
 -- the part at a place, its cells and what is known of it
@@ -21,6 +27,16 @@ cells_at kept i = (kept_at kept i).cells
 
 abbrev pub answer_at : List KeptPart → ℕ → Answer
 answer_at kept i = (kept_at kept i).answer
+
+-- the parts of which something is kept
+abbrev pub parts_of : List KeptPart → List (List ℕ)
+parts_of kept = map (λ (part : KeptPart). part.cells) kept
+
+-- the first of some parts are kept, and nothing is known of them yet
+pub record StartsWith (parts : List (List ℕ)) (kept : List KeptPart) (count : ℕ) : Type 0 where
+  pub count_is : length kept ≡ count
+  pub cells : (i : ℕ) → i < count → cells_at kept i ≡ slice_index_or parts i []
+  pub unknown : (i : ℕ) → answer_at kept i ≡ Unknown
 
 -- ---- kept fillings
 
@@ -37,6 +53,13 @@ HasNoFilling kept n = (i : ℕ) → i < n → IsFilling (answer_at kept i) → �
 pub record HasFilling (kept : List KeptPart) (i : ℕ) : Type 0 where
   pub place : i < length kept
   pub is : IsFilling (answer_at kept i)
+
+-- the first part of which another filling is kept, and that filling
+pub record FirstFilling (kept : List KeptPart) (other : List (List ℕ)) : Type 0 where
+  pub at : ℕ
+  pub before : HasNoFilling kept at
+  pub place : at < length kept
+  pub is : answer_at kept at ≡ Filling other
 
 -- ---- going along the parts
 
@@ -102,3 +125,95 @@ pub record Fills (old new : List KeptPart) (i : ℕ) (other : List (List ℕ)) :
   pub cells : (j : ℕ) → cells_at new j ≡ cells_at old j
   pub here : answer_at new i ≡ Filling other
   pub elsewhere : (j : ℕ) → (j ≡ i → ⊥) → kept_at new j ≡ kept_at old j
+
+-- The first parts have no other filling, this one has, and all else is as it was.
+pub record Finds (old new : List KeptPart) (i : ℕ) (other : List (List ℕ)) : Type 0 where
+  pub count : length new ≡ length old
+  pub cells : (j : ℕ) → cells_at new j ≡ cells_at old j
+  pub before : (j : ℕ) → j < i → answer_at new j ≡ Nothing
+  pub here : answer_at new i ≡ Filling other
+  pub behind : (j : ℕ) → i < j → kept_at new j ≡ kept_at old j
+
+-- where going along the parts stopped is one of them
+abbrev pub IsPlace : List KeptPart → Stop → Type 0
+IsPlace kept Through = Unit {0}
+IsPlace kept (Found i other) = i < length kept
+IsPlace kept (BrokenOff i) = i < length kept
+
+-- what is known then is noted, and the verdict is as it says
+abbrev pub Notes : List KeptPart → List KeptPart → Stop → Verdict → Type 0
+Notes old new Through verdict = (verdict ≡ Unique) × Changes old new (length old)
+Notes old new (Found i other) verdict = (verdict ≡ Other) × Finds old new i other
+Notes old new (BrokenOff i) verdict = (verdict ≡ Undecided) × Changes old new i
+
+-- ---- a picture judged
+
+-- another filling of a part is kept already, and nothing is searched
+pub record KeepsOther (old new : List KeptPart) (searched splits : ℕ) : Type 0 where
+  pub at : ℕ
+  pub is : HasFilling old at
+  pub same : new ≡ old
+  pub searched_none : searched ≡ 0
+  pub splits_none : splits ≡ 0
+
+-- no other filling is kept, and each part of which nothing was known was searched to its end and has none
+pub record PassesAll (clues : Clues) (facts picture : List (List ℕ)) (allowance : Option ℕ) (old new : List KeptPart) (searched splits : ℕ) : Type 0 where
+  pub none_kept : HasNoFilling old (length old)
+  pub passes : Passes clues facts picture allowance old (length old) searched splits
+  pub noted : Changes old new (length old)
+
+-- no other filling is kept, and the first part that does not pass has another filling
+pub record FindsOne (clues : Clues) (facts picture : List (List ℕ)) (allowance : Option ℕ) (old new : List KeptPart) (searched splits : ℕ) : Type 0 where
+  pub none_kept : HasNoFilling old (length old)
+  pub at : ℕ
+  pub other : List (List ℕ)
+  pub stops : StopsAt clues facts picture allowance old at (ending.Found other) searched splits
+  pub noted : Finds old new at other
+
+-- no other filling is kept, and the first part that does not pass costs more than is allowed
+pub record BreaksOff (clues : Clues) (facts picture : List (List ℕ)) (allowance : Option ℕ) (old new : List KeptPart) (searched splits : ℕ) : Type 0 where
+  pub none_kept : HasNoFilling old (length old)
+  pub at : ℕ
+  pub stops : StopsAt clues facts picture allowance old at ending.BrokenOff searched splits
+  pub noted : Changes old new at
+
+-- how a picture is judged, by so many searches and splits, and what is known of the parts then
+abbrev pub Judges : Clues → List (List ℕ) → List (List ℕ) → Option ℕ → List KeptPart → List KeptPart → Verdict → ℕ → ℕ → Type 0
+Judges clues facts picture allowance old new Unique searched splits = PassesAll clues facts picture allowance old new searched splits
+Judges clues facts picture allowance old new Other searched splits = KeepsOther old new searched splits ⊎ FindsOne clues facts picture allowance old new searched splits
+Judges clues facts picture allowance old new Undecided searched splits = BreaksOff clues facts picture allowance old new searched splits
+
+-- ---- what is true of a scene
+
+-- what is known of the other fillings of a part is true
+abbrev pub IsTrueOf : Clues → List ℕ → List (List ℕ) → List ℕ → Answer → Type 0
+IsTrueOf clues givens picture cells Unknown = Unit {0}
+IsTrueOf clues givens picture cells Nothing = (other : List (List ℕ)) → IsOtherFilling clues givens picture cells other → ⊥
+IsTrueOf clues givens picture cells (Filling other) = IsOtherFilling clues givens picture cells other
+
+abbrev pub AreTrue : Clues → List ℕ → List (List ℕ) → List KeptPart → Type 0
+AreTrue clues givens picture kept = (i : ℕ) → i < length kept → IsTrueOf clues givens picture (cells_at kept i) (answer_at kept i)
+
+-- what a picture is judged to be is true: no other picture has the clues and the givens, or one does
+abbrev pub IsVerdict : Clues → List ℕ → List (List ℕ) → Verdict → Type 0
+IsVerdict clues givens picture Unique = (other : List (List ℕ)) → IsOther clues givens picture other → ⊥
+IsVerdict clues givens picture Other = (other : List (List ℕ)) × IsOther clues givens picture other
+IsVerdict clues givens picture Undecided = Unit {0}
+
+-- all parts of facts are kept, and nothing is known of them yet, so that all that is known is true
+pub record Starts (facts : List (List ℕ)) (kept : List KeptPart) : Type 0 where
+  pub parts : AreParts facts (parts_of kept)
+  pub unknown : (i : ℕ) → answer_at kept i ≡ Unknown
+  pub true_answers : (clues : Clues) (givens : List ℕ) (picture : List (List ℕ)) → AreTrue clues givens picture kept
+
+-- ---- what is answered
+
+-- where the verdict is another picture, one is kept
+abbrev pub IsShown : List KeptPart → Verdict → Type 0
+IsShown kept verdict = verdict ≡ Other → (i : ℕ) × HasFilling kept i
+
+-- the verdict that an answer stands for; another picture is the first filling that is kept
+abbrev pub AnswersAs : List KeptPart → Judged → Verdict → Type 0
+AnswersAs kept judged.Unique verdict = verdict ≡ Unique
+AnswersAs kept (judged.Other other) verdict = (verdict ≡ Other) × FirstFilling kept other.now
+AnswersAs kept judged.Undecided verdict = verdict ≡ Undecided

@@ -8,3 +8,4 @@ pub mod Searching
 pub mod Stepping
 pub mod Through
 pub mod Judging
+pub mod Answering

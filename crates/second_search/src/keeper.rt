@@ -1,27 +1,42 @@
 //! Answers of parts that are kept, and a picture judged by them.
 
-ghost use Rattle.std.specs.Prelude.{◌≡◌, ◌<◌, ◌≤◌, ℕ, length, IfOk, MatchOption};
+ghost use Rattle.std.specs.Prelude.{◌≡◌, ◌<◌, ◌≤◌, ℕ, length, IfOk, OnErr, MatchOption};
 ghost use Rattle.line_settle.specs.Counting.{Counts};
-ghost use Rattle.second_search.specs.Parts.{IsPart, IsScene};
+ghost use Rattle.second_search.specs.Parts.{AreParts, IsPart, IsScene};
+ghost use Rattle.second_search.specs.Answering.{IsAnswer};
 ghost use Rattle.second_search.specs.Judging.{
+  AnswersAs,
+  AreTrue,
   Changes,
   Done,
   EndsPart,
   Fills,
+  FirstFilling,
   HasFilling,
   HasNoFilling,
+  IsPlace,
+  IsShown,
+  IsVerdict,
+  Judges,
+  Notes,
+  Starts,
   Stops,
   cells_at,
   kept_at,
+  parts_of,
 };
 
 use crate::counting::Ending;
+use crate::laws::{fillings_are_of_facts, parts_decide};
 use crate::part_search::search_part;
+use crate::parts::Parts;
 use crate::scene::Scene;
+use clues::laws::{books_are_their_clues, clues_are_of_lines};
 use line_settle::laws::counts_add;
-use line_settle::{LineEngine, Meter};
+use line_settle::{Facts, LineEngine, Meter};
 use picture::{CellSet, Picture};
-use std::alloc::AllocError;
+use propagate::laws::{closing_keeps_fillings, only_is_closed};
+use std::alloc::{AllocError, Global};
 use std::marker::Model;
 
 /// What is known of the other fillings of a part: nothing yet, or that there is none, or one of them.
@@ -56,9 +71,18 @@ impl Model for Keeper {
 
 /// Whether another picture has the clues and the givens: there is none, or there is this one, or a part would take more
 /// splits than are allowed.
+#[derive(Drop)]
 pub enum Judged<'a> {
     Unique,
     Other(&'a Picture),
+    Undecided,
+}
+
+// The same, where the other picture is the first filling that is kept.
+#[derive(Clone, Copy)]
+pub(crate) enum Verdict {
+    Unique,
+    Other,
     Undecided,
 }
 
@@ -71,6 +95,134 @@ pub(crate) enum Stop {
 }
 
 impl Keeper {
+    ghost use mathlib.Core.Option.{none};
+    ghost use Rattle.std.specs.Prelude.{⊤, MatchResult};
+    ghost use Rattle.std.specs.Borrow.{follows_so, sem};
+    ghost use Rattle.second_search.specs.contracts.keeper.Keeper.{the_row};
+    ghost use Rattle.second_search.specs.declared.keeper.Verdict.{Verdict};
+
+    /// Keeps the parts of facts, of which nothing is known yet.
+    pub fn start(alloc: Global, facts: &Facts) -> Result<Keeper, AllocError>
+        ensures { IfOk result (Starts facts.now) }
+    {
+        let parts = Parts::of(alloc, facts)?;
+        let mut kept = Vec::new(alloc);
+        for i in 0..parts.len() {
+            kept.push(KeptPart {
+                cells: *parts.cells(i),
+                answer: Answer::Unknown,
+            })?;
+        }
+        Ok(Keeper { kept })
+    }
+
+    /// Judges a picture by its parts, each with an allowance of splits where there is one. Where another filling of a part
+    /// is kept, nothing is searched. Else the parts of which nothing is known are searched in order, up to the first that has
+    /// another filling or costs more splits than are allowed. What the searches that ended found is kept; of one that was
+    /// broken off, nothing is. Adds to `searched` how many parts were searched, the last of them too if it was broken off, and
+    /// to `splits` how often they split; both stay at the largest number. Where nothing is searched, no line is evaluated.
+    /// Want of memory leaves what is kept as it was. The parts kept are those of the scene's facts, and what is known of them
+    /// is true; no line is longer than the engine's `longest`.
+    #[tactic(auto, using(crate::proofs::AnswerLemmas::answer_true))]
+    pub fn judge<E: LineEngine>(
+        &mut self,
+        engine: &mut E,
+        scene: &Scene,
+        allowance: Option<u32>,
+        meter: &mut Meter,
+        searched: &mut u32,
+        splits: &mut u32,
+    ) -> Result<Judged<'_>, AllocError>
+        requires scene { IsScene scene.now.clues.now scene.now.givens.now scene.now.facts.now scene.now.picture.now }
+        requires parts { AreParts scene.now.facts.now (parts_of self.old) }
+        requires true_answers { AreTrue scene.now.clues.now scene.now.givens.now scene.now.picture.now self.old }
+        requires tall { length scene.now.clues.now.rows ≤ E.longest engine.old }
+        requires wide { length scene.now.clues.now.columns ≤ E.longest engine.old }
+        ensures* keeps { sem 𝓛 (follows_so the_row the_row self.entry.ghost_name none (λ _ _. ⊤) (λ last. AreParts scene.now.facts.now (parts_of last)
+            × AreTrue scene.now.clues.now scene.now.givens.now scene.now.picture.now last
+            × MatchResult result
+            (λ judged. (verdict : Verdict) × (AnswersAs last judged verdict
+            × Done searched.old searched.new splits.old splits.new meter.old meter.new (E.calls engine.old) (E.calls engine.new)
+            (Judges scene.now.clues.now scene.now.facts.now scene.now.picture.now allowance self.old last verdict)))
+            (λ _. last ≡ self.old))) }
+        ensures answer { IfOk result (IsAnswer scene.now.clues.now scene.now.givens.now scene.now.picture.now) }
+        ensures counts { (evaluations : ℕ) × Counts evaluations 0 meter.old meter.new (E.calls engine.old) (E.calls engine.new) }
+        ensures same_longest { E.longest engine.new ≡ E.longest engine.old }
+    {
+        let verdict = self.decide(engine, scene, allowance, meter, searched, splits)?;
+        Ok(self.judged(verdict))
+    }
+
+    // What a verdict is answered as.
+    fn judged(&self, verdict: Verdict) -> Judged<'_>
+        requires { IsShown self.now verdict }
+        ensures { AnswersAs self.now result verdict }
+    {
+        match verdict {
+            Verdict::Unique => Judged::Unique,
+            Verdict::Undecided => Judged::Undecided,
+            Verdict::Other => match self.other() {
+                Some(picture) => Judged::Other(picture),
+                None => unreachable!(),
+            },
+        }
+    }
+
+    // Judges a picture by its parts, and keeps what the searches that ended found.
+    fn decide<E: LineEngine>(
+        &mut self,
+        engine: &mut E,
+        scene: &Scene,
+        allowance: Option<u32>,
+        meter: &mut Meter,
+        searched: &mut u32,
+        splits: &mut u32,
+    ) -> Result<Verdict, AllocError>
+        requires scene { IsScene scene.now.clues.now scene.now.givens.now scene.now.facts.now scene.now.picture.now }
+        requires parts { AreParts scene.now.facts.now (parts_of self.old) }
+        requires true_answers { AreTrue scene.now.clues.now scene.now.givens.now scene.now.picture.now self.old }
+        requires tall { length scene.now.clues.now.rows ≤ E.longest engine.old }
+        requires wide { length scene.now.clues.now.columns ≤ E.longest engine.old }
+        ensures judges { IfOk result (λ verdict. Done searched.old searched.new splits.old splits.new meter.old meter.new (E.calls engine.old) (E.calls engine.new)
+            (Judges scene.now.clues.now scene.now.facts.now scene.now.picture.now allowance self.old self.new verdict)) }
+        ensures refused { OnErr result (self.new ≡ self.old) }
+        ensures parts { AreParts scene.now.facts.now (parts_of self.new) }
+        ensures true_answers { AreTrue scene.now.clues.now scene.now.givens.now scene.now.picture.now self.new }
+        ensures shown { IfOk result (IsShown self.new) }
+        ensures verdict { IfOk result (IsVerdict scene.now.clues.now scene.now.givens.now scene.now.picture.now) }
+        ensures counts { (evaluations : ℕ) × Counts evaluations 0 meter.old meter.new (E.calls engine.old) (E.calls engine.new) }
+        ensures same_longest { E.longest engine.new ≡ E.longest engine.old }
+    {
+        clues_are_of_lines();
+        books_are_their_clues();
+        closing_keeps_fillings();
+        only_is_closed();
+        fillings_are_of_facts();
+        parts_decide();
+        let _ = (engine.calls(), *splits, *searched);
+        let _evaluations = meter.evaluations;
+        let _trials = meter.trials;
+        match self.kept_filling() {
+            Some(_) => Ok(Verdict::Other),
+            None => {
+                let stop = self.search_parts(engine, scene, allowance, meter, searched, splits)?;
+                Ok(self.note(stop))
+            }
+        }
+    }
+
+    // Another filling of the first part of which one is kept.
+    fn other(&self) -> Option<&Picture>
+        ensures { MatchOption result (HasNoFilling self.now (length self.now)) (λ other. FirstFilling self.now other.now) }
+    {
+        for i in 0..self.kept.len() {
+            if let Answer::Filling(picture) = &self.kept[i].answer {
+                return Some(picture);
+            }
+        }
+        None
+    }
+
     // The first part of which another filling is kept.
     fn kept_filling(&self) -> Option<usize>
         ensures { MatchOption result (HasNoFilling self.now (length self.now)) (λ i. HasNoFilling self.now i × HasFilling self.now i) }
@@ -157,6 +309,29 @@ impl Keeper {
             }
             Answer::Nothing => Ok(Ending::Nothing),
             Answer::Filling(_) => Ok(Ending::Nothing),
+        }
+    }
+
+    // Notes what going along the parts found, where it stopped.
+    fn note(&mut self, stop: Stop) -> Verdict
+        requires { IsPlace self.old stop }
+        ensures { Notes self.old self.new stop result }
+    {
+        match stop {
+            Stop::Through => {
+                let end = self.kept.len();
+                self.pass_to(end);
+                Verdict::Unique
+            }
+            Stop::Found(i, picture) => {
+                self.pass_to(i);
+                self.fill(i, picture);
+                Verdict::Other
+            }
+            Stop::BrokenOff(i) => {
+                self.pass_to(i);
+                Verdict::Undecided
+            }
         }
     }
 

@@ -15,6 +15,7 @@ mod pending;
 mod scene;
 
 pub use finding::{find_first, find_other};
+pub use keeper::{Answer, Judged, Keeper, KeptPart};
 pub use parts::Parts;
 pub use scene::Scene;
 

@@ -1,0 +1,113 @@
+-- What is kept after a picture is judged is true, and so is the verdict.
+use Rattle.std.proofs.Common.{◌≡◌, ℕ, zero, suc, ◌+◌, ◌<◌, ◌≤◌, ◌⊎◌, Option, List, [], ◌∷◌, length, refl, sym, ap, subst, ◌∙◌, arith, inl, inr}
+use Rattle.std.proofs.lemmas.Bool.{cases_eq, cases_lt}
+use Rattle.std.proofs.lemmas.List.{length-map}
+use Rattle.clues.specs.ClueBook.{Clues}
+use Rattle.clues.specs.Laws.{BooksAreTheirClues, CluesAreOfLines}
+use Rattle.propagate.specs.Laws.{ClosingKeepsFillings, OnlyIsClosed}
+use Rattle.second_search.specs.declared.counting.Ending.{Ending}
+use Rattle.second_search.specs.declared.counting.Ending.TheVariants as ending
+use Rattle.second_search.specs.declared.keeper.Answer.{Answer}
+use Rattle.second_search.specs.declared.keeper.Answer.TheVariants.{Filling, Nothing, Unknown}
+use Rattle.second_search.specs.declared.keeper.KeptPart.{KeptPart}
+use Rattle.second_search.specs.declared.keeper.Verdict.{Verdict}
+use Rattle.second_search.specs.declared.keeper.Verdict.TheVariants.{Other, Undecided, Unique}
+use Rattle.second_search.specs.Laws.{FillingsAreOfFacts, PartsDecide}
+use Rattle.second_search.specs.Other.{IsOther}
+use Rattle.second_search.specs.Parts.{AreParts, IsOtherFilling, IsScene, part_at}
+use Rattle.second_search.specs.Judging.{AreTrue, Changes, EndsBy, EndsPart, Finds, HasNoFilling, IsFilling, IsTrueOf, IsVerdict, Judges, Passes, answer_at, cells_at, kept_at, parts_of}
+use Rattle.second_search.proofs.EndLemmas.{IsFound, none_found, one_found}
+use Rattle.second_search.proofs.VerdictLemmas.{part_of_kept}
+
+module _ (clues : Clues) (givens : List ℕ) (picture : List (List ℕ)) where
+  abbrev HasNone : List ℕ → Type 0
+  HasNone cells = (other : List (List ℕ)) → IsOtherFilling clues givens picture cells other → ⊥
+
+  kept_filling_is : (cells : List ℕ) (answer : Answer) → IsFilling answer → IsTrueOf clues givens picture cells answer → (other : List (List ℕ)) × IsOtherFilling clues givens picture cells other
+  kept_filling_is cells Unknown f t = absurd f
+  kept_filling_is cells Nothing f t = absurd f
+  kept_filling_is cells (Filling other) f t = (other, t)
+
+  changes_true : (old new : List KeptPart) (end : ℕ) → Changes old new end → ((i : ℕ) → i < end → i < length old → HasNone (cells_at old i)) → AreTrue clues givens picture old → AreTrue clues givens picture new
+  changes_true old new end c none t i l =
+      let n = c.count in
+      elim (cases_lt i end) [
+        | inl m ↦
+            let P : Answer → Type 0 = λ a. IsTrueOf clues givens picture (cells_at new i) a in
+            let Q : List ℕ → Type 0 = λ cells. HasNone cells in
+            subst P (sym (c.before i m)) (subst Q (sym (c.cells i)) (none i m (omega arith)))
+        | inr p ↦
+            let P : KeptPart → Type 0 = λ part. IsTrueOf clues givens picture part.cells part.answer in
+            subst P (sym (c.behind i p)) (t i (omega arith))
+      ]
+
+  finds_true : (old new : List KeptPart) (at : ℕ) (other : List (List ℕ)) → Finds old new at other → ((i : ℕ) → i < at → i < length old → HasNone (cells_at old i)) → IsOtherFilling clues givens picture (cells_at old at) other → AreTrue clues givens picture old → AreTrue clues givens picture new
+  finds_true old new at other c none one t i l =
+      let n = c.count in
+      let Q : List ℕ → Type 0 = λ cells. HasNone cells in
+      elim (cases_eq i at) [
+        | inl q ↦
+            let R : ℕ → Type 0 = λ k. IsTrueOf clues givens picture (cells_at new k) (answer_at new k) in
+            let P : Answer → Type 0 = λ a. IsTrueOf clues givens picture (cells_at new at) a in
+            let S : List ℕ → Type 0 = λ cells. IsOtherFilling clues givens picture cells other in
+            subst R (sym q) (subst P (sym c.here) (subst S (sym (c.cells at)) one))
+        | inr d ↦ elim (cases_lt i at) [
+          | inl m ↦
+              let P : Answer → Type 0 = λ a. IsTrueOf clues givens picture (cells_at new i) a in
+              subst P (sym (c.before i m)) (subst Q (sym (c.cells i)) (none i m (omega arith)))
+          | inr p ↦
+              let P : KeptPart → Type 0 = λ part. IsTrueOf clues givens picture part.cells part.answer in
+              subst P (sym (c.behind i (omega arith))) (t i (omega arith))
+        ]
+      ]
+
+passes_each : (clues : Clues) (facts picture : List (List ℕ)) (allowance : Option ℕ) (kept : List KeptPart) (n s t : ℕ) → Passes clues facts picture allowance kept n s t → (i : ℕ) → i < n → (x : ℕ) × ((y : ℕ) × EndsPart clues facts picture allowance (kept_at kept i) ending.Nothing x y)
+passes_each clues facts picture allowance kept zero s t p i l = absurd (omega arith)
+passes_each clues facts picture allowance kept (suc n) s t p i l = elim (cases_eq i n) [
+  | inl q ↦
+      let P : ℕ → Type 0 = λ k. (x : ℕ) × ((y : ℕ) × EndsPart clues facts picture allowance (kept_at kept k) ending.Nothing x y) in
+      subst P (sym q) (p.1.1.0, (p.1.1.1.0, p.1.1.1.1.1.0))
+  | inr d ↦ passes_each clues facts picture allowance kept n p.0 p.1.0 p.1.1.1.1.0 i (omega arith)
+]
+
+module _ (law : CluesAreOfLines) (books : BooksAreTheirClues) (closing : ClosingKeepsFillings) (own : OnlyIsClosed) (fillings : FillingsAreOfFacts) (decide : PartsDecide) (clues : Clues) (givens : List ℕ) (facts picture : List (List ℕ)) (scene : IsScene clues givens facts picture) (allowance : Option ℕ) where
+  part_passed : (cells : List ℕ) (answer : Answer) (x y : ℕ) → EndsBy clues facts picture allowance cells answer ending.Nothing x y → IsTrueOf clues givens picture cells answer → (IsFilling answer → ⊥) → HasNone clues givens picture cells
+  part_passed cells Unknown x y e t f = none_found law books closing own fillings clues givens facts picture scene cells y e.1.0
+  part_passed cells Nothing x y e t f = t
+  part_passed cells (Filling other) x y e t f = absurd (f tt)
+
+  part_found : (cells : List ℕ) (answer : Answer) (other : List (List ℕ)) (x y : ℕ) → EndsBy clues facts picture allowance cells answer (ending.Found other) x y → IsOtherFilling clues givens picture cells other
+  part_found cells Unknown other x y e = one_found law books closing own fillings clues givens facts picture scene cells other y e.1.0
+  part_found cells Nothing other x y e = absurd (subst IsFound e.0 tt)
+  part_found cells (Filling known) other x y e = absurd (subst IsFound e.0 tt)
+
+  all_passed : (kept : List KeptPart) (n s t : ℕ) → HasNoFilling kept (length kept) → AreTrue clues givens picture kept → Passes clues facts picture allowance kept n s t → (i : ℕ) → i < n → i < length kept → HasNone clues givens picture (cells_at kept i)
+  all_passed kept n s t none are p i l m =
+      let e = passes_each clues facts picture allowance kept n s t p i l in
+      part_passed (cells_at kept i) (answer_at kept i) e.0 e.1.0 e.1.1 (are i m) (none i m)
+
+  pub judged_true : (old new : List KeptPart) (verdict : Verdict) (m n : ℕ) → AreTrue clues givens picture old → Judges clues facts picture allowance old new verdict m n → AreTrue clues givens picture new
+  judged_true old new Unique m n t j = changes_true clues givens picture old new (length old) j.noted (all_passed old (length old) m n j.none_kept t j.passes) t
+  judged_true old new Other m n t (inl j) = subst (AreTrue clues givens picture) (sym j.same) t
+  judged_true old new Other m n t (inr j) =
+      let s = j.stops in
+      finds_true clues givens picture old new j.at j.other j.noted (all_passed old j.at s.searched_before s.splits_before j.none_kept t s.before) (part_found (cells_at old j.at) (answer_at old j.at) j.other s.searched_here s.splits_here s.here) t
+  judged_true old new Undecided m n t j =
+      let s = j.stops in
+      changes_true clues givens picture old new j.at j.noted (all_passed old j.at s.searched_before s.splits_before j.none_kept t s.before) t
+
+  pub verdict_true : (old new : List KeptPart) (verdict : Verdict) (m n : ℕ) → AreParts facts (parts_of old) → AreTrue clues givens picture old → Judges clues facts picture allowance old new verdict m n → IsVerdict clues givens picture verdict
+  verdict_true old new Unique m n are t j = λ other is.
+      let count = length-map old (λ (part : KeptPart). part.cells) in
+      let some = (decide.some_part clues givens facts picture (parts_of old) scene are).0 (other, is) in
+      let i = some.0 in
+      let P : List ℕ → Type 0 = λ cells. IsOtherFilling clues givens picture cells some.1.1.0 in
+      let l = some.1.0 in
+      all_passed old (length old) m n j.none_kept t j.passes i (omega arith) (omega arith) some.1.1.0 (subst P (part_of_kept old i) some.1.1.1)
+  verdict_true old new Other m n are t (inl j) =
+      let f = kept_filling_is clues givens picture (cells_at old j.at) (answer_at old j.at) j.is.is (t j.at j.is.place) in
+      (f.0, f.1.is_other)
+  verdict_true old new Other m n are t (inr j) =
+      let s = j.stops in
+      (j.other, (part_found (cells_at old j.at) (answer_at old j.at) j.other s.searched_here s.splits_here s.here).is_other)
+  verdict_true old new Undecided m n are t j = tt
