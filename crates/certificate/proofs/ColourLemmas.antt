@@ -5,7 +5,7 @@ use Rattle.std.specs.Int.{bit_at, bit_not, trailing_zeros, w16}
 use Rattle.std.specs.List.{filter, range_with_len}
 use Rattle.std.proofs.lemmas.Bool.{cases_eq}
 use Rattle.std.proofs.lemmas.Nat.Bits.{bit_at-lt, bit_at-zero, bit_at-trailing_zeros}
-use Rattle.picture.specs.BitLaws.{bit_is_set, set_bit, power_has, no_bit}
+use Rattle.picture.specs.BitLaws.{bit_is_set, set_bit, power_has}
 use Rattle.line_settle.specs.MaskLaws.{shifted, without_bit, lowest_below}
 use Rattle.line_settle.specs.Masks.{IsOnly}
 use Rattle.certificate.specs.Puzzle.{colours_of}

@@ -217,7 +217,7 @@ one_tree picture facts lines none e p = absurd p
 one_tree picture facts lines (more tree none) e p = (tree, e ∙ append-nil (written tree), p.0)
 one_tree picture facts lines (more tree (more other trees)) e p = absurd p.1
 
-none_is_proof : (picture : List (List ℕ)) (cert : Certificate) → CertFirstFault picture cert None → IsProof picture cert
+pub none_is_proof : (picture : List (List ℕ)) (cert : Certificate) → CertFirstFault picture cert None → IsProof picture cert
 none_is_proof picture cert f =
     let b = behind_none picture (blank_for picture) 2 cert.givens cert.lines f in
     let g = no_fault_trees picture cert.lines (base_of picture cert.givens ∷ []) b.number b.none_first in

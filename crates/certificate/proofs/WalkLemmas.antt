@@ -32,7 +32,7 @@ clue_count : (axis : Axis) (picture : List (List ℕ)) (n : ℕ) → length (fir
 unfolding first_clues
 clue_count axis picture n = length-map (range_with_len 0 n) (λ (at : ℕ). clue_of (line_along axis at picture)) ∙ length-range_with_len 0 n
 
-clues_are_there : (axis : Axis) (picture : List (List ℕ)) → length (clues_along axis (clues_of picture)) ≡ lines_along axis picture
+pub clues_are_there : (axis : Axis) (picture : List (List ℕ)) → length (clues_along axis (clues_of picture)) ≡ lines_along axis picture
 clues_are_there Across picture = clue_count Across picture (length picture)
 clues_are_there Down picture = clue_count Down picture (width_of picture)
 
@@ -46,7 +46,7 @@ found_clue picture clues longest number found can h e =
     let l = has_found picture number found h e in
     subst P (sym can.clues_are) (omega arith)
 
-short_along : (axis : Axis) (at longest : ℕ) (picture : List (List ℕ)) → IsPicture picture → width_of picture ≤ longest → length picture ≤ longest → at < lines_along axis picture → length (line_along axis at picture) ≤ longest
+pub short_along : (axis : Axis) (at longest : ℕ) (picture : List (List ℕ)) → IsPicture picture → width_of picture ≤ longest → length picture ≤ longest → at < lines_along axis picture → length (line_along axis at picture) ≤ longest
 short_along Across at longest picture is w t h = let r = is.rectangular at h in omega arith
 short_along Down at longest picture is w t h = let m = length-map picture (λ (row : List ℕ). get_or row at 0) in omega arith
 

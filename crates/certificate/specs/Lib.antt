@@ -1,6 +1,7 @@
 pub mod Cert
 pub mod Faults
 pub mod FirstFault
+pub mod Making
 pub mod Puzzle
 pub mod Text
 pub mod Tree

@@ -6,7 +6,7 @@ ghost use Rattle.picture.specs.Rows.{width_of};
 ghost use Rattle.line_settle.specs.FactSets.{SameShape};
 ghost use Rattle.certificate.specs.declared.line.CertLine.{CertLine};
 ghost use Rattle.certificate.specs.FirstFault.{AnswersFirst, CertFirstFault, FirstFault, FirstFaultBehind};
-ghost use Rattle.certificate.specs.Puzzle.{HasCellNumbers, IsUnique};
+ghost use Rattle.certificate.specs.Puzzle.{HasCellNumbers, IsUnique, with_givens};
 ghost use Rattle.certificate.specs.Tree.{IsProof};
 ghost use Rattle.certificate.specs.Walk.{GivesBase};
 
@@ -24,10 +24,16 @@ use std::alloc::Global;
 const FIRST_LINES: usize = 2;
 
 // Holds each given to the picture's colour.
-fn set_givens(picture: &Picture, facts: &mut Facts, givens: &[CellNumber]) -> Result<(), CertFault>
+pub(crate) fn set_givens(
+    picture: &Picture,
+    facts: &mut Facts,
+    givens: &[CellNumber],
+) -> Result<(), CertFault>
     requires same_shape { SameShape picture.now facts.old }
     requires few { FIRST_LINES + length givens.now < 2 ^ 64 }
-    ensures { GivesBase picture.now facts.old givens.now result facts.new }
+    ensures base { GivesBase picture.now facts.old givens.now result facts.new }
+    ensures facts { OnOk result (facts.new ≡ with_givens picture.now givens.now facts.old) }
+    ensures outside { IfErr result (λ _. HasCellNumbers picture.now givens.now → ⊥) }
 {
     for (i, given) in givens.iter().enumerate() {
         let Some((row, col)) = cell_in(picture, *given) else {

@@ -16,7 +16,7 @@ use picture::{Axis, LineId, MAX_SIDE};
 const MOST_CELLS: usize = MAX_SIDE as usize;
 
 // Finds which colours the cells of a line can have by its clue.
-fn narrow_line<E: LineEngine>(
+pub(crate) fn narrow_line<E: LineEngine>(
     engine: &mut E,
     facts: &Facts,
     clue: &Clue,

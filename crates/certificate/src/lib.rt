@@ -1,12 +1,15 @@
-//! Certificates of uniqueness: texts that anyone can test, and their checker.
+//! Certificates of uniqueness: texts that anyone can test, their checker and their maker.
 #![tactic(auto)]
 
 mod cert;
 mod checking;
+mod choosing;
+mod due;
 mod fault;
 mod forcing;
 pub mod laws;
 mod line;
+mod making;
 mod notes;
 mod places;
 mod reading;
@@ -19,6 +22,7 @@ pub use cert::Cert;
 pub use checking::check_cert;
 pub use fault::CertFault;
 pub use line::{CellNumber, CertLine, LineNumber};
+pub use making::make_cert;
 pub use reading::read_cert;
 pub use writing::write_cert;
 

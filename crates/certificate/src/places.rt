@@ -7,7 +7,7 @@ use crate::line::{CellNumber, LineNumber};
 use picture::{Axis, LineId, Picture};
 
 // How many lines a picture has along an axis.
-fn line_count(picture: &Picture, axis: Axis) -> u8
+pub(crate) fn line_count(picture: &Picture, axis: Axis) -> u8
     ensures value { result ≡ lines_along axis picture.now }
     ensures picture { IsPicture picture.now }
 {

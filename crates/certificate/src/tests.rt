@@ -6,6 +6,8 @@ use picture::{Axis, Picture};
 use std::alloc::{AllocError, Global};
 use std::process::Abort;
 
+mod listing;
+mod making;
 mod writing;
 
 // The first row, and so on, as a certificate names them.

@@ -97,7 +97,7 @@ fn take_done(
 }
 
 // Takes a line with its number, and says whether a branch is at hand behind it.
-fn take_line<E: LineEngine>(
+pub(crate) fn take_line<E: LineEngine>(
     engine: &mut E,
     picture: &Picture,
     book: &ClueBook,

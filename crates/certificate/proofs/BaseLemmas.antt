@@ -1,0 +1,142 @@
+-- The facts that givens say, cell by cell.
+use Rattle.std.proofs.Common.{◌≡◌, ◌⊎◌, ℕ, ◌+◌, ◌-◌, ◌^◌, ◌<◌, List, [], ◌∷◌, replicate, length, get_or, sym, ap, subst, ◌∙◌, arith, inl, inr}
+use Rattle.std.specs.Prelude.{IsBitSet}
+use Rattle.std.proofs.lemmas.Bool.{cases_eq, cases_lt}
+use Rattle.std.proofs.lemmas.List.{get_or_past, get_or-replicate, length-replicate}
+use Rattle.picture.specs.Picture.{IsPicture}
+use Rattle.picture.specs.Rows.{width_of, row_at, cell_at}
+use Rattle.line_settle.specs.FactSets.{Leaves, SameShape, with_given}
+use Rattle.line_settle.specs.GridLaws.{all_left, at_with_cell, off_with_cell, shape_with_cell}
+use Rattle.picture.specs.BitLaws.{bit_below, power_has}
+use Rattle.certificate.specs.declared.line.CellNumber.{CellNumber}
+use Rattle.certificate.specs.Making.{BasesAreOne, IsAmong, numbered}
+use Rattle.certificate.specs.Puzzle.{HasCellNumbers, blank_for, with_givens}
+use Rattle.certificate.proofs.MakeLemmas.{left_inside}
+
+-- one given held
+abbrev once : List (List ℕ) → List (List ℕ) → CellNumber → List (List ℕ)
+once picture facts cell = with_given picture facts (cell.row - 1) (cell.col - 1)
+
+-- a place is a cell's, or it is not
+at_or_off : (r c : ℕ) (cell : CellNumber) → ((r ≡ cell.row - 1) × (c ≡ cell.col - 1)) ⊎ ((r ≡ cell.row - 1) × (c ≡ cell.col - 1) → ⊥)
+at_or_off r c cell = elim (cases_eq r (cell.row - 1)) [
+  | inr n ↦ inr (λ p. n p.0)
+  | inl e ↦ elim (cases_eq c (cell.col - 1)) [ inl f ↦ inl (e, f) | inr n ↦ inr (λ p. n p.1) ]
+]
+
+at_once : (picture facts : List (List ℕ)) (cell : CellNumber) (k : ℕ) → Leaves (once picture facts cell) (cell.row - 1) (cell.col - 1) k → k ≡ cell_at picture (cell.row - 1) (cell.col - 1)
+at_once picture facts cell k l =
+    let row = cell.row - 1 in
+    let col = cell.col - 1 in
+    let p = cell_at picture row col in
+    let inside = left_inside (once picture facts cell) row col k l in
+    let s = shape_with_cell facts row col (2 ^ p) in
+    let h = s.rows in
+    let w = s.each row in
+    let P : ℕ → Type 0 = λ m. IsBitSet m k in
+    (power_has p k).0 (subst P (at_with_cell facts row col (2 ^ p) (omega arith) (omega arith)) l)
+
+-- one given leaves the picture's colour there, and elsewhere what was left
+left_once : (picture facts : List (List ℕ)) (cell : CellNumber) (r c k : ℕ) → Leaves (once picture facts cell) r c k → Leaves facts r c k ⊎ (k ≡ cell_at picture r c)
+left_once picture facts cell r c k l = elim (at_or_off r c cell) [
+  | inl p ↦
+      let P : ℕ → Type 0 = λ x. Leaves (once picture facts cell) x c k in
+      let Q : ℕ → Type 0 = λ y. Leaves (once picture facts cell) (cell.row - 1) y k in
+      let e = at_once picture facts cell k (subst Q p.1 (subst P p.0 l)) in
+      inr (e ∙ (ap (λ (x : ℕ). cell_at picture x (cell.col - 1)) (sym p.0) ∙ ap (cell_at picture r) (sym p.1)))
+  | inr n ↦ let P : ℕ → Type 0 = λ m. IsBitSet m k in inl (subst P (off_with_cell facts (cell.row - 1) (cell.col - 1) (2 ^ cell_at picture (cell.row - 1) (cell.col - 1)) r c n) l)
+]
+
+pub left_or_given : (picture facts : List (List ℕ)) (cells : List CellNumber) (r c k : ℕ) → Leaves (with_givens picture cells facts) r c k → Leaves facts r c k ⊎ (k ≡ cell_at picture r c)
+left_or_given picture facts [] r c k l = inl l
+left_or_given picture facts (cell ∷ cells) r c k l = elim (left_or_given picture (once picture facts cell) cells r c k l) [
+  | inl h ↦ left_once picture facts cell r c k h
+  | inr e ↦ inr e
+]
+
+-- in a given only the picture's colour is left
+pub given_left : (picture facts : List (List ℕ)) (cells : List CellNumber) (r c k : ℕ) → IsAmong (numbered r c) cells → Leaves (with_givens picture cells facts) r c k → k ≡ cell_at picture r c
+given_left picture facts [] r c k m l = absurd m
+given_left picture facts (cell ∷ cells) r c k (inl e) l = elim (left_or_given picture (once picture facts cell) cells r c k l) [
+  | inr f ↦ f
+  | inl h ↦
+      let row : r + 1 ≡ cell.row = ap (λ (x : CellNumber). x.row) e in
+      let col : c + 1 ≡ cell.col = ap (λ (x : CellNumber). x.col) e in
+      let a : r ≡ cell.row - 1 = omega arith in
+      let b : c ≡ cell.col - 1 = omega arith in
+      let P : ℕ → Type 0 = λ x. Leaves (once picture facts cell) x c k in
+      let Q : ℕ → Type 0 = λ y. Leaves (once picture facts cell) (cell.row - 1) y k in
+      at_once picture facts cell k (subst Q b (subst P a h)) ∙ (ap (λ (x : ℕ). cell_at picture x (cell.col - 1)) (sym a) ∙ ap (cell_at picture r) (sym b))
+]
+given_left picture facts (cell ∷ cells) r c k (inr m) l = given_left picture (once picture facts cell) cells r c k m l
+
+-- what is left stays left, but for the other colours of a given
+open_once : (picture facts : List (List ℕ)) (cell : CellNumber) (r c k : ℕ) → (((r ≡ cell.row - 1) × (c ≡ cell.col - 1)) → k ≡ cell_at picture r c) → Leaves facts r c k → Leaves (once picture facts cell) r c k
+open_once picture facts cell r c k h l = elim (at_or_off r c cell) [
+  | inr n ↦ let P : ℕ → Type 0 = λ m. IsBitSet m k in subst P (sym (off_with_cell facts (cell.row - 1) (cell.col - 1) (2 ^ cell_at picture (cell.row - 1) (cell.col - 1)) r c n)) l
+  | inl p ↦
+      let row = cell.row - 1 in
+      let col = cell.col - 1 in
+      let inside = left_inside facts r c k l in
+      let A : ℕ → Type 0 = λ x. (x < length facts) × (c < length (row_at facts x)) in
+      let B : ℕ → Type 0 = λ y. (row < length facts) × (y < length (row_at facts row)) in
+      let there = subst B p.1 (subst A p.0 inside) in
+      let P : ℕ → Type 0 = λ m. IsBitSet m k in
+      let Q : ℕ → Type 0 = λ x. Leaves (once picture facts cell) x c k in
+      let R : ℕ → Type 0 = λ y. Leaves (once picture facts cell) row y k in
+      let is : k ≡ cell_at picture row col = h p ∙ (ap (λ (x : ℕ). cell_at picture x c) p.0 ∙ ap (cell_at picture row) p.1) in
+      subst Q (sym p.0) (subst R (sym p.1) (subst P (sym (at_with_cell facts row col (2 ^ cell_at picture row col) there.0 there.1)) ((power_has (cell_at picture row col) k).1 is)))
+]
+
+open_stays : (picture facts : List (List ℕ)) (cells : List CellNumber) → HasCellNumbers picture cells → (r c k : ℕ) → (IsAmong (numbered r c) cells → k ≡ cell_at picture r c) → Leaves facts r c k → Leaves (with_givens picture cells facts) r c k
+open_stays picture facts [] has r c k h l = l
+open_stays picture facts (cell ∷ cells) has r c k h l =
+    open_stays picture (once picture facts cell) cells has.1 r c k (λ m. h (inr m)) (open_once picture facts cell r c k (λ p. h (inl (number_is p.0 p.1))) l)
+  where
+    number_is : r ≡ cell.row - 1 → c ≡ cell.col - 1 → numbered r c ≡ cell
+    number_is e f =
+        let a : r + 1 ≡ cell.row = (let q = has.0.0 in omega arith) in
+        let b : c + 1 ≡ cell.col = (let q = has.0.2 in omega arith) in
+        ap (λ (x : ℕ). let it : CellNumber = record { row = x; col = c + 1 } in it) a ∙ ap (λ (y : ℕ). let it : CellNumber = record { row = cell.row; col = y } in it) b
+
+-- ---- the root
+
+blank_row : (picture : List (List ℕ)) (row : ℕ) → row < length picture → row_at (blank_for picture) row ≡ replicate (width_of picture) 65535
+blank_row picture row l = get_or-replicate (length picture) row (replicate (width_of picture) 65535) [] l
+
+blank_shape : (picture : List (List ℕ)) → IsPicture picture → SameShape picture (blank_for picture)
+blank_shape picture is = record {
+  rows = sym (length-replicate (length picture) (replicate (width_of picture) 65535));
+  each = λ i. elim (cases_lt i (length picture)) [
+    | inl l ↦ is.rectangular i l ∙ (sym (length-replicate (width_of picture) 65535) ∙ ap (λ (r : List ℕ). length r) (sym (blank_row picture i l)))
+    | inr p ↦ ap (λ (r : List ℕ). length r) (get_or_past picture i [] p ∙ sym (get_or_past (blank_for picture) i [] (let n : length (blank_for picture) ≡ length picture = length-replicate (length picture) (replicate (width_of picture) 65535) in omega arith)))
+  ];
+}
+
+blank_left : (picture : List (List ℕ)) (row col k : ℕ) → row < length picture → col < width_of picture → Leaves (blank_for picture) row col k → k < 16
+blank_left picture row col k h w l =
+    let e : cell_at (blank_for picture) row col ≡ 65535 = ap (λ (r : List ℕ). get_or r col 0) (blank_row picture row h) ∙ get_or-replicate (width_of picture) col 65535 0 w in
+    let P : ℕ → Type 0 = λ m. IsBitSet m k in
+    bit_below 65535 16 k (omega arith) (subst P e l)
+
+givens_shape : (picture facts : List (List ℕ)) (cells : List CellNumber) → SameShape picture facts → SameShape picture (with_givens picture cells facts)
+givens_shape picture facts [] s = s
+givens_shape picture facts (cell ∷ cells) s =
+    let t = shape_with_cell facts (cell.row - 1) (cell.col - 1) (2 ^ cell_at picture (cell.row - 1) (cell.col - 1)) in
+    givens_shape picture (once picture facts cell) cells (record { rows = s.rows ∙ t.rows; each = λ i. s.each i ∙ t.each i })
+
+-- the root of a certificate with exactly the cells of a set is the base of that set
+pub bases_are_one : BasesAreOne
+bases_are_one picture givens cells is names = record {
+  same_shape = givens_shape picture (blank_for picture) cells (blank_shape picture is);
+  left = λ row col k h w. (
+    (λ l. (
+      elim (left_or_given picture (blank_for picture) cells row col k l) [
+        | inl b ↦ blank_left picture row col k h w b
+        | inr e ↦ let c = is.colours row col in let q : k < 16 = omega arith in q
+      ],
+      (λ has. given_left picture (blank_for picture) cells row col k ((names.named row col).0 has) l),
+    )),
+    (λ o. open_stays picture (blank_for picture) cells names.inside row col k (λ m. o.1 ((names.named row col).1 m)) (all_left (length picture) (width_of picture) row col k h w o.0)),
+  );
+}

@@ -1,0 +1,73 @@
+-- What is made: a certificate, or there is another picture.
+use Rattle.std.proofs.Common.{◌≡◌, ℕ, ◌+◌, ◌<◌, ◌↔◌, List, [], ◌∷◌, None, Some, Ok, length, sym, ap, subst, ◌∙◌, arith}
+use Rattle.picture.specs.Document.{AreInside}
+use Rattle.picture.specs.Picture.{IsPicture}
+use Rattle.picture.specs.Rows.{width_of, cell_at}
+use Rattle.clues.specs.Laws.{BooksAreTheirClues, CluesAreOfLines}
+use Rattle.line_settle.specs.FactSets.{IsFacts, Leaves, SameShape, nothing_excluded}
+use Rattle.picture.specs.BitLaws.{bit_below}
+use Rattle.certificate.specs.declared.line.CellNumber.{CellNumber}
+use Rattle.certificate.specs.declared.line.CertLine.{CertLine}
+use Rattle.certificate.specs.Cert.{Certificate}
+use Rattle.certificate.specs.FirstFault.{CertFirstFault, FirstFaultBehind}
+use Rattle.certificate.specs.Making.{HasNoFault, IsMade, Makes, NamesGivens, WritesTree}
+use Rattle.certificate.specs.Puzzle.{blank_for, with_givens}
+use Rattle.certificate.specs.Walk.{GivesBase}
+use Rattle.certificate.proofs.BaseLemmas.{given_left}
+use Rattle.certificate.proofs.Exactness.{none_is_proof}
+use Rattle.certificate.proofs.OtherLemmas.{other_is_shown}
+use Rattle.certificate.proofs.Soundness.{proof_is_unique}
+
+pub none_made : CluesAreOfLines → BooksAreTheirClues → (picture start : List (List ℕ)) (givens : List ℕ) (cells : List CellNumber) → IsPicture picture → AreInside givens picture → NamesGivens picture givens cells → SameShape picture start → IsFacts start → start ≡ with_givens picture cells (blank_for picture) → WritesTree picture start None → Makes picture givens None
+none_made clues books picture start givens cells is inside names shape are e w =
+    let facts = w.0 in
+    let within = w.1.0 in
+    let same : SameShape picture facts = record { rows = shape.rows ∙ within.same_shape.rows; each = λ i. shape.each i ∙ within.same_shape.each i } in
+    let few : (row col k : ℕ) → Leaves facts row col k → k < 16 = λ row col k l. bit_below (cell_at start row col) 16 k (are.masks row col) (within.leaves row col k l) in
+    let s = other_is_shown clues books picture facts is same few w.1.1 in (
+      s.other,
+      record {
+        is_picture = s.is_picture;
+        same_shape = s.same_shape;
+        same_clues = s.same_clues;
+        keeps_givens = λ row col has.
+            let i = inside row col has in
+            let r = s.same_shape.rows in
+            let c = s.same_shape.each row in
+            let q = is.rectangular row i.0 in
+            let l : Leaves start row col (cell_at s.other row col) = within.leaves row col (cell_at s.other row col) (s.leaves row col (let h = i.0 in omega arith) (let h = i.1 in omega arith)) in
+            let P : List (List ℕ) → Type 0 = λ f. Leaves f row col (cell_at s.other row col) in
+            given_left picture (blank_for picture) cells row col (cell_at s.other row col) ((names.named row col).0 has) (subst P e l);
+        differs = s.differs;
+      },
+    )
+
+pub some_made : (picture start : List (List ℕ)) (givens : List ℕ) (cells : List CellNumber) (lines : List CertLine) (cert : Certificate) → IsPicture picture → NamesGivens picture givens cells → GivesBase picture (blank_for picture) cells (Ok tt) start → HasNoFault picture (start ∷ []) lines → cert.givens ≡ cells → cert.lines ≡ lines → (cert.version ≡ 1) ↔ (cells ≡ []) → IsMade picture givens cert
+some_made picture start givens cells lines cert is names base none g l v =
+    let P : List CellNumber → Type 0 = λ cs. FirstFaultBehind picture (blank_for picture) 2 cs cert.lines None in
+    let Q : List CertLine → Type 0 = λ ls. FirstFaultBehind picture (blank_for picture) 2 cells ls None in
+    let accepted : CertFirstFault picture cert None = subst P (sym g) (subst Q (sym l) (base.1 lines None (none (2 + length cells)))) in
+    let proof = none_is_proof picture cert accepted in
+    let N : List CellNumber → Type 0 = NamesGivens picture givens in
+    record {
+      accepted = accepted;
+      proof = proof;
+      unique = proof_is_unique picture cert is proof;
+      names = subst N (sym g) names;
+      version = ((λ e. g ∙ v.0 e), (λ e. v.1 (sym g ∙ e)));
+    }
+
+-- the facts at the root, as they were made
+root_is : (picture blank start : List (List ℕ)) (cells : List CellNumber) (height width : ℕ) → height ≡ length picture → width ≡ width_of picture → blank ≡ nothing_excluded height width → blank ≡ blank_for picture
+root_is picture blank start cells height width h w b = b ∙ (ap (λ (n : ℕ). nothing_excluded n width) h ∙ ap (nothing_excluded (length picture)) w)
+
+pub makes_none : CluesAreOfLines → BooksAreTheirClues → (picture blank start : List (List ℕ)) (givens : List ℕ) (cells : List CellNumber) (height width : ℕ) → IsPicture picture → AreInside givens picture → NamesGivens picture givens cells → height ≡ length picture → width ≡ width_of picture → blank ≡ nothing_excluded height width → GivesBase picture blank cells (Ok tt) start → IsFacts start → start ≡ with_givens picture cells blank → WritesTree picture start None → Makes picture givens None
+makes_none clues books picture blank start givens cells height width is inside names h w b base are e t =
+    none_made clues books picture start givens cells is inside names base.0 are (e ∙ ap (with_givens picture cells) (root_is picture blank start cells height width h w b)) t
+
+pub makes_some : (picture blank start : List (List ℕ)) (givens : List ℕ) (cells : List CellNumber) (lines : List CertLine) (cert : Certificate) (height width : ℕ) → IsPicture picture → NamesGivens picture givens cells → height ≡ length picture → width ≡ width_of picture → blank ≡ nothing_excluded height width → GivesBase picture blank cells (Ok tt) start → WritesTree picture start (Some lines) → cert.givens ≡ cells → cert.lines ≡ lines → (cert.version ≡ 1) ↔ (cells ≡ []) → Makes picture givens (Some cert)
+makes_some picture blank start givens cells lines cert height width is names h w b base t g l v =
+    let P : List (List ℕ) → Type 0 = λ f. GivesBase picture f cells (Ok tt) start in
+    some_made picture start givens cells lines cert is names (subst P (root_is picture blank start cells height width h w b) base) t.1 g l v
+
+pub ruleset making = (makes_none, makes_some)

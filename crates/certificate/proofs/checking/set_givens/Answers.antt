@@ -1,0 +1,6 @@
+use Rattle.std.proofs.Common.{arith, refl}
+use Rattle.certificate.proofs.GivenLemmas.{has_each}
+use Rattle.certificate.proofs.checking.set_givens.Goals as goal
+
+pub returns-in_default-clause-outside : goal.returns-in_default-clause-outside
+returns-in_default-clause-outside c = λ has. c.in_default.ensures (has_each c.args.picture.now c.args.givens.now c.loop-i.i _ _ (omega arith) refl has)

@@ -1,0 +1,14 @@
+use Rattle.std.proofs.Common.{arith}
+use Rattle.certificate.proofs.NumberLemmas.{all_named, row_named}
+use Rattle.certificate.proofs.making.given_cells.Goals as goal
+
+pub loop-row-preserved : goal.loop-row-preserved
+loop-row-preserved c =
+    let e = c.width.ensures.value in
+    let few = c.width.ensures.picture.columns_fit in
+    row_named c.args.picture.now c.args.givens.now c.loop-row.row c.width.result c.put_row.new.cells.items c.requires c.width.ensures.value (omega arith) c.in_ok-put_row.ensures.named
+
+pub returns-clause-named : goal.returns-clause-named
+returns-clause-named c =
+    let e = c.height-row-end.ensures.value in
+    all_named c.args.picture.now c.args.givens.now c.loop-row.row c.loop-row.cells.items c.requires (omega arith) c.loop-row.invariant

@@ -1,0 +1,157 @@
+//! The maker of certificates.
+
+ghost use Rattle.std.specs.Prelude.{◌≡◌, ◌≤◌, ◌<◌, ◌↔◌, [], length, IfErr, IfOk, OnOk};
+ghost use Rattle.picture.specs.Document.{AreInside};
+ghost use Rattle.picture.specs.Rows.{width_of};
+ghost use Rattle.certificate.specs.Cert.{AreOrdered, AreWritable};
+ghost use Rattle.certificate.specs.Making.{Makes, NamesGivens, NamesUpTo, WritesTree, lines_seen};
+ghost use Rattle.certificate.specs.Walk.{CanCheck, IsWalk};
+
+use crate::cert::Cert;
+use crate::checking::set_givens;
+use crate::choosing::{cell_number, choose};
+use crate::due::{all_due, renew};
+use crate::fault::CertFault;
+use crate::line::{CellNumber, CertLine};
+use crate::walk::take_line;
+use clues::ClueBook;
+use clues::laws::{books_are_their_clues, clues_are_of_lines};
+use line_settle::laws::forcing_closes_a_line;
+use line_settle::{Facts, LineEngine};
+use picture::{CellSet, MAX_SIDE, Picture};
+use std::alloc::{AllocError, Global};
+
+#[tactic(auto, using(crate::proofs::MakeLemmas::writing_trees))]
+// Writes a tree for a picture from facts on, line by line as the checker takes them. There is none exactly where facts that
+// exclude no less show another picture.
+fn write_tree<E: LineEngine>(
+    alloc: Global,
+    engine: &mut E,
+    picture: &Picture,
+    book: &ClueBook,
+    facts: &mut Facts,
+) -> Result<Option<Vec<CertLine>>, CertFault>
+    requires can { CanCheck picture.now book.now (E.longest engine.old) }
+    requires walk { IsWalk picture.now facts.old [] }
+    ensures writes { IfOk result (λ lines. WritesTree picture.now facts.old (lines_seen lines)) }
+    ensures err { IfErr result (λ e. e ≡ CertFault.Memory) }
+    ensures same_longest { E.longest engine.new ≡ E.longest engine.old }
+{
+    forcing_closes_a_line();
+    let mut notes = Vec::new(alloc);
+    let mut lines = Vec::new(alloc);
+    let mut due = all_due();
+    loop {
+        let Some(line) = choose(engine, picture, book, facts, &notes, &mut due) else {
+            return Ok(None);
+        };
+        lines.push(line)?;
+        if !take_line(engine, picture, book, facts, &mut notes, line, 0)? {
+            return Ok(Some(lines));
+        }
+        renew(&mut due, line, &notes);
+    }
+}
+
+#[tactic(auto, using(crate::proofs::NumberLemmas::naming))]
+// Puts the numbers of the given cells of a row behind those of the rows before it.
+fn put_row(
+    cells: &mut Vec<CellNumber>,
+    givens: &CellSet,
+    row: u8,
+    width: u8,
+) -> Result<(), CertFault>
+    requires in_rows { row < MAX_SIDE }
+    requires in_columns { width ≤ MAX_SIDE }
+    requires named { NamesUpTo givens.now row 0 cells.old.items }
+    ensures named { OnOk result (NamesUpTo givens.now row width cells.new.items) }
+    ensures err { IfErr result (λ e. e ≡ CertFault.Memory) }
+{
+    for col in 0..width {
+        if givens.has(row, col) {
+            cells.push(cell_number(row, col))?;
+        }
+    }
+    Ok(())
+}
+
+#[tactic(auto, using(crate::proofs::NumberLemmas::naming))]
+// The givens by their numbers, in the order of rows.
+fn given_cells(
+    alloc: Global,
+    picture: &Picture,
+    givens: &CellSet,
+) -> Result<Vec<CellNumber>, CertFault>
+    requires { AreInside givens.now picture.now }
+    ensures named { IfOk result (λ cells. NamesGivens picture.now givens.now cells.items) }
+    ensures err { IfErr result (λ e. e ≡ CertFault.Memory) }
+{
+    let mut cells = Vec::new(alloc);
+    for row in 0..picture.height() {
+        put_row(&mut cells, givens, row, picture.width())?;
+    }
+    Ok(cells)
+}
+
+// The certificate of a tree with these givens.
+fn with_version(givens: Vec<CellNumber>, lines: Vec<CertLine>) -> Cert
+    requires givens { AreOrdered 0 givens.items }
+    requires lines { AreWritable lines.items }
+    ensures givens { result.givens ≡ givens.items }
+    ensures lines { result.lines ≡ lines.items }
+    ensures version { (result.version ≡ 1) ↔ (givens.items ≡ []) }
+{
+    let version = if givens.is_empty() { 1 } else { 2 };
+    Cert::new(version, givens, lines)
+}
+
+#[tactic(auto, using(crate::proofs::MadeLemmas::making))]
+// A certificate of a picture, or there is another picture.
+fn made<E: LineEngine>(
+    alloc: Global,
+    engine: &mut E,
+    picture: &Picture,
+    givens: &CellSet,
+) -> Result<Option<Cert>, CertFault>
+    requires inside { AreInside givens.now picture.now }
+    requires wide { width_of picture.now ≤ E.longest engine.old }
+    requires tall { length picture.now ≤ E.longest engine.old }
+    ensures makes { IfOk result (Makes picture.now givens.now) }
+    ensures err { IfErr result (λ e. e ≡ CertFault.Memory) }
+    ensures same_longest { E.longest engine.new ≡ E.longest engine.old }
+{
+    clues_are_of_lines();
+    books_are_their_clues();
+    let cells = given_cells(alloc, picture, givens)?;
+    let mut facts = Facts::none(alloc, picture.height(), picture.width())?;
+    let book = ClueBook::of(alloc, picture)?;
+    set_givens(picture, &mut facts, &cells)?;
+    let _ = facts.height();
+    let Some(lines) = write_tree(alloc, engine, picture, &book, &mut facts)? else {
+        return Ok(None);
+    };
+    Ok(Some(with_version(cells, lines)))
+}
+
+/// Makes a certificate of a picture with exactly these givens: `check_cert` accepts it, so there is no other picture with the
+/// clues and, in the givens, the colours. It has version 1 exactly where there are none. The answer is None exactly where there
+/// is another picture. No line of the picture may be longer than the engine takes.
+///
+/// The tree is written while it is searched, and a refused growth is answered as the error. Nothing is said of its length.
+pub fn make_cert<E: LineEngine>(
+    alloc: Global,
+    engine: &mut E,
+    picture: &Picture,
+    givens: &CellSet,
+) -> Result<Option<Cert>, AllocError>
+    requires inside { AreInside givens.now picture.now }
+    requires wide { width_of picture.now ≤ E.longest engine.old }
+    requires tall { length picture.now ≤ E.longest engine.old }
+    ensures makes { IfOk result (Makes picture.now givens.now) }
+    ensures same_longest { E.longest engine.new ≡ E.longest engine.old }
+{
+    match made(alloc, engine, picture, givens) {
+        Ok(cert) => Ok(cert),
+        Err(_) => Err(AllocError),
+    }
+}
