@@ -94,4 +94,9 @@ pub refused : {X : Type 0} (r : Result X EditFault) (stroke : Stroke) (h : Histo
 refused (Ok x) stroke h old new e lawful memory same = tt
 refused (Err fault) stroke h old new e lawful memory same =
     let P : History → Type 0 = λ k. stroke_fault k stroke ≡ None in
-    record { first = memory ∙ sym (ap or_memory (subst P e lawful)); as_before = same }
+    let none : stroke_fault old.history stroke ≡ None = subst P e lawful in
+    record {
+      first = memory ∙ sym (ap or_memory none);
+      as_before = same;
+      uncalled = λ found some. let both = sym none ∙ some in absurd cc;
+    }

@@ -23,10 +23,12 @@ pub record Accepts (stroke : Stroke) (old new : Seen) : Type 0 where
   pub history : new.history ≡ after_stroke old.history stroke
   pub book : CarriesOn (stroke_moves old.history stroke) old new
 
--- A stroke is refused by the first fault that holds, or for want of memory where none does, and nothing changes.
+-- A stroke is refused by the first fault that holds, or for want of memory where none does, and nothing changes. Where a fault
+-- holds the engine was not called either.
 pub record Refuses (stroke : Stroke) (fault : EditFault) (old new : Seen) : Type 0 where
   pub first : fault ≡ or_memory (stroke_fault old.history stroke)
   pub as_before : IsAsBefore old new
+  pub uncalled : (found : EditFault) → stroke_fault old.history stroke ≡ Some found → new ≡ old
 
 -- ---- lists
 

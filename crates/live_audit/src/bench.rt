@@ -30,8 +30,8 @@ const NOTHING_DONE: Meter = Meter {
 };
 
 /// A document with its history, and all that follows from its picture: the clues, the book of reasons and the settled map.
-/// They are true of the present picture after every call; a refused call changes nothing but the engine's and the agenda's
-/// own working space, and the engine's `calls`.
+/// They are true of the present picture after every call; a refused call changes nothing. Only where memory was wanting may
+/// the engine and the agenda have been used, and `calls` have risen.
 #[derive(Drop)]
 pub struct Bench<E: LineEngine, A: Agenda> {
     alloc: Global,
