@@ -1,5 +1,6 @@
 -- What is made: a certificate, or there is another picture.
-use Rattle.std.proofs.Common.{◌≡◌, ℕ, ◌+◌, ◌<◌, ◌↔◌, List, [], ◌∷◌, None, Some, Ok, length, sym, ap, subst, ◌∙◌, arith}
+use Rattle.std.proofs.Common.{◌≡◌, ℕ, ◌+◌, ◌<◌, ◌↔◌, List, [], ◌∷◌, None, Some, Ok, length, sym, ap, subst, ◌∙◌, arith, ◌-◌, inl, inr}
+use Rattle.picture.specs.CellSet.{HasCell}
 use Rattle.picture.specs.Document.{AreInside}
 use Rattle.picture.specs.Picture.{IsPicture}
 use Rattle.picture.specs.Rows.{width_of, cell_at}
@@ -10,8 +11,8 @@ use Rattle.certificate.specs.declared.line.CellNumber.{CellNumber}
 use Rattle.certificate.specs.declared.line.CertLine.{CertLine}
 use Rattle.certificate.specs.Cert.{Certificate}
 use Rattle.certificate.specs.FirstFault.{CertFirstFault, FirstFaultBehind}
-use Rattle.certificate.specs.Making.{HasNoFault, IsMade, Makes, NamesGivens, WritesTree}
-use Rattle.certificate.specs.Puzzle.{blank_for, with_givens}
+use Rattle.certificate.specs.Making.{HasNoFault, IsAmong, IsMade, IsOtherPicture, Makes, NamesGivens, WritesTree, numbered}
+use Rattle.certificate.specs.Puzzle.{KeepsGivens, IsUnique, HasCellNumbers, blank_for, with_givens}
 use Rattle.certificate.specs.Walk.{GivesBase}
 use Rattle.certificate.proofs.BaseLemmas.{given_left}
 use Rattle.certificate.proofs.Exactness.{none_is_proof}
@@ -42,6 +43,27 @@ none_made clues books picture start givens cells is inside names shape are e w =
       },
     )
 
+-- ---- no other picture
+
+kept : (picture other : List (List ℕ)) (givens : List ℕ) (cells : List CellNumber) → HasCellNumbers picture cells → ((r c : ℕ) → IsAmong (numbered r c) cells → HasCell givens r c) → ((row col : ℕ) → HasCell givens row col → cell_at other row col ≡ cell_at picture row col) → KeepsGivens picture cells other
+kept picture other givens [] has named keeps = tt
+kept picture other givens (cell ∷ cells) has named keeps =
+    let a : cell.row - 1 + 1 ≡ cell.row = (let p = has.0.0 in omega arith) in
+    let b : cell.col - 1 + 1 ≡ cell.col = (let p = has.0.2 in omega arith) in
+    let e : numbered (cell.row - 1) (cell.col - 1) ≡ cell =
+    ap (λ (x : ℕ). let it : CellNumber = record { row = x; col = cell.col - 1 + 1 } in it) a ∙ ap (λ (y : ℕ). let it : CellNumber = record { row = cell.row; col = y } in it) b in
+    (keeps (cell.row - 1) (cell.col - 1) (named (cell.row - 1) (cell.col - 1) (inl e)), kept picture other givens cells has.1 (λ r c m. named r c (inr m)) keeps)
+
+unique_has_no_other : (picture : List (List ℕ)) (givens : List ℕ) (cells : List CellNumber) → NamesGivens picture givens cells → IsUnique picture cells → (other : List (List ℕ)) → IsOtherPicture picture givens other → ⊥
+unique_has_no_other picture givens cells names unique other o =
+    o.differs (unique other (record {
+      is_picture = o.is_picture;
+      rows = sym o.same_shape.rows;
+      columns = sym (o.same_shape.each 0);
+      same_clues = o.same_clues;
+      keeps_givens = kept picture other givens cells names.inside (λ r c m. (names.named r c).1 m) o.keeps_givens;
+    }))
+
 pub some_made : (picture start : List (List ℕ)) (givens : List ℕ) (cells : List CellNumber) (lines : List CertLine) (cert : Certificate) → IsPicture picture → NamesGivens picture givens cells → GivesBase picture (blank_for picture) cells (Ok tt) start → HasNoFault picture (start ∷ []) lines → cert.givens ≡ cells → cert.lines ≡ lines → (cert.version ≡ 1) ↔ (cells ≡ []) → IsMade picture givens cert
 some_made picture start givens cells lines cert is names base none g l v =
     let P : List CellNumber → Type 0 = λ cs. FirstFaultBehind picture (blank_for picture) 2 cs cert.lines None in
@@ -49,11 +71,14 @@ some_made picture start givens cells lines cert is names base none g l v =
     let accepted : CertFirstFault picture cert None = subst P (sym g) (subst Q (sym l) (base.1 lines None (none (2 + length cells)))) in
     let proof = none_is_proof picture cert accepted in
     let N : List CellNumber → Type 0 = NamesGivens picture givens in
+    let named = subst N (sym g) names in
+    let unique = proof_is_unique picture cert is proof in
     record {
       accepted = accepted;
       proof = proof;
-      unique = proof_is_unique picture cert is proof;
-      names = subst N (sym g) names;
+      unique = unique;
+      no_other = unique_has_no_other picture givens cert.givens named unique;
+      names = named;
       version = ((λ e. g ∙ v.0 e), (λ e. v.1 (sym g ∙ e)));
     }
 

@@ -107,12 +107,13 @@ pub record IsOtherPicture (picture : List (List ℕ)) (givens : List ℕ) (other
   pub keeps_givens : (row col : ℕ) → HasCell givens row col → cell_at other row col ≡ cell_at picture row col
   pub differs : other ≡ picture → ⊥
 
--- A certificate with exactly these givens that has no fault: so it proves the picture, and there is no other. It has version 1
--- exactly where there are none.
+-- A certificate with exactly these givens that has no fault: so it proves the picture, and there is no other with its givens or,
+-- which is the same, those of the set. It has version 1 exactly where there are none.
 pub record IsMade (picture : List (List ℕ)) (givens : List ℕ) (cert : Certificate) : Type 0 where
   pub accepted : CertFirstFault picture cert None
   pub proof : IsProof picture cert
   pub unique : IsUnique picture cert.givens
+  pub no_other : (other : List (List ℕ)) → IsOtherPicture picture givens other → ⊥
   pub names : NamesGivens picture givens cert.givens
   pub version : (cert.version ≡ 1) ↔ (cert.givens ≡ [])
 
