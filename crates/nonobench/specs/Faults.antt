@@ -1,11 +1,14 @@
 -- The program's line and status for each fault.
-use Rattle.std.specs.Prelude.{ℕ, List, ◌++◌, codes, decimal, unwrap_or}
+use Rattle.std.specs.Prelude.{ℕ, List, ◌++◌, codes, decimal, string_bytes, unwrap_or}
 use Rattle.ppm_text.specs.declared.fault.PpmFault.{PpmFault}
 use Rattle.ppm_text.specs.declared.fault.PpmFault.TheVariants as ppm
 use Rattle.ppm_text.specs.Faults.{name_of, place_of}
 use Rattle.edits.specs.Fault.{fault_name}
+use Rattle.certificate.specs.declared.fault.CertFault.{CertFault}
+use Rattle.certificate.specs.declared.fault.CertFault.TheVariants as cert
+use Rattle.certificate.specs.Faults as certs
 use Rattle.nonobench.specs.declared.fault.ProgramFault.{ProgramFault}
-use Rattle.nonobench.specs.declared.fault.ProgramFault.TheVariants.{Ppm, Edit, Memory, TooLong, Words, Read, Write}
+use Rattle.nonobench.specs.declared.fault.ProgramFault.TheVariants.{Ppm, Edit, Cert, Memory, TooLong, Words, Help, Background, Read, Write}
 
 -- a fault of the P3 text, but want of memory is one fault wherever it comes
 abbrev pub fault_of : PpmFault → ProgramFault
@@ -20,13 +23,28 @@ fault_of (ppm.SampleOver at) = Ppm (ppm.SampleOver at)
 fault_of (ppm.TooManyColours at) = Ppm (ppm.TooManyColours at)
 fault_of (ppm.TrailingToken at) = Ppm (ppm.TrailingToken at)
 
--- what stands behind `nonobench: ` on standard error
+-- a fault of a certificate, in the same way
+abbrev pub cert_fault_of : CertFault → ProgramFault
+cert_fault_of cert.Memory = Memory
+cert_fault_of (cert.NotCert line) = Cert (cert.NotCert line)
+cert_fault_of (cert.BadLine line) = Cert (cert.BadLine line)
+cert_fault_of (cert.Place line) = Cert (cert.Place line)
+cert_fault_of (cert.NotDead line) = Cert (cert.NotDead line)
+cert_fault_of (cert.NotDone line) = Cert (cert.NotDone line)
+cert_fault_of (cert.Ended line) = Cert (cert.Ended line)
+cert_fault_of (cert.Trailing line) = Cert (cert.Trailing line)
+
+-- what stands behind `nonobench: ` on standard error; of the parser's own texts, the whole of it
 abbrev pub fault_text : ProgramFault → List ℕ
 fault_text (Ppm fault) = codes "ppm " ++ name_of fault ++ codes " at byte " ++ decimal (unwrap_or (place_of fault) 0)
 fault_text (Edit fault) = codes "edit " ++ fault_name fault
+fault_text (Cert fault) =
+    codes "certificate " ++ certs.name_of fault ++ codes " at line " ++ decimal (unwrap_or (certs.place_of fault) 0)
 fault_text Memory = codes "memory"
 fault_text TooLong = codes "input too long"
-fault_text Words = codes "words are not taken"
+fault_text (Words text) = string_bytes text
+fault_text (Help text) = string_bytes text
+fault_text Background = codes "background must be R,G,B"
 fault_text Read = codes "read failed"
 fault_text Write = codes "write failed"
 
@@ -34,8 +52,11 @@ fault_text Write = codes "write failed"
 abbrev pub status_of : ProgramFault → ℕ
 status_of (Ppm fault) = 1
 status_of (Edit fault) = 1
+status_of (Cert fault) = 1
 status_of Memory = 1
 status_of TooLong = 1
-status_of Words = 2
+status_of (Words text) = 2
+status_of (Help text) = 0
+status_of Background = 2
 status_of Read = 3
 status_of Write = 3

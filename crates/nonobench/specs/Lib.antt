@@ -1,3 +1,5 @@
+pub mod Background
+pub mod Check
 pub mod ClueText
 pub mod Faults
 pub mod Run

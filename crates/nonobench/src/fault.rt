@@ -2,8 +2,9 @@
 
 ghost use Rattle.std.specs.Prelude.{◌≡◌, Some};
 ghost use Rattle.nonobench.specs.declared.fault.ProgramFault.TheVariants.{Memory, Write as Unwritten};
-ghost use Rattle.nonobench.specs.Faults.{fault_of, fault_text, status_of};
+ghost use Rattle.nonobench.specs.Faults.{cert_fault_of, fault_of, fault_text, status_of};
 
+use certificate::CertFault;
 use edits::EditFault;
 use picture::WriteFault;
 use ppm_text::PpmFault;
@@ -11,18 +12,24 @@ use std::alloc::{AllocError, AllocFailed};
 use std::fmt;
 
 /// Why the program ends without its answer, in the order of its parts.
-#[derive(Clone, Copy, Debug, PartialEq, Eq)]
+#[derive(Debug, PartialEq, Eq, Drop)]
 pub enum ProgramFault {
     /// The P3 text was refused.
     Ppm(PpmFault),
     /// The paint was refused.
     Edit(EditFault),
+    /// The certificate was refused.
+    Cert(CertFault),
     /// Memory ran out.
     Memory,
     /// The input has more than 16,777,216 bytes.
     TooLong,
-    /// The command line has words.
-    Words,
+    /// The words were refused by their parser, which says this of them.
+    Words(String),
+    /// Help was asked for, or the version: this text.
+    Help(String),
+    /// The background's colour has another form.
+    Background,
     /// A read failed.
     Read,
     /// A write failed.
@@ -35,9 +42,10 @@ impl ProgramFault {
         ensures { result ≡ status_of self.now }
     {
         match self {
-            ProgramFault::Ppm(_) | ProgramFault::Edit(_) => 1,
+            ProgramFault::Ppm(_) | ProgramFault::Edit(_) | ProgramFault::Cert(_) => 1,
             ProgramFault::Memory | ProgramFault::TooLong => 1,
-            ProgramFault::Words => 2,
+            ProgramFault::Words(_) | ProgramFault::Background => 2,
+            ProgramFault::Help(_) => 0,
             ProgramFault::Read | ProgramFault::Write => 3,
         }
     }
@@ -53,9 +61,14 @@ impl fmt::Display for ProgramFault {
                 write!(f, "ppm {} at byte {place}", fault.name())
             }
             ProgramFault::Edit(fault) => write!(f, "edit {}", fault.name()),
+            ProgramFault::Cert(fault) => {
+                let line = fault.place().unwrap_or(0);
+                write!(f, "certificate {} at line {line}", fault.name())
+            }
             ProgramFault::Memory => f.write_str("memory"),
             ProgramFault::TooLong => f.write_str("input too long"),
-            ProgramFault::Words => f.write_str("words are not taken"),
+            ProgramFault::Words(text) | ProgramFault::Help(text) => f.write_str(text.as_str()),
+            ProgramFault::Background => f.write_str("background must be R,G,B"),
             ProgramFault::Read => f.write_str("read failed"),
             ProgramFault::Write => f.write_str("write failed"),
         }
@@ -93,6 +106,17 @@ impl From<PpmFault> for ProgramFault {
         match fault {
             PpmFault::Memory => ProgramFault::Memory,
             _ => ProgramFault::Ppm(fault),
+        }
+    }
+}
+
+impl From<CertFault> for ProgramFault {
+    ghost from_gives = { λ fault e. e ≡ cert_fault_of fault };
+
+    fn from(fault: CertFault) -> ProgramFault {
+        match fault {
+            CertFault::Memory => ProgramFault::Memory,
+            _ => ProgramFault::Cert(fault),
         }
     }
 }

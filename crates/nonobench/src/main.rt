@@ -1,36 +1,68 @@
-//! The program: the P3 text of a picture on standard input, its clues on standard output.
+//! The program: the clues of a picture, and the check of its certificate.
 #![tactic(auto)]
 
+mod check;
 mod clue_text;
 mod fault;
 mod input;
 mod run;
 #[cfg(test)]
 mod tests;
+mod words;
 
+use crate::check::run_check;
 use crate::fault::ProgramFault;
 use crate::input::read_input;
 use crate::run::run_clues;
+use crate::words::{Task, read_words};
 use std::process::ExitCode;
-use std::rt::Env;
-use std::{env, io};
+use std::rt::{Env, Files};
+use std::{env, fs, io};
 
 fn main(rt: HostRuntime) -> ExitCode {
     match answer(&rt) {
         Ok(()) => ExitCode::SUCCESS,
         Err(fault) => {
-            let _unwritten = eprintln!(rt; "nonobench: {fault}");
+            say(&rt, &fault);
             ExitCode::from(fault.status())
         }
     }
 }
 
-// Reads the picture and prints its clues. The program takes no words yet.
-fn answer(rt: &(impl AllocGlobal + Env + Input + Print)) -> Result<(), ProgramFault> {
-    let words = env::args(rt).map_err(|_| ProgramFault::Memory)?;
-    if words.count() > 1 {
-        return Err(ProgramFault::Words);
+// Says why the program ends. What the parser of the words says is said as it is, and help is no fault.
+fn say(rt: &(impl Eprint + Print), fault: &ProgramFault) {
+    let _unwritten = match fault {
+        ProgramFault::Help(text) => print!(rt; "{text}"),
+        ProgramFault::Words(text) => eprint!(rt; "{text}"),
+        _ => eprintln!(rt; "nonobench: {fault}"),
+    };
+}
+
+// Does what the words ask for.
+fn answer(rt: &(impl AllocGlobal + Env + Files + Input + Print)) -> Result<(), ProgramFault> {
+    let alloc = rt.alloc();
+    let args = env::args(rt).map_err(|_| ProgramFault::Memory)?;
+    let words: Vec<String> = args.skip(1).collect(alloc)?;
+    let words: Vec<&str> = words.iter().map(|word| word.as_str()).collect(alloc)?;
+    match read_words(alloc, &words)? {
+        Task::Clues => {
+            let bytes = read_input(alloc, &mut rt.reader())?;
+            run_clues(alloc, &bytes, None, &mut io::writer(rt))
+        }
+        Task::Check {
+            file,
+            cert,
+            background,
+        } => {
+            let file = read_file(rt, file)?;
+            let cert = read_file(rt, cert)?;
+            run_check(alloc, &file, &cert, background, &mut io::writer(rt))
+        }
     }
-    let bytes = read_input(rt.alloc(), &mut rt.reader())?;
-    run_clues(rt.alloc(), &bytes, None, &mut io::writer(rt))
+}
+
+// All bytes of a file.
+fn read_file(rt: &(impl AllocGlobal + Files), path: &str) -> Result<Vec<u8>, ProgramFault> {
+    let mut file = fs::open(rt, path).map_err(|_| ProgramFault::Read)?;
+    read_input(rt.alloc(), &mut file)
 }

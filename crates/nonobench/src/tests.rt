@@ -1,5 +1,6 @@
 use super::*;
 use edits::EditFault;
+use picture::Rgb;
 use ppm_text::PpmFault;
 use std::io::{Read, Write};
 use std::test::Fail;
@@ -72,7 +73,7 @@ fn every_fault_has_its_line_and_status(rt: HostRuntime) -> Result<(), Fail> {
         (ProgramFault::Edit(EditFault::Colour), "edit Colour", 1),
         (ProgramFault::Memory, "memory", 1),
         (ProgramFault::TooLong, "input too long", 1),
-        (ProgramFault::Words, "words are not taken", 2),
+        (ProgramFault::Background, "background must be R,G,B", 2),
         (ProgramFault::Read, "read failed", 3),
         (ProgramFault::Write, "write failed", 3),
     ];
@@ -177,4 +178,108 @@ fn a_failed_write_is_answered(rt: HostRuntime) {
     let mut writer = Full { room: 14 };
     assert_eq!(rt; run_clues(rt.alloc(), WHITE, None, &mut writer), Ok(()));
     assert_eq!(rt; writer.room, 0);
+}
+
+// A cell of one colour and one of another, on the diagonal.
+const DIAGONAL: &[u8] = b"P3\n2 2\n255\n0 0 0\n255 255 255\n255 255 255\n255 0 0\n";
+
+const PROOF: &[u8] =
+    b"nonocert 1\nline r 1\nsplit 1 1\nline c 1\ndead r 2\nline r 1\nline c 1\nline c 2\ndone\n";
+
+#[test]
+fn a_certificate_is_checked(rt: HostRuntime) -> Result<(), Fail> {
+    let mut text = Vec::new(rt.alloc());
+    assert_eq!(rt;
+        run_check(rt.alloc(), DIAGONAL, PROOF, None, &mut text),
+        Ok(())
+    );
+    assert_eq!(rt; text.as_slice(), b"certificate accepted\n".as_slice());
+    let given = b"nonocert 2\ngiven 1 1\nline r 1\nline c 1\nline r 2\ndone\n".as_slice();
+    let mut text = Vec::new(rt.alloc());
+    assert_eq!(rt;
+        run_check(rt.alloc(), DIAGONAL, given, None, &mut text),
+        Ok(())
+    );
+    assert_eq!(rt;
+        text.as_slice(),
+        b"certificate accepted, givens 1\n".as_slice()
+    );
+    // The line is twenty-one bytes.
+    for room in [0, 20] {
+        let mut writer = Full { room };
+        let checked = run_check(rt.alloc(), DIAGONAL, PROOF, None, &mut writer);
+        assert_eq!(rt; checked, Err(ProgramFault::Write));
+    }
+    Ok(())
+}
+
+#[test]
+fn the_first_that_refuses_is_answered(rt: HostRuntime) -> Result<(), Fail> {
+    let blue = Some(Rgb { r: 0, g: 0, b: 256 });
+    let cases = [
+        (
+            b"P6".as_slice(),
+            b"".as_slice(),
+            None,
+            "ppm NotP3 at byte 0",
+        ),
+        (DIAGONAL, b"".as_slice(), blue, "ppm SampleOver at byte 7"),
+        (
+            DIAGONAL,
+            b"".as_slice(),
+            None,
+            "certificate NotCert at line 1",
+        ),
+        (
+            DIAGONAL,
+            b"nonocert 1\ndone".as_slice(),
+            None,
+            "certificate NotDone at line 2",
+        ),
+    ];
+    for (file, cert, background, want) in cases {
+        let mut text = Vec::new(rt.alloc());
+        match run_check(rt.alloc(), file, cert, background, &mut text) {
+            Ok(()) => assert!(rt; false, "{want}"),
+            Err(fault) => {
+                assert_eq!(rt; format!(in rt.alloc(); "{fault}")?.as_str(), want);
+                assert_eq!(rt; fault.status(), 1);
+            }
+        }
+        assert!(rt; text.is_empty());
+    }
+    Ok(())
+}
+
+#[test]
+fn words_are_read(rt: HostRuntime) -> Result<(), Fail> {
+    assert_eq!(rt; read_words(rt.alloc(), &[]), Ok(Task::Clues));
+    let words = ["check", "a.ppm", "--background", "01,2,65535", "b.cert"];
+    let background = Some(Rgb {
+        r: 1,
+        g: 2,
+        b: 65_535,
+    });
+    let want = Task::Check {
+        file: "a.ppm",
+        cert: "b.cert",
+        background,
+    };
+    assert_eq!(rt; read_words(rt.alloc(), &words), Ok(want));
+    let words = ["check", "a.ppm", "b.cert", "--background", "1,2"];
+    assert_eq!(rt;
+        read_words(rt.alloc(), &words),
+        Err(ProgramFault::Background)
+    );
+    let words = ["check", "a.ppm"];
+    match read_words(rt.alloc(), &words) {
+        Err(fault) => assert_eq!(rt; fault.status(), 2),
+        Ok(_) => assert!(rt; false, "a word is missing"),
+    }
+    let words = ["--help"];
+    match read_words(rt.alloc(), &words) {
+        Err(fault) => assert_eq!(rt; fault.status(), 0),
+        Ok(_) => assert!(rt; false, "help"),
+    }
+    Ok(())
 }

@@ -1,0 +1,68 @@
+-- What the check of a certificate shows for two files.
+use Rattle.std.specs.Prelude.{◌≡◌, ◌⊎◌, ℕ, List, [], ◌∷◌, ◌++◌, length, codes, decimal, Option, None, Some, Result, Ok, Err}
+use Rattle.std.proofs.Common.{Vec, Global}
+use Rattle.std.specs.Io.KnownBytes.{Appends, Keeps}
+use Rattle.picture.specs.declared.rgb.Rgb.{Rgb}
+use Rattle.picture.specs.Document.{Content}
+use Rattle.picture.specs.Writing.{AppendsFront}
+use Rattle.ppm_text.specs.declared.fault.PpmFault.{PpmFault}
+use Rattle.ppm_text.specs.Ppm.{ppm_of}
+use Rattle.certificate.specs.declared.fault.CertFault.{CertFault}
+use Rattle.certificate.specs.declared.line.CellNumber.{CellNumber}
+use Rattle.certificate.specs.Cert.{Certificate}
+use Rattle.certificate.specs.FirstFault.{CertFirstFault}
+use Rattle.certificate.specs.Puzzle.{IsUnique}
+use Rattle.certificate.specs.Text.{cert_of}
+use Rattle.certificate.specs.Tree.{IsProof}
+use Rattle.nonobench.specs.declared.fault.ProgramFault.{ProgramFault}
+use Rattle.nonobench.specs.declared.fault.ProgramFault.TheVariants.{Memory, Write}
+use Rattle.nonobench.specs.Faults.{cert_fault_of, fault_of}
+
+-- how many cells are given, where there are some
+abbrev pub givens_text : List CellNumber → List ℕ
+givens_text [] = []
+givens_text (cell ∷ cells) = codes ", givens " ++ decimal (length (cell ∷ cells))
+
+-- the line for a certificate that is accepted
+abbrev pub accepted_text : List CellNumber → List ℕ
+accepted_text givens = codes "certificate accepted" ++ (givens_text givens ++ 10 ∷ [])
+
+-- What is to be shown for a picture's text and a certificate's text: the fault of the first that refuses, of the two readers
+-- and the checker, or the line where none does.
+abbrev pub IsCheck : Result Content PpmFault → Result Certificate CertFault → Result (List ℕ) ProgramFault → Type 0
+IsCheck (Err fault) certificate shown = shown ≡ Err (fault_of fault)
+IsCheck (Ok document) (Err fault) shown = shown ≡ Err (cert_fault_of fault)
+IsCheck (Ok document) (Ok cert) (Ok text) = CertFirstFault document.rows cert None × (text ≡ accepted_text cert.givens)
+IsCheck (Ok document) (Ok cert) (Err fault) = (found : CertFault) × (CertFirstFault document.rows cert (Some found) × (fault ≡ cert_fault_of found))
+
+-- the same for the bytes of two files
+abbrev pub IsCheckOf : List ℕ → Option Rgb → List ℕ → Result (List ℕ) ProgramFault → Type 0
+IsCheckOf file background cert shown = IsCheck (ppm_of file background) (cert_of cert) shown
+
+-- What a call answers of what is to be shown: the text or the fault, or want of memory.
+abbrev pub Answers : (Result (List ℕ) ProgramFault → Type 0) → Result (Vec ℕ Global) ProgramFault → Type 0
+Answers Is (Ok text) = Is (Ok text.items)
+Answers Is (Err fault) = (fault ≡ Memory) ⊎ Is (Err fault)
+
+-- What a call wrote of what is to be shown: the text; after a write fault a front of it; after any other fault nothing.
+abbrev pub WritesBy : Option (List ℕ) → Option (List ℕ) → {X : Type 0} → Result X ProgramFault → (Result (List ℕ) ProgramFault → Type 0) → Type 0
+WritesBy old new (Ok x) Is = (bytes : List ℕ) × (Is (Ok bytes) × Appends old new bytes)
+WritesBy old new (Err fault) Is =
+    ((bytes : List ℕ) × ((fault ≡ Write) × (Is (Ok bytes) × AppendsFront old new bytes)))
+    ⊎ (((fault ≡ Memory) ⊎ Is (Err fault)) × Keeps old new)
+
+-- the two texts are read, and the certificate proves the picture
+pub record IsProofOf (file : List ℕ) (background : Option Rgb) (cert : List ℕ) : Type 0 where
+  pub document : Content
+  pub certificate : Certificate
+  pub reads_file : ppm_of file background ≡ Ok document
+  pub reads_cert : cert_of cert ≡ Ok certificate
+  pub is_proof : IsProof document.rows certificate
+
+-- The two texts are read, and no other picture of that size has the picture's clues and its colours in the givens.
+pub record IsOnlyPicture (file : List ℕ) (background : Option Rgb) (cert : List ℕ) : Type 0 where
+  pub document : Content
+  pub certificate : Certificate
+  pub reads_file : ppm_of file background ≡ Ok document
+  pub reads_cert : cert_of cert ≡ Ok certificate
+  pub is_unique : IsUnique document.rows certificate.givens
