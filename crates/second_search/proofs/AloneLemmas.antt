@@ -1,5 +1,5 @@
 -- The facts in which a part is searched.
-use Rattle.std.proofs.Common.{◌≡◌, ℕ, suc, ◌+◌, ◌^◌, ◌<◌, ◌≤◌, ◌⊎◌, ◌↔◌, ◌==◌, Bool, true, false, not, if◌then◌else◌, List, [], ◌∷◌, length, get_or, map, bit_and, refl, sym, ap, subst, ◌∙◌, arith, inl, inr, eqb-true, eq-eqb, Option, Result}
+use Rattle.std.proofs.Common.{◌≡◌, ℕ, ◌+◌, ◌^◌, ◌<◌, ◌≤◌, ◌⊎◌, ◌==◌, Bool, true, false, not, if◌then◌else◌, List, [], length, get_or, bit_and, refl, sym, ap, subst, ◌∙◌, arith, inl, inr, eqb-true, eq-eqb, Option, Result}
 use Rattle.std.specs.Prelude.{IsBitSet, IfOk}
 use Rattle.std.specs.declared.alloc.AllocError.{AllocError}
 use Rattle.std.specs.List.{range_with_len}
@@ -11,7 +11,7 @@ use Rattle.picture.specs.CellSet.{HasCell}
 use Rattle.picture.specs.LineSet.{Lines}
 use Rattle.picture.specs.Picture.{IsPicture}
 use Rattle.picture.specs.Rows.{width_of, row_at, cell_at, HasLine}
-use Rattle.clues.specs.ClueBook.{Clues, clues_along, clues_of}
+use Rattle.clues.specs.ClueBook.{Clues, clues_of}
 use Rattle.clues.specs.Laws.{CluesAreOfLines}
 use Rattle.line_settle.specs.Masks.{IsOnly}
 use Rattle.line_settle.specs.FactSets.{IsFacts, SameShape}

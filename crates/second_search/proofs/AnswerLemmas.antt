@@ -1,5 +1,5 @@
 -- What is answered is true where the verdict is.
-use Rattle.std.proofs.Common.{◌≡◌, ℕ, List, subst}
+use Rattle.std.proofs.Common.{ℕ, List, subst}
 use Rattle.clues.specs.ClueBook.{Clues}
 use Rattle.second_search.specs.declared.keeper.Answer.{Answer}
 use Rattle.second_search.specs.declared.keeper.Judged.{Judged}

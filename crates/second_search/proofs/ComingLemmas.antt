@@ -1,14 +1,13 @@
 -- What facts come to is one, and from it what a search does next.
-use Rattle.std.proofs.Common.{◌≡◌, ℕ, zero, suc, ◌+◌, ◌<◌, ◌≤◌, ◌⊎◌, Option, None, Some, List, [], ◌∷◌, ◌++◌, length, get_or, refl, sym, ap, subst, ◌∙◌, arith, inl, inr, Result, Ok, Err}
+use Rattle.std.proofs.Common.{◌≡◌, ℕ, suc, ◌⊎◌, Option, None, Some, List, [], ◌∷◌, ◌++◌, refl, sym, ap, subst, ◌∙◌, arith, inl, inr, Result, Ok, Err}
 use Rattle.std.specs.Prelude.{IsBitSet, IfOk}
 use Rattle.std.specs.declared.alloc.AllocError.{AllocError}
-use Rattle.std.proofs.lemmas.Bool.{cases_eq, cases_lt}
-use Rattle.picture.specs.declared.line_id.LineId.{LineId}
-use Rattle.picture.specs.Rows.{width_of, row_at, cell_at, line_of}
+use Rattle.std.proofs.lemmas.Bool.{cases_lt}
+use Rattle.picture.specs.Rows.{width_of, cell_at}
 use Rattle.clues.specs.ClueBook.{Clues}
 use Rattle.line_settle.specs.Laws.{LeastIsUnique}
 use Rattle.line_settle.specs.Masks.{IsOnly}
-use Rattle.line_settle.specs.FactSets.{IsFacts, IsLeast, SameShape}
+use Rattle.line_settle.specs.FactSets.{IsFacts}
 use Rattle.line_settle.specs.GridLaws.{same_has_line, shape_sym, shape_trans}
 use Rattle.line_settle.specs.declared.line_engine.Outcome.{Outcome}
 use Rattle.line_settle.specs.declared.line_engine.Outcome.TheVariants.{Narrowed}
@@ -17,7 +16,7 @@ use Rattle.second_search.specs.declared.cell.Cell.{Cell}
 use Rattle.second_search.specs.declared.coming.Coming.{Coming}
 use Rattle.second_search.specs.declared.coming.Coming.TheVariants.{Dies, Ends, Splits}
 use Rattle.second_search.specs.Branching.{branches}
-use Rattle.second_search.specs.Looking.{IsUnsettled, Shows}
+use Rattle.second_search.specs.Looking.{Shows}
 use Rattle.second_search.specs.Parts.{IsBefore}
 use Rattle.second_search.specs.Searching.{Comes, ComesClosed, CostsAreUnique, IsFirstUnsettled, Searches, SettlesTo, none_waits, is_dead, is_known, is_other, is_split}
 use Rattle.second_search.proofs.GridLemmas.{same_inside}

@@ -1,5 +1,5 @@
 -- What a counted search finds is another picture that fills what waits, and where it finds none there is none.
-use Rattle.std.proofs.Common.{◌≡◌, ℕ, ◌<◌, ◌≤◌, ◌⊎◌, ◌↔◌, ◌^◌, Option, None, Some, List, [], ◌∷◌, ◌++◌, length, get_or, refl, sym, ap, subst, ◌∙◌, arith, inl, inr}
+use Rattle.std.proofs.Common.{◌≡◌, ℕ, ◌<◌, ◌↔◌, ◌^◌, Option, None, Some, List, [], ◌∷◌, ◌++◌, length, get_or, sym, ap, subst, ◌∙◌, arith, inl, inr}
 use Rattle.std.specs.Prelude.{IsBitSet}
 use Rattle.picture.specs.declared.line_id.Axis.{Axis}
 use Rattle.picture.specs.declared.line_id.Axis.TheVariants.{Across, Down}
@@ -7,9 +7,8 @@ use Rattle.picture.specs.declared.line_id.LineId.{LineId}
 use Rattle.picture.specs.Picture.{IsPicture}
 use Rattle.picture.specs.Rows.{width_of, row_at, cell_at, line_of, lines_along, HasLine}
 use Rattle.clues.specs.Clue.{clue_of}
-use Rattle.clues.specs.ClueBook.{Clues, clue_at, clues_along, clues_of}
+use Rattle.clues.specs.ClueBook.{Clues, clues_along, clues_of}
 use Rattle.clues.specs.Laws.{BooksAreTheirClues, CluesAreOfLines}
-use Rattle.line_settle.specs.Masks.{IsOnly}
 use Rattle.line_settle.specs.FactSets.{IsFacts, SameShape, col_on, row_on}
 use Rattle.line_settle.specs.AlongLaws.{place_on}
 use Rattle.line_settle.specs.GridLaws.{cell_on, same_has_line, same_line_length, same_list, shape_sym, shape_trans, shape_with_cell}

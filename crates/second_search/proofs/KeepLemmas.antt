@@ -1,7 +1,7 @@
 -- Outside of a part nothing changes while it is searched, so the lines that do not go through it stay quiet.
-use Rattle.std.proofs.Common.{◌≡◌, ℕ, suc, ◌+◌, ◌^◌, ◌<◌, ◌≤◌, ◌⊎◌, List, [], ◌∷◌, ◌++◌, length, get_or, refl, sym, ap, subst, ◌∙◌, arith, inl, inr}
+use Rattle.std.proofs.Common.{◌≡◌, ℕ, ◌^◌, ◌<◌, List, [], ◌∷◌, ◌++◌, length, get_or, refl, sym, ap, subst, ◌∙◌, arith, inl, inr}
 use Rattle.std.specs.Prelude.{IsBitSet}
-use Rattle.std.proofs.lemmas.Bool.{cases_eq, cases_lt}
+use Rattle.std.proofs.lemmas.Bool.{cases_lt}
 use Rattle.std.proofs.lemmas.List.{get_or_past, length-map}
 use Rattle.picture.specs.declared.line_id.Axis.{Axis}
 use Rattle.picture.specs.declared.line_id.Axis.TheVariants.{Across, Down}
@@ -13,11 +13,11 @@ use Rattle.picture.specs.Rows.{width_of, row_at, cell_at, line_along, line_of, H
 use Rattle.clues.specs.Laws.{CluesAreOfLines}
 use Rattle.clues.specs.ClueBook.{Clues, clue_at, clues_of}
 use Rattle.line_settle.specs.Masks.{IsOnly}
-use Rattle.line_settle.specs.FactSets.{IsFacts, SameShape, col_on, row_on}
+use Rattle.line_settle.specs.FactSets.{SameShape, col_on, row_on}
 use Rattle.line_settle.specs.Fitting.{Fits}
-use Rattle.line_settle.specs.GridLaws.{same_has_line, same_line_length, shape_refl, shape_sym, shape_trans, cell_on, off_with_cell, shape_with_cell}
+use Rattle.line_settle.specs.GridLaws.{same_has_line, same_line_length, shape_sym, shape_trans, cell_on, off_with_cell, shape_with_cell}
 use Rattle.picture.specs.BitLaws.{no_bit}
-use Rattle.propagate.specs.Closing.{AreClosable, IsQuietLine, QuietOutside}
+use Rattle.propagate.specs.Closing.{AreClosable, QuietOutside}
 use Rattle.propagate.specs.LineNames.{AreLinesOf}
 use Rattle.second_search.specs.declared.cell.Cell.{Cell}
 use Rattle.second_search.specs.declared.coming.Coming.TheVariants.{Splits}

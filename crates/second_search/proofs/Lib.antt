@@ -21,3 +21,4 @@ pub mod VerdictLemmas
 pub mod EndLemmas
 pub mod TruthLemmas
 pub mod AnswerLemmas
+pub mod CarryLemmas

@@ -5,7 +5,7 @@ use Rattle.std.proofs.lemmas.List.{ext_get_or}
 use Rattle.picture.specs.CellSet.{HasCell}
 use Rattle.picture.specs.Laws.{SameCellsAreEqual}
 use Rattle.second_search.specs.Laws.{PartsAreOneList}
-use Rattle.second_search.specs.Parts.{AreParts, IsBefore, IsChained, IsPart, IsPartFrom, begins, part_at}
+use Rattle.second_search.specs.Parts.{AreParts, IsBefore, IsPart, IsPartFrom, begins, part_at}
 use Rattle.second_search.proofs.ChainLemmas.{chain_back, chain_on}
 use Rattle.second_search.proofs.PartLemmas.{one_part_each}
 use Rattle.second_search.proofs.RowLemmas.{part_has}
@@ -16,7 +16,7 @@ not_both_ways row col r c (inl l) (inr e) = absurd (let f = e.0 in omega arith)
 not_both_ways row col r c (inr e) (inl m) = absurd (let f = e.0 in omega arith)
 not_both_ways row col r c (inr e) (inr f) = absurd (let x = e.1 in let y = f.1 in omega arith)
 
-has_first : (facts : List (List ℕ)) (cells : List ℕ) (p : IsPart facts cells) → HasCell cells p.row p.col
+pub has_first : (facts : List (List ℕ)) (cells : List ℕ) (p : IsPart facts cells) → HasCell cells p.row p.col
 has_first facts cells p = (p.from.members p.row p.col).1 (begins p.from.is_open)
 
 within_part : (facts : List (List ℕ)) (one other : List ℕ) (row col r c : ℕ) → IsPart facts one → IsPart facts other → HasCell one row col → HasCell other row col → HasCell one r c → HasCell other r c
@@ -24,7 +24,7 @@ within_part facts one other row col r c p q h k x =
     part_has facts other row col r c q k (chain_on facts row col p.row p.col r c (chain_back facts p.row p.col row col ((p.from.members row col).0 h)) ((p.from.members r c).0 x))
 
 -- parts that share a cell are one set
-same_part : SameCellsAreEqual → (facts : List (List ℕ)) (one other : List ℕ) (row col : ℕ) → IsPart facts one → IsPart facts other → HasCell one row col → HasCell other row col → one ≡ other
+pub same_part : SameCellsAreEqual → (facts : List (List ℕ)) (one other : List ℕ) (row col : ℕ) → IsPart facts one → IsPart facts other → HasCell one row col → HasCell other row col → one ≡ other
 same_part same facts one other row col p q h k =
     same one other p.from.set q.from.set (λ r c l m. (within_part facts one other row col r c p q h k, within_part facts other one row col r c q p k h))
 

@@ -1,11 +1,10 @@
 -- What is kept after a picture is judged is true, and so is the verdict.
-use Rattle.std.proofs.Common.{◌≡◌, ℕ, zero, suc, ◌+◌, ◌<◌, ◌≤◌, ◌⊎◌, Option, List, [], ◌∷◌, length, refl, sym, ap, subst, ◌∙◌, arith, inl, inr}
+use Rattle.std.proofs.Common.{ℕ, zero, suc, ◌<◌, Option, List, length, sym, subst, arith, inl, inr}
 use Rattle.std.proofs.lemmas.Bool.{cases_eq, cases_lt}
 use Rattle.std.proofs.lemmas.List.{length-map}
 use Rattle.clues.specs.ClueBook.{Clues}
 use Rattle.clues.specs.Laws.{BooksAreTheirClues, CluesAreOfLines}
 use Rattle.propagate.specs.Laws.{ClosingKeepsFillings, OnlyIsClosed}
-use Rattle.second_search.specs.declared.counting.Ending.{Ending}
 use Rattle.second_search.specs.declared.counting.Ending.TheVariants as ending
 use Rattle.second_search.specs.declared.keeper.Answer.{Answer}
 use Rattle.second_search.specs.declared.keeper.Answer.TheVariants.{Filling, Nothing, Unknown}
@@ -13,8 +12,7 @@ use Rattle.second_search.specs.declared.keeper.KeptPart.{KeptPart}
 use Rattle.second_search.specs.declared.keeper.Verdict.{Verdict}
 use Rattle.second_search.specs.declared.keeper.Verdict.TheVariants.{Other, Undecided, Unique}
 use Rattle.second_search.specs.Laws.{FillingsAreOfFacts, PartsDecide}
-use Rattle.second_search.specs.Other.{IsOther}
-use Rattle.second_search.specs.Parts.{AreParts, IsOtherFilling, IsScene, part_at}
+use Rattle.second_search.specs.Parts.{AreParts, IsOtherFilling, IsScene}
 use Rattle.second_search.specs.Judging.{AreTrue, Changes, EndsBy, EndsPart, Finds, HasNoFilling, IsFilling, IsTrueOf, IsVerdict, Judges, Passes, answer_at, cells_at, kept_at, parts_of}
 use Rattle.second_search.proofs.EndLemmas.{IsFound, none_found, one_found}
 use Rattle.second_search.proofs.VerdictLemmas.{part_of_kept}

@@ -1,12 +1,10 @@
 -- What is kept of the parts: from the start, after a search, and what it makes of the picture.
-use Rattle.std.proofs.Common.{◌≡◌, ℕ, zero, suc, ◌+◌, ◌<◌, ◌≤◌, ◌⊎◌, Option, None, Some, List, [], ◌∷◌, ◌++◌, length, get_or, map, refl, sym, ap, subst, ◌∙◌, arith, inl, inr}
+use Rattle.std.proofs.Common.{◌≡◌, ℕ, zero, suc, ◌+◌, ◌<◌, Option, List, [], ◌∷◌, ◌++◌, length, refl, sym, ap, subst, ◌∙◌, arith, inl, inr}
 use Rattle.std.proofs.lemmas.Bool.{cases_eq, cases_lt}
 use Rattle.std.proofs.lemmas.List.{length-map}
 use Rattle.clues.specs.ClueBook.{Clues}
-use Rattle.second_search.specs.declared.counting.Ending.{Ending}
-use Rattle.second_search.specs.declared.counting.Ending.TheVariants as ending
 use Rattle.second_search.specs.declared.keeper.Answer.{Answer}
-use Rattle.second_search.specs.declared.keeper.Answer.TheVariants.{Filling, Nothing, Unknown}
+use Rattle.second_search.specs.declared.keeper.Answer.TheVariants.{Filling, Unknown}
 use Rattle.second_search.specs.declared.keeper.KeptPart.{KeptPart}
 use Rattle.second_search.specs.declared.keeper.Stop.{Stop}
 use Rattle.second_search.specs.declared.keeper.Stop.TheVariants.{BrokenOff, Found, Through}
@@ -27,7 +25,7 @@ each_is_part facts kept are i l =
     let count = length-map kept (λ (part : KeptPart). part.cells) in
     subst (IsPart facts) (part_of_kept kept i) (are.each i (omega arith))
 
-same_parts : (kept : List KeptPart) (parts : List (List ℕ)) → length kept ≡ length parts → ((i : ℕ) → i < length parts → cells_at kept i ≡ part_at parts i) → parts_of kept ≡ parts
+pub same_parts : (kept : List KeptPart) (parts : List (List ℕ)) → length kept ≡ length parts → ((i : ℕ) → i < length parts → cells_at kept i ≡ part_at parts i) → parts_of kept ≡ parts
 same_parts [] [] e h = refl
 same_parts [] (part ∷ parts) e h = absurd (omega (arith, e))
 same_parts (first ∷ kept) [] e h = absurd (omega (arith, e))
@@ -48,11 +46,11 @@ starts_none parts kept e =
     let P : List KeptPart → Type 0 = λ xs. StartsWith parts xs 0 in
     subst P (sym e) (record { count_is = refl; cells = λ i l. absurd (omega arith); unknown = λ i. refl })
 
-last_at : (kept : List KeptPart) (part : KeptPart) → kept_at (kept ++ (part ∷ [])) (length kept) ≡ part
+pub last_at : (kept : List KeptPart) (part : KeptPart) → kept_at (kept ++ (part ∷ [])) (length kept) ≡ part
 last_at [] part = refl
 last_at (first ∷ kept) part = last_at kept part
 
-front_at : (kept : List KeptPart) (part : KeptPart) (i : ℕ) → i < length kept → kept_at (kept ++ (part ∷ [])) i ≡ kept_at kept i
+pub front_at : (kept : List KeptPart) (part : KeptPart) (i : ℕ) → i < length kept → kept_at (kept ++ (part ∷ [])) i ≡ kept_at kept i
 front_at [] part i l = absurd (omega arith)
 front_at (first ∷ kept) part zero l = refl
 front_at (first ∷ kept) part (suc i) l = front_at kept part i (omega arith)
@@ -63,7 +61,7 @@ behind_at [] part (suc i) l = refl
 behind_at (first ∷ kept) part zero l = absurd (omega arith)
 behind_at (first ∷ kept) part (suc i) l = behind_at kept part i (omega arith)
 
-one_longer : (kept : List KeptPart) (part : KeptPart) → length (kept ++ (part ∷ [])) ≡ length kept + 1
+pub one_longer : (kept : List KeptPart) (part : KeptPart) → length (kept ++ (part ∷ [])) ≡ length kept + 1
 one_longer [] part = refl
 one_longer (first ∷ kept) part = (let e = one_longer kept part in omega arith)
 

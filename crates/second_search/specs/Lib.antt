@@ -9,3 +9,4 @@ pub mod Stepping
 pub mod Through
 pub mod Judging
 pub mod Answering
+pub mod Carrying

@@ -1,9 +1,11 @@
 //! Answers of parts that are kept, and a picture judged by them.
 
 ghost use Rattle.std.specs.Prelude.{◌≡◌, ◌<◌, ◌≤◌, ℕ, length, IfOk, OnErr, MatchOption};
+ghost use Rattle.picture.specs.CellSet.{HasCell};
 ghost use Rattle.line_settle.specs.Counting.{Counts};
 ghost use Rattle.second_search.specs.Parts.{AreParts, IsPart, IsScene};
 ghost use Rattle.second_search.specs.Answering.{IsAnswer};
+ghost use Rattle.second_search.specs.Carrying.{AreSameLines, Carries, IsCarried};
 ghost use Rattle.second_search.specs.Judging.{
   AnswersAs,
   AreTrue,
@@ -16,6 +18,7 @@ ghost use Rattle.second_search.specs.Judging.{
   HasNoFilling,
   IsPlace,
   IsShown,
+  IsTrueOf,
   IsVerdict,
   Judges,
   Notes,
@@ -26,15 +29,19 @@ ghost use Rattle.second_search.specs.Judging.{
   parts_of,
 };
 
+use crate::carrying::{answer_for, are_named, first_cell};
+use crate::cell::Cell;
 use crate::counting::Ending;
-use crate::laws::{fillings_are_of_facts, parts_decide};
+use crate::laws::{fillings_are_of_facts, fillings_stay, parts_decide};
 use crate::part_search::search_part;
 use crate::parts::Parts;
+use crate::same_lines::same_lines;
 use crate::scene::Scene;
 use clues::laws::{books_are_their_clues, clues_are_of_lines};
 use line_settle::laws::counts_add;
 use line_settle::{Facts, LineEngine, Meter};
-use picture::{CellSet, Picture};
+use picture::laws::same_cells_are_equal;
+use picture::{CellSet, LineSet, MAX_SIDE, Picture};
 use propagate::laws::{closing_keeps_fillings, only_is_closed};
 use std::alloc::{AllocError, Global};
 use std::marker::Model;
@@ -114,6 +121,95 @@ impl Keeper {
             })?;
         }
         Ok(Keeper { kept })
+    }
+
+    /// Keeps the parts of another scene's facts. A part keeps what is known of it where each line through it has, under the
+    /// same name, the same clue, length, colours left and cells of the picture in both scenes; another filling gets the other
+    /// scene's picture elsewhere. Of each other part nothing is known. The parts kept so far are those of the facts before, and
+    /// what is known of them is true; so it is of the parts after. Takes memory of the allocator that this was made with.
+    pub fn carry(&self, before: &Scene, after: &Scene) -> Result<Keeper, AllocError>
+        requires before { IsScene before.now.clues.now before.now.givens.now before.now.facts.now before.now.picture.now }
+        requires after { IsScene after.now.clues.now after.now.givens.now after.now.facts.now after.now.picture.now }
+        requires parts { AreParts before.now.facts.now (parts_of self.now) }
+        requires true_answers { AreTrue before.now.clues.now before.now.givens.now before.now.picture.now self.now }
+        ensures parts { IfOk result (λ keeper. AreParts after.now.facts.now (parts_of keeper)) }
+        ensures true_answers { IfOk result (AreTrue after.now.clues.now after.now.givens.now after.now.picture.now) }
+        ensures carries { IfOk result
+            (Carries before.now.clues.now before.now.facts.now before.now.picture.now after.now.clues.now after.now.facts.now after.now.picture.now self.now) }
+    {
+        let same = same_lines(before, after);
+        let alloc = *self.kept.allocator();
+        let parts = Parts::of(alloc, after.facts)?;
+        let mut kept = Vec::new(alloc);
+        for i in 0..parts.len() {
+            let cells = *parts.cells(i);
+            let answer = self.carried(before, after, &same, &cells)?;
+            kept.push(KeptPart { cells, answer })?;
+        }
+        Ok(Keeper { kept })
+    }
+
+    // What is known of a part of the scene after: what was known of it, where the lines through it are among those that are
+    // the same.
+    fn carried(
+        &self,
+        before: &Scene,
+        after: &Scene,
+        same: &LineSet,
+        cells: &CellSet,
+    ) -> Result<Answer, AllocError>
+        requires before { IsScene before.now.clues.now before.now.givens.now before.now.facts.now before.now.picture.now }
+        requires after { IsScene after.now.clues.now after.now.givens.now after.now.facts.now after.now.picture.now }
+        requires parts { AreParts before.now.facts.now (parts_of self.now) }
+        requires true_answers { AreTrue before.now.clues.now before.now.givens.now before.now.picture.now self.now }
+        requires same { AreSameLines before.now.clues.now before.now.facts.now before.now.picture.now after.now.clues.now after.now.facts.now after.now.picture.now same.now }
+        requires part { IsPart after.now.facts.now cells.now }
+        ensures carried { IfOk result
+            (IsCarried before.now.clues.now before.now.facts.now before.now.picture.now after.now.clues.now after.now.facts.now after.now.picture.now self.now cells.now) }
+        ensures true_answer { IfOk result (IsTrueOf after.now.clues.now after.now.givens.now after.now.picture.now cells.now) }
+    {
+        fillings_stay();
+        let _ = after.facts.height();
+        if !are_named(same, cells, after.facts) {
+            return Ok(Answer::Unknown);
+        }
+        let at = self.place_of(cells, before.facts);
+        answer_for(&self.kept[at].answer, cells, after.picture)
+    }
+
+    // The place of a part of the facts among the parts that are kept.
+    fn place_of(&self, cells: &CellSet, facts: &Facts) -> usize
+        requires parts { AreParts facts.now (parts_of self.now) }
+        requires part { IsPart facts.now cells.now }
+        ensures place { result < length self.now }
+        ensures cells { cells_at self.now result ≡ cells.now }
+    {
+        same_cells_are_equal();
+        let _ = facts.height();
+        match first_cell(cells, facts) {
+            Some(cell) => match self.part_with(cell) {
+                Some(i) => i,
+                None => unreachable!(),
+            },
+            None => unreachable!(),
+        }
+    }
+
+    // The first part that has a cell.
+    fn part_with(&self, cell: Cell) -> Option<usize>
+        requires in_rows { cell.row < MAX_SIDE }
+        requires in_columns { cell.col < MAX_SIDE }
+        ensures { MatchOption
+            result
+            ((i : ℕ) → i < length self.now → HasCell (cells_at self.now i) cell.row cell.col → ⊥)
+            (λ i. (i < length self.now) × HasCell (cells_at self.now i) cell.row cell.col) }
+    {
+        for i in 0..self.kept.len() {
+            if self.kept[i].cells.has(cell.row, cell.col) {
+                return Some(i);
+            }
+        }
+        None
     }
 
     /// Judges a picture by its parts, each with an allowance of splits where there is one. Where another filling of a part

@@ -1,6 +1,7 @@
 //! A complete search for a picture with given clues, or for another one.
 #![tactic(auto)]
 
+mod carrying;
 mod cell;
 mod coming;
 mod counting;
@@ -12,6 +13,7 @@ mod note;
 mod part_search;
 mod parts;
 mod pending;
+mod same_lines;
 mod scene;
 
 pub use finding::{find_first, find_other};

@@ -149,7 +149,7 @@ impl Growth {
 }
 
 // The cell at a place of a line.
-fn cell_on(line: LineId, i: u8) -> Cell
+pub(crate) fn cell_on(line: LineId, i: u8) -> Cell
     ensures row { result.row ≡ row_on line.axis line.at i }
     ensures col { result.col ≡ col_on line.axis line.at i }
 {

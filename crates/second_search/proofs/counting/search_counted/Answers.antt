@@ -1,10 +1,7 @@
-use Rattle.std.proofs.Common.{◌≡◌, ◌∷◌, ◌<◌, ◌∙◌, ℕ, Bool, List, arith, refl, subst}
-use Rattle.line_settle.specs.Counting.{Counts}
+use Rattle.std.proofs.Common.{◌∙◌, Bool, arith, refl, subst}
 use Rattle.second_search.specs.Branching.{GoesOn}
-use Rattle.second_search.specs.declared.counting.Step.TheVariants.{Passed, Split, Other, Halted}
 use Rattle.second_search.proofs.CountLemmas.{Counting, counted_halted, counted_nothing, counted_other, counting_at, counting_passes, counting_splits, counting_starts, counts_more, counts_none, passes_lighter, splits_lighter, steps_as}
 use Rattle.second_search.proofs.KeepLemmas.{can_close_like, lines_like, quiet_outside}
-use Rattle.second_search.proofs.WeightLemmas.{load}
 use Rattle.second_search.proofs.counting.search_counted.Goals as goal
 use Rattle.second_search.proofs.counting.search_counted.Goals.{in-Passed, in-Split}
 

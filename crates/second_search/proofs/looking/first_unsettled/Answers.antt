@@ -1,4 +1,4 @@
-use Rattle.std.proofs.Common.{◌≡◌, ℕ, arith, sym, subst, inl, inr}
+use Rattle.std.proofs.Common.{ℕ, arith, sym, subst, inl, inr}
 use Rattle.picture.specs.Rows.{cell_at}
 use Rattle.line_settle.specs.Masks.{IsOnly}
 use Rattle.second_search.proofs.LookLemmas.{below_next}

@@ -1,4 +1,3 @@
-use Rattle.line_settle.specs.FactSets.{SameShape}
 use Rattle.second_search.specs.Through.{LeavesRowAlone}
 use Rattle.second_search.proofs.part_search.leave_row_alone.Given as goal
 

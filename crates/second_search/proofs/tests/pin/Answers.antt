@@ -1,5 +1,5 @@
 use Rattle.std.proofs.Common.{List, ℕ, ◌<◌, ◌^◌, ◌∙◌, ap, subst, sym}
-use Rattle.picture.specs.Rows.{cell_at, with_cell}
+use Rattle.picture.specs.Rows.{with_cell}
 use Rattle.clues.specs.ClueBook.{clues_of}
 use Rattle.second_search.specs.Other.{AreSound}
 use Rattle.line_settle.specs.MaskLaws.{shifted}

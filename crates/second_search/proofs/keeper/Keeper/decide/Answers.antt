@@ -1,4 +1,4 @@
-use Rattle.std.proofs.Common.{◌≡◌, arith, inl, refl, subst, sym, List, ℕ}
+use Rattle.std.proofs.Common.{arith, inl, refl, subst, sym, List, ℕ}
 use Rattle.second_search.specs.Parts.{AreParts}
 use Rattle.second_search.specs.Judging.{Judges, Stops}
 use Rattle.second_search.proofs.JudgeLemmas.{done_as, done_none}

@@ -1,4 +1,4 @@
-use Rattle.std.proofs.Common.{◌≡◌, ◌∙◌, List, ℕ, ap, arith, length, refl, subst, sym}
+use Rattle.std.proofs.Common.{◌∙◌, List, ℕ, ap, arith, length, refl, subst, sym}
 use Rattle.second_search.specs.Parts.{AreParts, part_at}
 use Rattle.second_search.proofs.VerdictLemmas.{all_started, starts_more, starts_none}
 use Rattle.second_search.proofs.keeper.Keeper.start.Goals as goal

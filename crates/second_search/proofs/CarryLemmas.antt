@@ -1,0 +1,176 @@
+-- What is known of parts, carried from one scene to another.
+use Rattle.std.proofs.Common.{◌≡◌, ℕ, ◌+◌, ◌<◌, ◌≤◌, List, [], ◌∷◌, ◌++◌, length, get_or, refl, sym, ap, subst, ◌∙◌, arith, inl, inr}
+use Rattle.std.specs.Prelude.{slice_index}
+use Rattle.std.proofs.lemmas.List.{get_or_past, length-map}
+use Rattle.std.proofs.lemmas.Bool.{cases_eq, cases_lt}
+use Rattle.picture.specs.declared.line_id.Axis.{Axis}
+use Rattle.picture.specs.declared.line_id.Axis.TheVariants.{Across, Down}
+use Rattle.picture.specs.declared.line_id.LineId.{LineId}
+use Rattle.picture.specs.CellSet.{HasCell}
+use Rattle.picture.specs.Laws.{SameCellsAreEqual}
+use Rattle.picture.specs.LineSet.{Lines}
+use Rattle.picture.specs.Picture.{IsPicture}
+use Rattle.picture.specs.Rows.{width_of, row_at, cell_at, line_along, line_of, lines_along, HasLine}
+use Rattle.clues.specs.ClueBook.{Clues}
+use Rattle.line_settle.specs.FactSets.{IsFacts, col_on, row_on}
+use Rattle.second_search.specs.declared.keeper.Answer.{Answer}
+use Rattle.second_search.specs.declared.keeper.Answer.TheVariants.{Filling, Nothing, Unknown}
+use Rattle.second_search.specs.declared.keeper.KeptPart.{KeptPart}
+use Rattle.second_search.specs.Carrying.{AreSameLines, CarriesFirst, HoldsCells, IsCarried, LieInside, NamesThrough, PutsOn, carried}
+use Rattle.second_search.specs.Judging.{IsTrueOf, answer_at, cells_at, kept_at, parts_of}
+use Rattle.second_search.specs.Laws.{FillingsStay}
+use Rattle.second_search.specs.Parts.{AreParts, GoesThrough, IsPart, IsScene, KeepsLines, part_at, picked}
+use Rattle.second_search.proofs.AloneLemmas.{part_inside}
+use Rattle.second_search.proofs.ChainLemmas.{bit_or_not}
+use Rattle.second_search.proofs.GrowLemmas.{at_place, line_inside}
+use Rattle.second_search.proofs.OneListLemmas.{has_first, same_part}
+use Rattle.second_search.proofs.PartLemmas.{open_in_picture, part_open}
+use Rattle.second_search.proofs.PickLemmas.{off_part, on_part, outside_is_0, same_cells, shape_back, shape_of_picked, shape_on}
+use Rattle.second_search.proofs.VerdictLemmas.{each_is_part, front_at, last_at, one_longer, part_of_kept, same_parts}
+
+-- ---- colours put on some cells
+
+pub is_picked : (cells : List ℕ) (other old new : List (List ℕ)) (rows : ℕ) → IsPicture old → rows ≡ length old → PutsOn cells other old new rows → new ≡ picked cells other old
+is_picked cells other old new rows is full p =
+    let rect = is.rectangular in
+    let like = shape_of_picked cells other old rect in
+    let shape = shape_on new old (picked cells other old) (shape_back old new p.same_shape) (shape_back (picked cells other old) old like) in
+    let outside : (row col : ℕ) → length (row_at old row) ≤ col → cell_at new row col ≡ cell_at (picked cells other old) row col = λ row col q.
+    let a = p.same_shape.each row in
+    let b = like.each row in
+    outside_is_0 new row col (omega arith) ∙ sym (outside_is_0 (picked cells other old) row col (omega arith))
+    in
+    same_cells new (picked cells other old) shape (λ row col. elim (bit_or_not (slice_index cells row) col) [
+      | inr n ↦ p.kept row col n ∙ sym (off_part cells other old row col rect n)
+      | inl h ↦ elim (cases_lt col (length (row_at old row))) [
+        | inr q ↦ outside row col q
+        | inl m ↦ elim (cases_lt row (length old)) [
+          | inl l ↦ (let w = rect row l in p.put row col (omega arith) (omega arith) h ∙ sym (on_part cells other old row col l (omega arith) h))
+          | inr q ↦ absurd (let none = ap length (get_or_past old row [] q) in omega arith)
+        ]
+      ]
+    ])
+
+-- ---- a line through some cells
+
+near_on : (facts : List (List ℕ)) (axis : Axis) (at row col i : ℕ) → IsFacts facts → at < lines_along axis facts → row < length facts → col < width_of facts → row ≡ row_on axis at i → col ≡ col_on axis at i → i < length (line_along axis at facts)
+near_on facts Across at row col i is l h w e f = let r = is.rectangular at l in omega arith
+near_on facts Down at row col i is l h w e f = let m = length-map facts (λ (line : List ℕ). get_or line at 0) in omega arith
+
+pub stands_there : (cells : List ℕ) (facts : List (List ℕ)) (line : LineId) (count : ℕ) → IsFacts facts → LieInside cells facts → HasLine facts line → count ≡ length (line_of facts line) → ((k : ℕ) → k < count → HasCell cells (row_on line.axis line.at k) (col_on line.axis line.at k) → ⊥) → GoesThrough line cells → ⊥
+stands_there cells facts line count is inside has e none t =
+    let p = at_place line.axis line.at t.row t.col t.on_line in
+    let i = inside t.row t.col t.has in
+    let near = near_on facts line.axis line.at t.row t.col p.0 is has i.0 i.1 p.1.0 p.1.1 in
+    let P : ℕ → Type 0 = λ r. HasCell cells r t.col in
+    let Q : ℕ → Type 0 = λ c. HasCell cells (row_on line.axis line.at p.0) c in
+    none p.0 (omega arith) (subst Q p.1.1 (subst P p.1.0 t.has))
+
+-- a line through some cells inside a grid is one of its lines
+through_inside : (rows : List (List ℕ)) (cells : List ℕ) (line : LineId) → LieInside cells rows → GoesThrough line cells → HasLine rows line
+through_inside rows cells line inside t = let i = inside t.row t.col t.has in line_inside rows t.row t.col i.0 i.1 line.axis line.at t.on_line
+
+-- ---- the lines through a part
+
+module _ (clues : Clues) (givens : List ℕ) (facts picture : List (List ℕ)) where
+  pub part_in_picture : (cells : List ℕ) → IsScene clues givens facts picture → IsPart facts cells → LieInside cells picture
+  part_in_picture cells s p row col h = open_in_picture clues givens facts picture row col s (part_open facts cells row col p h)
+
+pub part_in_facts : (facts : List (List ℕ)) (cells : List ℕ) → IsFacts facts → IsPart facts cells → LieInside cells facts
+part_in_facts facts cells is p row col h = part_inside facts cells row col is p h
+
+module _ (clues : Clues) (facts picture : List (List ℕ)) (clues_after : Clues) (givens_after : List ℕ) (facts_after picture_after : List (List ℕ)) where
+  pub named_keeps : (lines : Lines) (cells : List ℕ) → IsScene clues_after givens_after facts_after picture_after → IsPart facts_after cells → AreSameLines clues facts picture clues_after facts_after picture_after lines → NamesThrough lines cells → KeepsLines clues facts picture clues_after facts_after picture_after cells
+  named_keeps lines cells s p same named line t = (same line (through_inside picture_after cells line (part_in_picture clues_after givens_after facts_after picture_after cells s p) t)).0 (named line t)
+
+  keeps_named : (lines : Lines) (cells : List ℕ) → AreSameLines clues facts picture clues_after facts_after picture_after lines → KeepsLines clues facts picture clues_after facts_after picture_after cells → NamesThrough lines cells
+  keeps_named lines cells same keeps line t = (same line (keeps line t).after).1 (keeps line t)
+
+  pub part_before : FillingsStay → (cells : List ℕ) → IsPart facts_after cells → KeepsLines clues facts picture clues_after facts_after picture_after cells → IsPart facts cells
+  part_before law cells p keeps = law.part clues_after clues facts_after picture_after facts picture cells (law.back clues clues_after facts picture facts_after picture_after cells keeps) p
+
+  -- ---- what is known
+
+  pub nothing_carried : (old : List KeptPart) (lines : Lines) (cells : List ℕ) → AreSameLines clues facts picture clues_after facts_after picture_after lines → (NamesThrough lines cells → ⊥) → IsCarried clues facts picture clues_after facts_after picture_after old cells Unknown
+  nothing_carried old lines cells same none = record { keeps = λ keeps. absurd (none (keeps_named lines cells same keeps)); drops = λ n. refl }
+
+  pub answer_carried : (old : List KeptPart) (at : ℕ) (cells : List ℕ) (answer : Answer) → KeepsLines clues facts picture clues_after facts_after picture_after cells → at < length old → cells_at old at ≡ cells → answer ≡ carried cells picture_after (answer_at old at) → IsCarried clues facts picture clues_after facts_after picture_after old cells answer
+  answer_carried old at cells answer keeps l e same = record {
+    keeps = λ k. (answer_at old at, (record { at = at; place = l; cells_are = e; answer_is = refl }, same));
+    drops = λ n. absurd (n keeps);
+  }
+
+  still_true : FillingsStay → (givens : List ℕ) (cells : List ℕ) → IsScene clues givens facts picture → IsScene clues_after givens_after facts_after picture_after → KeepsLines clues facts picture clues_after facts_after picture_after cells → IsPart facts cells → (answer : Answer) → IsTrueOf clues givens picture cells answer → IsTrueOf clues_after givens_after picture_after cells (carried cells picture_after answer)
+  still_true law givens cells s t keeps p Unknown known = tt
+  still_true law givens cells s t keeps p Nothing known = law.none clues clues_after givens givens_after facts picture facts_after picture_after cells s t keeps p known
+  still_true law givens cells s t keeps p (Filling other) known = law.carried clues clues_after givens givens_after facts picture facts_after picture_after other cells s t keeps p known
+
+  pub carried_true : FillingsStay → (givens : List ℕ) (cells known_cells : List ℕ) (known answer : Answer) → IsScene clues givens facts picture → IsScene clues_after givens_after facts_after picture_after → KeepsLines clues facts picture clues_after facts_after picture_after cells → IsPart facts cells → known_cells ≡ cells → answer ≡ carried cells picture_after known → IsTrueOf clues givens picture known_cells known → IsTrueOf clues_after givens_after picture_after cells answer
+  carried_true law givens cells known_cells known answer s t keeps p e same is =
+      let P : List ℕ → Type 0 = λ x. IsTrueOf clues givens picture x known in
+      let Q : Answer → Type 0 = λ a. IsTrueOf clues_after givens_after picture_after cells a in
+      subst Q (sym same) (still_true law givens cells s t keeps p known (subst P e is))
+
+-- what is known of a part has a picture that holds its cells
+holds_cells : (clues : Clues) (givens : List ℕ) (facts picture : List (List ℕ)) (cells : List ℕ) → IsScene clues givens facts picture → IsPart facts cells → (answer : Answer) → IsTrueOf clues givens picture cells answer → HoldsCells cells answer
+holds_cells clues givens facts picture cells s p Unknown known = tt
+holds_cells clues givens facts picture cells s p Nothing known = tt
+holds_cells clues givens facts picture cells s p (Filling other) known = λ row col h.
+    let i = part_in_picture clues givens facts picture cells s p row col h in
+    let rows = known.is_other.solves.same_shape.rows in
+    let wide : width_of other ≡ width_of picture = known.is_other.solves.same_shape.each 0 in
+    ((omega (arith, i.0)), (omega (arith, i.1)))
+
+pub holds_known : (clues : Clues) (givens : List ℕ) (facts picture : List (List ℕ)) (cells known_cells : List ℕ) (known : Answer) → IsScene clues givens facts picture → IsPart facts cells → known_cells ≡ cells → IsTrueOf clues givens picture known_cells known → HoldsCells cells known
+holds_known clues givens facts picture cells known_cells known s p e is =
+    let P : List ℕ → Type 0 = λ x. IsTrueOf clues givens picture x known in
+    holds_cells clues givens facts picture cells s p known (subst P e is)
+
+-- ---- the parts that are kept
+
+pub same_place : SameCellsAreEqual → (facts : List (List ℕ)) (kept : List KeptPart) (cells : List ℕ) (i row col : ℕ) → AreParts facts (parts_of kept) → IsPart facts cells → i < length kept → HasCell (cells_at kept i) row col → HasCell cells row col → cells_at kept i ≡ cells
+same_place same facts kept cells i row col are p l h k = same_part same facts (cells_at kept i) cells row col (each_is_part facts kept are i l) p h k
+
+pub none_lacks : (facts : List (List ℕ)) (kept : List KeptPart) (cells : List ℕ) (row col : ℕ) → AreParts facts (parts_of kept) → IsPart facts cells → HasCell cells row col → ((i : ℕ) → i < length kept → HasCell (cells_at kept i) row col → ⊥) → ⊥
+none_lacks facts kept cells row col are p h none =
+    let held = are.all row col (part_open facts cells row col p h) in
+    let count = length-map kept (λ (part : KeptPart). part.cells) in
+    let P : List ℕ → Type 0 = λ x. HasCell x row col in
+    let l = held.1.0 in
+    none held.0 (omega arith) (subst P (part_of_kept kept held.0) held.1.1)
+
+pub has_a_cell : (facts : List (List ℕ)) (cells : List ℕ) → IsFacts facts → IsPart facts cells → ((row col : ℕ) → row < length facts → col < width_of facts → HasCell cells row col → ⊥) → ⊥
+has_a_cell facts cells is p none =
+    let h = has_first facts cells p in
+    let i = part_inside facts cells p.row p.col is p h in
+    none p.row p.col i.0 i.1 h
+
+pub carries_more : (clues : Clues) (facts picture : List (List ℕ)) (clues_after : Clues) (givens_after : List ℕ) (facts_after picture_after : List (List ℕ)) (old : List KeptPart) (parts : List (List ℕ)) (kept more : List KeptPart) (cells : List ℕ) (answer : Answer) (count : ℕ) → CarriesFirst clues facts picture clues_after givens_after facts_after picture_after old parts kept count
+    → more ≡ kept ++ ((record { cells = cells; answer = answer }) ∷ []) → cells ≡ part_at parts count → IsCarried clues facts picture clues_after facts_after picture_after old cells answer → IsTrueOf clues_after givens_after picture_after cells answer → CarriesFirst clues facts picture clues_after givens_after facts_after picture_after old parts more (count + 1)
+carries_more clues facts picture clues_after givens_after facts_after picture_after old parts kept more cells answer count c e same is known =
+    let part : KeptPart = record { cells = cells; answer = answer } in
+    let all = kept ++ (part ∷ []) in
+    let n = c.count_is in
+    let P : List KeptPart → Type 0 = λ xs. CarriesFirst clues facts picture clues_after givens_after facts_after picture_after old parts xs (count + 1) in
+    let L : ℕ → Type 0 = λ k. kept_at all k ≡ part in
+    let last : kept_at all count ≡ part = subst L n (last_at kept part) in
+    let Is : KeptPart → Type 0 = λ x. IsCarried clues facts picture clues_after facts_after picture_after old x.cells x.answer in
+    let True : KeptPart → Type 0 = λ x. IsTrueOf clues_after givens_after picture_after x.cells x.answer in
+    let each : (Q : KeptPart → Type 0) → Q part → ((i : ℕ) → i < count → Q (kept_at kept i)) → (i : ℕ) → i < count + 1 → Q (kept_at all i) = λ Q here before i l. elim (cases_eq i count) [
+      | inl q ↦ (let R : ℕ → Type 0 = λ k. Q (kept_at all k) in subst R (sym q) (subst Q (sym last) here))
+      | inr d ↦ subst Q (sym (front_at kept part i (omega arith))) (before i (omega arith))
+    ] in
+    subst P (sym e) (record {
+      count_is = (let m = one_longer kept part in omega arith);
+      cells = λ i l. elim (cases_eq i count) [
+        | inl q ↦
+            let R : ℕ → Type 0 = λ k. cells_at all k ≡ part_at parts k in
+            subst R (sym q) (ap (λ (x : KeptPart). x.cells) last ∙ same)
+        | inr d ↦ ap (λ (x : KeptPart). x.cells) (front_at kept part i (omega arith)) ∙ c.cells i (omega arith)
+      ];
+      carries = each Is is c.carries;
+      true_answers = each True known c.true_answers;
+    })
+
+pub all_carried : (facts parts : List (List ℕ)) (kept : List KeptPart) (count : ℕ) → AreParts facts parts → length kept ≡ count → ((i : ℕ) → i < count → cells_at kept i ≡ part_at parts i) → count ≡ length parts → AreParts facts (parts_of kept)
+all_carried facts parts kept count are n same e = subst (AreParts facts) (sym (same_parts kept parts (omega arith) (λ i l. same i (omega arith)))) are

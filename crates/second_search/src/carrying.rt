@@ -1,0 +1,132 @@
+//! What is known of a part, said of another scene.
+
+ghost use Rattle.std.specs.Prelude.{◌≡◌, ℕ, ◌<◌, ◌↔◌, length, IfOk, IsTrue, MatchOption};
+ghost use Rattle.picture.specs.CellSet.{HasCell};
+ghost use Rattle.picture.specs.Rows.{lines_along, width_of, HasLine};
+ghost use Rattle.second_search.specs.Carrying.{HoldsCells, LieInside, NamesAlong, NamesThrough, PutsRowOn, carried};
+ghost use Rattle.second_search.specs.Parts.{GoesThrough, picked};
+
+use crate::cell::Cell;
+use crate::keeper::Answer;
+use crate::parts::cell_on;
+use line_settle::Facts;
+use picture::{Axis, CellSet, LineId, LineSet, Picture};
+use std::alloc::AllocError;
+
+// What is known of a part, said of a scene with another picture: another filling gets that picture's colours elsewhere.
+pub(crate) fn answer_for(
+    answer: &Answer,
+    cells: &CellSet,
+    picture: &Picture,
+) -> Result<Answer, AllocError>
+    requires { HoldsCells cells.now answer.now }
+    ensures { IfOk result (λ known. known ≡ carried cells.now picture.now answer.now) }
+{
+    match answer {
+        Answer::Unknown => Ok(Answer::Unknown),
+        Answer::Nothing => Ok(Answer::Nothing),
+        Answer::Filling(other) => {
+            let mut filling = picture.copy()?;
+            put_on(cells, other, &mut filling);
+            Ok(Answer::Filling(filling))
+        }
+    }
+}
+
+// Puts the colours of a picture on some cells of another.
+fn put_on(cells: &CellSet, other: &Picture, picture: &mut Picture)
+    requires { LieInside cells.now other.now }
+    ensures { picture.new ≡ picked cells.now other.now picture.old }
+{
+    for row in 0..picture.height() {
+        put_row_on(cells, other, picture, row);
+    }
+}
+
+// The same in one row.
+fn put_row_on(cells: &CellSet, other: &Picture, picture: &mut Picture, row: u8)
+    requires inside { LieInside cells.now other.now }
+    requires in_rows { row < length picture.old }
+    ensures { PutsRowOn cells.now other.now picture.old picture.new row (width_of picture.old) }
+{
+    for col in 0..picture.width() {
+        if cells.has(row, col) {
+            picture.set(row, col, other.cell(row, col));
+        }
+    }
+}
+
+// Whether each line through some cells is among some names.
+pub(crate) fn are_named(names: &LineSet, cells: &CellSet, facts: &Facts) -> bool
+    requires { LieInside cells.now facts.now }
+    ensures { IsTrue result ↔ NamesThrough names.now cells.now }
+{
+    let _ = facts.height();
+    are_named_along(names, cells, facts, Axis::Across)
+        && are_named_along(names, cells, facts, Axis::Down)
+}
+
+// The same of the lines along an axis.
+fn are_named_along(names: &LineSet, cells: &CellSet, facts: &Facts, axis: Axis) -> bool
+    requires { LieInside cells.now facts.now }
+    ensures { IsTrue result ↔ NamesAlong names.now cells.now axis (lines_along axis facts.now) }
+{
+    let count = match axis {
+        Axis::Across => facts.height(),
+        Axis::Down => facts.width(),
+    };
+    for at in 0..count {
+        let line = LineId { axis, at };
+        if !names.has(line) && goes_through(line, cells, facts) {
+            return false;
+        }
+    }
+    true
+}
+
+// Whether a line goes through one of some cells.
+fn goes_through(line: LineId, cells: &CellSet, facts: &Facts) -> bool
+    requires inside { LieInside cells.now facts.now }
+    requires has { HasLine facts.now line }
+    ensures { IsTrue result ↔ GoesThrough line cells.now }
+{
+    for i in 0..facts.line_len(line) {
+        let cell = cell_on(line, i);
+        if cells.has(cell.row, cell.col) {
+            return true;
+        }
+    }
+    false
+}
+
+// The first of some cells in row order.
+pub(crate) fn first_cell(cells: &CellSet, facts: &Facts) -> Option<Cell>
+    ensures { MatchOption
+        result
+        ((row col : ℕ) → row < length facts.now → col < width_of facts.now → HasCell cells.now row col → ⊥)
+        (λ cell. (cell.row < length facts.now) × ((cell.col < width_of facts.now) × HasCell cells.now cell.row cell.col)) }
+{
+    for row in 0..facts.height() {
+        match first_in_row(cells, facts, row) {
+            Some(cell) => return Some(cell),
+            None => {}
+        }
+    }
+    None
+}
+
+// The first of the cells in a row.
+fn first_in_row(cells: &CellSet, facts: &Facts, row: u8) -> Option<Cell>
+    requires { row < length facts.now }
+    ensures { MatchOption
+        result
+        ((col : ℕ) → col < width_of facts.now → HasCell cells.now row col → ⊥)
+        (λ cell. (cell.row < length facts.now) × ((cell.col < width_of facts.now) × HasCell cells.now cell.row cell.col)) }
+{
+    for col in 0..facts.width() {
+        if cells.has(row, col) {
+            return Some(Cell { row, col });
+        }
+    }
+    None
+}
