@@ -118,12 +118,8 @@ fn schedules_agree(rt: &impl Abort, alloc: Global, cells: &[u8; 4]) -> Result<()
 
 #[test]
 fn short_schedules_agree_with_a_listing(rt: HostRuntime) -> Result<(), Fail> {
-    for code in 0..16u16 {
-        let mut cells = [0u8; 4];
-        for (i, cell) in cells.iter_mut().enumerate() {
-            let colour = if i == 3 { 2 } else { 1 };
-            *cell = (code >> i & 1) as u8 * colour;
-        }
+    for code in 0..81u8 {
+        let cells = [code % 3, code / 3 % 3, code / 9 % 3, code / 27];
         schedules_agree(&rt, rt.alloc(), &cells)?;
     }
     Ok(())
