@@ -1,4 +1,5 @@
 pub mod CountLemmas
+pub mod LineLemmas
 pub mod NumberLemmas
 pub mod TableLemmas
 pub mod WordLemmas

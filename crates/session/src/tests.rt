@@ -1,3 +1,5 @@
+mod reading;
+
 use super::*;
 use edits::Edit;
 use picture::{Axis, LineId, Rgb};
