@@ -22,3 +22,4 @@ pub mod EndLemmas
 pub mod TruthLemmas
 pub mod AnswerLemmas
 pub mod CarryLemmas
+pub mod BreakLemmas

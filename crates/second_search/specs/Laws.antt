@@ -1,5 +1,5 @@
 -- Laws of facts that a search may start from, and of parts.
-use Rattle.std.specs.Prelude.{◌≡◌, ℕ, ◌<◌, ◌↔◌, List, length}
+use Rattle.std.specs.Prelude.{◌≡◌, ℕ, ◌<◌, ◌↔◌, List, length, Option, Some}
 use Rattle.picture.specs.declared.line_id.LineId.{LineId}
 use Rattle.picture.specs.CellSet.{HasCell, PutsCell}
 use Rattle.picture.specs.Picture.{IsPicture}
@@ -9,6 +9,9 @@ use Rattle.clues.specs.Laws.{IsOnLine}
 use Rattle.line_settle.specs.FactSets.{IsBase, IsLeast, nothing_excluded, with_given}
 use Rattle.line_settle.specs.Masks.{IsOnly}
 use Rattle.propagate.specs.Filling.{Fills, only}
+use Rattle.second_search.specs.declared.keeper.KeptPart.{KeptPart}
+use Rattle.second_search.specs.declared.keeper.Verdict.TheVariants.{Undecided}
+use Rattle.second_search.specs.Judging.{Judges}
 use Rattle.second_search.specs.Other.{AreSound, IsOther}
 use Rattle.second_search.specs.Parts.{AreParts, GoesThrough, IsOpenCell, IsOtherFilling, IsPart, IsScene, KeepsLines, part_at, picked}
 
@@ -57,3 +60,10 @@ pub record FillingsStay : Type 0 where
   pub back : (clues clues_after : Clues) (facts picture facts_after picture_after : List (List ℕ)) (cells : List ℕ) → KeepsLines clues facts picture clues_after facts_after picture_after cells → KeepsLines clues_after facts_after picture_after clues facts picture cells
   pub none : (clues clues_after : Clues) (givens givens_after : List ℕ) (facts picture facts_after picture_after : List (List ℕ)) (cells : List ℕ) → IsScene clues givens facts picture → IsScene clues_after givens_after facts_after picture_after
       → KeepsLines clues facts picture clues_after facts_after picture_after cells → IsPart facts cells → ((other : List (List ℕ)) → IsOtherFilling clues givens picture cells other → ⊥) → (other : List (List ℕ)) → IsOtherFilling clues_after givens_after picture_after cells other → ⊥
+
+-- ---- judging
+
+-- A picture is left undecided only where an allowance is set.
+abbrev pub AllowancesBreakOff : Type 0
+AllowancesBreakOff = (clues : Clues) (facts picture : List (List ℕ)) (allowance : Option ℕ) (old new : List KeptPart) (searched splits : ℕ)
+    → Judges clues facts picture allowance old new Undecided searched splits → (most : ℕ) × (allowance ≡ Some most)

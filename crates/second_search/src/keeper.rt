@@ -85,9 +85,9 @@ pub enum Judged<'a> {
     Undecided,
 }
 
-// The same, where the other picture is the first filling that is kept.
+/// The same in the words of contracts, where the other picture is the first filling that is kept.
 #[derive(Clone, Copy)]
-pub(crate) enum Verdict {
+pub enum Verdict {
     Unique,
     Other,
     Undecided,
@@ -307,8 +307,8 @@ impl Keeper {
         }
     }
 
-    // Another filling of the first part of which one is kept.
-    fn other(&self) -> Option<&Picture>
+    /// Another filling of the first part of which one is kept: after a judgement that answered another picture, that one.
+    pub fn other(&self) -> Option<&Picture>
         ensures { MatchOption result (HasNoFilling self.now (length self.now)) (λ other. FirstFilling self.now other.now) }
     {
         for i in 0..self.kept.len() {

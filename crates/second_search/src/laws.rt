@@ -1,6 +1,6 @@
 //! Laws of the definitions in `specs/`. Each function does nothing, and its contract is the law.
 
-ghost use Rattle.second_search.specs.Laws.{FillingsAreOfFacts, FillingsStay, PartsAreApart, PartsAreOneList, PartsDecide, SoundFacts};
+ghost use Rattle.second_search.specs.Laws.{AllowancesBreakOff, FillingsAreOfFacts, FillingsStay, PartsAreApart, PartsAreOneList, PartsDecide, SoundFacts};
 ghost use Rattle.second_search.specs.Searching.{CostsAreUnique};
 
 use clues::laws::{books_are_their_clues, clues_are_of_lines};
@@ -62,3 +62,9 @@ pub fn costs_are_unique()
 {
     least_is_unique();
 }
+
+#[tactic(auto, using(crate::proofs::BreakLemmas::break_off))]
+/// A picture is left undecided only where an allowance is set.
+pub fn allowances_break_off()
+    ensures { AllowancesBreakOff }
+{}

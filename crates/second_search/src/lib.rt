@@ -17,7 +17,7 @@ mod same_lines;
 mod scene;
 
 pub use finding::{find_first, find_other};
-pub use keeper::{Answer, Judged, Keeper, KeptPart};
+pub use keeper::{Answer, Judged, Keeper, KeptPart, Verdict};
 pub use parts::Parts;
 pub use scene::Scene;
 
