@@ -6,8 +6,12 @@ use picture::{Axis, Picture};
 use std::alloc::{AllocError, Global};
 use std::process::Abort;
 
+mod changes;
+mod growing;
 mod listing;
 mod making;
+mod plain;
+mod splits;
 mod writing;
 
 // The first row, and so on, as a certificate names them.
