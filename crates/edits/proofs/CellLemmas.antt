@@ -1,14 +1,13 @@
 -- Lists of cells: those that an edit changes, and a grid with cells of a list changed.
-use Rattle.std.proofs.Common.{◌≡◌, ◌≢◌, ℕ, zero, suc, ◌+◌, ◌-◌, ◌<◌, ◌≤◌, ◌⊎◌, inl, inr, Bool, true, false, cond, eqb, if◌then◌else◌, ◌==◌, List, [], ◌∷◌, ◌++◌, length, get_or, set, map, take, refl, sym, ap, subst, ◌∙◌, arith, add-one}
+use Rattle.std.proofs.Common.{◌≡◌, ◌≢◌, ℕ, zero, suc, ◌+◌, ◌<◌, ◌≤◌, ◌⊎◌, inl, inr, Bool, true, false, cond, ◌==◌, List, [], ◌∷◌, ◌++◌, length, get_or, map, take, refl, sym, ap, subst, ◌∙◌, arith, add-one}
 use Rattle.std.proofs.lemmas.Bool.{cases_lt, cases_eq, eqb-false, ne_eqb, eq-eqb, cond-false}
-use Rattle.std.proofs.lemmas.Bool.Decides.{nat_tests}
 use Rattle.std.specs.List.{All}
 use Rattle.std.proofs.lemmas.List.{append-nil, take_more, get_or-map, length-map}
 use Rattle.std.proofs.lemmas.List.Elements.{All-head, All-tail, All-take, All-weaker}
 use Rattle.picture.specs.Picture.{IsPicture}
-use Rattle.picture.specs.Rows.{width_of, row_at, cell_at, with_cell}
+use Rattle.picture.specs.Rows.{width_of, cell_at, with_cell}
 use Rattle.edits.specs.declared.edit.Edit.{Edit}
-use Rattle.edits.specs.Design.{IsGrid, grid}
+use Rattle.edits.specs.Design.{IsGrid}
 use Rattle.edits.specs.Edit.{colour_after, painted}
 use Rattle.edits.specs.Note.{Cell, IsCellIn, repainted, joined, with_cells, changed_cell, changed_cells, changed_in_row}
 use Rattle.edits.proofs.GridLemmas.{same_grid, grid_same, picture_is_grid, grid_is_grid, cell_at-grid, cell_at-with_same, cell_at-with_row, cell_at-with_column, with_cell_is_grid}

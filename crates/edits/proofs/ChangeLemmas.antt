@@ -1,5 +1,5 @@
 -- Which lines have other cells after an edit.
-use Rattle.std.proofs.Common.{◌≡◌, ◌≢◌, ℕ, zero, suc, ◌+◌, ◌<◌, ◌≤◌, ◌⊎◌, inl, inr, List, [], ◌∷◌, length, get_or, map, refl, sym, ap, subst, ◌∙◌, arith}
+use Rattle.std.proofs.Common.{◌≡◌, ◌≢◌, ℕ, zero, suc, ◌<◌, inl, inr, List, [], ◌∷◌, length, get_or, map, refl, sym, ap, subst, ◌∙◌, arith}
 use Rattle.std.specs.Prelude.{◌↔◌}
 use Rattle.std.proofs.lemmas.Bool.{cases_eq}
 use Rattle.std.proofs.lemmas.List.{ext_get_or, length-map, get_or-map}
@@ -7,7 +7,7 @@ use Rattle.picture.specs.declared.line_id.Axis.{Axis}
 use Rattle.picture.specs.declared.line_id.Axis.TheVariants.{Across, Down}
 use Rattle.picture.specs.declared.line_id.LineId.{LineId}
 use Rattle.picture.specs.Picture.{IsPicture}
-use Rattle.picture.specs.Rows.{width_of, cell_at, line_along, line_deleted, line_of, lines_along, lines_swapped, HasLine}
+use Rattle.picture.specs.Rows.{width_of, cell_at, line_along, line_deleted, line_of, lines_along, lines_swapped}
 use Rattle.clues.specs.declared.places.Places.TheVariants.{Swapped}
 use Rattle.clues.specs.Change.{AgreesOff, Changes, FollowsCells, FollowsSwap, IsChangeOf, IsTouched, back, moved_along}
 use Rattle.picture.specs.Crossing.{crossing}
@@ -18,7 +18,6 @@ use Rattle.edits.specs.Change.{CrossesApart, DifferIn, IsCrossed, nth_cell}
 use Rattle.edits.specs.Design.{Design, IsDesign}
 use Rattle.edits.specs.Edit.{colour_after, edited, painted}
 use Rattle.edits.specs.Note.{Cell, IsStep, Note, cells_along, changed_cells, place_on, rows_before}
-use Rattle.edits.specs.Painting.{SameAt}
 use Rattle.edits.proofs.ApplyLemmas.{Paints, insert_fits, swap_fits}
 use Rattle.edits.proofs.CellLemmas.{Has, all_has, changed_from, changed_has}
 use Rattle.edits.proofs.FaultLemmas.{lawful}

@@ -1,6 +1,6 @@
 -- The marks of a set of givens.
-use Rattle.std.proofs.Common.{◌≡◌, ◌≢◌, ℕ, ◌^◌, ◌<◌, ◌≤◌, ◌↔◌, inl, inr, Bool, true, false, cond, eqb, List, length, get_or, refl, sym, ap, ◌∙◌, arith}
-use Rattle.std.specs.Prelude.{IsBitSet, bit_and}
+use Rattle.std.proofs.Common.{◌≡◌, ℕ, ◌^◌, ◌<◌, ◌↔◌, inl, inr, Bool, true, false, cond, eqb, List, length, get_or, refl, sym, ap, ◌∙◌, arith}
+use Rattle.std.specs.Prelude.{bit_and}
 use Rattle.std.proofs.lemmas.Bool.{cases_lt, cases_eq, eq-eqb, ne_eqb}
 use Rattle.picture.specs.CellSet.{HasCell, PutsCell, TakesOutCell}
 use Rattle.picture.specs.Palette.{IsPalette}
@@ -8,7 +8,7 @@ use Rattle.picture.specs.Picture.{IsPicture}
 use Rattle.picture.specs.Document.{AreColoured}
 use Rattle.picture.specs.Palette.{Colours}
 use Rattle.picture.specs.Rows.{cell_at, width_of, with_cell}
-use Rattle.edits.specs.Design.{Design, IsDesign, design, grid, mark_at, marks_of}
+use Rattle.edits.specs.Design.{IsDesign, design, mark_at, marks_of}
 use Rattle.edits.specs.Laws.{MarksAreGivens}
 use Rattle.edits.proofs.GridLemmas.{grid_is_grid, grid_same, with_cell_is_grid, cell_at-with_same, cell_at-with_row, cell_at-with_column, cell_at-grid, cell_at-past_rows, cell_at-past_columns, length-grid}
 

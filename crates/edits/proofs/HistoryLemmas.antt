@@ -1,14 +1,13 @@
 -- A history from the entries of its edits: one more at an end, and one less.
-use Rattle.std.proofs.Common.{◌≡◌, ℕ, zero, suc, ◌+◌, ◌-◌, ◌<◌, ◌≤◌, Option, Some, None, List, [], ◌∷◌, ◌++◌, length, take, drop, map, refl, sym, ap, subst, ◌∙◌, arith}
+use Rattle.std.proofs.Common.{◌≡◌, ℕ, zero, suc, ◌+◌, ◌-◌, ◌<◌, Some, List, [], ◌∷◌, ◌++◌, length, take, drop, refl, sym, ap, subst, ◌∙◌, arith}
 use Rattle.std.specs.Prelude.{slice_get}
-use Rattle.std.proofs.lemmas.List.{length-append, length-map, take_more, take_all, drop-map, take-map, take_at}
-use Rattle.std.proofs.lemmas.Option.{slice_get_within, get_or_from_slice_get, slice_get-map}
+use Rattle.std.proofs.lemmas.List.{length-append, take_more, take_all, take_at}
+use Rattle.std.proofs.lemmas.Option.{slice_get_within, get_or_from_slice_get}
 use Rattle.circular_buffer.proofs.Places.{slice_get-last}
-use Rattle.circular_buffer.specs.Buffer.{keep_last, last_item}
-use Rattle.edits.specs.Design.{Design, IsDesign}
+use Rattle.edits.specs.Design.{Design}
 use Rattle.edits.specs.Edit.{edited}
-use Rattle.edits.specs.Note.{Note, IsStep, IsEntry, note_for, reverted}
-use Rattle.edits.specs.History.{Turn, turn, History, history, before_all, past_from, future_from, ArePast, AreFuture, last_turn}
+use Rattle.edits.specs.Note.{Note, IsStep, IsEntry, reverted}
+use Rattle.edits.specs.History.{Turn, turn, before_all, past_from, future_from, ArePast}
 use Rattle.edits.proofs.RevertLemmas.{reverted-edited}
 
 -- the last item, apart from those before it

@@ -1,9 +1,9 @@
 -- Edits that leave a document as it is.
-use Rattle.std.proofs.Common.{◌≡◌, ◌≢◌, ℕ, ◌+◌, ◌<◌, ◌≤◌, inl, inr, Bool, true, false, if◌then◌else◌, ◌||◌, not, Option, Some, None, is_some, option_map, List, [], ◌∷◌, ◌++◌, length, length-append, get_or, set, map, replicate, refl, sym, ap, ◌∙◌, arith}
+use Rattle.std.proofs.Common.{◌≡◌, ◌≢◌, ℕ, ◌+◌, ◌<◌, ◌≤◌, inl, inr, Bool, true, false, if◌then◌else◌, ◌||◌, not, Option, Some, None, is_some, option_map, List, [], ◌∷◌, length, length-append, get_or, set, map, replicate, refl, sym, ap, ◌∙◌, arith}
 use Rattle.std.specs.Bool.{MatchBool, beq}
 use Rattle.std.specs.Prelude.{slice_get, IsTrue, ◌↔◌}
 use Rattle.std.specs.List.{insert, remove, swap, list_any}
-use Rattle.std.proofs.lemmas.Bool.{cases_eq, false_from_ne_true}
+use Rattle.std.proofs.lemmas.Bool.{cases_eq}
 use Rattle.std.proofs.lemmas.List.{ext_get_or, length-map, get_or-map, set-get_or, get_or-set_same}
 use Rattle.std.proofs.lemmas.List.Edits.{length-insert, length-remove, length-swap, swapped_from_swap}
 use Rattle.std.proofs.lemmas.Option.{get_or_from_slice_get}
@@ -11,7 +11,7 @@ use Rattle.picture.specs.declared.line_id.Axis.{Axis}
 use Rattle.picture.specs.declared.line_id.Axis.TheVariants.{Across, Down}
 use Rattle.picture.specs.declared.line_id.LineId.{LineId}
 use Rattle.picture.specs.declared.rgb.Rgb.{Rgb}
-use Rattle.picture.specs.Palette.{Colours, place_of, rgb_eq, with_colour, with_triple}
+use Rattle.picture.specs.Palette.{place_of, rgb_eq, with_colour, with_triple}
 use Rattle.picture.specs.Picture.{IsPicture}
 use Rattle.picture.specs.Rows.{cell_at, width_of, with_cell, with_line, without_line, lines_along, lines_swapped}
 use Rattle.edits.specs.declared.edit.Edit.{Edit}
@@ -21,7 +21,7 @@ use Rattle.edits.specs.Edit.{edited, painted}
 use Rattle.edits.specs.Fault.{same_design}
 use Rattle.edits.specs.Note.{changed_cells, cells_along, place_on}
 use Rattle.edits.specs.Painting.{AreAlike, AreAlikeAt, SameAt}
-use Rattle.edits.proofs.GridLemmas.{picture_is_grid, same_grid, cell_at-with_same}
+use Rattle.edits.proofs.GridLemmas.{picture_is_grid, cell_at-with_same}
 use Rattle.edits.proofs.CellLemmas.{painted_unchanged, unchanged_painted}
 use Rattle.edits.proofs.LineLemmas.{size_along}
 use Rattle.edits.proofs.RevertLemmas.{with_cell_same, size_of_lines}

@@ -1,9 +1,9 @@
 -- The cells and the givens of a line one by one.
-use Rattle.std.proofs.Common.{◌≡◌, ◌≢◌, ℕ, ◌+◌, ◌<◌, ◌==◌, Bool, true, false, List, [], ◌∷◌, ◌++◌, length, append-nil, refl, sym, ap, ◌∙◌, arith}
+use Rattle.std.proofs.Common.{◌≡◌, ◌≢◌, ℕ, ◌+◌, ◌<◌, ◌==◌, List, [], ◌∷◌, ◌++◌, length, append-nil, sym, ap, ◌∙◌, arith}
 use Rattle.std.proofs.lemmas.Bool.{cond-true, cond-false, eq-eqb, ne_eqb}
 use Rattle.picture.specs.declared.line_id.LineId.{LineId}
 use Rattle.picture.specs.Rows.{cell_at, width_of}
-use Rattle.edits.specs.Design.{IsGrid, grid, mark_at, marks_of}
+use Rattle.edits.specs.Design.{mark_at, marks_of}
 use Rattle.edits.specs.Note.{Cell, joined, cell_on, given_on, place_on, cells_along, cells_of_line, givens_of_line}
 use Rattle.edits.proofs.CellLemmas.{joined_none, joined_more}
 use Rattle.edits.proofs.GridLemmas.{grid_is_grid}

@@ -1,17 +1,16 @@
 -- Lines inserted, deleted and exchanged, and all of it taken back.
-use Rattle.std.proofs.Common.{◌≡◌, ◌≢◌, ℕ, zero, suc, ◌+◌, ◌-◌, ◌<◌, ◌≤◌, ◌⊎◌, inl, inr, Bool, true, false, cond, if◌then◌else◌, ◌==◌, List, [], ◌∷◌, ◌++◌, length, get_or, set, map, replicate, refl, sym, ap, subst, ◌∙◌, arith}
+use Rattle.std.proofs.Common.{◌≡◌, ◌≢◌, ℕ, zero, suc, ◌+◌, ◌<◌, ◌≤◌, inl, inr, Bool, true, false, cond, ◌==◌, List, [], ◌∷◌, length, get_or, set, map, replicate, refl, sym, ap, subst, ◌∙◌, arith}
 use Rattle.std.specs.List.{insert, remove, swap}
 use Rattle.std.proofs.lemmas.Bool.{cases_lt, cases_eq, ne_eqb, eqb-false}
 use Rattle.std.proofs.lemmas.List.{ext_get_or, length-map, length-set, length-replicate, get_or-map, get_or-replicate, get_or-set_same, get_or-set_other}
-use Rattle.std.proofs.lemmas.List.Edits.{length-remove, length-swap, get_or-remove_below, get_or-remove_above, swapped_from_swap}
+use Rattle.std.proofs.lemmas.List.Edits.{length-swap, get_or-remove_below, get_or-remove_above, swapped_from_swap}
 use Rattle.picture.specs.declared.line_id.Axis.{Axis}
 use Rattle.picture.specs.declared.line_id.Axis.TheVariants.{Across, Down}
-use Rattle.picture.specs.declared.line_id.LineId.{LineId}
-use Rattle.picture.specs.Rows.{width_of, row_at, cell_at, lines_along, with_line, without_line, lines_swapped}
+use Rattle.picture.specs.Rows.{width_of, cell_at, with_line, without_line, lines_swapped}
 use Rattle.clues.specs.Change.{line_at}
 use Rattle.picture.specs.Crossing.{crossing}
 use Rattle.edits.specs.Design.{IsGrid}
-use Rattle.edits.specs.Note.{Cell, joined, with_cells, cells_of_line, givens_of_line, cells_along, cell_on, given_on, place_on, as_mark}
+use Rattle.edits.specs.Note.{Cell, with_cells, cells_of_line, givens_of_line, cells_along, cell_on, given_on, place_on, as_mark}
 use Rattle.edits.proofs.CellLemmas.{Has, joined_has, joined_from, with_cells_give}
 
 -- lists

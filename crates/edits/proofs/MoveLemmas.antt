@@ -1,8 +1,6 @@
 -- Givens that move with their lines: one cell more, and the marks that they come to.
-use Rattle.std.proofs.Common.{◌≡◌, ◌≢◌, ℕ, ◌+◌, ◌-◌, ◌<◌, ◌≤◌, ◌⊎◌, ◌↔◌, inl, inr, Option, Some, None, List, [], ◌∷◌, length, get_or, map, replicate, refl, sym, ap, ◌∙◌, arith}
-use Rattle.std.specs.List.{insert, remove, swap}
-use Rattle.std.proofs.lemmas.Bool.{cases_lt, cases_eq}
-use Rattle.std.proofs.lemmas.Bool.Decides.{nat_tests}
+use Rattle.std.proofs.Common.{◌≡◌, ◌≢◌, ℕ, ◌+◌, ◌<◌, ◌≤◌, inl, inr, List, refl, arith}
+use Rattle.std.proofs.lemmas.Bool.{cases_eq}
 use Rattle.picture.specs.CellSet.{HasCell, PutsCell}
 use Rattle.clues.specs.Change.{Moves}
 use Rattle.edits.specs.Moving.{AreMoved, AreMovedTo, mark_before}

@@ -1,15 +1,14 @@
 -- Where an edit paints, and the cells that it changes one by one.
-use Rattle.std.proofs.Common.{◌≡◌, ◌≢◌, ℕ, ◌+◌, ◌<◌, ◌≤◌, ◌⊎◌, inl, inr, Bool, true, false, List, [], ◌∷◌, ◌++◌, length, append-nil, append_assoc, refl, sym, ap, ◌∙◌, arith}
-use Rattle.std.proofs.lemmas.Bool.{cases_eq}
+use Rattle.std.proofs.Common.{◌≡◌, ◌≢◌, ℕ, ◌+◌, ◌<◌, ◌≤◌, ◌⊎◌, inl, inr, false, List, [], ◌∷◌, ◌++◌, length, append-nil, append_assoc, refl, sym, ap, ◌∙◌, arith}
 use Rattle.std.proofs.lemmas.Bool.Decides.{nat_tests}
 use Rattle.picture.specs.Rows.{width_of, cell_at}
 use Rattle.edits.specs.declared.edit.Edit.{Edit}
-use Rattle.edits.specs.declared.edit.Edit.TheVariants.{Paint, Fill, Recolour, InsertLine, DeleteLine, SwapLines, AddColour, SetColour, Pin, Unpin}
+use Rattle.edits.specs.declared.edit.Edit.TheVariants.{Paint, Fill}
 use Rattle.edits.specs.Edit.{colour_after}
 use Rattle.edits.specs.Fault.{is_outside}
 use Rattle.edits.specs.Note.{Cell, joined, changed_cell, changed_cells, changed_in_row}
 use Rattle.edits.specs.Painting.{IsArea, Leaves}
-use Rattle.edits.proofs.CellLemmas.{joined_none, joined_more, joined_gap, joined_has, changed_has, changed_cell_is, unchanged_cell, Has}
+use Rattle.edits.proofs.CellLemmas.{joined_none, joined_more, joined_gap, joined_has, changed_cell_is, unchanged_cell, Has}
 
 -- the places that edits name lie in the picture
 pub paint_inside : (rows : List (List ℕ)) (row col colour : ℕ) → is_outside rows (Paint row col colour) ≡ false → (row < length rows) × (col < width_of rows)

@@ -1,5 +1,5 @@
 -- Documents made from another one's parts.
-use Rattle.std.proofs.Common.{◌≡◌, ℕ, ◌+◌, ◌<◌, ◌≤◌, List, length, map, refl, sym, ap, ◌∙◌, arith, Bool, false}
+use Rattle.std.proofs.Common.{◌≡◌, ℕ, ◌<◌, ◌≤◌, List, length, map, refl, ap, ◌∙◌, arith, Bool, false}
 use Rattle.std.specs.Prelude.{Result, Ok, Err, OnOk, is_err}
 use Rattle.std.specs.List.{All}
 use Rattle.picture.specs.declared.line_id.Axis.{Axis}
@@ -8,7 +8,6 @@ use Rattle.picture.specs.Palette.{Colours}
 use Rattle.picture.specs.Picture.{IsPicture}
 use Rattle.picture.specs.Document.{AreInside}
 use Rattle.picture.specs.Rows.{width_of, lines_along, with_line, without_line, lines_swapped}
-use Rattle.clues.specs.declared.places.Places.{Places}
 use Rattle.clues.specs.declared.places.Places.TheVariants.{Inserted, Deleted, Swapped}
 use Rattle.clues.specs.Change.{Moves, lines_before, moved_along, still}
 use Rattle.edits.specs.Design.{Design, design, marks_of}

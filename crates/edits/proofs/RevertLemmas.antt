@@ -1,8 +1,7 @@
 -- An edit taken back gives the document before it.
-use Rattle.std.proofs.Common.{◌≡◌, ◌≢◌, ℕ, ◌+◌, ◌-◌, ◌<◌, ◌≤◌, Bool, true, false, cond, not, ◌&&◌, ◌||◌, inl, inr, Option, Some, None, List, [], ◌∷◌, ◌++◌, length, length-append, get_or, set, take, map, refl, sym, ap, ◌∙◌, arith}
+use Rattle.std.proofs.Common.{◌≡◌, ◌≢◌, ℕ, ◌-◌, ◌<◌, ◌≤◌, false, not, inl, inr, Option, Some, None, List, [], ◌∷◌, ◌++◌, length, length-append, get_or, set, take, refl, sym, ap, ◌∙◌, arith}
 use Rattle.std.specs.Prelude.{slice_get}
 use Rattle.std.proofs.lemmas.Bool.Decides.{nat_tests}
-use Rattle.std.proofs.lemmas.Bool.{and_parts, cases_eq}
 use Rattle.std.proofs.lemmas.List.{set-set, set-get_or, get_or-set_same}
 use Rattle.std.proofs.lemmas.Option.{slice_get_cases, get_or_from_slice_get}
 use Rattle.std.proofs.Math.Seq.{take-append_seam}
@@ -10,14 +9,13 @@ use Rattle.picture.specs.declared.line_id.Axis.{Axis}
 use Rattle.picture.specs.declared.line_id.Axis.TheVariants.{Across, Down}
 use Rattle.picture.specs.declared.rgb.Rgb.{Rgb}
 use Rattle.picture.specs.Palette.{Colours, with_colour, with_triple, without_last}
-use Rattle.picture.specs.Picture.{IsPicture}
 use Rattle.picture.specs.Rows.{width_of, cell_at, with_cell, lines_along}
 use Rattle.edits.specs.declared.edit.Edit.{Edit}
 use Rattle.edits.specs.declared.edit.Edit.TheVariants.{Paint, Fill, Recolour, InsertLine, DeleteLine, SwapLines, AddColour, SetColour, Pin, Unpin}
 use Rattle.edits.specs.Design.{Design, design, IsDesign, IsGrid}
 use Rattle.edits.specs.Edit.{edited, rows_after, marks_after, colours_after}
 use Rattle.edits.specs.Fault.{edit_fault, has_cell}
-use Rattle.edits.specs.Note.{Note, IsStep, note_for, reverted, with_old}
+use Rattle.edits.specs.Note.{note_for, reverted, with_old}
 use Rattle.edits.proofs.GridLemmas.{picture_is_grid}
 use Rattle.edits.proofs.CellLemmas.{gives_cells_back}
 use Rattle.edits.proofs.LineLemmas.{size_along, delete_insert, swap_back, gives_line_back, gives_givens_back}

@@ -1,7 +1,6 @@
 -- The history that two rings of entries give, before a step and after it.
-use Rattle.std.proofs.Common.{◌≡◌, ℕ, zero, suc, ◌+◌, ◌-◌, ◌<◌, ◌≤◌, ◌⊎◌, inl, inr, Option, Some, None, List, [], ◌∷◌, ◌++◌, length, take, drop, map, refl, sym, ap, subst, ◌∙◌, arith}
+use Rattle.std.proofs.Common.{◌≡◌, ℕ, ◌+◌, ◌-◌, ◌<◌, ◌≤◌, ◌⊎◌, inl, inr, Some, None, List, [], ◌∷◌, ◌++◌, length, take, drop, refl, sym, ap, subst, ◌∙◌, arith}
 use Rattle.std.specs.Prelude.{slice_get, option_map}
-use Rattle.std.proofs.lemmas.Bool.Decides.{nat_tests}
 use Rattle.std.proofs.lemmas.List.{length-append, length-map, length-drop, length-take-le, map-append, drop-map, take_all}
 use Rattle.std.proofs.lemmas.Option.{slice_get_within, slice_get_cases}
 use Rattle.circular_buffer.specs.Buffer.{Buffer, buffer, keep_last, last_item}
@@ -13,11 +12,11 @@ use Rattle.edits.specs.declared.fault.EditFault.{EditFault}
 use Rattle.edits.specs.declared.fault.EditFault.TheVariants.{UndoEmpty, RedoEmpty}
 use Rattle.edits.specs.Design.{Design, IsDesign}
 use Rattle.edits.specs.Edit.{edited}
-use Rattle.edits.specs.Note.{Note, IsStep, IsEntry, note_for, note_of, reverted}
+use Rattle.edits.specs.Note.{IsStep, note_for, note_of, reverted}
 use Rattle.edits.specs.Prepared.{advance_of}
 use Rattle.edits.specs.History.{Turn, turn, History, history, past_from, future_from, ArePast, AreFuture, last_turn, undone, undone_to, redone, fault_if_empty, undo_fault, redo_fault, or_memory, IsPlanFor, Advance, ByEdit, ByUndo, ByRedo, Plan, plan, advanced, first_turn}
 use Rattle.edits.specs.Studio.{AreRings, notes_of, history_from, with_first, with_last, past_after, future_after}
-use Rattle.edits.proofs.HistoryLemmas.{split_last, take_front, last_of, length-past_from, length-future_from, step_back, step_entry, entry_step, past_from-last, past_from-push, past_from-drop, ArePast-push, ArePast-drop, ArePast-pop}
+use Rattle.edits.proofs.HistoryLemmas.{split_last, take_front, last_of, length-past_from, step_entry, entry_step, past_from-last, past_from-push, past_from-drop, ArePast-push, ArePast-drop, ArePast-pop}
 
 -- a step back and a step forth, where there is one
 not_empty : (ts : List Turn) (t : Turn) (fault : EditFault) → fault_if_empty (ts ++ t ∷ []) fault ≡ None

@@ -1,26 +1,24 @@
 -- Grids whose lines have moved: each cell comes from its old place.
-use Rattle.std.proofs.Common.{◌≡◌, ◌≢◌, ℕ, zero, suc, ◌+◌, ◌-◌, ◌<◌, ◌≤◌, inl, inr, Bool, true, false, cond, eqb, Option, Some, None, option_map, List, [], ◌∷◌, length, get_or, map, replicate, refl, sym, ap, ◌∙◌, arith}
+use Rattle.std.proofs.Common.{◌≡◌, ◌≢◌, ℕ, zero, suc, ◌+◌, ◌-◌, ◌<◌, ◌≤◌, inl, inr, eqb, Option, Some, None, option_map, List, [], length, get_or, map, replicate, refl, sym, ap, ◌∙◌, arith}
 use Rattle.std.specs.List.{insert, remove, swap}
 use Rattle.std.specs.Prelude.{bit_and, ◌^◌}
 use Rattle.std.proofs.lemmas.Bool.{cases_lt, cases_eq, cases_order}
 use Rattle.std.proofs.lemmas.Bool.Decides.{nat_tests}
-use Rattle.std.proofs.lemmas.List.{length-map, length-replicate, get_or-map, get_or_past}
+use Rattle.std.proofs.lemmas.List.{length-map, length-replicate, get_or-map}
 use Rattle.std.proofs.lemmas.List.Edits.{length-insert, length-remove, length-swap, get_or-insert_below, get_or-insert_at, get_or-insert_above, get_or-remove_below, get_or-remove_above, swapped_from_swap}
 use Rattle.picture.specs.declared.line_id.Axis.{Axis}
 use Rattle.picture.specs.declared.line_id.Axis.TheVariants.{Across, Down}
-use Rattle.picture.specs.CellSet.{HasCell}
 use Rattle.picture.specs.Picture.{IsPicture}
 use Rattle.picture.specs.Rows.{cell_at, width_of, lines_along, with_line, without_line, lines_swapped}
-use Rattle.clues.specs.declared.places.Places.{Places}
-use Rattle.clues.specs.declared.places.Places.TheVariants.{Kept, Inserted, Deleted, Swapped}
+use Rattle.clues.specs.declared.places.Places.TheVariants.{Inserted, Deleted, Swapped}
 use Rattle.clues.specs.Places.{new_place, exchanged}
 use Rattle.clues.specs.Change.{Moves, line_at, moved_along}
-use Rattle.edits.specs.Design.{IsGrid, grid, mark_at, marks_of}
+use Rattle.edits.specs.Design.{IsGrid, mark_at, marks_of}
 use Rattle.edits.specs.Note.{cells_along}
 use Rattle.edits.specs.Moving.{AreMoved, mark_before, mark_where}
 use Rattle.edits.proofs.GridLemmas.{picture_is_grid, grid_is_grid, grid_same, cell_at-grid, cell_at-past_rows}
 use Rattle.edits.proofs.DesignLemmas.{mark_has, mark_none, mark_small}
-use Rattle.edits.proofs.LineLemmas.{size_along, width_of-remove}
+use Rattle.edits.proofs.LineLemmas.{width_of-remove}
 use Rattle.edits.proofs.IdleLemmas.{lines_along-inserted, lines_along-deleted}
 
 -- the item at an old place, or another one where there was none

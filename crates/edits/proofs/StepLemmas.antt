@@ -1,6 +1,6 @@
 -- What an entry asks of the parts that make the document before its edit.
-use Rattle.std.proofs.Common.{◌≡◌, ◌≢◌, ℕ, ◌+◌, ◌<◌, ◌≤◌, inl, inr, Bool, true, false, List, [], ◌∷◌, ◌++◌, length, length-append, map, take, get_or, refl, sym, ap, subst, ◌∙◌, arith}
-use Rattle.std.specs.Prelude.{Result, Ok, Err, IfOk, IfSome, slice_get}
+use Rattle.std.proofs.Common.{◌≡◌, ℕ, ◌<◌, ◌≤◌, [], ◌∷◌, length, length-append, sym, ap, subst, ◌∙◌, arith}
+use Rattle.std.specs.Prelude.{Result, Ok, Err, IfOk}
 use Rattle.std.specs.List.{All}
 use Rattle.std.proofs.lemmas.List.{length-set}
 use Rattle.picture.specs.declared.document.Document.{Document}
@@ -8,18 +8,17 @@ use Rattle.std.specs.declared.alloc.AllocError.{AllocError}
 use Rattle.picture.specs.declared.line_id.Axis.{Axis}
 use Rattle.picture.specs.declared.line_id.LineId.{LineId}
 use Rattle.picture.specs.declared.rgb.Rgb.{Rgb}
-use Rattle.picture.specs.Palette.{Colours}
 use Rattle.picture.specs.Document.{AreColoured}
-use Rattle.picture.specs.Rows.{cell_at, width_of, lines_along, line_inserted, line_deleted, lines_swapped}
+use Rattle.picture.specs.Rows.{width_of, lines_along, line_inserted, line_deleted, lines_swapped}
 use Rattle.edits.specs.declared.edit.Edit.{Edit}
-use Rattle.edits.specs.declared.edit.Edit.TheVariants.{Paint, Fill, Recolour, InsertLine, DeleteLine, SwapLines, AddColour, SetColour, Pin, Unpin}
-use Rattle.edits.specs.Design.{Design, design, design_of, IsDesign, IsGrid}
+use Rattle.edits.specs.declared.edit.Edit.TheVariants.{InsertLine, DeleteLine, SwapLines, AddColour, SetColour, Pin, Unpin}
+use Rattle.edits.specs.Design.{Design, design_of, IsDesign, IsGrid}
 use Rattle.edits.specs.Edit.{edited, painted}
-use Rattle.edits.specs.Note.{Cell, IsCellIn, IsPlaceIn, IsStep, Note, cells_of_line, changed_cells, givens_of_line, note_for, reverted}
+use Rattle.edits.specs.Note.{IsCellIn, IsPlaceIn, IsStep, Note, cells_of_line, changed_cells, givens_of_line, reverted}
 use Rattle.edits.proofs.CellLemmas.{all_has, changed_from}
 use Rattle.edits.proofs.GridLemmas.{length-grid, picture_is_grid, width_of-grid}
 use Rattle.edits.proofs.LineLemmas.{cell_of_line, given_of_line, line_back_is_grid, size_along}
-use Rattle.edits.proofs.FaultLemmas.{IsLawful, lawful}
+use Rattle.edits.proofs.FaultLemmas.{IsLawful}
 use Rattle.edits.proofs.ApplyLemmas.{Paints, insert_fits, delete_fits, swap_fits, set_fits}
 use Rattle.edits.proofs.PartLemmas.{some_lines}
 use Rattle.edits.proofs.RevertLemmas.{reverted-edited, not_in, size_of_lines}

@@ -1,8 +1,7 @@
 -- A document as its parts, seen cell by cell.
-use Rattle.std.specs.Prelude.{◌≡◌, ℕ, zero, suc, ◌^◌, ◌<◌, List, [], ◌∷◌, ◌++◌, length, map, slice_index, bit_and, if◌then◌else◌, ◌==◌}
+use Rattle.std.specs.Prelude.{◌≡◌, ℕ, ◌^◌, ◌<◌, List, length, map, slice_index, bit_and, if◌then◌else◌, ◌==◌}
 use Rattle.std.specs.List.{range_with_len}
 use Rattle.picture.specs.declared.document.Document.{Document}
-use Rattle.picture.specs.CellSet.{IsCellSet}
 use Rattle.picture.specs.Palette.{Colours, IsPalette}
 use Rattle.picture.specs.Picture.{IsPicture}
 use Rattle.picture.specs.Document.{AreColoured}

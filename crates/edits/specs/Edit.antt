@@ -1,6 +1,6 @@
 -- The document after an edit.
 use Rattle.std.specs.Prelude.{◌≡◌, ℕ, ◌&&◌, Bool, nat_le, ◌==◌, List, [], ◌∷◌, length, if◌then◌else◌, refl}
-use Rattle.picture.specs.declared.line_id.Axis.TheVariants.{Across, Down}
+use Rattle.picture.specs.declared.line_id.Axis.TheVariants.{Across}
 use Rattle.picture.specs.Palette.{Colours, with_colour, with_triple}
 use Rattle.picture.specs.Rows.{width_of, cell_at, with_cell, line_inserted, line_deleted, lines_swapped}
 use Rattle.edits.specs.declared.edit.Edit.{Edit}

@@ -1,5 +1,5 @@
 -- Why an edit is refused: the first fault in order whose condition holds.
-use Rattle.std.specs.Prelude.{ℕ, ◌≤◌, ◌<◌, Bool, true, false, ◌&&◌, ◌||◌, not, nat_le, nat_lt, ◌==◌, nat_eq, List, length, Option, Some, None, if◌then◌else◌, codes}
+use Rattle.std.specs.Prelude.{ℕ, Bool, false, ◌&&◌, ◌||◌, not, nat_le, nat_lt, ◌==◌, nat_eq, List, length, Option, Some, None, if◌then◌else◌, codes}
 use Rattle.std.specs.List.{list_any}
 use Rattle.std.specs.Cmp.Lexicographic.{pointwise}
 use Rattle.picture.specs.declared.picture.TheConstants.{MAX_SIDE, MAX_COLOURS}

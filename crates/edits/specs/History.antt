@@ -1,5 +1,5 @@
 -- The history of a document: a present document, those before it and those after it, each with the edit between.
-use Rattle.std.specs.Prelude.{◌≡◌, ℕ, ◌+◌, ◌-◌, ◌<◌, ◌≤◌, List, [], ◌∷◌, ◌++◌, length, take, drop, map, Option, Some, None, slice_get}
+use Rattle.std.specs.Prelude.{◌≡◌, ℕ, ◌-◌, List, [], ◌∷◌, ◌++◌, length, take, drop, Option, Some, None, slice_get}
 use Rattle.circular_buffer.specs.Buffer.{keep_last}
 use Rattle.clues.specs.Change.{Changes, Moves, AreMoves, IsChangeOf}
 use Rattle.edits.specs.declared.edit.Edit.{Edit}

@@ -1,11 +1,11 @@
 -- What is kept of an edit, and the document before it.
-use Rattle.std.specs.Prelude.{◌≡◌, ℕ, zero, suc, ◌+◌, ◌-◌, List, [], ◌∷◌, ◌++◌, length, map, slice_index_or, slice_get, refl, Option, Some, None, Bool, not, ◌==◌, if◌then◌else◌, ◌<◌, ◌≤◌}
+use Rattle.std.specs.Prelude.{◌≡◌, ℕ, zero, suc, List, [], ◌∷◌, ◌++◌, length, map, slice_get, refl, Option, Some, None, ◌==◌, if◌then◌else◌, ◌<◌}
 use Rattle.picture.specs.declared.line_id.Axis.{Axis}
 use Rattle.picture.specs.declared.line_id.Axis.TheVariants.{Across, Down}
 use Rattle.picture.specs.declared.line_id.LineId.{LineId}
 use Rattle.picture.specs.declared.rgb.Rgb.{Rgb}
 use Rattle.picture.specs.Palette.{Colours, with_triple, without_last}
-use Rattle.picture.specs.Rows.{width_of, cell_at, with_cell, line_of, lines_along, line_inserted, line_deleted, lines_swapped}
+use Rattle.picture.specs.Rows.{width_of, cell_at, with_cell, line_inserted, line_deleted, lines_swapped}
 use Rattle.edits.specs.declared.edit.Edit.{Edit}
 use Rattle.edits.specs.declared.edit.Edit.TheVariants.{Paint, Fill, Recolour, InsertLine, DeleteLine, SwapLines, AddColour, SetColour, Pin, Unpin}
 use Rattle.edits.specs.declared.entry.Entry.{Entry}

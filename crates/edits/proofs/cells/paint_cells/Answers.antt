@@ -1,4 +1,4 @@
-use Rattle.std.proofs.Common.{◌≡◌, ◌∙◌, ap, get_or}
+use Rattle.std.proofs.Common.{◌∙◌, ap, get_or}
 use Rattle.picture.specs.Rows.{with_cell}
 use Rattle.edits.proofs.CellLemmas.{mapped_fits, with_one_painted}
 use Rattle.edits.proofs.cells.paint_cells.Goals as goal

@@ -1,4 +1,3 @@
-use Rattle.std.proofs.Common.{refl}
 use Rattle.edits.proofs.GivenLemmas.{given_more, inside_more}
 use Rattle.edits.proofs.cells.put_givens.Goals as goal
 

@@ -3,7 +3,7 @@ use Rattle.std.proofs.Common.{◌≡◌, length}
 use Rattle.std.specs.Prelude.{◌↔◌}
 use Rattle.picture.specs.declared.line_id.LineId.{LineId}
 use Rattle.picture.specs.Rows.{width_of}
-use Rattle.clues.specs.Change.{AreMoves, IsTouched, still}
+use Rattle.clues.specs.Change.{IsTouched, still}
 use Rattle.edits.specs.Change.{IsCrossed}
 use Rattle.edits.proofs.change.of_cells.Given as goal
 

@@ -4,7 +4,7 @@ use Rattle.std.specs.Prelude.{◌↔◌}
 use Rattle.picture.specs.declared.line_id.LineId.{LineId}
 use Rattle.picture.specs.Rows.{width_of}
 use Rattle.clues.specs.declared.places.Places.TheVariants.{Swapped}
-use Rattle.clues.specs.Change.{AreMoves, IsTouched, moved_along}
+use Rattle.clues.specs.Change.{IsTouched, moved_along}
 use Rattle.edits.specs.Change.{CrossesApart}
 use Rattle.edits.proofs.change.of_swap.Given as goal
 

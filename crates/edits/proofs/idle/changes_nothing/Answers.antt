@@ -1,8 +1,7 @@
-use Rattle.std.proofs.Common.{◌≡◌, ap, sym, ◌∙◌, arith, ◌<◌, ◌≤◌, length, inl, inr}
+use Rattle.std.proofs.Common.{ap, sym, ◌∙◌, arith, ◌<◌, ◌≤◌, length, inl, inr}
 use Rattle.std.proofs.lemmas.Bool.Decides.{nat_tests}
 use Rattle.picture.specs.Rows.{lines_along}
 use Rattle.edits.specs.Design.{design_of}
-use Rattle.edits.specs.Edit.{edited}
 use Rattle.edits.specs.Fault.{same_design}
 use Rattle.edits.proofs.IdleLemmas.{edited_paint, edited_fill, edited_recolour, paint_idle, insert_idle, delete_idle, swap_idle, add_idle, set_idle, pin_idle, unpin_idle}
 use Rattle.edits.proofs.RevertLemmas.{not_in}

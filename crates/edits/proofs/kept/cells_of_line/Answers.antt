@@ -1,9 +1,4 @@
-use Rattle.std.proofs.Common.{◌≡◌, ◌∙◌, ap, sym, arith, ℕ, List, [], ◌∷◌, ◌++◌}
-use Rattle.edits.specs.Design.{marks_of}
-use Rattle.picture.specs.Rows.{width_of, cell_at}
-use Rattle.std.proofs.Common.{length}
-use Rattle.edits.specs.Note.{Cell}
-use Rattle.edits.proofs.DesignLemmas.{marks_small}
+use Rattle.std.proofs.Common.{◌∙◌, ap, arith, ℕ, [], ◌∷◌, ◌++◌}
 use Rattle.edits.proofs.KeptLemmas.{no_cells_yet, one_cell_more, all_cells}
 use Rattle.edits.proofs.kept.cells_of_line.Goals as goal
 

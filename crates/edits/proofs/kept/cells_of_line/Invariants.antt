@@ -1,5 +1,5 @@
 -- the cells so far
-use Rattle.std.proofs.Common.{◌≡◌, ◌≤◌}
+use Rattle.std.proofs.Common.{◌≡◌}
 use Rattle.edits.proofs.KeptLemmas.{line_cells}
 use Rattle.edits.proofs.kept.cells_of_line.Given as goal
 

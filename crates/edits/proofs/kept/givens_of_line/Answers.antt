@@ -1,8 +1,7 @@
-use Rattle.std.proofs.Common.{◌≡◌, ◌∙◌, ap, sym, arith, ℕ, List, [], ◌∷◌, ◌++◌}
+use Rattle.std.proofs.Common.{◌∙◌, ap, arith, ℕ}
 use Rattle.edits.specs.Design.{marks_of}
-use Rattle.picture.specs.Rows.{width_of, cell_at}
+use Rattle.picture.specs.Rows.{width_of}
 use Rattle.std.proofs.Common.{length, Vec, Global}
-use Rattle.edits.specs.Note.{Cell}
 use Rattle.edits.proofs.DesignLemmas.{marks_small}
 use Rattle.edits.proofs.KeptLemmas.{no_givens_yet, one_given_more, no_given_here, all_givens, marks_along}
 use Rattle.edits.proofs.kept.givens_of_line.Goals as goal

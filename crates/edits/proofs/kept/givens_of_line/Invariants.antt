@@ -1,5 +1,5 @@
 -- the givens so far
-use Rattle.std.proofs.Common.{◌≡◌, ◌≤◌}
+use Rattle.std.proofs.Common.{◌≡◌}
 use Rattle.edits.specs.Design.{design_of}
 use Rattle.edits.proofs.KeptLemmas.{line_givens}
 use Rattle.edits.proofs.kept.givens_of_line.Given as goal

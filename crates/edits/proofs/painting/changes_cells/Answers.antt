@@ -1,5 +1,5 @@
-use Rattle.std.proofs.Common.{arith, List, [], ◌≡◌, ◌∙◌}
-use Rattle.edits.specs.Note.{Cell, changed_in_row, joined}
+use Rattle.std.proofs.Common.{arith, [], ◌≡◌, ◌∙◌}
+use Rattle.edits.specs.Note.{changed_in_row, joined}
 use Rattle.edits.proofs.PaintLemmas.{rows_begin, rows_end}
 use Rattle.edits.proofs.painting.changes_cells.Goals as goal
 

@@ -1,6 +1,6 @@
 -- the cells so far of the row
-use Rattle.std.proofs.Common.{◌≡◌, ◌≤◌, ◌++◌, []}
-use Rattle.edits.specs.Note.{changed_cell, changed_in_row, joined}
+use Rattle.std.proofs.Common.{◌≡◌, ◌++◌}
+use Rattle.edits.specs.Note.{changed_cell, joined}
 use Rattle.edits.proofs.painting.push_changed.Given as goal
 
 abbrev pub invariant-loop-col : goal.invariant-loop-col

@@ -1,5 +1,4 @@
-use Rattle.std.proofs.Common.{◌≡◌, ap, ◌∙◌, refl, length, length-append, arith, [], ◌∷◌}
-use Rattle.std.proofs.lemmas.List.{length-set}
+use Rattle.std.proofs.Common.{ap, ◌∙◌, refl, length, length-append, arith, [], ◌∷◌}
 use Rattle.picture.specs.Palette.{Colours, with_colour}
 use Rattle.picture.specs.Rows.{width_of}
 use Rattle.edits.specs.Design.{marks_of}

@@ -1,5 +1,5 @@
 use Rattle.std.proofs.Common.{ℕ, List, ap, ◌∙◌}
-use Rattle.picture.specs.Rows.{with_line, without_line, lines_swapped}
+use Rattle.picture.specs.Rows.{without_line}
 use Rattle.edits.proofs.PartLemmas.{deleted_room, deleted_document}
 use Rattle.edits.proofs.parts.deleted.Goals as goal
 

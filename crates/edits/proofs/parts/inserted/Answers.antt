@@ -1,5 +1,5 @@
 use Rattle.std.proofs.Common.{ℕ, List, ap, ◌∙◌}
-use Rattle.picture.specs.Rows.{with_line, without_line, lines_swapped}
+use Rattle.picture.specs.Rows.{with_line}
 use Rattle.edits.proofs.PartLemmas.{inserted_more, inserted_document}
 use Rattle.edits.proofs.parts.inserted.Goals as goal
 

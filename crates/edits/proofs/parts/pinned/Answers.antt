@@ -1,6 +1,4 @@
-use Rattle.std.proofs.Common.{◌≡◌, ap, sym, ◌∙◌, arith, length}
-use Rattle.edits.proofs.DesignLemmas.{assembled, pinned_marks, unpinned_marks}
-use Rattle.edits.proofs.PartLemmas.{inserted_more}
+use Rattle.edits.proofs.DesignLemmas.{assembled, pinned_marks}
 use Rattle.edits.proofs.parts.pinned.Goals as goal
 
 pub returns : goal.returns

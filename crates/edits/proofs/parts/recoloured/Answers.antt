@@ -1,4 +1,4 @@
-use Rattle.std.proofs.Common.{◌≡◌, ap, ◌∙◌, refl, length, length-append, arith, [], ◌∷◌}
+use Rattle.std.proofs.Common.{ap, ◌∙◌, refl, length, arith}
 use Rattle.std.proofs.lemmas.List.{length-set}
 use Rattle.picture.specs.Palette.{Colours, with_triple}
 use Rattle.picture.specs.Rows.{width_of}

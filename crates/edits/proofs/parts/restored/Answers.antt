@@ -1,8 +1,8 @@
-use Rattle.std.proofs.Common.{◌≡◌, ℕ, List, length, map, refl, sym, ap, subst, ◌∙◌}
+use Rattle.std.proofs.Common.{◌≡◌, ap}
 use Rattle.std.specs.List.{All}
-use Rattle.picture.specs.Rows.{line_inserted, width_of}
-use Rattle.edits.specs.Design.{Design, design, design_of, marks_of}
-use Rattle.edits.specs.Note.{Cell, IsCellIn, as_mark, with_cells}
+use Rattle.picture.specs.Rows.{line_inserted}
+use Rattle.edits.specs.Design.{Design, design, design_of}
+use Rattle.edits.specs.Note.{IsCellIn}
 use Rattle.edits.proofs.PartLemmas.{changed_inside, restored_document}
 use Rattle.edits.proofs.parts.restored.Goals as goal
 

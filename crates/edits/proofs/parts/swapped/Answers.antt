@@ -1,5 +1,5 @@
 use Rattle.std.proofs.Common.{ℕ, List, ap, ◌∙◌}
-use Rattle.picture.specs.Rows.{with_line, without_line, lines_swapped}
+use Rattle.picture.specs.Rows.{lines_swapped}
 use Rattle.edits.proofs.PartLemmas.{swapped_document}
 use Rattle.edits.proofs.parts.swapped.Goals as goal
 

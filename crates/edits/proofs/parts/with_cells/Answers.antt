@@ -1,6 +1,5 @@
-use Rattle.std.proofs.Common.{◌≡◌, ℕ, List, ap, sym, ◌∙◌, arith, length, map}
-use Rattle.edits.specs.Note.{repainted, with_cells}
-use Rattle.edits.proofs.DesignLemmas.{assembled, pinned_marks, unpinned_marks}
+use Rattle.std.proofs.Common.{◌≡◌, ℕ, List, ap, ◌∙◌}
+use Rattle.edits.specs.Note.{with_cells}
 use Rattle.edits.proofs.PartLemmas.{changed_inside, changed_document}
 use Rattle.edits.proofs.parts.with_cells.Goals as goal
 

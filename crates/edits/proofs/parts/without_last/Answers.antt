@@ -1,4 +1,4 @@
-use Rattle.std.proofs.Common.{◌≡◌, ap, ◌∙◌, refl, length}
+use Rattle.std.proofs.Common.{ap, ◌∙◌, refl, length}
 use Rattle.picture.specs.Palette.{Colours, without_last}
 use Rattle.picture.specs.Rows.{width_of}
 use Rattle.edits.specs.Design.{marks_of}

@@ -1,4 +1,3 @@
-use Rattle.std.proofs.Common.{◌∙◌, ap, is_some}
 use Rattle.edits.proofs.IdleLemmas.{place_is_some}
 use Rattle.edits.proofs.refusal.is_there.Goals as goal
 

@@ -1,5 +1,4 @@
 -- A blank picture has the background alone, and there is no given.
-use Rattle.std.proofs.Common.{◌≡◌, ◌∙◌, arith}
 use Rattle.edits.proofs.GridLemmas.{cell_at-blank}
 use Rattle.edits.proofs.tests.blank.Goals as goal
 

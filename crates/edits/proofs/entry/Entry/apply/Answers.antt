@@ -1,10 +1,7 @@
-use Rattle.std.proofs.Common.{◌≡◌, ap, sym, subst, ◌∙◌, map, List}
+use Rattle.std.proofs.Common.{◌≡◌, ap, subst, ◌∙◌, map, List}
 use Rattle.std.specs.Prelude.{IfOk}
-use Rattle.std.specs.List.{All}
-use Rattle.picture.specs.Document.{AreColoured}
 use Rattle.edits.specs.Design.{Design, design, design_of}
-use Rattle.edits.specs.Edit.{edited}
-use Rattle.edits.specs.Note.{Cell, IsCellIn, Note, repainted, with_cells}
+use Rattle.edits.specs.Note.{Cell, Note, repainted, with_cells}
 use Rattle.edits.proofs.CellLemmas.{paints_cells}
 use Rattle.edits.proofs.FaultLemmas.{lawful}
 use Rattle.edits.proofs.ApplyLemmas.{paints, painted_coloured, cells_fit, painted_gives, insert_fits, delete_fits, swap_fits, set_fits, pin_fits, unpin_fits}

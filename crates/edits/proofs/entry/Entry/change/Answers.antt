@@ -1,4 +1,4 @@
-use Rattle.std.proofs.Common.{◌≡◌, ap, ◌∙◌}
+use Rattle.std.proofs.Common.{ap, ◌∙◌}
 use Rattle.edits.specs.Design.{design_of}
 use Rattle.edits.specs.Note.{Note, note_of}
 use Rattle.edits.proofs.ApplyLemmas.{paints}

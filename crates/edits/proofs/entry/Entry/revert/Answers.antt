@@ -1,11 +1,9 @@
 use Rattle.std.proofs.Common.{◌≡◌, ℕ, ap, sym, refl, subst, ◌∙◌, map, List, length}
-use Rattle.std.specs.Prelude.{IfOk}
-use Rattle.std.specs.List.{All}
 use Rattle.picture.specs.Document.{AreColoured}
 use Rattle.picture.specs.Palette.{without_last}
-use Rattle.picture.specs.Rows.{width_of, with_cell, line_inserted, line_deleted, lines_swapped}
-use Rattle.edits.specs.Design.{Design, design, design_of, marks_of}
-use Rattle.edits.specs.Note.{Cell, IsCellIn, IsPlaceIn, Note, as_mark, cells_of_line, givens_of_line, note_of, reverted, with_cells, with_old}
+use Rattle.picture.specs.Rows.{with_cell, line_inserted, line_deleted, lines_swapped}
+use Rattle.edits.specs.Design.{Design, design, design_of}
+use Rattle.edits.specs.Note.{Cell, Note, as_mark, cells_of_line, givens_of_line, note_of, with_cells, with_old}
 use Rattle.edits.proofs.FaultLemmas.{lawful}
 use Rattle.edits.proofs.ApplyLemmas.{paints}
 use Rattle.edits.proofs.ShiftLemmas.{inserted_below_bound}

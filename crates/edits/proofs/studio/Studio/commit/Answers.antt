@@ -1,4 +1,3 @@
-use Rattle.std.proofs.Common.{ap, ◌∙◌}
 use Rattle.edits.specs.Design.{design_of}
 use Rattle.edits.proofs.RingLemmas.{comes}
 use Rattle.edits.proofs.studio.Studio.commit.Goals as goal

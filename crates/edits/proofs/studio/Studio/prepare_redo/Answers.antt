@@ -2,7 +2,7 @@ use Rattle.std.proofs.Common.{◌≡◌, Some, None, ap, sym, subst, ◌∙◌, 
 use Rattle.std.specs.Prelude.{slice_get}
 use Rattle.edits.specs.Design.{Design, design_of}
 use Rattle.edits.specs.Edit.{edited}
-use Rattle.edits.specs.History.{History, Plan, IsPlanFor, ByRedo, redo_fault}
+use Rattle.edits.specs.History.{Plan, IsPlanFor, ByRedo, redo_fault}
 use Rattle.edits.proofs.HistoryLemmas.{step_entry}
 use Rattle.edits.specs.Studio.{history_from}
 use Rattle.edits.proofs.RingLemmas.{redo_refused, has_redo, first_step, redo_plan, first_turn_is, plan_is}

@@ -1,7 +1,7 @@
 use Rattle.std.proofs.Common.{◌≡◌, Some, None, ap, sym, subst, ◌∙◌, rules}
 use Rattle.circular_buffer.specs.Buffer.{last_item}
 use Rattle.edits.specs.Design.{Design, design_of}
-use Rattle.edits.specs.History.{History, Plan, IsPlanFor, ByUndo, last_turn, undo_fault}
+use Rattle.edits.specs.History.{Plan, IsPlanFor, ByUndo, undo_fault}
 use Rattle.edits.specs.Note.{note_of, reverted}
 use Rattle.edits.specs.Studio.{history_from}
 use Rattle.edits.proofs.RingLemmas.{undo_refused, has_undo, last_step, undo_plan, last_turn_is, plan_is}
