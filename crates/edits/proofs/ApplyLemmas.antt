@@ -3,6 +3,7 @@ use Rattle.std.proofs.Common.{◌≡◌, ℕ, ◌<◌, ◌≤◌, ◌⊎◌, inl
 use Rattle.std.specs.List.{All}
 use Rattle.std.proofs.lemmas.Bool.{cases_lt}
 use Rattle.std.proofs.lemmas.Bool.Decides.{nat_tests}
+use Rattle.picture.specs.declared.picture.TheConstants.{MAX_SIDE}
 use Rattle.picture.specs.declared.line_id.Axis.{Axis}
 use Rattle.picture.specs.declared.line_id.LineId.{LineId}
 use Rattle.picture.specs.declared.rgb.Rgb.{Rgb}
@@ -81,7 +82,7 @@ module _ (d : Design) (e : Edit) (is : IsDesign d) (is_lawful : IsLawful d e) wh
   painted_gives p = ap (λ r. design d.colours r d.marks) (paints_cells e d.rows is.is_picture) ∙ sym (p.gives d)
 
 -- lines inserted, deleted and exchanged
-pub insert_fits : (d : Design) (line : LineId) → IsDesign d → IsLawful d (InsertLine line) → (line.at ≤ lines_along line.axis d.rows) × (lines_along line.axis d.rows < 120) × AreColoured (line_inserted d.rows line) d.colours
+pub insert_fits : (d : Design) (line : LineId) → IsDesign d → IsLawful d (InsertLine line) → (line.at ≤ lines_along line.axis d.rows) × (lines_along line.axis d.rows < MAX_SIDE) × AreColoured (line_inserted d.rows line) d.colours
 insert_fits d line is is_lawful =
     let place : line.at ≤ lines_along line.axis d.rows = grind (arith, nat_tests, is_lawful.inside) in
     (place, grind (arith, nat_tests, is_lawful.room), inserted_below_bound line.axis line.at (length d.colours.triples) d.rows is.is_picture place is.is_palette.has_background is.is_coloured)

@@ -2,6 +2,7 @@
 use Rattle.std.proofs.Common.{◌≡◌, ℕ, ◌<◌, ◌≤◌, List, length, map, refl, ap, ◌∙◌, arith, Bool, false}
 use Rattle.std.specs.Prelude.{Result, Ok, Err, OnOk, is_err}
 use Rattle.std.specs.List.{All}
+use Rattle.picture.specs.declared.picture.TheConstants.{MAX_SIDE}
 use Rattle.picture.specs.declared.line_id.Axis.{Axis}
 use Rattle.picture.specs.declared.line_id.Axis.TheVariants.{Across, Down}
 use Rattle.picture.specs.Palette.{Colours}
@@ -21,7 +22,7 @@ still_lines : (axis : Axis) (rows : List (List ℕ)) (height width : ℕ) → he
 still_lines Across rows height width h w = h
 still_lines Down rows height width h w = w
 
-pub some_lines : (axis : Axis) (rows : List (List ℕ)) → IsPicture rows → (0 < lines_along axis rows) × (lines_along axis rows ≤ 120)
+pub some_lines : (axis : Axis) (rows : List (List ℕ)) → IsPicture rows → (0 < lines_along axis rows) × (lines_along axis rows ≤ MAX_SIDE)
 some_lines Across rows is = (is.has_row, is.rows_fit)
 some_lines Down rows is = (is.has_column, is.columns_fit)
 
@@ -29,7 +30,7 @@ pub inserted_more : (axis : Axis) (at height width : ℕ) (rows now : List (List
 inserted_more axis at height width rows now is le same h w =
     omega (arith, still_lines axis now height width h w, ap (lines_along axis) same, (inserted_sizes axis at rows is le).0, (some_lines axis rows is).0)
 
-pub deleted_room : (axis : Axis) (at height width : ℕ) (rows now : List (List ℕ)) → IsPicture rows → at < lines_along axis rows → 1 < lines_along axis rows → now ≡ without_line axis at rows → height ≡ length now → width ≡ width_of now → lines_before axis (still height width) < 120
+pub deleted_room : (axis : Axis) (at height width : ℕ) (rows now : List (List ℕ)) → IsPicture rows → at < lines_along axis rows → 1 < lines_along axis rows → now ≡ without_line axis at rows → height ≡ length now → width ≡ width_of now → lines_before axis (still height width) < MAX_SIDE
 deleted_room axis at height width rows now is lt more same h w =
     omega (arith, still_lines axis now height width h w, ap (lines_along axis) same, (deleted_sizes axis at rows is lt more).0, (some_lines axis rows is).1)
 

@@ -3,6 +3,7 @@ use Rattle.std.proofs.Common.{◌≡◌, ℕ, ◌<◌, ◌≤◌, [], ◌∷◌,
 use Rattle.std.specs.Prelude.{Result, Ok, Err, IfOk}
 use Rattle.std.specs.List.{All}
 use Rattle.std.proofs.lemmas.List.{length-set}
+use Rattle.picture.specs.declared.picture.TheConstants.{MAX_SIDE}
 use Rattle.picture.specs.declared.document.Document.{Document}
 use Rattle.std.specs.declared.alloc.AllocError.{AllocError}
 use Rattle.picture.specs.declared.line_id.Axis.{Axis}
@@ -55,7 +56,7 @@ module _ (b d : Design) (is : IsDesign b) where
       let rows : lines_along line.axis (line_inserted b.rows line) ≡ lines_along line.axis d.rows = ap (λ (x : Design). lines_along line.axis x.rows) gives in
       (omega (arith, sizes.0, rows, fits.0), omega (arith, sizes.0, rows, some_lines line.axis b.rows is.is_picture))
 
-  pub redelete_fits : (line : LineId) → IsLawful b (DeleteLine line) → edited b (DeleteLine line) ≡ d → (line.at ≤ lines_along line.axis d.rows) × (lines_along line.axis d.rows < 120)
+  pub redelete_fits : (line : LineId) → IsLawful b (DeleteLine line) → edited b (DeleteLine line) ≡ d → (line.at ≤ lines_along line.axis d.rows) × (lines_along line.axis d.rows < MAX_SIDE)
   redelete_fits line is_lawful gives =
       let fits = delete_fits b line is is_lawful in
       let sizes = deleted_sizes line.axis line.at b.rows is.is_picture fits.0 fits.1 in

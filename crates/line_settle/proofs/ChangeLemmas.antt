@@ -5,6 +5,7 @@ use Rattle.std.specs.Int.{bit_at}
 use Rattle.std.proofs.lemmas.Bool.{cases_lt, eqb-true, false≢true}
 use Rattle.std.proofs.lemmas.Bool.Decides.{eqb_tells}
 use Rattle.std.proofs.lemmas.List.{get_or-take, length-take-le}
+use Rattle.picture.specs.declared.picture.TheConstants.{MAX_SIDE}
 use Rattle.picture.specs.declared.line_id.Axis.{Axis}
 use Rattle.picture.specs.declared.line_id.LineId.{LineId}
 use Rattle.picture.specs.LineSet.{Lines, HasName}
@@ -48,8 +49,8 @@ unchanged line old masks e = record { same_shape = shape_refl old; line_is = e; 
 -- ---- the first cells of two lists, and the set of places at which the lists differ
 
 module _ (before after : List ℕ) (places cells : ℕ) (same : (i : ℕ) → cells ≤ i → get_or before i 0 ≡ get_or after i 0) (are : (i : ℕ) → has places i ≡ differs before after i) where
-  pub within_side : cells ≤ 120 → places < 2 ^ 120
-  within_side short = none_from 120 places (λ i past. are i ∙ ap not (eq-eqb (get_or before i 0) (get_or after i 0) (same i (omega arith))))
+  pub within_side : cells ≤ MAX_SIDE → places < 2 ^ MAX_SIDE
+  within_side short = none_from MAX_SIDE places (λ i past. are i ∙ ap not (eq-eqb (get_or before i 0) (get_or after i 0) (same i (omega arith))))
 
   pub all_same : length after ≡ length before → places ≡ 0 → take cells before ≡ take cells after
   all_same len e = ap (take cells) (same_list before after (sym len) (λ j l. same_at before after j (sym (are j) ∙ (ap (λ p. has p j) e ∙ has_none j))))

@@ -6,6 +6,7 @@ use Rattle.std.proofs.lemmas.Bool.{cases_eq, cases_lt, and_parts, and_from, or_c
 use Rattle.std.proofs.lemmas.Nat.{and_le_l}
 use Rattle.std.proofs.lemmas.Nat.Bits.{bit_at-trailing_zeros, bit_at_clear_same, bit_at_clear_other, bit_at_mask_inside, bit_at_mask_below, bit_at_mask_above}
 use Rattle.std.proofs.lemmas.Grind.{one_shifted}
+use Rattle.picture.specs.declared.picture.TheConstants.{MAX_SIDE}
 use Rattle.clues.specs.declared.block.Block.{Block}
 use Rattle.clues.specs.Clue.{IsClue}
 use Rattle.line_settle.specs.declared.state_sets.Moves.{Moves}
@@ -352,7 +353,7 @@ has_one_place k t l h = eqb-true _ _ (sym (has_place k t l) ∙ h)
 one_place_has : (k t : ℕ) → k < 128 → t ≡ k → has (1 * 2 ^ k % 340282366920938463463374607431768211456) t ≡ true
 one_place_has k t l e = has_place k t l ∙ eq-eqb _ _ e
 
-pub waiting_more : (pattern : List ℕ) (q len colour s e waiting : ℕ) (m : Bool) → PieceAt pattern q m len colour → s ≡ q + gap_before m → e ≡ s + len → length pattern ≤ 121 → AreWaiting pattern q waiting → AreWaiting pattern e (bit_or waiting (1 * 2 ^ s % 340282366920938463463374607431768211456))
+pub waiting_more : (pattern : List ℕ) (q len colour s e waiting : ℕ) (m : Bool) → PieceAt pattern q m len colour → s ≡ q + gap_before m → e ≡ s + len → length pattern ≤ MAX_SIDE + 1 → AreWaiting pattern q waiting → AreWaiting pattern e (bit_or waiting (1 * 2 ^ s % 340282366920938463463374607431768211456))
 waiting_more pattern q len colour s e waiting m p is to few are =
     let in_pattern = p.block_is.within in
     let some = p.block_is.has_cells in
@@ -370,7 +371,7 @@ waiting_more pattern q len colour s e waiting m p is to few are =
       ]),
     )
 
-pub waiting_all : (pattern : List ℕ) (q waiting : ℕ) → q + 1 ≡ length pattern → length pattern ≤ 121 → AreWaiting pattern q waiting → AreWaiting pattern (length pattern) (bit_or waiting (1 * 2 ^ q % 340282366920938463463374607431768211456))
+pub waiting_all : (pattern : List ℕ) (q waiting : ℕ) → q + 1 ≡ length pattern → length pattern ≤ MAX_SIDE + 1 → AreWaiting pattern q waiting → AreWaiting pattern (length pattern) (bit_or waiting (1 * 2 ^ q % 340282366920938463463374607431768211456))
 waiting_all pattern q waiting end few are =
     let one : ℕ = 1 * 2 ^ q % 340282366920938463463374607431768211456 in
     let low : q < 128 = omega arith in

@@ -5,23 +5,24 @@ use Rattle.std.specs.Int.{w128, bit_not, bit_at}
 use Rattle.std.proofs.lemmas.Bool.{cases_lt, cases_eq}
 use Rattle.std.proofs.lemmas.Nat.{pow_below, and_le_l, or_lt}
 use Rattle.std.proofs.lemmas.Nat.Bits.{bit_at_set_same, bit_at_set_other, bit_at_clear_same, bit_at_clear_other, bit_at_above}
+use Rattle.picture.specs.declared.picture.TheConstants.{MAX_SIDE}
 use Rattle.picture.specs.BitLaws.{set_bit, bit_is_set}
 
 -- a bit that two numbers share
 same_bit : (m n i : ℕ) → bit_at m i ≡ bit_at n i → IsBitSet m i ↔ IsBitSet n i
 same_bit m n i e = ((λ is. bit_is_set n i (sym e ∙ set_bit m i is)), (λ is. bit_is_set m i (e ∙ set_bit n i is)))
 
-cleared_bit : (n k i : ℕ) → n < 2 ^ 120 → k < 120 → i ≢ k → bit_at (bit_and n (bit_not w128 (1 * 2 ^ k % 2 ^ 128))) i ≡ bit_at n i
+cleared_bit : (n k i : ℕ) → n < 2 ^ MAX_SIDE → k < MAX_SIDE → i ≢ k → bit_at (bit_and n (bit_not w128 (1 * 2 ^ k % 2 ^ 128))) i ≡ bit_at n i
 cleared_bit n k i small inside other =
     elim (cases_lt i 128) [
       | inl lt ↦ bit_at_clear_other w128 n k (omega (arith, inside)) i lt other
       | inr past ↦
           let mask = bit_and n (bit_not w128 (1 * 2 ^ k % 2 ^ 128)) in
-          bit_at_above mask 120 i (omega (arith, small, and_le_l n (bit_not w128 (1 * 2 ^ k % 2 ^ 128)))) (omega (arith, past)) ∙ sym (bit_at_above n 120 i small (omega (arith, past)))
+          bit_at_above mask MAX_SIDE i (omega (arith, small, and_le_l n (bit_not w128 (1 * 2 ^ k % 2 ^ 128)))) (omega (arith, past)) ∙ sym (bit_at_above n MAX_SIDE i small (omega (arith, past)))
     ]
 
 -- what a mask with one bit cleared has
-pub cleared : (n k i : ℕ) → n < 2 ^ 120 → k < 120 → IsBitSet (bit_and n (bit_not w128 (1 * 2 ^ k % 2 ^ 128))) i ↔ (IsBitSet n i × (i ≡ k → ⊥))
+pub cleared : (n k i : ℕ) → n < 2 ^ MAX_SIDE → k < MAX_SIDE → IsBitSet (bit_and n (bit_not w128 (1 * 2 ^ k % 2 ^ 128))) i ↔ (IsBitSet n i × (i ≡ k → ⊥))
 cleared n k i small inside =
     let mask = bit_and n (bit_not w128 (1 * 2 ^ k % 2 ^ 128)) in
     elim (cases_eq i k) [
@@ -34,7 +35,7 @@ cleared n k i small inside =
     ]
 
 -- what a mask with one bit set has
-pub raised : (n k i : ℕ) → k < 120 → IsBitSet (bit_or n (1 * 2 ^ k % 2 ^ 128)) i ↔ (IsBitSet n i ⊎ (i ≡ k))
+pub raised : (n k i : ℕ) → k < MAX_SIDE → IsBitSet (bit_or n (1 * 2 ^ k % 2 ^ 128)) i ↔ (IsBitSet n i ⊎ (i ≡ k))
 raised n k i inside =
     let mask = bit_or n (1 * 2 ^ k % 2 ^ 128) in
     elim (cases_eq i k) [
@@ -47,14 +48,14 @@ raised n k i inside =
     ]
 
 -- either way it keeps its width
-pub raised_small : (n k : ℕ) → n < 2 ^ 120 → k < 120 → bit_or n (1 * 2 ^ k % 2 ^ 128) < 2 ^ 120
-raised_small n k small inside = or_lt 120 n (1 * 2 ^ k % 2 ^ 128) small bit_small
+pub raised_small : (n k : ℕ) → n < 2 ^ MAX_SIDE → k < MAX_SIDE → bit_or n (1 * 2 ^ k % 2 ^ 128) < 2 ^ MAX_SIDE
+raised_small n k small inside = or_lt MAX_SIDE n (1 * 2 ^ k % 2 ^ 128) small bit_small
   where
-    grows : 2 ^ k < 2 ^ 120
-    grows = pow_below k 120 inside
+    grows : 2 ^ k < 2 ^ MAX_SIDE
+    grows = pow_below k MAX_SIDE inside
 
-    bit_small : 1 * 2 ^ k % 2 ^ 128 < 2 ^ 120
+    bit_small : 1 * 2 ^ k % 2 ^ 128 < 2 ^ MAX_SIDE
     bit_small = omega (arith, grows)
 
-pub cleared_small : (n k : ℕ) → n < 2 ^ 120 → bit_and n (bit_not w128 (1 * 2 ^ k % 2 ^ 128)) < 2 ^ 120
+pub cleared_small : (n k : ℕ) → n < 2 ^ MAX_SIDE → bit_and n (bit_not w128 (1 * 2 ^ k % 2 ^ 128)) < 2 ^ MAX_SIDE
 cleared_small n k small = omega (arith, and_le_l n (bit_not w128 (1 * 2 ^ k % 2 ^ 128)), small)

@@ -7,6 +7,7 @@ use Rattle.std.proofs.lemmas.List.{get_or_past, get_or-replicate, length-replica
 use Rattle.std.proofs.lemmas.List.Folds.{sum_by-replicate}
 use Rattle.std.proofs.lemmas.List.Sums.{get_or-le-sum_by}
 use Rattle.std.proofs.lemmas.Nat.{zero_from_ones, ones_le_self}
+use Rattle.picture.specs.declared.picture.TheConstants.{MAX_SIDE}
 use Rattle.picture.specs.CellSet.{IsCellSet, HasCell, cell_count, no_cells}
 use Rattle.picture.specs.Laws.{SameCellsAreEqual, CellsAreMembers, CellsComeBack}
 use Rattle.picture.specs.BitLaws.{no_bit, bit_or_not, bit_below, same_bits_below}
@@ -14,37 +15,37 @@ use Rattle.picture.specs.BitLaws.{no_bit, bit_or_not, bit_below, same_bits_below
 pub same_cells : SameCellsAreEqual
 same_cells one other is_one is_other same =
     same_number_lists one other (is_one.rows ∙ sym is_other.rows)
-    (λ row lt. same_bits_below 120 (get_or one row 0) (get_or other row 0) (is_one.within row) (is_other.within row) (λ col small. same row col (omega (arith, lt, is_one.rows)) small))
+    (λ row lt. same_bits_below MAX_SIDE (get_or one row 0) (get_or other row 0) (is_one.within row) (is_other.within row) (λ col small. same row col (omega (arith, lt, is_one.rows)) small))
 
-cell_inside : (cells : List ℕ) (row col : ℕ) → IsCellSet cells → HasCell cells row col → (row < 120) × (col < 120)
+cell_inside : (cells : List ℕ) (row col : ℕ) → IsCellSet cells → HasCell cells row col → (row < MAX_SIDE) × (col < MAX_SIDE)
 cell_inside cells row col is has = (
   elim (cases_lt row (length cells)) [
     | inl lt ↦ omega (arith, lt, is.rows)
     | inr past ↦ absurd (no_bit col (subst (λ mask. IsBitSet mask col) (get_or_past cells row 0 past) has))
   ],
-  bit_below (get_or cells row 0) 120 col (is.within row) has,
+  bit_below (get_or cells row 0) MAX_SIDE col (is.within row) has,
 )
 
 cell_in_none : (row col : ℕ) → ¬ HasCell no_cells row col
 unfolding no_cells
 cell_in_none row col has = no_bit col (subst (λ mask. IsBitSet mask col) (none row) has)
   where
-    none : (row : ℕ) → get_or {A = ℕ} (replicate 120 0) row 0 ≡ 0
-    none row = elim (cases_lt row 120) [
-      | inl lt ↦ get_or-replicate 120 row 0 0 lt
-      | inr past ↦ get_or_past (replicate 120 0) row 0 past
+    none : (row : ℕ) → get_or {A = ℕ} (replicate MAX_SIDE 0) row 0 ≡ 0
+    none row = elim (cases_lt row MAX_SIDE) [
+      | inl lt ↦ get_or-replicate MAX_SIDE row 0 0 lt
+      | inr past ↦ get_or_past (replicate MAX_SIDE 0) row 0 past
     ]
 
 pub none_counted : cell_count no_cells ≡ 0
 unfolding no_cells
-none_counted = let each = ones_le_self 0 in sum_by-replicate count_ones 120 0 ∙ omega (arith, each)
+none_counted = let each = ones_le_self 0 in sum_by-replicate count_ones MAX_SIDE 0 ∙ omega (arith, each)
 
 -- where no row has a cell, the table is the empty one
 none_when_zero : (cells : List ℕ) → IsCellSet cells → cell_count cells ≡ 0 → cells ≡ no_cells
 unfolding no_cells
 none_when_zero cells is zero_cells =
-    same_number_lists cells (replicate 120 0) (is.rows ∙ sym (length-replicate {A = ℕ} 120 0))
-    (λ row lt. zero_from_ones (get_or cells row 0) (omega (arith, get_or-le-sum_by count_ones cells row 0 lt)) ∙ sym (get_or-replicate {A = ℕ} 120 row 0 0 (omega (arith, lt, is.rows))))
+    same_number_lists cells (replicate MAX_SIDE 0) (is.rows ∙ sym (length-replicate {A = ℕ} MAX_SIDE 0))
+    (λ row lt. zero_from_ones (get_or cells row 0) (omega (arith, get_or-le-sum_by count_ones cells row 0 lt)) ∙ sym (get_or-replicate {A = ℕ} MAX_SIDE row 0 0 (omega (arith, lt, is.rows))))
 
 pub members : CellsAreMembers
 members = record {

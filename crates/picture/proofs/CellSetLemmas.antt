@@ -6,11 +6,12 @@ use Rattle.std.proofs.lemmas.Bool.{cases_lt, cases_eq}
 use Rattle.std.proofs.lemmas.List.{get_or-set_same, get_or-set_other, get_or_past, get_or-replicate, length-replicate, length-set, set-get_or}
 use Rattle.std.proofs.lemmas.List.Sums.{sum_by-set}
 use Rattle.std.proofs.lemmas.Nat.{ones-le}
+use Rattle.picture.specs.declared.picture.TheConstants.{MAX_SIDE}
 use Rattle.picture.specs.CellSet.{IsCellSet, HasCell, PutsCell, TakesOutCell, cell_count}
 use Rattle.picture.specs.BitLaws.{same_bits, bits_more, bits_fewer}
 use Rattle.picture.proofs.BitLemmas.{cleared, raised, raised_small, cleared_small}
 
-module _ (masks : List ℕ) (row col : ℕ) (is : IsCellSet masks) (lt : row < length masks) (inside : col < 120) where
+module _ (masks : List ℕ) (row col : ℕ) (is : IsCellSet masks) (lt : row < length masks) (inside : col < MAX_SIDE) where
   -- one cell taken out of the set
   pub takes_out : TakesOutCell masks (set masks row (bit_and (get_or masks row 0) (bit_not w128 (1 * 2 ^ col % 2 ^ 128)))) row col
   takes_out r c =
@@ -38,7 +39,7 @@ module _ (masks : List ℕ) (row col : ℕ) (is : IsCellSet masks) (lt : row < l
       ]
 
   -- either way it stays a table
-  stays : (mask : ℕ) → mask < 2 ^ 120 → IsCellSet (set masks row mask)
+  stays : (mask : ℕ) → mask < 2 ^ MAX_SIDE → IsCellSet (set masks row mask)
   stays mask small = record {
     rows = length-set masks row mask ∙ is.rows;
     within = λ r. elim (cases_eq r row) [
@@ -86,15 +87,15 @@ module _ (masks : List ℕ) (row col : ℕ) (is : IsCellSet masks) (lt : row < l
       omega (arith, fewer, counted)
 
 -- the empty table
-pub empty_is : IsCellSet (replicate 120 0)
+pub empty_is : IsCellSet (replicate MAX_SIDE 0)
 empty_is = record {
-  rows = length-replicate {A = ℕ} 120 0;
-  within = λ r. elim (cases_lt r 120) [
-    | inl lt ↦ rw (get_or-replicate {A = ℕ} 120 r 0 0 lt) (omega arith)
-    | inr past ↦ rw (get_or_past {X = ℕ} (replicate 120 0) r 0 past) (omega arith)
+  rows = length-replicate {A = ℕ} MAX_SIDE 0;
+  within = λ r. elim (cases_lt r MAX_SIDE) [
+    | inl lt ↦ rw (get_or-replicate {A = ℕ} MAX_SIDE r 0 0 lt) (omega arith)
+    | inr past ↦ rw (get_or_past {X = ℕ} (replicate MAX_SIDE 0) r 0 past) (omega arith)
   ];
 }
 
 -- no row has more than 120 cells
-pub few_ones : (masks : List ℕ) (row : ℕ) → IsCellSet masks → count_ones (get_or masks row 0) ≤ 120
-few_ones masks row is = ones-le 120 (get_or masks row 0) (is.within row)
+pub few_ones : (masks : List ℕ) (row : ℕ) → IsCellSet masks → count_ones (get_or masks row 0) ≤ MAX_SIDE
+few_ones masks row is = ones-le MAX_SIDE (get_or masks row 0) (is.within row)

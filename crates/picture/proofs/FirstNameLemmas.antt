@@ -4,6 +4,7 @@ use Rattle.std.specs.Prelude.{IsBitSet}
 use Rattle.std.specs.Int.{bit_at, trailing_zeros, w128}
 use Rattle.std.proofs.lemmas.Nat.{shr-shr, shr_le}
 use Rattle.std.proofs.lemmas.Nat.Bits.{bit_at-trailing_zeros, bit_at-zero}
+use Rattle.picture.specs.declared.picture.TheConstants.{MAX_SIDE}
 use Rattle.picture.specs.LineSet.{IsClearFrom, IsFirstBit}
 use Rattle.picture.specs.BitLaws.{set_bit, bit_is_set, bit_below}
 
@@ -21,7 +22,7 @@ clear_from mask from none at on is =
     let clear = bit_at-zero (at - from) in
     absurd (omega arith)
 
-module _ (mask from : ℕ) (small : mask < 2 ^ 120) (some : 0 < mask / 2 ^ from) where
+module _ (mask from : ℕ) (small : mask < 2 ^ MAX_SIDE) (some : 0 < mask / 2 ^ from) where
   lowest : (trailing_zeros w128 (mask / 2 ^ from) < 128) × (bit_at (mask / 2 ^ from) (trailing_zeros w128 (mask / 2 ^ from)) ≡ 1) × ((i : ℕ) → i < trailing_zeros w128 (mask / 2 ^ from) → bit_at (mask / 2 ^ from) i ≡ 0)
   lowest = bit_at-trailing_zeros w128 (mask / 2 ^ from) some (omega (arith, small, shr_le mask from))
 
@@ -31,7 +32,7 @@ module _ (mask from : ℕ) (small : mask < 2 ^ 120) (some : 0 < mask / 2 ^ from)
   pub first_is : IsFirstBit mask from (from + trailing_zeros w128 (mask / 2 ^ from))
   first_is = record {
     onward = omega arith;
-    within = bit_below mask 120 (from + trailing_zeros w128 (mask / 2 ^ from)) small is_lowest;
+    within = bit_below mask MAX_SIDE (from + trailing_zeros w128 (mask / 2 ^ from)) small is_lowest;
     is_set = is_lowest;
     first = λ before on l is.
         let one = bit_of_onward mask from before on is in

@@ -4,6 +4,7 @@ use Rattle.std.specs.List.{AllByRecursion, concat, insert, remove, swap}
 use Rattle.std.proofs.lemmas.Bool.{cases_lt}
 use Rattle.std.proofs.lemmas.List.{append-nil, append_assoc, length-append, length-map, length-drop, length-set, length-replicate, length-take-le, take_at, drop_at, take_all, drop_all, take-append-drop, drop_more, map_more, get_or_past, get_or-append-add, get_or_append_left, set-append_left, set-append_right, nil_from_length}
 use Rattle.std.proofs.lemmas.List.Edits.{swap_is, length-insert, length-remove, length-swap, remove-append_right, remove-append_left}
+use Rattle.picture.specs.declared.picture.TheConstants.{MAX_SIDE}
 use Rattle.picture.specs.Picture.{AreCells}
 use Rattle.picture.specs.Rows.{rows_of}
 use Rattle.picture.specs.FlatLaws.{length-rows_of, row_at-rows_of}
@@ -119,7 +120,7 @@ grid_of height width cells is = record {
   each = each-rows_of height width cells is.count (all_of_each 16 cells is.colours);
 }
 
-pub cells_of : (height width : ℕ) (rows : List (List ℕ)) → 0 < height → height ≤ 120 → 0 < width → width ≤ 120 → IsGrid height width rows → AreCells height width (concat rows)
+pub cells_of : (height width : ℕ) (rows : List (List ℕ)) → 0 < height → height ≤ MAX_SIDE → 0 < width → width ≤ MAX_SIDE → IsGrid height width rows → AreCells height width (concat rows)
 cells_of height width rows some_rows rows_fit some_columns columns_fit is = record {
   has_row = some_rows;
   rows_fit = rows_fit;

@@ -3,6 +3,7 @@ use Rattle.std.proofs.Common.{◌≡◌, ℕ, zero, suc, ◌+◌, ◌*◌, ◌-�
 use Rattle.std.specs.List.{AllByRecursion, concat, insert, remove, swap}
 use Rattle.std.proofs.lemmas.List.{append_assoc, length-set, drop_at}
 use Rattle.std.proofs.lemmas.List.Edits.{swap_is}
+use Rattle.picture.specs.declared.picture.TheConstants.{MAX_SIDE}
 use Rattle.picture.specs.declared.line_id.Axis.{Axis}
 use Rattle.picture.specs.declared.line_id.Axis.TheVariants.{Across, Down}
 use Rattle.picture.specs.declared.line_id.LineId.{LineId}
@@ -105,7 +106,7 @@ pub record Lies (height width : ℕ) (cells : List ℕ) (rows : List (List ℕ))
   pub reads : rows_of height width cells ≡ rows
   pub are : AreCells height width cells
 
-lies_of : (height width : ℕ) (cells : List ℕ) (rows : List (List ℕ)) → 0 < height → height ≤ 120 → 0 < width → width ≤ 120 → IsGrid height width rows → cells ≡ concat rows → Lies height width cells rows
+lies_of : (height width : ℕ) (cells : List ℕ) (rows : List (List ℕ)) → 0 < height → height ≤ MAX_SIDE → 0 < width → width ≤ MAX_SIDE → IsGrid height width rows → cells ≡ concat rows → Lies height width cells rows
 lies_of height width cells rows some_rows rows_fit some_columns columns_fit is e =
     subst (λ xs. Lies height width xs rows) (sym e) (record { reads = rows_of-concat height width rows is; are = cells_of height width rows some_rows rows_fit some_columns columns_fit is })
 
@@ -122,22 +123,22 @@ module _ (height width : ℕ) (old new : List ℕ) (now : List (List ℕ)) (e : 
   is_wide : width_of now ≡ width
   is_wide = (facts height width old now e is).wide
 
-  pub row_inserted : (line : LineId) → line.axis ≡ Across → line.at ≤ lines_along line.axis now → lines_along line.axis now < 120
+  pub row_inserted : (line : LineId) → line.axis ≡ Across → line.at ≤ lines_along line.axis now → lines_along line.axis now < MAX_SIDE
       → new ≡ take (line.at * width) old ++ (replicate width 0 ++ drop (line.at * width) old) → Lies (height + 1) width new (line_inserted now line)
   row_inserted line across place room made =
       let at_place : line.at ≤ height = omega (arith, is_tall, subst (λ axis. line.at ≤ lines_along axis now) across place) in
-      let has_room : height < 120 = omega (arith, is_tall, subst (λ axis. lines_along axis now < 120) across room) in
+      let has_room : height < MAX_SIDE = omega (arith, is_tall, subst (λ axis. lines_along axis now < MAX_SIDE) across room) in
       let target : insert before line.at (replicate width 0) ≡ line_inserted now line =
       ap (λ grid. insert grid line.at (replicate width 0)) e ∙ ap (λ n. insert now line.at (replicate n 0)) (sym is_wide) ∙ ap (λ axis. with_line axis line.at now) (sym across) in
       subst (Lies (height + 1) width new) target
       (lies_of (height + 1) width new (insert before line.at (replicate width 0)) (omega arith) (omega arith) is.has_column is.columns_fit
       (grid-row_inserted height width before line.at grid at_place) (made ∙ row_put_in height width old is line.at at_place))
 
-  pub column_inserted : (line : LineId) → line.axis ≡ Down → line.at ≤ lines_along line.axis now → lines_along line.axis now < 120
+  pub column_inserted : (line : LineId) → line.axis ≡ Down → line.at ≤ lines_along line.axis now → lines_along line.axis now < MAX_SIDE
       → new ≡ concat (with_line Down line.at (rows_of height width old)) → Lies height (width + 1) new (line_inserted now line)
   column_inserted line down place room made =
       let at_place : line.at ≤ width = omega (arith, is_wide, subst (λ axis. line.at ≤ lines_along axis now) down place) in
-      let has_room : width < 120 = omega (arith, is_wide, subst (λ axis. lines_along axis now < 120) down room) in
+      let has_room : width < MAX_SIDE = omega (arith, is_wide, subst (λ axis. lines_along axis now < MAX_SIDE) down room) in
       let target : with_line Down line.at before ≡ line_inserted now line = ap (λ grid. with_line Down line.at grid) e ∙ ap (λ axis. with_line axis line.at now) (sym down) in
       subst (Lies height (width + 1) new) target
       (lies_of height (width + 1) new (with_line Down line.at before) is.has_row is.rows_fit (omega arith) (omega arith)

@@ -3,6 +3,7 @@ use Rattle.std.proofs.Common.{ℕ, inl, inr, arith}
 use Rattle.std.specs.Prelude.{IsBitSet, ◌⊎◌, ◌↔◌, bit_or}
 use Rattle.std.proofs.lemmas.Nat.{or_lt}
 use Rattle.std.proofs.lemmas.Nat.Bits.{bit_at_or, bit_at-lt}
+use Rattle.picture.specs.declared.picture.TheConstants.{MAX_SIDE}
 use Rattle.picture.specs.declared.line_id.Axis.{Axis}
 use Rattle.picture.specs.declared.line_id.Axis.TheVariants.{Across, Down}
 use Rattle.picture.specs.LineSet.{Lines, IsLineSet, PutsNames, mask_along}
@@ -40,6 +41,6 @@ union_names old names line = along line.axis
 
 pub union_is_set : (old names : Lines) → IsLineSet old → IsLineSet names → IsLineSet (union old names)
 union_is_set old names is more = record {
-  rows_within = or_lt 120 old.rows names.rows is.rows_within more.rows_within;
-  columns_within = or_lt 120 old.columns names.columns is.columns_within more.columns_within;
+  rows_within = or_lt MAX_SIDE old.rows names.rows is.rows_within more.rows_within;
+  columns_within = or_lt MAX_SIDE old.columns names.columns is.columns_within more.columns_within;
 }

@@ -3,6 +3,7 @@ use Rattle.std.proofs.Common.{◌≡◌, ℕ, ◌+◌, ◌^◌, ◌<◌, ◌≤�
 use Rattle.std.specs.Prelude.{IsBitSet, ◌⊎◌, count_ones}
 use Rattle.std.proofs.lemmas.Bool.{cases_eq}
 use Rattle.std.proofs.lemmas.Nat.{zero_from_ones, ones_le_self}
+use Rattle.picture.specs.declared.picture.TheConstants.{MAX_SIDE}
 use Rattle.picture.specs.declared.line_id.Axis.{Axis}
 use Rattle.picture.specs.declared.line_id.Axis.TheVariants.{Across, Down}
 use Rattle.picture.specs.declared.line_id.LineId.{LineId}
@@ -27,10 +28,10 @@ same_masks one other rows columns = λ i. record { rows = rows i; columns = colu
 pub same_names : SameNamesAreEqual
 unfolding across down
 same_names one other is_one is_other same =
-    same_masks one other (same_bits_below 120 one.rows other.rows is_one.rows_within is_other.rows_within (λ k. same (across k)))
-    (same_bits_below 120 one.columns other.columns is_one.columns_within is_other.columns_within (λ k. same (down k)))
+    same_masks one other (same_bits_below MAX_SIDE one.rows other.rows is_one.rows_within is_other.rows_within (λ k. same (across k)))
+    (same_bits_below MAX_SIDE one.columns other.columns is_one.columns_within is_other.columns_within (λ k. same (down k)))
 
-small_along : (lines : Lines) → IsLineSet lines → (axis : Axis) → mask_along axis lines < 2 ^ 120
+small_along : (lines : Lines) → IsLineSet lines → (axis : Axis) → mask_along axis lines < 2 ^ MAX_SIDE
 small_along lines is Across = is.rows_within
 small_along lines is Down = is.columns_within
 
@@ -53,7 +54,7 @@ none_when_zero lines none =
 pub members : NamesAreMembers
 members = record {
   decided = λ lines line. bit_or_not (mask_along line.axis lines) line.at;
-  inside = λ lines line is has. bit_below (mask_along line.axis lines) 120 line.at (small_along lines is line.axis) has;
+  inside = λ lines line is has. bit_below (mask_along line.axis lines) MAX_SIDE line.at (small_along lines is line.axis) has;
   empty = name_in_none;
   counted = λ lines. (none_when_zero lines, λ e. ap name_count e ∙ no_names_counted);
 }

@@ -5,6 +5,7 @@ use Rattle.std.specs.List.{flat_map, AllByRecursion}
 use Rattle.std.proofs.lemmas.List.{append-nil, map-append, length-map}
 use Rattle.std.proofs.lemmas.List.Concat.{flat_map-append}
 use Rattle.std.proofs.Math.Seq.{take-append_seam, drop-append_seam}
+use Rattle.picture.specs.declared.picture.TheConstants.{MAX_SIDE}
 use Rattle.picture.specs.Reading.{◌>>=◌}
 use Rattle.picture.specs.CellSet.{no_cells}
 use Rattle.picture.specs.Document.{Content, first_of, triples_of, seen_after, number_among, ordered_triples}
@@ -107,7 +108,7 @@ unfolding ppm_of
 steps text background = refl
 
 -- reading a text that is spelled number by number
-read_steps : (width height maxval : ℕ) (background : Rgb) (ts final : List Rgb) → 0 < width → width ≤ 120 → 0 < height → height ≤ 120 → 0 < maxval → maxval ≤ 65535 → fits maxval background ≡ true
+read_steps : (width height maxval : ℕ) (background : Rgb) (ts final : List Rgb) → 0 < width → width ≤ MAX_SIDE → 0 < height → height ≤ MAX_SIDE → 0 < maxval → maxval ≤ 65535 → fits maxval background ≡ true
     → height * width ≡ length ts → AreLawful maxval ts → seen_after (background ∷ []) ts ≡ final → length final ≤ 16
     → ppm_of (codes "P3\n" ++ (number_text width 32 ++ (number_text height 10 ++ (number_text maxval 10 ++ (flat_map triple_text ts ++ []))))) (Some background)
     ≡ Ok (record { colours = record { maxval = maxval; triples = final }; rows = rows_of height width (map (number_among final) ts); givens = no_cells })

@@ -10,6 +10,7 @@ use Rattle.std.proofs.lemmas.Bool.{leb-true}
 use Rattle.std.proofs.lemmas.List.Sums.{take_while-cons}
 use Rattle.std.proofs.lemmas.Str.Parse.{IsNumeralModel, numerals_by_fold}
 use Rattle.std.proofs.lemmas.Fmt.{digits_decimal, digits_value-decimal, decimal_nonempty}
+use Rattle.picture.specs.declared.picture.TheConstants.{MAX_SIDE}
 use Rattle.picture.specs.Reading.{◌>>=◌}
 use Rattle.picture.specs.declared.rgb.Rgb.{Rgb}
 use Rattle.picture.specs.Palette.{fits, only_background}
@@ -107,13 +108,13 @@ number_again end place n close rest small closes =
     ∙ ap (numeral_at end) (spelled (decimal n) rest place close (decimal_nonempty n small) digits closes)
     ∙ ap (λ b. read b (digits_value 10 (decimal n))) digits ∙ ap (read true) value
 
-pub side_again : (end place n close : ℕ) (rest : List ℕ) → 0 < n → n ≤ 120 → Closes close
+pub side_again : (end place n close : ℕ) (rest : List ℕ) → 0 < n → n ≤ MAX_SIDE → Closes close
     → side_at end (text_tokens place (number_text n close ++ rest)) ≡ Ok (n, text_tokens (behind place n) rest)
 unfolding side_at
 side_again end place n close rest some most closes =
     let small : n < 2 ^ 64 = omega arith in
     let a : eqb n 0 ≡ false = grind (arith, nat_tests) in
-    let b : ltb 120 n ≡ false = grind (arith, nat_tests) in
+    let b : ltb MAX_SIDE n ≡ false = grind (arith, nat_tests) in
     rw (number_again end place n close rest small closes, a, b) refl
 
 pub sample_again : (end maxval place n close : ℕ) (rest : List ℕ) → n ≤ maxval → maxval ≤ 65535 → Closes close
