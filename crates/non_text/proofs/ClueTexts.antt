@@ -11,6 +11,7 @@ use Rattle.std.proofs.lemmas.List.{length-map}
 use Rattle.std.proofs.lemmas.List.Sums.{sum_by-cons}
 use Rattle.std.proofs.lemmas.List.Elements.{All-nil, All-cons}
 use Rattle.std.proofs.lemmas.List.Splits.{slice_split_none, slice_split_at}
+use Rattle.picture.specs.declared.picture.TheConstants.{MAX_SIDE}
 use Rattle.picture.specs.Reading.{◌>>=◌}
 use Rattle.clues.specs.declared.block.Block.{Block}
 use Rattle.clues.specs.Clue.{block, longer, clue_of}
@@ -154,10 +155,10 @@ some_clue cells b blocks is small =
     ∙ ap (λ read. read >>= clue_from cells) (numbers_are (b ∷ blocks) small)
     ∙ clue_from-lens cells b blocks is
 
-pub small_sum : (cells : ℕ) (clue : List Block) → IsWritable cells clue → cells ≤ 120 → sum (lens_of clue) < 2 ^ 64
+pub small_sum : (cells : ℕ) (clue : List Block) → IsWritable cells clue → cells ≤ MAX_SIDE → sum (lens_of clue) < 2 ^ 64
 small_sum cells clue is small = let fits = is.fits in omega (arith, fits)
 
-pub clue_in-clue_text : (cells : ℕ) (clue : List Block) → IsWritable cells clue → cells ≤ 120 → clue_in cells (clue_text clue) ≡ Ok clue
+pub clue_in-clue_text : (cells : ℕ) (clue : List Block) → IsWritable cells clue → cells ≤ MAX_SIDE → clue_in cells (clue_text clue) ≡ Ok clue
 clue_in-clue_text cells [] is small = empty_clue cells
 clue_in-clue_text cells (b ∷ blocks) is small = some_clue cells b blocks is (small_sum cells (b ∷ blocks) is small)
 

@@ -5,6 +5,7 @@ use Rattle.std.specs.Option.{option_and_then}
 use Rattle.std.specs.Cmp.Lexicographic.{pointwise}
 use Rattle.std.proofs.lemmas.Bool.{leb-true, eqb-true, eq-eqb, and_parts, and_from}
 use Rattle.std.proofs.lemmas.Slice.Eq.{slice_eq-Decides}
+use Rattle.picture.specs.declared.picture.TheConstants.{MAX_SIDE}
 use Rattle.clues.specs.declared.block.Block.{Block}
 use Rattle.clues.specs.ClueBook.{Clues, clues_from, clues_of}
 use Rattle.non_text.specs.declared.non_puzzle.NonPuzzle.{NonPuzzle}
@@ -17,31 +18,31 @@ use Rattle.non_text.proofs.SectionLemmas.{clues_count}
 
 -- ---- sizes are within the limits
 
-size_within_limits : (m n : ℕ) → size_within m ≡ Some n → (0 < n) × (n ≤ 120)
-size_within_limits m n e = by_tests (leb 1 m) (leb m 120) refl refl e
+size_within_limits : (m n : ℕ) → size_within m ≡ Some n → (0 < n) × (n ≤ MAX_SIDE)
+size_within_limits m n e = by_tests (leb 1 m) (leb m MAX_SIDE) refl refl e
   where
-    by_tests : (s t : Bool) → leb 1 m ≡ s → leb m 120 ≡ t → cond (s && t) (Some m) None ≡ Some n → (0 < n) × (n ≤ 120)
+    by_tests : (s t : Bool) → leb 1 m ≡ s → leb m MAX_SIDE ≡ t → cond (s && t) (Some m) None ≡ Some n → (0 < n) × (n ≤ MAX_SIDE)
     by_tests true true es et h =
         let is : m ≡ n = cc in
         let low = leb-true 1 m es in
-        let high = leb-true m 120 et in
+        let high = leb-true m MAX_SIDE et in
         (omega (arith, is, low), omega (arith, is, high))
     by_tests true false es et h = cc
     by_tests false t es et h = cc
 
-size_in_limits : (value : List ℕ) (n : ℕ) → size_in value ≡ Some n → (0 < n) × (n ≤ 120)
+size_in_limits : (value : List ℕ) (n : ℕ) → size_in value ≡ Some n → (0 < n) × (n ≤ MAX_SIDE)
 unfolding size_in
 size_in_limits value n e = by_number (number_of value) e
   where
-    by_number : (o : Option ℕ) → option_and_then size_within o ≡ Some n → (0 < n) × (n ≤ 120)
+    by_number : (o : Option ℕ) → option_and_then size_within o ≡ Some n → (0 < n) × (n ≤ MAX_SIDE)
     by_number None h = cc
     by_number (Some m) h = size_within_limits m n h
 
-pub size_limits : (word : List ℕ) (lines : List (List ℕ)) (n : ℕ) → size_behind word lines ≡ Some n → (0 < n) × (n ≤ 120)
+pub size_limits : (word : List ℕ) (lines : List (List ℕ)) (n : ℕ) → size_behind word lines ≡ Some n → (0 < n) × (n ≤ MAX_SIDE)
 unfolding size_behind
 size_limits word lines n e = by_line (at_keyword word lines) e
   where
-    by_line : (found : Option (List ℕ × List (List ℕ))) → option_and_then (λ line. size_in (value_of line.0)) found ≡ Some n → (0 < n) × (n ≤ 120)
+    by_line : (found : Option (List ℕ × List (List ℕ))) → option_and_then (λ line. size_in (value_of line.0)) found ≡ Some n → (0 < n) × (n ≤ MAX_SIDE)
     by_line None h = cc
     by_line (Some line) h = size_in_limits (value_of line.0) n h
 

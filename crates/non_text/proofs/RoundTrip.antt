@@ -9,6 +9,7 @@ use Rattle.std.specs.Char.{is_ascii_digit}
 use Rattle.std.specs.List.{flat_map}
 use Rattle.std.proofs.lemmas.Bool.{le-leb, and_parts}
 use Rattle.std.proofs.lemmas.List.Splits.{slice_split_at}
+use Rattle.picture.specs.declared.picture.TheConstants.{MAX_SIDE}
 use Rattle.picture.specs.Reading.{◌>>=◌}
 use Rattle.picture.specs.Rows.{width_of}
 use Rattle.picture.specs.Picture.{IsPicture}
@@ -44,11 +45,11 @@ puzzle_from lines width height rows columns picture puzzle good is_wide is_high 
 
 -- ---- numbers on keyword lines
 
-size_of-decimal : (n : ℕ) → 0 < n → n ≤ 120 → size_in (decimal n) ≡ Some n
+size_of-decimal : (n : ℕ) → 0 < n → n ≤ MAX_SIDE → size_in (decimal n) ≡ Some n
 unfolding size_in
 size_of-decimal n low high =
     ap (option_and_then size_within) (number_of-decimal n (omega arith))
-    ∙ ap (λ t. cond (t && leb n 120) (Some n) None) (le-leb 1 n (omega arith)) ∙ ap (λ t. cond t (Some n) None) (le-leb n 120 high)
+    ∙ ap (λ t. cond (t && leb n MAX_SIDE) (Some n) None) (le-leb 1 n (omega arith)) ∙ ap (λ t. cond t (Some n) None) (le-leb n MAX_SIDE high)
 
 abbrev width_line : ℕ → List ℕ
 width_line n = codes "width " ++ decimal n
@@ -84,10 +85,10 @@ height_value : (n : ℕ) → n < 2 ^ 64 → value_of (height_line n) ≡ decimal
 unfolding value_of past_blanks past_word is_blank
 height_value n small = trimmed_digits (decimal n) (decimal_digits n small)
 
-width_size : (n : ℕ) → 0 < n → n ≤ 120 → size_in (value_of (width_line n)) ≡ Some n
+width_size : (n : ℕ) → 0 < n → n ≤ MAX_SIDE → size_in (value_of (width_line n)) ≡ Some n
 width_size n low high = ap size_in (width_value n (omega arith)) ∙ size_of-decimal n low high
 
-height_size : (n : ℕ) → 0 < n → n ≤ 120 → size_in (value_of (height_line n)) ≡ Some n
+height_size : (n : ℕ) → 0 < n → n ≤ MAX_SIDE → size_in (value_of (height_line n)) ≡ Some n
 height_size n low high = ap size_in (height_value n (omega arith)) ∙ size_of-decimal n low high
 
 -- ---- the written lines
@@ -111,9 +112,9 @@ seen_as width height rows columns = record { width = width; height = height; row
 -- what is known of the parts of a text
 record AreParts (width height : ℕ) (rows columns : List (List Block)) (goal : List ℕ) : Type 0 where
   wide : 0 < width
-  wide_fits : width ≤ 120
+  wide_fits : width ≤ MAX_SIDE
   high : 0 < height
-  high_fits : height ≤ 120
+  high_fits : height ≤ MAX_SIDE
   rows_are : AreWritable width rows
   rows_count : length rows ≡ height
   columns_are : AreWritable height columns
@@ -220,7 +221,7 @@ clue_printed (b ∷ next ∷ blocks) small =
     let parts = sum_by-cons (λ k. k) b.len (lens_of (next ∷ blocks)) in
     printed_append (decimal b.len) (44 ∷ clue_text (next ∷ blocks)) (decimal_printed b.len (omega (arith, small, parts))) (clue_printed (next ∷ blocks) (omega (arith, small, parts)))
 
-clues_shown : (cells : ℕ) (clues : List (List Block)) (rest : List (List ℕ)) → cells ≤ 120 → AreWritable cells clues → AreShown rest → AreShown (map clue_text clues ++ rest)
+clues_shown : (cells : ℕ) (clues : List (List Block)) (rest : List (List ℕ)) → cells ≤ MAX_SIDE → AreWritable cells clues → AreShown rest → AreShown (map clue_text clues ++ rest)
 clues_shown cells [] rest small are shown = shown
 clues_shown cells (clue ∷ clues) rest small are shown =
     let few = small_sum cells clue are.0 small in

@@ -3,6 +3,7 @@ use Rattle.std.proofs.Common.{◌≡◌, ℕ, ◌<◌, ◌≤◌, Bool, true, fa
 use Rattle.std.specs.Prelude.{◌&&◌, option_map}
 use Rattle.std.specs.Option.{option_and_then}
 use Rattle.std.proofs.lemmas.Bool.{le-leb, lt-leb}
+use Rattle.picture.specs.declared.picture.TheConstants.{MAX_SIDE}
 use Rattle.non_text.specs.declared.seen.Seen.{Seen}
 use Rattle.non_text.specs.declared.fault.NonFault.{NonFault}
 use Rattle.non_text.specs.Bytes.{number_of}
@@ -14,14 +15,14 @@ use Rattle.non_text.specs.Seen.{seen_on, seen_with, fault_below}
 abbrev chosen_size : Bool → Bool → ℕ → Option ℕ
 chosen_size low high n = cond (low && high) (Some n) None
 
-size_small : (n : ℕ) → 0 < n → n ≤ 120 → size_within n ≡ Some n
-size_small n low high = ap (λ t. chosen_size t (leb n 120) n) (le-leb 1 n (omega arith)) ∙ ap (λ t. chosen_size true t n) (le-leb n 120 high)
+size_small : (n : ℕ) → 0 < n → n ≤ MAX_SIDE → size_within n ≡ Some n
+size_small n low high = ap (λ t. chosen_size t (leb n MAX_SIDE) n) (le-leb 1 n (omega arith)) ∙ ap (λ t. chosen_size true t n) (le-leb n MAX_SIDE high)
 
 size_zero : (n : ℕ) → n ≡ 0 → size_within n ≡ None
 size_zero n e = ap size_within e
 
-size_large : (n : ℕ) → 120 < n → size_within n ≡ None
-size_large n high = ap (λ t. chosen_size t (leb n 120) n) (le-leb 1 n (omega arith)) ∙ ap (λ t. chosen_size true t n) (lt-leb n 120 high)
+size_large : (n : ℕ) → MAX_SIDE < n → size_within n ≡ None
+size_large n high = ap (λ t. chosen_size t (leb n MAX_SIDE) n) (le-leb 1 n (omega arith)) ∙ ap (λ t. chosen_size true t n) (lt-leb n MAX_SIDE high)
 
 pub size_none : (value : List ℕ) → option_map (min 255) (number_of value) ≡ None → size_in value ≡ None
 unfolding size_in
@@ -31,7 +32,7 @@ size_none value e = by_number (number_of value) e
     by_number None h = refl
     by_number (Some n) h = cc
 
-pub size_some : (value : List ℕ) (n : ℕ) → option_map (min 255) (number_of value) ≡ Some n → 0 < n → n ≤ 120 → size_in value ≡ Some n
+pub size_some : (value : List ℕ) (n : ℕ) → option_map (min 255) (number_of value) ≡ Some n → 0 < n → n ≤ MAX_SIDE → size_in value ≡ Some n
 unfolding size_in
 size_some value n e low high = by_number (number_of value) e
   where
@@ -42,7 +43,7 @@ size_some value n e low high = by_number (number_of value) e
         let same : m ≡ n = omega (arith, is, high) in
         ap size_within same ∙ size_small n low high
 
-pub size_bad : (value : List ℕ) (n : ℕ) → option_map (min 255) (number_of value) ≡ Some n → (n ≡ 0) ⊎ (120 < n) → size_in value ≡ None
+pub size_bad : (value : List ℕ) (n : ℕ) → option_map (min 255) (number_of value) ≡ Some n → (n ≡ 0) ⊎ (MAX_SIDE < n) → size_in value ≡ None
 unfolding size_in
 size_bad value n e bad = by_number (number_of value) e
   where

@@ -8,6 +8,7 @@ use Rattle.std.proofs.lemmas.Bool.{leb-true, ne_eqb, eq-eqb, and_parts}
 use Rattle.std.proofs.lemmas.List.{append_assoc, get_or_past, length-map, take_all}
 use Rattle.std.proofs.lemmas.List.Elements.{All-nil, All-cons}
 use Rattle.std.proofs.lemmas.List.Splits.{slice_split_at}
+use Rattle.picture.specs.declared.picture.TheConstants.{MAX_SIDE}
 use Rattle.picture.specs.Reading.{◌>>=◌}
 use Rattle.clues.specs.declared.block.Block.{Block}
 use Rattle.non_text.specs.declared.seen.Seen.{Seen}
@@ -126,12 +127,12 @@ abbrev pub AreWritable : ℕ → List (List Block) → Type 0
 AreWritable cells [] = Unit {0}
 AreWritable cells (clue ∷ clues) = IsWritable cells clue × AreWritable cells clues
 
-pub plain_clues : (cells : ℕ) (clues : List (List Block)) → cells ≤ 120 → AreWritable cells clues → ArePlain (map clue_text clues)
+pub plain_clues : (cells : ℕ) (clues : List (List Block)) → cells ≤ MAX_SIDE → AreWritable cells clues → ArePlain (map clue_text clues)
 plain_clues cells [] small are = tt
 plain_clues cells (clue ∷ clues) small are =
     (clue_text_begins clue (small_sum cells clue are.0 small), plain_clues cells clues small are.1)
 
-clues_in-texts : (cells : ℕ) (clues : List (List Block)) → cells ≤ 120 → AreWritable cells clues → clues_in cells (map clue_text clues) ≡ Ok clues
+clues_in-texts : (cells : ℕ) (clues : List (List Block)) → cells ≤ MAX_SIDE → AreWritable cells clues → clues_in cells (map clue_text clues) ≡ Ok clues
 unfolding clues_in
 clues_in-texts cells [] small are = refl
 clues_in-texts cells (clue ∷ clues) small are =
@@ -150,7 +151,7 @@ leaves-full n lines plain e =
     ap (λ t. cond t (Ok true) (cond (leb n (length lines) && not (list_any is_full_line (drop n lines))) (Ok false) (Err BadCount))) (eq-eqb _ _ (ap length (all_full lines plain) ∙ e))
 
 -- a section of written clues is read again
-pub section_clues-texts : (n cells : ℕ) (clues : List (List Block)) → cells ≤ 120 → AreWritable cells clues → length clues ≡ n → section_clues n cells (map clue_text clues) ≡ Ok clues
+pub section_clues-texts : (n cells : ℕ) (clues : List (List Block)) → cells ≤ MAX_SIDE → AreWritable cells clues → length clues ≡ n → section_clues n cells (map clue_text clues) ≡ Ok clues
 section_clues-texts n cells clues small are e =
     let texts = map clue_text clues in
     let plain = plain_clues cells clues small are in
