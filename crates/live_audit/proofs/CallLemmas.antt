@@ -1,45 +1,64 @@
 -- Calls put one behind the other.
-use Rattle.std.proofs.Common.{◌≡◌, List, [], ◌∷◌, Option, Some, None, sym, ap, subst, ◌∙◌}
-use Rattle.edits.specs.declared.fault.EditFault.{EditFault}
+use Rattle.std.proofs.Common.{◌≡◌, ℕ, List, [], ◌∷◌, Option, Some, None, sym, ap, subst, ◌∙◌}
 use Rattle.edits.specs.History.{History}
 use Rattle.live_audit.specs.Bench.{Seen, IsAudited}
-use Rattle.live_audit.specs.Calls.{Answers, AreRight, Call, IsRight, Lead, after_answer, after_calls}
+use Rattle.live_audit.specs.Calls.{Answers, AreRight, Asks, Allows, Call, IsRight, Lead, Machine, Strokes, after_call, after_calls, machine}
 use Rattle.live_audit.specs.Laws.{ListsStayAudited}
-use Rattle.live_audit.specs.Stroke.{Stroke}
 
-answered_audited : (stroke : Stroke) (fault : Option EditFault) (old new : Seen) → IsAudited old → Answers stroke fault old new → IsAudited new
-answered_audited stroke None old new a h = h.1
-answered_audited stroke (Some fault) old new a h =
+-- the machine that a state shows
+abbrev machine_of : Seen → Machine
+machine_of s = machine s.history s.allowance
+
+answered_audited : (call : Call) (old new : Seen) → IsAudited old → Answers call old new → IsAudited new
+answered_audited (Strokes stroke None) old new a h = h.1
+answered_audited (Strokes stroke (Some fault)) old new a h =
     let P : Seen → Type 0 = λ s. IsAudited s in
-    subst P (sym h.as_before) a
+    let same : IsAudited (record old { calls = new.calls }) = record { audit = a.audit; answers = a.answers } in
+    subst P (sym h.as_before) same
+answered_audited (Asks None) old new a h =
+    let P : Seen → Type 0 = λ s. IsAudited s in
+    let same : IsAudited (record old { calls = new.calls }) = record { audit = a.audit; answers = a.answers } in
+    subst P (sym h) same
+answered_audited (Asks (Some verdict)) old new a h = h.1.0
+answered_audited (Allows allowance) old new a h =
+    let P : Seen → Type 0 = λ s. IsAudited s in
+    let same : IsAudited (record old { allowance = allowance }) = record { audit = a.audit; answers = a.answers } in
+    subst P (sym h) same
 
-answered_history : (stroke : Stroke) (fault : Option EditFault) (old new : Seen) → Answers stroke fault old new → new.history ≡ after_answer old.history stroke fault
-answered_history stroke None old new h = h.0.history
-answered_history stroke (Some fault) old new h = ap (λ (s : Seen). s.history) h.as_before
+answered_machine : (call : Call) (old new : Seen) → Answers call old new → machine_of new ≡ after_call (machine_of old) call
+answered_machine (Strokes stroke None) old new h =
+    ap (λ (x : History). machine x new.allowance) h.0.history ∙ ap (λ (x : Option ℕ). machine (after_call (machine_of old) (Strokes stroke None)).history x) h.0.book.allowance
+answered_machine (Strokes stroke (Some fault)) old new h = ap machine_of h.as_before
+answered_machine (Asks None) old new h = ap machine_of h
+answered_machine (Asks (Some verdict)) old new h = ap machine_of h.0.1.1.same
+answered_machine (Allows allowance) old new h = ap machine_of h
 
-answered_right : (stroke : Stroke) (fault : Option EditFault) (old new : Seen) → Answers stroke fault old new → IsRight old.history stroke fault
-answered_right stroke None old new h = h.0.lawful
-answered_right stroke (Some fault) old new h = h.first
+answered_right : (call : Call) (old new : Seen) → Answers call old new → IsRight (machine_of old) call
+answered_right (Strokes stroke None) old new h = h.0.lawful
+answered_right (Strokes stroke (Some fault)) old new h = h.first
+answered_right (Asks None) old new h = tt
+answered_right (Asks (Some verdict)) old new h = h.1.1
+answered_right (Allows allowance) old new h = tt
 
 all_audited : (calls : List Call) (old new : Seen) → IsAudited old → Lead calls old new → IsAudited new
 all_audited [] old new a e =
     let P : Seen → Type 0 = λ s. IsAudited s in
     subst P (sym e) a
 all_audited (call ∷ calls) old new a l =
-    all_audited calls l.0 new (answered_audited call.stroke call.fault old l.0 a l.1) l.2
+    all_audited calls l.0 new (answered_audited call old l.0 a l.1) l.2
 
-all_history : (calls : List Call) (old new : Seen) → Lead calls old new → new.history ≡ after_calls old.history calls
-all_history [] old new e = ap (λ (s : Seen). s.history) e
-all_history (call ∷ calls) old new l =
-    all_history calls l.0 new l.2 ∙ ap (λ (h : History). after_calls h calls) (answered_history call.stroke call.fault old l.0 l.1)
+all_machine : (calls : List Call) (old new : Seen) → Lead calls old new → machine_of new ≡ after_calls (machine_of old) calls
+all_machine [] old new e = ap machine_of e
+all_machine (call ∷ calls) old new l =
+    all_machine calls l.0 new l.2 ∙ ap (λ (m : Machine). after_calls m calls) (answered_machine call old l.0 l.1)
 
-all_right : (calls : List Call) (old new : Seen) → Lead calls old new → AreRight old.history calls
+all_right : (calls : List Call) (old new : Seen) → Lead calls old new → AreRight (machine_of old) calls
 all_right [] old new e = tt
 all_right (call ∷ calls) old new l =
-    let P : History → Type 0 = λ h. AreRight h calls in
-    (answered_right call.stroke call.fault old l.0 l.1, subst P (answered_history call.stroke call.fault old l.0 l.1) (all_right calls l.0 new l.2))
+    let P : Machine → Type 0 = λ m. AreRight m calls in
+    (answered_right call old l.0 l.1, subst P (answered_machine call old l.0 l.1) (all_right calls l.0 new l.2))
 
 pub stay_audited : ListsStayAudited
-stay_audited = record { audited = all_audited; history = all_history; answers = all_right }
+stay_audited = record { audited = all_audited; machine_is = all_machine; answers = all_right }
 
 pub ruleset lists = (stay_audited)

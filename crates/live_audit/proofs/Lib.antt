@@ -1,2 +1,4 @@
 pub mod AuditLemmas
 pub mod CallLemmas
+pub mod VerdictLemmas
+pub mod CarryLemmas

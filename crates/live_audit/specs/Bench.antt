@@ -1,6 +1,7 @@
 -- What a caller sees of a bench, and what holds of it after every call.
-use Rattle.std.specs.Prelude.{◌≡◌, ℕ, ◌<◌, ◌≤◌, ◌↔◌, List, [], length}
+use Rattle.std.specs.Prelude.{◌≡◌, ℕ, ◌<◌, ◌≤◌, ◌↔◌, List, [], length, Option, None}
 use Rattle.picture.specs.declared.picture.TheConstants.{MAX_SIDE}
+use Rattle.picture.specs.CellSet.{HasCell, IsCellSet}
 use Rattle.picture.specs.Rows.{cell_at, width_of}
 use Rattle.clues.specs.ClueBook.{Clues, clues_of}
 use Rattle.line_settle.specs.declared.meter.Meter.{Meter}
@@ -8,22 +9,28 @@ use Rattle.line_settle.specs.FactSets.{IsLeast, Leaves, SameShape}
 use Rattle.justify.specs.Book.{Account, AreTrimmed, IsAccount, IsDerivation}
 use Rattle.propagate.specs.Closing.{EachFits}
 use Rattle.kept_audit.specs.Audit.{IsAnew, IsBaseOf}
+use Rattle.second_search.specs.declared.keeper.KeptPart.{KeptPart}
+use Rattle.second_search.specs.Judging.{AreTrue, Starts, parts_of}
+use Rattle.second_search.specs.Parts.{AreParts}
 use Rattle.edits.specs.Design.{Design}
 use Rattle.edits.specs.History.{History, history}
 use Rattle.live_audit.specs.declared.work.Work.{Work}
 
--- The document with those before and after it, its clues, the book of reasons, whose facts are the settled map, the counts of
--- work, and how often the engine was called.
+-- The document with those before and after it, its clues, the book of reasons, whose facts are the settled map, the parts of
+-- the map with what is known of each, how many splits the search of a part may make, the counts of work, and how often the
+-- engine was called.
 pub record Seen : Type 0 where
   pub history : History
   pub clues : Clues
   pub book : Account
+  pub kept : List KeptPart
+  pub allowance : Option ℕ
   pub work : Work
   pub calls : ℕ
 
-abbrev pub seen : History → Clues → Account → Work → ℕ → Seen
-seen history clues book work calls =
-    record { history = history; clues = clues; book = book; work = work; calls = calls }
+abbrev pub seen : History → Clues → Account → List KeptPart → Option ℕ → Work → ℕ → Seen
+seen history clues book kept allowance work calls =
+    record { history = history; clues = clues; book = book; kept = kept; allowance = allowance; work = work; calls = calls }
 
 -- a meter that has counted nothing
 abbrev pub nothing_done : Meter
@@ -51,9 +58,20 @@ pub record IsAuditOf (d : Design) (clues : Clues) (book : Account) : Type 0 wher
   pub derivation : IsDerivation clues book
   pub trimmed : AreTrimmed clues book
 
--- what is seen is an audit of the present document
-abbrev pub IsAudited : Seen → Type 0
-IsAudited s = IsAuditOf s.history.document s.clues s.book
+-- a set of cells that are the givens of a document
+pub record AreGivenCells (d : Design) (givens : List ℕ) : Type 0 where
+  pub set : IsCellSet givens
+  pub are : (row col : ℕ) → HasCell givens row col ↔ IsGiven d row col
+
+-- The parts kept are those of the map, and what is known of the other fillings of each is true of the document.
+pub record AreAnswersOf (d : Design) (clues : Clues) (facts : List (List ℕ)) (kept : List KeptPart) : Type 0 where
+  pub parts : AreParts facts (parts_of kept)
+  pub true_answers : (givens : List ℕ) → AreGivenCells d givens → AreTrue clues givens d.rows kept
+
+-- what is seen is an audit of the present document, and what is kept of its parts is true
+pub record IsAudited (s : Seen) : Type 0 where
+  pub audit : IsAuditOf s.history.document s.clues s.book
+  pub answers : AreAnswersOf s.history.document s.clues s.book.facts s.kept
 
 -- what a bench keeps: all of that, and an engine for each line that a picture can have
 pub record IsBench (longest : ℕ) (s : Seen) : Type 0 where
@@ -61,10 +79,12 @@ pub record IsBench (longest : ℕ) (s : Seen) : Type 0 where
   pub long : MAX_SIDE ≤ longest
 
 -- A bench that begins with a document, by an engine that was called so often: no history, a book made anew in which all lines
--- waited, and nothing searched.
+-- waited, nothing known of the parts, no allowance, and nothing searched.
 pub record Begins (d : Design) (depth calls : ℕ) (s : Seen) : Type 0 where
   pub history : s.history ≡ history d [] [] depth
   pub book : IsAnew s.book.base s.book nothing_done s.work.edit calls s.calls
+  pub kept : Starts s.book.facts s.kept
+  pub allowance : s.allowance ≡ None
   pub work : s.work ≡ record { edit = s.work.edit; search = nothing_done; parts = 0; splits = 0 }
 
 -- facts that the givens of a document exclude alone, and a base of its picture

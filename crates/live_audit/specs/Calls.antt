@@ -1,16 +1,22 @@
 -- What a stroke comes to on a bench, and lists of strokes.
-use Rattle.std.specs.Prelude.{◌≡◌, List, [], ◌∷◌, Option, Some, None}
+use Rattle.std.specs.Prelude.{◌≡◌, ℕ, List, [], ◌∷◌, Option, Some, None}
 use Rattle.clues.specs.Change.{Moves}
 use Rattle.kept_audit.specs.Audit.{GoesOn}
+use Rattle.second_search.specs.Carrying.{Carries}
 use Rattle.edits.specs.declared.fault.EditFault.{EditFault}
 use Rattle.edits.specs.History.{History, or_memory}
+use Rattle.live_audit.specs.declared.verdict.Verdict.{Verdict}
 use Rattle.live_audit.specs.Bench.{Seen, IsAudited, nothing_done}
 use Rattle.live_audit.specs.Stroke.{Stroke, after_stroke, stroke_fault, stroke_moves}
+use Rattle.live_audit.specs.Verdict.{IsVerdictOn, Tells}
 
 -- The book goes on from the one before, where lines were moved so: it begins with the steps that stand, and closing it took
--- the work that is counted. What was searched before stays counted.
+-- the work that is counted. A part keeps what was known of it where each line through it is the same, and of the others nothing
+-- is known. The allowance stays, and what was searched before stays counted.
 pub record CarriesOn (moves : Moves) (old new : Seen) : Type 0 where
   pub book : GoesOn moves old.clues new.clues old.book new.book nothing_done new.work.edit old.calls new.calls
+  pub kept : Carries old.clues old.book.facts old.history.document.rows new.clues new.book.facts new.history.document.rows old.kept new.kept
+  pub allowance : new.allowance ≡ old.allowance
   pub search : new.work ≡ record old.work { edit = new.work.edit }
 
 -- all is as before, but that the engine may have been called
@@ -32,34 +38,54 @@ pub record Refuses (stroke : Stroke) (fault : EditFault) (old new : Seen) : Type
 
 -- ---- lists
 
--- a stroke, and the fault that refused it; none where it was accepted
-pub record Call : Type 0 where
-  pub stroke : Stroke
-  pub fault : Option EditFault
+-- A stroke, with the fault that refused it, none where it was accepted; or a verdict, none where it was refused for want of memory;
+-- or an allowance that is set.
+pub data Call : Type 0 where
+  Strokes : Stroke → Option EditFault → Call
+  Asks : Option Verdict → Call
+  Allows : Option ℕ → Call
 
-abbrev pub Answers : Stroke → Option EditFault → Seen → Seen → Type 0
-Answers stroke None old new = Accepts stroke old new × IsAudited new
-Answers stroke (Some fault) old new = Refuses stroke fault old new
+-- what a call comes to
+abbrev pub Answers : Call → Seen → Seen → Type 0
+Answers (Strokes stroke None) old new = Accepts stroke old new × IsAudited new
+Answers (Strokes stroke (Some fault)) old new = Refuses stroke fault old new
+Answers (Asks None) old new = IsAsBefore old new
+Answers (Asks (Some verdict)) old new = Tells old new verdict × (IsAudited new × IsVerdictOn old.history.document old.allowance verdict)
+Answers (Allows allowance) old new = new ≡ record old { allowance = allowance }
 
 -- calls lead from one state to another, one behind the other
 abbrev pub Lead : List Call → Seen → Seen → Type 0
 Lead [] old new = new ≡ old
-Lead (call ∷ calls) old new = (between : Seen) × Answers call.stroke call.fault old between × Lead calls between new
+Lead (call ∷ calls) old new = (between : Seen) × Answers call old between × Lead calls between new
 
--- the history machine: an accepted stroke leads on, and a refused one leaves all as it is
-abbrev pub after_answer : History → Stroke → Option EditFault → History
-after_answer h stroke None = after_stroke h stroke
-after_answer h stroke (Some fault) = h
+-- the machine: a history, and the allowance
+pub record Machine : Type 0 where
+  pub history : History
+  pub allowance : Option ℕ
 
-abbrev pub after_calls : History → List Call → History
-after_calls h [] = h
-after_calls h (call ∷ calls) = after_calls (after_answer h call.stroke call.fault) calls
+abbrev pub machine : History → Option ℕ → Machine
+machine history allowance = record { history = history; allowance = allowance }
 
--- the answer is the machine's: a stroke is accepted only where no fault holds, and refused by the first that does, or for memory
-abbrev pub IsRight : History → Stroke → Option EditFault → Type 0
-IsRight h stroke None = stroke_fault h stroke ≡ None
-IsRight h stroke (Some fault) = fault ≡ or_memory (stroke_fault h stroke)
+-- an accepted stroke leads the history on, an allowance that is set is the new one, and all other calls leave the machine as it is
+abbrev pub after_call : Machine → Call → Machine
+after_call m (Strokes stroke None) = machine (after_stroke m.history stroke) m.allowance
+after_call m (Strokes stroke (Some fault)) = m
+after_call m (Asks verdict) = m
+after_call m (Allows allowance) = machine m.history allowance
 
-abbrev pub AreRight : History → List Call → Type 0
-AreRight h [] = Unit {0}
-AreRight h (call ∷ calls) = IsRight h call.stroke call.fault × AreRight (after_answer h call.stroke call.fault) calls
+abbrev pub after_calls : Machine → List Call → Machine
+after_calls m [] = m
+after_calls m (call ∷ calls) = after_calls (after_call m call) calls
+
+-- The answer is right: a stroke is accepted only where no fault holds, and refused by the first that does, or for memory; a verdict
+-- is true of the machine's document, and Undecided names the machine's allowance.
+abbrev pub IsRight : Machine → Call → Type 0
+IsRight m (Strokes stroke None) = stroke_fault m.history stroke ≡ None
+IsRight m (Strokes stroke (Some fault)) = fault ≡ or_memory (stroke_fault m.history stroke)
+IsRight m (Asks None) = Unit {0}
+IsRight m (Asks (Some verdict)) = IsVerdictOn m.history.document m.allowance verdict
+IsRight m (Allows allowance) = Unit {0}
+
+abbrev pub AreRight : Machine → List Call → Type 0
+AreRight m [] = Unit {0}
+AreRight m (call ∷ calls) = IsRight m call × AreRight (after_call m call) calls

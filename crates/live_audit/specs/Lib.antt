@@ -3,3 +3,4 @@ pub mod Calls
 pub mod Laws
 pub mod Reason
 pub mod Stroke
+pub mod Verdict

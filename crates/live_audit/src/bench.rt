@@ -1,6 +1,6 @@
 //! One picture kept audited after every stroke.
 
-ghost use Rattle.std.specs.Prelude.{◌≡◌, ◌<◌, ◌≤◌, length, IfOk, IfErr, OnOk, OnErr};
+ghost use Rattle.std.specs.Prelude.{◌≡◌, ◌<◌, ◌≤◌, length, IfOk, IfErr, IfSome, OnOk, OnErr};
 ghost use Rattle.picture.specs.Rows.{width_of};
 ghost use Rattle.clues.specs.Change.{IsChangeOf};
 ghost use Rattle.edits.specs.declared.fault.EditFault.TheVariants.{Memory};
@@ -10,8 +10,10 @@ ghost use Rattle.live_audit.specs.Bench.{Begins, IsAudited};
 ghost use Rattle.live_audit.specs.Calls.{Accepts, CarriesOn, IsAsBefore, Refuses};
 ghost use Rattle.live_audit.specs.Reason.{Explains};
 ghost use Rattle.live_audit.specs.Stroke.{Edits, Redoes, Undoes};
+ghost use Rattle.live_audit.specs.Verdict.{Tells, Decides, IsRulingOn, IsVerdictOn, AnswersAs, judged_as};
 
-use crate::making::{audit_first, audit_next};
+use crate::making::{answers_first, answers_next, audit_first, audit_next, rule};
+use crate::verdict::{Ruling, Verdict};
 use crate::why::Why;
 use crate::work::Work;
 use clues::ClueBook;
@@ -21,22 +23,28 @@ use kept_audit::Audit;
 use line_settle::{Facts, LineEngine, Meter};
 use picture::{Document, MAX_SIDE};
 use propagate::Agenda;
+use second_search::Keeper;
 use std::alloc::{AllocError, Global};
 use std::marker::Model;
+
+/// The largest number of splits that can be allowed.
+pub const MAX_ALLOWANCE: u32 = 99_999;
 
 const NOTHING_DONE: Meter = Meter {
     evaluations: 0,
     trials: 0,
 };
 
-/// A document with its history, and all that follows from its picture: the clues, the book of reasons and the settled map.
-/// They are true of the present picture after every call; a refused call changes nothing. Only where memory was wanting may
-/// the engine and the agenda have been used, and `calls` have risen.
+/// A document with its history, and all that follows from its picture: the clues, the book of reasons, the settled map and
+/// the verdict. They are true of the present picture after every call; a refused call changes nothing. Only where memory was
+/// wanting may the engine and the agenda have been used, and `calls` have risen.
 #[derive(Drop)]
 pub struct Bench<E: LineEngine, A: Agenda> {
     alloc: Global,
     studio: Studio,
     audit: Audit,
+    keeper: Keeper,
+    allowance: Option<u32>,
     engine: E,
     agenda: A,
     work: Work,
@@ -47,14 +55,19 @@ impl<E: LineEngine, A: Agenda> Model for Bench<E, A> {
 
     ghost Value = { Seen };
 
-    ghost view = { λ b. seen b.studio b.audit.clues b.audit.book b.work (E.calls b.engine) };
+    ghost view = { λ b. seen b.studio b.audit.clues b.audit.book b.keeper b.allowance b.work (E.calls b.engine) };
 
     ghost invariant = { λ b. IsBench
         (E.longest b.engine)
-        (seen b.studio b.audit.clues b.audit.book b.work (E.calls b.engine)) };
+        (seen b.studio b.audit.clues b.audit.book b.keeper b.allowance b.work (E.calls b.engine)) };
 }
 
 impl<E: LineEngine + Drop, A: Agenda + Drop> Bench<E, A> {
+    ghost use mathlib.Core.Option.{none};
+    ghost use Rattle.std.specs.Prelude.{⊤, MatchResult};
+    ghost use Rattle.std.specs.Borrow.{follows_so, sem};
+    ghost use Rattle.live_audit.specs.contracts.bench.Bench.{the_row};
+
     /// A bench with a document and no history. It can undo as many edits as its depth, 1 to `MAX_DEPTH`, and its engine takes
     /// lines of `MAX_SIDE` cells. It takes its memory by the allocator of this call, also later.
     pub fn start(
@@ -73,11 +86,14 @@ impl<E: LineEngine + Drop, A: Agenda + Drop> Bench<E, A> {
         let mut agenda = agenda;
         let mut edit = NOTHING_DONE;
         let audit = audit_first(alloc, &mut engine, &mut agenda, &document, &mut edit)?;
+        let keeper = answers_first(alloc, &document, &audit)?;
         let studio = Studio::start(alloc, document, depth)?;
         Ok(Bench {
             alloc,
             studio,
             audit,
+            keeper,
+            allowance: None,
             engine,
             agenda,
             work: Work {
@@ -144,10 +160,89 @@ impl<E: LineEngine + Drop, A: Agenda + Drop> Bench<E, A> {
             prepared.change(),
             &mut edit,
         )?;
+        let keeper = answers_next(
+            &self.keeper,
+            self.studio.document(),
+            &self.audit,
+            prepared.document(),
+            &audit,
+        )?;
         self.studio.commit(prepared);
         self.audit = audit;
+        self.keeper = keeper;
         self.work.edit = edit;
         Ok(())
+    }
+
+    /// Whether another picture of the present one's size has its clues and, in the givens, its colours: Unique where there is
+    /// none, Ambiguous with one, and Undecided only where an allowance is set and the search of a part takes more splits.
+    /// Where another filling of a part is kept, nothing is searched. Else the parts of which nothing is known are searched in
+    /// order, up to the first that has another filling or is broken off at the allowance. What the searches that ended found
+    /// is kept, so a verdict that was decided is answered without a search until the next edit, undo or redo that is
+    /// accepted. Where memory is wanting nothing changes.
+    pub fn verdict(&mut self) -> Result<Verdict<'_>, AllocError>
+        ensures* keeps { sem 𝓛 (follows_so (the_row E.row A.row E.LineEngine A.Agenda) (the_row E.row A.row E.LineEngine A.Agenda)
+            self.entry.ghost_name none (λ _ _. ⊤) (λ last. IsAudited last
+            × MatchResult result (Tells self.old last) (λ _. IsAsBefore self.old last))) }
+        ensures headline { IfOk result (IsVerdictOn self.old.history.document self.old.allowance) }
+    {
+        let ruling = self.decide()?;
+        Ok(self.shown(ruling))
+    }
+
+    // Judges the present picture by its parts, and notes what that took.
+    fn decide(&mut self) -> Result<Ruling, AllocError>
+        ensures decides { IfOk result (λ ruling. Decides self.old self.new (judged_as ruling)) }
+        ensures ruling { IfOk result (IsRulingOn self.new.history.document self.new.allowance self.new.kept) }
+        ensures as_before { OnErr result (IsAsBefore self.old self.new) }
+        ensures audited { IsAudited self.new }
+    {
+        let mut search = NOTHING_DONE;
+        let mut parts = 0;
+        let mut splits = 0;
+        let ruling = rule(
+            &mut self.keeper,
+            &mut self.engine,
+            self.studio.document(),
+            &self.audit,
+            self.allowance,
+            &mut search,
+            &mut parts,
+            &mut splits,
+        )?;
+        self.work = Work {
+            edit: self.work.edit,
+            search,
+            parts,
+            splits,
+        };
+        Ok(ruling)
+    }
+
+    // What a ruling is answered as.
+    fn shown(&self, ruling: Ruling) -> Verdict<'_>
+        requires { IsRulingOn self.now.history.document self.now.allowance self.now.kept ruling }
+        ensures value { AnswersAs self.now result (judged_as ruling) }
+        ensures headline { IsVerdictOn self.now.history.document self.now.allowance result }
+    {
+        match ruling {
+            Ruling::Unique => Verdict::Unique,
+            Ruling::Undecided { splits } => Verdict::Undecided { splits },
+            Ruling::Ambiguous => match self.keeper.other() {
+                Some(picture) => Verdict::Ambiguous(picture),
+                None => unreachable!(),
+            },
+        }
+    }
+
+    /// Sets how many splits the search of one part may make in a verdict, at most `MAX_ALLOWANCE`; None allows any number. A
+    /// new bench has none. It is no edit, and a verdict that was decided stays decided.
+    pub fn allow(&mut self, allowance: Option<u32>)
+        requires { IfSome allowance (λ splits. splits ≤ MAX_ALLOWANCE) }
+        ensures value { self.new ≡ record self.old { allowance = allowance } }
+        ensures audited { IsAudited self.new }
+    {
+        self.allowance = allowance;
     }
 
     /// The present document.

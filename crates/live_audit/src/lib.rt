@@ -4,9 +4,11 @@
 mod bench;
 pub mod laws;
 mod making;
+mod verdict;
 mod why;
 mod work;
 
-pub use bench::Bench;
+pub use bench::{Bench, MAX_ALLOWANCE};
+pub use verdict::Verdict;
 pub use why::Why;
 pub use work::Work;

@@ -1,18 +1,27 @@
 //! Audits of a document, made beside a bench.
 
-ghost use Rattle.std.specs.Prelude.{◌≡◌, ◌≤◌, IfOk};
+ghost use Rattle.std.specs.Prelude.{◌≡◌, ◌≤◌, IfOk, OnErr};
+ghost use Rattle.second_search.specs.Carrying.{Carries};
+ghost use Rattle.second_search.specs.Judging.{Done, Judges, Starts};
+ghost use Rattle.second_search.specs.Parts.{IsScene};
 ghost use Rattle.clues.specs.Change.{IsChangeOf};
 ghost use Rattle.kept_audit.specs.Audit.{GoesOn, IsAnew};
 ghost use Rattle.edits.specs.Design.{design_of};
-ghost use Rattle.live_audit.specs.Bench.{IsAuditOf, IsBaseFor};
+ghost use Rattle.live_audit.specs.Bench.{AreAnswersOf, AreGivenCells, IsAuditOf, IsBaseFor};
+ghost use Rattle.live_audit.specs.Verdict.{IsRulingOn, judged_as};
 
+use crate::verdict::{Ruling, ruling_of};
 use clues::Change;
+use clues::laws::clues_are_of_lines;
 use edits::laws::marks_are_givens;
 use kept_audit::laws::bases_leave_pictures;
 use kept_audit::{Audit, audit_again, audit_anew};
 use line_settle::{Facts, LineEngine, Meter};
+use picture::laws::same_cells_are_equal;
 use picture::{Document, MAX_SIDE};
 use propagate::Agenda;
+use second_search::laws::{allowances_break_off, sound_facts};
+use second_search::{Keeper, Scene};
 use std::alloc::{AllocError, Global};
 
 // What the givens of a document exclude.
@@ -84,4 +93,92 @@ pub(crate) fn audit_next<E: LineEngine, A: Agenda>(
     };
     let _ = audit.book.facts();
     Ok(audit)
+}
+
+/// What another picture for a document is looked for in, by its audit.
+pub(crate) fn scene_of<'a>(document: &'a Document, audit: &'a Audit) -> Scene<'a>
+    requires { IsAuditOf (design_of document.now) audit.now.clues audit.now.book }
+    ensures scene { IsScene result.clues.now result.givens.now result.facts.now result.picture.now }
+    ensures clues { result.clues.now ≡ audit.now.clues }
+    ensures facts { result.facts.now ≡ audit.now.book.facts }
+    ensures picture { result.picture.now ≡ document.now.picture }
+    ensures givens { result.givens.now ≡ document.now.givens }
+    ensures cells { AreGivenCells (design_of document.now) document.now.givens }
+{
+    marks_are_givens();
+    sound_facts();
+    let _ = document.picture.height();
+    let _ = document.givens.has(0, 0);
+    Scene {
+        clues: &audit.clues,
+        givens: &document.givens,
+        facts: audit.book.facts(),
+        picture: &document.picture,
+    }
+}
+
+/// The parts of a document's map, of which nothing is known yet.
+pub(crate) fn answers_first(
+    alloc: Global,
+    document: &Document,
+    audit: &Audit,
+) -> Result<Keeper, AllocError>
+    ensures answers { IfOk result (AreAnswersOf (design_of document.now) audit.now.clues audit.now.book.facts) }
+    ensures starts { IfOk result (Starts audit.now.book.facts) }
+{
+    let _ = document;
+    let keeper = Keeper::start(alloc, audit.book.facts())?;
+    Ok(keeper)
+}
+
+/// The parts of a document's map, with what stays known of them from the document before.
+pub(crate) fn answers_next(
+    keeper: &Keeper,
+    old: &Document,
+    before: &Audit,
+    new: &Document,
+    after: &Audit,
+) -> Result<Keeper, AllocError>
+    requires audited { IsAuditOf (design_of old.now) before.now.clues before.now.book }
+    requires answers { AreAnswersOf (design_of old.now) before.now.clues before.now.book.facts keeper.now }
+    requires next { IsAuditOf (design_of new.now) after.now.clues after.now.book }
+    ensures answers { IfOk result (AreAnswersOf (design_of new.now) after.now.clues after.now.book.facts) }
+    ensures carries { IfOk result (Carries before.now.clues before.now.book.facts old.now.picture
+        after.now.clues after.now.book.facts new.now.picture keeper.now) }
+{
+    same_cells_are_equal();
+    let before = scene_of(old, before);
+    let after = scene_of(new, after);
+    let keeper = keeper.carry(&before, &after)?;
+    Ok(keeper)
+}
+
+/// Judges a document by the parts of its map, and keeps what the searches that ended found.
+pub(crate) fn rule<E: LineEngine>(
+    keeper: &mut Keeper,
+    engine: &mut E,
+    document: &Document,
+    audit: &Audit,
+    allowance: Option<u32>,
+    search: &mut Meter,
+    parts: &mut u32,
+    splits: &mut u32,
+) -> Result<Ruling, AllocError>
+    requires audited { IsAuditOf (design_of document.now) audit.now.clues audit.now.book }
+    requires answers { AreAnswersOf (design_of document.now) audit.now.clues audit.now.book.facts keeper.old }
+    requires long { MAX_SIDE ≤ E.longest engine.old }
+    ensures judges { IfOk result (λ ruling. Done parts.old parts.new splits.old splits.new search.old search.new (E.calls engine.old) (E.calls engine.new)
+        (Judges audit.now.clues audit.now.book.facts document.now.picture allowance keeper.old keeper.new (judged_as ruling))) }
+    ensures ruling { IfOk result (IsRulingOn (design_of document.now) allowance keeper.new) }
+    ensures answers { AreAnswersOf (design_of document.now) audit.now.clues audit.now.book.facts keeper.new }
+    ensures refused { OnErr result (keeper.new ≡ keeper.old) }
+    ensures same_longest { E.longest engine.new ≡ E.longest engine.old }
+{
+    same_cells_are_equal();
+    clues_are_of_lines();
+    allowances_break_off();
+    let _ = document.picture.height();
+    let scene = scene_of(document, audit);
+    let judged = keeper.judge(engine, &scene, allowance, search, parts, splits)?;
+    Ok(ruling_of(&judged, allowance))
 }

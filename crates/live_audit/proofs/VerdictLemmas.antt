@@ -1,0 +1,173 @@
+-- What a judgement by parts comes to for a document.
+use Rattle.std.proofs.Common.{◌≡◌, ℕ, List, Option, Some, None, unwrap_or, Result, Ok, MatchResult, refl, sym, ap, subst, ◌∙◌}
+use Rattle.picture.specs.declared.document.Document.{Document}
+use Rattle.picture.specs.Document.{AreInside}
+use Rattle.picture.specs.Laws.{SameCellsAreEqual}
+use Rattle.picture.specs.Picture.{IsPicture}
+use Rattle.clues.specs.ClueBook.{Clues, clues_of}
+use Rattle.line_settle.specs.declared.meter.Meter.{Meter}
+use Rattle.line_settle.specs.FactSets.{IsBase}
+use Rattle.justify.specs.Book.{Account}
+use Rattle.second_search.specs.declared.keeper.Judged.{Judged}
+use Rattle.second_search.specs.declared.keeper.Judged.TheVariants as judged
+use Rattle.second_search.specs.declared.keeper.KeptPart.{KeptPart}
+use Rattle.second_search.specs.declared.keeper.Verdict.{Verdict as Judgement}
+use Rattle.second_search.specs.Answering.{IsAnswer}
+use Rattle.second_search.specs.Judging.{AreTrue, Done, Judges, parts_of}
+use Rattle.second_search.specs.Judging as judging
+use Rattle.second_search.specs.Laws.{AllowancesBreakOff, SoundFacts}
+use Rattle.second_search.specs.Other.{IsOther}
+use Rattle.second_search.specs.Parts.{AreParts, IsScene}
+use Rattle.edits.specs.Design.{Design, design_of}
+use Rattle.edits.specs.History.{History}
+use Rattle.edits.specs.Laws.{MarksAreGivens}
+use Rattle.live_audit.specs.declared.verdict.Ruling.{Ruling}
+use Rattle.live_audit.specs.declared.verdict.Verdict.{Verdict}
+use Rattle.live_audit.specs.declared.work.Work.{Work}
+use Rattle.live_audit.specs.Bench.{AreAnswersOf, AreGivenCells, IsAuditOf, IsAudited, Seen, nothing_done, seen}
+use Rattle.live_audit.specs.Verdict.{Decides, IsOtherFor, IsRuledBy, IsRulingOn, IsVerdictOn, judged_as}
+
+-- ---- the scene of a document
+
+pub scene_is : MarksAreGivens → SoundFacts → (d : Document) (clues : Clues) (book : Account) → AreInside d.givens d.picture → IsPicture d.picture → IsAuditOf (design_of d) clues book → IsScene clues d.givens book.facts d.picture
+scene_is marks sound d clues book inside is a =
+    let base : IsBase d.givens d.picture book.base = record {
+      same_shape = a.givens.same_shape;
+      left = λ row col k r c.
+          let m = marks d.picture d.givens inside row col in
+          let l = a.givens.left row col k r c in
+          (λ h. let o = l.0 h in (o.0, λ g. o.1 (m.0 g)), λ h. l.1 (h.0, λ g. h.1 (m.1 g)));
+    } in
+    record {
+      is_picture = is;
+      has_clues = sym a.clues_are;
+      sound = sound.settled clues d.givens d.picture book.base book.facts a.map (sound.base clues d.givens d.picture book.base is base);
+    }
+
+-- ---- the givens are one set
+
+same_givens : SameCellsAreEqual → (d : Design) (one other : List ℕ) → AreGivenCells d one → AreGivenCells d other → one ≡ other
+same_givens same d one other a b =
+    same one other a.set b.set (λ row col r c. (λ h. (b.are row col).1 ((a.are row col).0 h), λ h. (a.are row col).1 ((b.are row col).0 h)))
+
+-- what is true for the givens of a document
+pub answers_of : SameCellsAreEqual → (d : Design) (clues : Clues) (facts : List (List ℕ)) (givens : List ℕ) (kept : List KeptPart) → AreGivenCells d givens → AreParts facts (parts_of kept) → AreTrue clues givens d.rows kept → AreAnswersOf d clues facts kept
+answers_of same d clues facts givens kept g parts t = record {
+  parts = parts;
+  true_answers = λ others o.
+      let P : List ℕ → Type 0 = λ cells. AreTrue clues cells d.rows kept in
+      subst P (same_givens same d givens others g o) t;
+}
+
+-- ---- other pictures
+
+pub other_for : (d : Design) (clues : Clues) (givens : List ℕ) (other : List (List ℕ)) → AreGivenCells d givens → clues ≡ clues_of d.rows → IsOther clues givens d.rows other → IsOtherFor d other
+other_for d clues givens other g e o = record {
+  is_picture = o.solves.is_picture;
+  same_shape = o.solves.same_shape;
+  same_clues = o.solves.has_clues ∙ e;
+  keeps_givens = λ row col h. o.solves.keeps_givens row col ((g.are row col).1 h);
+  differs = o.differs;
+}
+
+pub other_was : (d : Design) (clues : Clues) (givens : List ℕ) (other : List (List ℕ)) → AreGivenCells d givens → clues ≡ clues_of d.rows → IsOtherFor d other → IsOther clues givens d.rows other
+other_was d clues givens other g e o = record {
+  solves = record {
+    is_picture = o.is_picture;
+    same_shape = o.same_shape;
+    has_clues = o.same_clues ∙ sym e;
+    keeps_givens = λ row col h. o.keeps_givens row col ((g.are row col).0 h);
+  };
+  differs = o.differs;
+}
+
+-- ---- rulings
+
+pub ruled_as : (answer : Judged) (allowance : Option ℕ) (r : Ruling) (kept : List KeptPart) (j : Judgement) → IsRuledBy answer allowance r → judging.AnswersAs kept answer j → j ≡ judged_as r
+ruled_as judged.Unique allowance r kept j by a = a ∙ sym (ap judged_as by)
+ruled_as (judged.Other other) allowance r kept j by a = a.0 ∙ sym (ap judged_as by)
+ruled_as judged.Undecided allowance r kept j by a = a ∙ sym (ap judged_as by)
+
+allowed : (allowance : Option ℕ) (most : ℕ) → allowance ≡ Some most → allowance ≡ Some (unwrap_or allowance 0)
+allowed None most e = cc
+allowed (Some n) most e = refl
+
+pub rules : AllowancesBreakOff → (d : Design) (clues : Clues) (facts : List (List ℕ)) (givens : List ℕ) (allowance : Option ℕ) (old new : List KeptPart) (searched splits : ℕ) (answer : Judged) (j : Judgement) (r : Ruling)
+    → AreGivenCells d givens → clues ≡ clues_of d.rows → IsAnswer clues givens d.rows answer → judging.AnswersAs new answer j → Judges clues facts d.rows allowance old new j searched splits → IsRuledBy answer allowance r → IsRulingOn d allowance new r
+rules law d clues facts givens allowance old new searched splits judged.Unique j r g e t a is by =
+    subst (IsRulingOn d allowance new) (sym by) (λ other o. t other (other_was d clues givens other g e o))
+rules law d clues facts givens allowance old new searched splits (judged.Other other) j r g e t a is by =
+    subst (IsRulingOn d allowance new) (sym by) (other.now, (a.1, other_for d clues givens other.now g e t))
+rules law d clues facts givens allowance old new searched splits judged.Undecided j r g e t a is by =
+    let P : Judgement → Type 0 = λ v. Judges clues facts d.rows allowance old new v searched splits in
+    let most = law clues facts d.rows allowance old new searched splits (subst P a is) in
+    subst (IsRulingOn d allowance new) (sym by) (allowed allowance most.0 most.1)
+
+-- ---- a judgement of a scene that is the document's
+
+-- what is known once a scene was judged
+record Heard (clues : Clues) (facts : List (List ℕ)) (givens : List ℕ) (picture : List (List ℕ)) (allowance : Option ℕ) (old new : List KeptPart) (answer : Judged) (sb sa pb pa : ℕ) (mb ma : Meter) (cb ca : ℕ) : Type 0 where
+  parts : AreParts facts (parts_of new)
+  answers : AreTrue clues givens picture new
+  j : Judgement
+  said : judging.AnswersAs new answer j
+  done : Done sb sa pb pa mb ma cb ca (Judges clues facts picture allowance old new j)
+  told : IsAnswer clues givens picture answer
+
+-- what comes of it for the document
+pub record Comes (d : Design) (clues : Clues) (facts : List (List ℕ)) (allowance : Option ℕ) (old new : List KeptPart) (r : Ruling) (sb sa pb pa : ℕ) (mb ma : Meter) (cb ca : ℕ) : Type 0 where
+  pub answers : AreAnswersOf d clues facts new
+  pub done : Done sb sa pb pa mb ma cb ca (Judges clues facts d.rows allowance old new (judged_as r))
+  pub ruling : IsRulingOn d allowance new r
+
+come : SameCellsAreEqual → AllowancesBreakOff → (d : Design) (clues : Clues) (facts : List (List ℕ)) (givens : List ℕ) (allowance : Option ℕ) (old new : List KeptPart) (answer : Judged) (r : Ruling) (sb sa pb pa : ℕ) (mb ma : Meter) (cb ca : ℕ)
+    → AreGivenCells d givens → clues ≡ clues_of d.rows → IsRuledBy answer allowance r → Heard clues facts givens d.rows allowance old new answer sb sa pb pa mb ma cb ca → Comes d clues facts allowance old new r sb sa pb pa mb ma cb ca
+come same law d clues facts givens allowance old new answer r sb sa pb pa mb ma cb ca g e by h =
+    let P : Judgement → Type 0 = λ j. Done sb sa pb pa mb ma cb ca (Judges clues facts d.rows allowance old new j) in
+    record {
+      answers = answers_of same d clues facts givens new g h.parts h.answers;
+      done = subst P (ruled_as answer allowance r new h.j by h.said) h.done;
+      ruling = rules law d clues facts givens allowance old new h.done.searched h.done.splits answer h.j r g e h.told h.said h.done.is by;
+    }
+
+pub heard : {X : Type 0} → SameCellsAreEqual → AllowancesBreakOff → (d : Document) (clues sc : Clues) (facts sf : List (List ℕ)) (sg : List ℕ) (sp : List (List ℕ)) (allowance : Option ℕ) (old new : List KeptPart) (result : Result Judged X) (answer : Judged) (r : Ruling) (sb sa pb pa : ℕ) (mb ma : Meter) (cb ca : ℕ)
+    → sc ≡ clues → sf ≡ facts → sg ≡ d.givens → sp ≡ d.picture → AreGivenCells (design_of d) d.givens → clues ≡ clues_of d.picture → IsRuledBy answer allowance r
+    → result ≡ Ok answer → IsAnswer sc sg sp answer → AreParts sf (parts_of new) → AreTrue sc sg sp new
+    → MatchResult result (λ judged. (j : Judgement) × (judging.AnswersAs new judged j × Done sb sa pb pa mb ma cb ca (Judges sc sf sp allowance old new j))) (λ _. new ≡ old)
+    → Comes (design_of d) clues facts allowance old new r sb sa pb pa mb ma cb ca
+heard {X = X} same law d clues sc facts sf sg sp allowance old new result answer r sb sa pb pa mb ma cb ca ec ef eg ep g e by is told parts answers h =
+    let M : Result Judged X → Type 0 = λ x. MatchResult x (λ judged. (j : Judgement) × (judging.AnswersAs new judged j × Done sb sa pb pa mb ma cb ca (Judges sc sf sp allowance old new j))) (λ _. new ≡ old) in
+    let k = subst M is h in
+    let there : Heard sc sf sg sp allowance old new answer sb sa pb pa mb ma cb ca = record { parts = parts; answers = answers; j = k.0; said = k.1.0; done = k.1.1; told = told } in
+    let at_clues : Heard clues sf sg sp allowance old new answer sb sa pb pa mb ma cb ca = subst (λ x. Heard x sf sg sp allowance old new answer sb sa pb pa mb ma cb ca) ec there in
+    let at_facts : Heard clues facts sg sp allowance old new answer sb sa pb pa mb ma cb ca = subst (λ x. Heard clues x sg sp allowance old new answer sb sa pb pa mb ma cb ca) ef at_clues in
+    let at_givens : Heard clues facts d.givens sp allowance old new answer sb sa pb pa mb ma cb ca = subst (λ x. Heard clues facts x sp allowance old new answer sb sa pb pa mb ma cb ca) eg at_facts in
+    let here : Heard clues facts d.givens d.picture allowance old new answer sb sa pb pa mb ma cb ca = subst (λ x. Heard clues facts d.givens x allowance old new answer sb sa pb pa mb ma cb ca) ep at_givens in
+    come same law (design_of d) clues facts d.givens allowance old new answer r sb sa pb pa mb ma cb ca g e by here
+
+-- ---- the same of a bench
+
+-- what was judged of the present document is decided of the bench
+pub decided : (d : Document) (h : History) (clues : Clues) (book : Account) (kept next : List KeptPart) (allowance : Option ℕ) (work : Work) (search : Meter) (parts splits before after : ℕ) (old : Seen) (j : Judgement)
+    → design_of d ≡ h.document → seen h clues book kept allowance work before ≡ old
+    → Done 0 parts 0 splits nothing_done search before after (Judges clues book.facts d.picture allowance kept next j)
+    → Decides old (seen h clues book next allowance (record { edit = work.edit; search = search; parts = parts; splits = splits }) after) j
+decided d h clues book kept next allowance work search parts splits before after old j e was done =
+    let P : Design → Type 0 = λ x. Done 0 parts 0 splits nothing_done search before after (Judges clues book.facts x.rows allowance kept next j) in
+    let new : Seen = seen h clues book next allowance (record { edit = work.edit; search = search; parts = parts; splits = splits }) after in
+    let here : Decides (seen h clues book kept allowance work before) new j = record { same = refl; work = subst P e done } in
+    subst (λ (s : Seen). Decides s new j) was here
+
+-- the bench stays audited where only what is kept of the parts changes
+pub audited_so : (d : Document) (h : History) (clues : Clues) (book : Account) (kept next : List KeptPart) (allowance : Option ℕ) (work more : Work) (before after : ℕ)
+    → design_of d ≡ h.document → IsAudited (seen h clues book kept allowance work before) → AreAnswersOf (design_of d) clues book.facts next → IsAudited (seen h clues book next allowance more after)
+audited_so d h clues book kept next allowance work more before after e a n =
+    record { audit = a.audit; answers = subst (λ (x : Design). AreAnswersOf x clues book.facts next) e n }
+
+-- a verdict on the bench after is one on the bench before
+pub verdict_was : (old new : Seen) (verdict : Verdict) (j : Judgement) → Decides old new j → IsVerdictOn new.history.document new.allowance verdict → IsVerdictOn old.history.document old.allowance verdict
+verdict_was old new verdict j d v =
+    let h : new.history ≡ old.history = ap (λ (s : Seen). s.history) d.same in
+    let a : new.allowance ≡ old.allowance = ap (λ (s : Seen). s.allowance) d.same in
+    let there : IsVerdictOn old.history.document new.allowance verdict = subst (λ (x : History). IsVerdictOn x.document new.allowance verdict) h v in
+    subst (λ (x : Option ℕ). IsVerdictOn old.history.document x verdict) a there

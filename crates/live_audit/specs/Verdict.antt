@@ -1,0 +1,71 @@
+-- The verdict of a bench: whether another picture has the clues and the givens.
+use Rattle.std.specs.Prelude.{◌≡◌, ℕ, List, Option, Some, unwrap_or}
+use Rattle.picture.specs.Picture.{IsPicture}
+use Rattle.picture.specs.Rows.{cell_at}
+use Rattle.clues.specs.ClueBook.{clues_of}
+use Rattle.line_settle.specs.FactSets.{SameShape}
+use Rattle.second_search.specs.declared.keeper.Judged.{Judged}
+use Rattle.second_search.specs.declared.keeper.Judged.TheVariants as judged
+use Rattle.second_search.specs.declared.keeper.KeptPart.{KeptPart}
+use Rattle.second_search.specs.declared.keeper.Verdict.{Verdict as Judgement}
+use Rattle.second_search.specs.declared.keeper.Verdict.TheVariants as judgement
+use Rattle.second_search.specs.Judging.{Done, FirstFilling, Judges}
+use Rattle.edits.specs.Design.{Design}
+use Rattle.live_audit.specs.declared.verdict.Ruling.{Ruling}
+use Rattle.live_audit.specs.declared.verdict.Ruling.TheVariants as ruling
+use Rattle.live_audit.specs.declared.verdict.Verdict.{Verdict}
+use Rattle.live_audit.specs.declared.verdict.Verdict.TheVariants.{Unique, Ambiguous, Undecided}
+use Rattle.live_audit.specs.Bench.{IsGiven, Seen, nothing_done}
+
+-- another picture for a document: of the same size and with the same clues, and with the document's colours in its givens
+pub record IsOtherFor (d : Design) (other : List (List ℕ)) : Type 0 where
+  pub is_picture : IsPicture other
+  pub same_shape : SameShape other d.rows
+  pub same_clues : clues_of other ≡ clues_of d.rows
+  pub keeps_givens : (row col : ℕ) → IsGiven d row col → cell_at other row col ≡ cell_at d.rows row col
+  pub differs : other ≡ d.rows → ⊥
+
+-- The verdict is true of a document: Unique says that there is no other picture, and Ambiguous shows one; Undecided stands only
+-- where an allowance is set, and names it.
+abbrev pub IsVerdictOn : Design → Option ℕ → Verdict → Type 0
+IsVerdictOn d allowance Unique = (other : List (List ℕ)) → IsOtherFor d other → ⊥
+IsVerdictOn d allowance (Ambiguous other) = IsOtherFor d other.now
+IsVerdictOn d allowance (Undecided splits) = allowance ≡ Some splits
+
+-- ---- what a verdict takes and keeps
+
+-- The picture is judged by its parts. Where another filling of a part is kept, nothing is searched; else the parts of which
+-- nothing is known are searched in order, up to the first that has another filling or costs more than is allowed. What the
+-- searches that ended found is kept, and the last verdict's work is counted; all else is as before.
+pub record Decides (old new : Seen) (j : Judgement) : Type 0 where
+  pub same : new ≡ record old { kept = new.kept; work = record new.work { edit = old.work.edit }; calls = new.calls }
+  pub work : Done 0 new.work.parts 0 new.work.splits nothing_done new.work.search old.calls new.calls
+      (Judges old.clues old.book.facts old.history.document.rows old.allowance old.kept new.kept j)
+
+-- what a picture is judged to be, as a verdict: the other picture is the first filling that is kept
+abbrev pub AnswersAs : Seen → Verdict → Judgement → Type 0
+AnswersAs s Unique j = j ≡ judgement.Unique
+AnswersAs s (Ambiguous other) j = (j ≡ judgement.Other) × FirstFilling s.kept other.now
+AnswersAs s (Undecided splits) j = (j ≡ judgement.Undecided) × (s.allowance ≡ Some splits)
+
+-- what a call comes to that answers this verdict
+abbrev pub Tells : Seen → Seen → Verdict → Type 0
+Tells old new verdict = (j : Judgement) × (AnswersAs new verdict j × Decides old new j)
+
+-- ---- the same where the other picture is not shown yet
+
+abbrev pub IsRulingOn : Design → Option ℕ → List KeptPart → Ruling → Type 0
+IsRulingOn d allowance kept ruling.Unique = (other : List (List ℕ)) → IsOtherFor d other → ⊥
+IsRulingOn d allowance kept ruling.Ambiguous = (other : List (List ℕ)) × (FirstFilling kept other × IsOtherFor d other)
+IsRulingOn d allowance kept (ruling.Undecided splits) = allowance ≡ Some splits
+
+abbrev pub judged_as : Ruling → Judgement
+judged_as ruling.Unique = judgement.Unique
+judged_as ruling.Ambiguous = judgement.Other
+judged_as (ruling.Undecided splits) = judgement.Undecided
+
+-- how a judgement rules
+abbrev pub IsRuledBy : Judged → Option ℕ → Ruling → Type 0
+IsRuledBy judged.Unique allowance r = r ≡ ruling.Unique
+IsRuledBy (judged.Other other) allowance r = r ≡ ruling.Ambiguous
+IsRuledBy judged.Undecided allowance r = r ≡ ruling.Undecided (unwrap_or allowance 0)
