@@ -1,179 +1,115 @@
-//! Keeping a book after a stroke, so many times.
+//! Keeping the book of an audit after a stroke, or auditing again, so many times.
 
-ghost use Rattle.std.specs.Prelude.{◌≡◌};
-ghost use Rattle.picture.specs.declared.line_id.Axis.{Axis};
-ghost use Rattle.picture.specs.Rows.{lines_along};
-ghost use Rattle.clues.specs.Change.{lines_after};
-ghost use Rattle.justify.specs.Book.{IsDerivation};
-ghost use Rattle.retract.specs.Standing.{HaveBooks};
+ghost use Rattle.std.specs.Prelude.{◌≡◌, IfOk};
+ghost use Rattle.clues.specs.Change.{IsChangeOf};
+ghost use Rattle.kept_audit.specs.Audit.{IsAudit, IsBaseOf};
 
-use crate::stroke::Stroke;
 use anyhow::{Result, ensure};
-use clues::{Change, ClueBook};
-use justify::Book;
-use line_settle::{Facts, LineEngine};
-use picture::{Axis, LineId, MAX_SIDE};
-use retract::keep;
+use clues::ClueBook;
+use clues::laws::{clues_are_of_lines, untouched_clues_stand};
+use edits::{Prepared, Studio};
+use kept_audit::laws::bases_leave_pictures;
+use kept_audit::{Audit, audit_again, audit_anew};
+use line_settle::{Facts, LineEngine, Meter};
+use picture::Document;
+use propagate::InOrder;
+use retract::{Kept, keep};
 use std::alloc::Global;
 
-/// How many steps are kept, and how many lines are dirty.
-#[derive(Clone, Copy, Debug)]
-pub struct Tally {
-    pub kept: usize,
-    pub dirty: usize,
-}
+const NOTHING_DONE: Meter = Meter {
+    evaluations: 0,
+    trials: 0,
+};
 
-// Keeps what stands, so many times.
-fn keep_often(
-    alloc: Global,
-    book: &Book,
-    old: &ClueBook,
-    new: &ClueBook,
-    change: &Change,
-    base: &Facts,
-    rounds: u32,
-) -> Result<Tally>
-    requires derivation { IsDerivation old.now book.now }
-    requires books { HaveBooks change.now.moves old.now new.now }
-    requires base { (axis : Axis) → lines_along axis base.now ≡ lines_after axis change.now.moves }
+/// What the givens of a document exclude.
+pub fn base_of(alloc: Global, document: &Document) -> Result<Facts>
+    ensures { IfOk result (IsBaseOf document.now.picture) }
 {
-    let mut tally = Tally { kept: 0, dirty: 0 };
-    for _ in 0..rounds {
-        let kept = keep(alloc, book, old, new, change, base.copy()?)?;
-        tally = Tally {
-            kept: kept.book.steps().len(),
-            dirty: kept.dirty.len(),
-        };
-    }
-    Ok(tally)
+    bases_leave_pictures();
+    let _ = document.picture.height();
+    let base = Facts::base(alloc, document)?;
+    Ok(base)
 }
 
-fn after_cells(
-    alloc: Global,
-    book: &Book,
-    old: &ClueBook,
-    new: &ClueBook,
-    rounds: u32,
-) -> Result<Tally>
-    requires { IsDerivation old.now book.now }
+/// An audit of the present document.
+pub fn audited<E: LineEngine>(alloc: Global, engine: &mut E, studio: &Studio) -> Result<Audit>
+    ensures { IfOk result (λ a. IsAudit studio.now.document.rows a.book.base a.clues a.book) }
 {
-    let height = old.height();
-    let width = old.width();
+    let base = base_of(alloc, studio.document())?;
+    let picture = &studio.document().picture;
     ensure!(
-        new.height() == height && new.width() == width,
-        "another size"
-    );
-    let base = Facts::none(alloc, height, width)?;
-    ensure!(
-        base.height() == height && base.width() == width,
-        "another size"
-    );
-    let change = Change::cells(height, width);
-    keep_often(alloc, book, old, new, &change, &base, rounds)
-}
-
-fn after_insertion(
-    alloc: Global,
-    book: &Book,
-    old: &ClueBook,
-    new: &ClueBook,
-    at: u8,
-    rounds: u32,
-) -> Result<Tally>
-    requires { IsDerivation old.now book.now }
-{
-    let height = old.height();
-    let width = old.width();
-    ensure!(height < MAX_SIDE && at <= height, "no room for a row");
-    ensure!(
-        new.height() == height + 1 && new.width() == width,
-        "another size"
-    );
-    let base = Facts::none(alloc, height + 1, width)?;
-    ensure!(
-        base.height() == height + 1 && base.width() == width,
-        "another size"
-    );
-    let axis = Axis::Across;
-    let change = Change::insert(height, width, LineId { axis, at });
-    keep_often(alloc, book, old, new, &change, &base, rounds)
-}
-
-fn after_deletion(
-    alloc: Global,
-    book: &Book,
-    old: &ClueBook,
-    new: &ClueBook,
-    at: u8,
-    rounds: u32,
-) -> Result<Tally>
-    requires { IsDerivation old.now book.now }
-{
-    let height = old.height();
-    let width = old.width();
-    ensure!(height > 1 && at < height, "no such row");
-    ensure!(
-        new.height() == height - 1 && new.width() == width,
-        "another size"
-    );
-    let base = Facts::none(alloc, height - 1, width)?;
-    ensure!(
-        base.height() == height - 1 && base.width() == width,
-        "another size"
-    );
-    let axis = Axis::Across;
-    let change = Change::delete(height, width, LineId { axis, at });
-    keep_often(alloc, book, old, new, &change, &base, rounds)
-}
-
-fn after_exchange(
-    alloc: Global,
-    book: &Book,
-    old: &ClueBook,
-    new: &ClueBook,
-    first: u8,
-    second: u8,
-    rounds: u32,
-) -> Result<Tally>
-    requires { IsDerivation old.now book.now }
-{
-    let height = old.height();
-    let width = old.width();
-    ensure!(first < height && second < height, "no such row");
-    ensure!(
-        new.height() == height && new.width() == width,
-        "another size"
-    );
-    let base = Facts::none(alloc, height, width)?;
-    ensure!(
-        base.height() == height && base.width() == width,
-        "another size"
-    );
-    let change = Change::swap(height, width, Axis::Across, first, second);
-    keep_often(alloc, book, old, new, &change, &base, rounds)
-}
-
-/// Keeps what stands of a book after a stroke, so many times. The book has to be a derivation from the old clues.
-pub fn keep_after<E: LineEngine>(
-    alloc: Global,
-    engine: &mut E,
-    stroke: Stroke,
-    book: &Book,
-    old: &ClueBook,
-    new: &ClueBook,
-    rounds: u32,
-) -> Result<Tally> {
-    ensure!(
-        book.base().width() <= engine.longest() && book.base().height() <= engine.longest(),
+        picture.width() <= engine.longest() && picture.height() <= engine.longest(),
         "too many cells"
     );
-    let holds = book.stands(engine, old);
-    ensure!(holds, "the book does not stand");
-    let middle = old.height() / 2;
-    match stroke {
-        Stroke::Paint | Stroke::Fill => after_cells(alloc, book, old, new, rounds),
-        Stroke::Insert => after_insertion(alloc, book, old, new, middle, rounds),
-        Stroke::Delete => after_deletion(alloc, book, old, new, middle, rounds),
-        Stroke::Swap => after_exchange(alloc, book, old, new, middle, middle / 2, rounds),
-    }
+    let audit = audit_anew(
+        alloc,
+        engine,
+        &mut InOrder::make(),
+        picture,
+        base,
+        &mut NOTHING_DONE,
+    )?;
+    Ok(audit)
+}
+
+/// The audit after a stroke that was prepared, which goes on from the one before.
+pub fn audited_again<E: LineEngine>(
+    alloc: Global,
+    engine: &mut E,
+    studio: &Studio,
+    prepared: &Prepared,
+    before: &Audit,
+    meter: &mut Meter,
+) -> Result<Audit>
+    requires audited { IsAudit studio.now.document.rows before.now.book.base before.now.clues before.now.book }
+    requires change { IsChangeOf prepared.now.change studio.now.document.rows prepared.now.document.rows }
+    ensures { IfOk result (λ a. IsAudit prepared.now.document.rows a.book.base a.clues a.book) }
+{
+    let (old, new) = (&studio.document().picture, &prepared.document().picture);
+    let base = base_of(alloc, prepared.document())?;
+    let change = prepared.change();
+    ensure!(
+        new.width() <= engine.longest() && new.height() <= engine.longest(),
+        "too many cells"
+    );
+    let agenda = &mut InOrder::make();
+    let audit = audit_again(alloc, engine, agenda, before, old, new, change, base, meter)?;
+    Ok(audit)
+}
+
+/// The clues after a stroke that was prepared.
+pub fn refreshed(studio: &Studio, prepared: &Prepared, before: &Audit) -> Result<ClueBook>
+    requires audited { IsAudit studio.now.document.rows before.now.book.base before.now.clues before.now.book }
+    requires change { IsChangeOf prepared.now.change studio.now.document.rows prepared.now.document.rows }
+{
+    untouched_clues_stand();
+    let _ = studio.document();
+    let new = &prepared.document().picture;
+    let clues = before.clues.refresh(new, prepared.change())?;
+    Ok(clues)
+}
+
+/// Keeps what stands of a book after a stroke that was prepared.
+pub fn kept(
+    alloc: Global,
+    studio: &Studio,
+    prepared: &Prepared,
+    before: &Audit,
+    after: &Audit,
+) -> Result<Kept>
+    requires audited { IsAudit studio.now.document.rows before.now.book.base before.now.clues before.now.book }
+    requires change { IsChangeOf prepared.now.change studio.now.document.rows prepared.now.document.rows }
+    requires again { IsAudit prepared.now.document.rows after.now.book.base after.now.clues after.now.book }
+{
+    clues_are_of_lines();
+    let base = base_of(alloc, prepared.document())?;
+    let kept = keep(
+        alloc,
+        &before.book,
+        &before.clues,
+        &after.clues,
+        prepared.change(),
+        base,
+    )?;
+    Ok(kept)
 }
