@@ -53,14 +53,8 @@ fn shows<E: LineEngine>(
     outcome: Outcome,
     want: &[u16],
 ) {
-    let mut out = [7; 120];
     assert!(rt; want.len() <= 120);
-    let len = want.len();
-    assert_eq!(rt;
-        narrow(rt, engine, clue, &[ALL; 120][..len], &mut out[..len]),
-        outcome
-    );
-    assert_eq!(rt; &out[..len], want);
+    narrows(rt, engine, clue, &[ALL; 120][..want.len()], outcome, want);
 }
 
 // The worked rows on single clues.
@@ -464,6 +458,12 @@ fn an_engine_for_no_cells_takes_the_empty_line(rt: HostRuntime) -> Result<(), Fa
     Ok(())
 }
 
+// Sees which colours are left in a cell.
+fn leaves(rt: &impl Abort, facts: &Facts, row: u8, col: u8, want: u16) {
+    assert!(rt; row < facts.height() && col < facts.width());
+    assert_eq!(rt; facts.left(row, col), want);
+}
+
 #[test]
 fn facts_are_a_set_of_exclusions(rt: HostRuntime) -> Result<(), Fail> {
     let mut facts = Facts::none(rt.alloc(), 2, 3)?;
@@ -532,9 +532,9 @@ fn a_given_leaves_the_colour_of_the_picture(rt: HostRuntime) -> Result<(), Fail>
     };
     let facts = Facts::base(rt.alloc(), &document)?;
     assert!(rt; facts.height() == 2 && facts.width() == 2);
-    assert_eq!(rt; facts.left(0, 1), 1);
-    assert_eq!(rt; facts.left(0, 0), ALL);
-    assert_eq!(rt; facts.left(1, 1), ALL);
+    leaves(&rt, &facts, 0, 1, 1);
+    leaves(&rt, &facts, 0, 0, ALL);
+    leaves(&rt, &facts, 1, 1, ALL);
     Ok(())
 }
 
@@ -564,11 +564,11 @@ fn a_line_forces_its_exclusions(rt: HostRuntime) -> Result<(), Fail> {
     assert_eq!(rt; outcome, Outcome::Narrowed);
     assert_eq!(rt; meter.evaluations, 1);
     assert!(rt; facts.height() == 4 && facts.width() == 2);
-    assert_eq!(rt; facts.left(0, 1), 0b011);
-    assert_eq!(rt; facts.left(1, 1), 0b010);
-    assert_eq!(rt; facts.left(2, 1), 0b111);
-    assert_eq!(rt; facts.left(3, 1), 0b101);
-    assert_eq!(rt; facts.left(3, 0), ALL);
+    leaves(&rt, &facts, 0, 1, 0b011);
+    leaves(&rt, &facts, 1, 1, 0b010);
+    leaves(&rt, &facts, 2, 1, 0b111);
+    leaves(&rt, &facts, 3, 1, 0b101);
+    leaves(&rt, &facts, 3, 0, ALL);
     Ok(())
 }
 
@@ -593,8 +593,8 @@ fn forcing_names_the_lines_that_cross_a_change(rt: HostRuntime) -> Result<(), Fa
     assert!(rt; !forced.changed.has(column(0)) && !forced.changed.has(column(2)));
     assert_eq!(rt; forced.changed.len(), 1);
     assert!(rt; facts.height() == 2 && facts.width() == 3);
-    assert_eq!(rt; facts.left(0, 1), 0b010);
-    assert_eq!(rt; facts.left(0, 0), 0b011);
+    leaves(&rt, &facts, 0, 1, 0b010);
+    leaves(&rt, &facts, 0, 0, 0b011);
     Ok(())
 }
 
