@@ -10,18 +10,31 @@ use picture::{CellSet, Picture};
 use std::alloc::Global;
 use std::process::Abort;
 
+mod carried;
 mod flooded;
+mod judged;
 mod listing;
+mod plain;
 
 use listing::{Cells, has_other, is_other, next_cells};
 
-// A picture of these cells, row after row.
-fn picture_of(rt: &impl Abort, alloc: Global, height: u8, width: u8, cells: &Cells) -> Picture {
-    assert!(rt; height > 0 && height <= 3 && width > 0 && width <= 3);
+// A picture of these cells, row after row with so many to a row.
+fn picture_of(
+    rt: &impl Abort,
+    alloc: Global,
+    height: u8,
+    width: u8,
+    cells: &[u8],
+    stride: u8,
+) -> Picture
+    requires some { 0 < stride }
+    requires few { length cells.now ≤ 16 }
+{
+    assert!(rt; height > 0 && height <= 4 && width > 0 && width <= 4);
     let mut picture = Picture::blank(alloc, height, width).expect(rt, "memory");
     for (i, cell) in cells.iter().enumerate() {
-        let row = i as u8 / width;
-        let col = i as u8 % width;
+        let row = i as u8 / stride;
+        let col = i as u8 % stride;
         if row < picture.height() && col < picture.width() {
             assert!(rt; *cell < 16);
             picture.set(row, col, *cell);
@@ -50,8 +63,10 @@ struct Start {
     givens: CellSet,
 }
 
-// Every marked cell is a given.
-fn start_of(rt: &impl Abort, alloc: Global, picture: &Picture, marks: &[bool; 9]) -> Start
+// Every marked cell is a given. The marks stand row after row with so many to a row.
+fn start_of(rt: &impl Abort, alloc: Global, picture: &Picture, marks: &[bool], stride: u8) -> Start
+    requires some { 0 < stride }
+    requires few { length marks.now ≤ 16 }
     ensures { AreSound (clues_of picture.now) result.givens picture.now result.facts }
 {
     laws::sound_facts();
@@ -60,9 +75,10 @@ fn start_of(rt: &impl Abort, alloc: Global, picture: &Picture, marks: &[bool; 9]
     let mut facts = Facts::none(alloc, height, width).expect(rt, "memory");
     let mut givens = CellSet::empty();
     for (i, mark) in marks.iter().enumerate() {
-        let row = i as u8 / width;
-        if *mark && row < height {
-            pin(picture, &mut facts, &mut givens, row, i as u8 % width);
+        let row = i as u8 / stride;
+        let col = i as u8 % stride;
+        if *mark && row < height && col < width {
+            pin(picture, &mut facts, &mut givens, row, col);
         }
     }
     Start { facts, givens }
@@ -91,9 +107,10 @@ fn other_of(
     cells: &Cells,
     marks: &[bool; 9],
 ) -> Option<Cells> {
-    let picture = picture_of(rt, alloc, height, width, cells);
+    assert!(rt; width > 0);
+    let picture = picture_of(rt, alloc, height, width, cells, width);
     let book = ClueBook::of(alloc, &picture).expect(rt, "memory");
-    let start = start_of(rt, alloc, &picture, marks);
+    let start = start_of(rt, alloc, &picture, marks, width);
     let mut engine = MaskEngine::make(alloc, 3).expect(rt, "memory");
     assert!(rt; book.height() <= engine.longest() && book.width() <= engine.longest());
     let found = find_other(
@@ -156,7 +173,7 @@ fn other_pictures_of_three_colours_with_givens(rt: HostRuntime) {
 
 // A picture with the clues of one with these cells.
 fn first_of(rt: &impl Abort, alloc: Global, cells: &Cells) -> Option<Cells> {
-    let picture = picture_of(rt, alloc, 3, 3, cells);
+    let picture = picture_of(rt, alloc, 3, 3, cells, 3);
     let book = ClueBook::of(alloc, &picture).expect(rt, "memory");
     let mut engine = MaskEngine::make(alloc, 3).expect(rt, "memory");
     assert!(rt; book.height() <= engine.longest() && book.width() <= engine.longest());
