@@ -2,3 +2,4 @@ pub mod AuditLemmas
 pub mod CallLemmas
 pub mod VerdictLemmas
 pub mod CarryLemmas
+pub mod CertifyLemmas

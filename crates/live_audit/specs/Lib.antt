@@ -4,3 +4,4 @@ pub mod Laws
 pub mod Reason
 pub mod Stroke
 pub mod Verdict
+pub mod Certify

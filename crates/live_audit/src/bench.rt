@@ -8,14 +8,17 @@ ghost use Rattle.edits.specs.Design.{design_of};
 ghost use Rattle.edits.specs.History.{IsPlanFor, advanced};
 ghost use Rattle.live_audit.specs.Bench.{Begins, IsAudited};
 ghost use Rattle.live_audit.specs.Calls.{Accepts, CarriesOn, IsAsBefore, Refuses};
+ghost use Rattle.live_audit.specs.Certify.{Certifies, ordered};
 ghost use Rattle.live_audit.specs.Reason.{Explains};
 ghost use Rattle.live_audit.specs.Stroke.{Edits, Redoes, Undoes};
 ghost use Rattle.live_audit.specs.Verdict.{Tells, Decides, IsRulingOn, IsVerdictOn, AnswersAs, judged_as};
 
+use crate::certifying::certify_ordered;
 use crate::making::{answers_first, answers_next, audit_first, audit_next, rule};
 use crate::verdict::{Ruling, Verdict};
 use crate::why::Why;
 use crate::work::Work;
+use certificate::Cert;
 use clues::ClueBook;
 use edits::{Edit, EditFault, MAX_DEPTH, Prepared, Studio};
 use justify::Book;
@@ -243,6 +246,18 @@ impl<E: LineEngine + Drop, A: Agenda + Drop> Bench<E, A> {
         ensures audited { IsAudited self.new }
     {
         self.allowance = allowance;
+    }
+
+    /// A certificate of the present document with its colours numbered as they appear: the checker accepts it for the ordered
+    /// picture, and its givens are exactly the document's. None exactly where there is another picture with the ordered one's
+    /// clues and, in the givens, its colours. It knows no allowance, and only `calls` changes.
+    pub fn certify(&mut self) -> Result<Option<Cert>, AllocError>
+        ensures certifies { IfOk result (Certifies (ordered self.old.history.document)) }
+        ensures as_before { IsAsBefore self.old self.new }
+        ensures audited { IsAudited self.new }
+    {
+        let _ = &self.audit;
+        certify_ordered(self.alloc, &mut self.engine, self.studio.document())
     }
 
     /// The present document.

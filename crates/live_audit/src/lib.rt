@@ -2,6 +2,7 @@
 #![tactic(auto)]
 
 mod bench;
+mod certifying;
 pub mod laws;
 mod making;
 mod verdict;

@@ -1,0 +1,66 @@
+-- What a certificate that was made is for a document.
+use Rattle.std.proofs.Common.{◌≡◌, ℕ, ◌↔◌, List, Option, None, Some, Result, Ok, Err, IfOk, sym, ap, subst, ◌∙◌}
+use Rattle.picture.specs.declared.document.Document.{Document}
+use Rattle.picture.specs.CellSet.{HasCell}
+use Rattle.picture.specs.Content.{content_of}
+use Rattle.picture.specs.Document.{AreInside, Content, ordered_of}
+use Rattle.line_settle.specs.FactSets.{SameShape}
+use Rattle.certificate.specs.Cert.{Certificate}
+use Rattle.certificate.specs.Making.{IsOtherPicture, Makes}
+use Rattle.edits.specs.Design.{Design, design_of}
+use Rattle.edits.specs.Laws.{MarksAreGivens}
+use Rattle.live_audit.specs.Bench.{IsGiven, Seen}
+use Rattle.live_audit.specs.Certify.{Certifies, ordered}
+use Rattle.live_audit.specs.Verdict.{IsOtherFor}
+
+turned : (one other : List (List ℕ)) → SameShape one other → SameShape other one
+turned one other s = record { rows = sym s.rows; each = λ i. sym (s.each i) }
+
+other_made : (d : Design) (givens : List ℕ) (other : List (List ℕ)) → ((row col : ℕ) → HasCell givens row col ↔ IsGiven d row col) → IsOtherPicture d.rows givens other → IsOtherFor d other
+other_made d givens other g o = record {
+  is_picture = o.is_picture;
+  same_shape = turned d.rows other o.same_shape;
+  same_clues = o.same_clues;
+  keeps_givens = λ row col h. o.keeps_givens row col ((g row col).1 h);
+  differs = o.differs;
+}
+
+other_seen : (d : Design) (givens : List ℕ) (other : List (List ℕ)) → ((row col : ℕ) → HasCell givens row col ↔ IsGiven d row col) → IsOtherFor d other → IsOtherPicture d.rows givens other
+other_seen d givens other g o = record {
+  is_picture = o.is_picture;
+  same_shape = turned other d.rows o.same_shape;
+  same_clues = o.same_clues;
+  keeps_givens = λ row col h. o.keeps_givens row col ((g row col).0 h);
+  differs = o.differs;
+}
+
+made_for : (d : Design) (givens : List ℕ) (made : Option Certificate) → ((row col : ℕ) → HasCell givens row col ↔ IsGiven d row col) → Makes d.rows givens made → Certifies d made
+made_for d givens None g m = (m.0, other_made d givens m.0 g m.1)
+made_for d givens (Some cert) g m = record {
+  accepted = m.accepted;
+  proof = m.proof;
+  no_other = λ other o. m.no_other other (other_seen d givens other g o);
+  givens = record {
+    in_order = m.names.ordered;
+    named = λ row col. (λ h. (m.names.named row col).0 ((g row col).1 h), λ h. (g row col).0 ((m.names.named row col).1 h));
+  };
+  version = m.version;
+}
+
+-- a certificate of the ordered document is one of the document's ordered form
+pub certified : {X : Type 0} → MarksAreGivens → (d o : Document) (result : Result (Option Certificate) X) → AreInside d.givens d.picture → content_of o ≡ ordered_of (content_of d)
+    → IfOk result (Makes o.picture o.givens) → IfOk result (Certifies (ordered (design_of d)))
+certified {X = X} marks d o result inside e m =
+    let rows : o.picture ≡ (ordered (design_of d)).rows = ap (λ (c : Content). c.rows) e in
+    let givens : o.givens ≡ d.givens = ap (λ (c : Content). c.givens) e in
+    let P : List (List ℕ) → Type 0 = λ r. IfOk result (Makes r o.givens) in
+    let Q : List ℕ → Type 0 = λ g. IfOk result (Makes (ordered (design_of d)).rows g) in
+    of result (subst Q givens (subst P rows m))
+  where
+    of : (r : Result (Option Certificate) X) → IfOk r (Makes (ordered (design_of d)).rows d.givens) → IfOk r (Certifies (ordered (design_of d)))
+    of (Ok made) h = made_for (ordered (design_of d)) d.givens made (marks d.picture d.givens inside) h
+    of (Err e) h = tt
+
+-- and one of the present document of a bench
+pub certified_now : {X : Type 0} (result : Result (Option Certificate) X) (d now : Design) → d ≡ now → IfOk result (Certifies (ordered d)) → IfOk result (Certifies (ordered now))
+certified_now result d now e c = subst (λ (x : Design). IfOk result (Certifies (ordered x))) e c

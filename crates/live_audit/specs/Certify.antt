@@ -1,0 +1,36 @@
+-- Certificates of a document.
+use Rattle.std.specs.Prelude.{◌≡◌, ℕ, ◌↔◌, List, [], Option, None, Some}
+use Rattle.picture.specs.Document.{ordered_triples, renumbered_rows}
+use Rattle.certificate.specs.declared.line.CellNumber.{CellNumber}
+use Rattle.certificate.specs.Cert.{AreOrdered, Certificate}
+use Rattle.certificate.specs.FirstFault.{CertFirstFault}
+use Rattle.certificate.specs.Making.{IsAmong, numbered}
+use Rattle.certificate.specs.Tree.{IsProof}
+use Rattle.edits.specs.Design.{Design, design}
+use Rattle.live_audit.specs.Bench.{IsGiven}
+use Rattle.live_audit.specs.Verdict.{IsOtherFor}
+
+-- the document with its colours numbered as they appear
+abbrev pub ordered : Design → Design
+ordered d =
+    let triples = ordered_triples d.colours.triples d.rows in
+    design (record { maxval = d.colours.maxval; triples = triples }) (renumbered_rows triples d.colours.triples d.rows) d.marks
+
+-- exactly the givens of a document, by their numbers, in the order of rows
+pub record NamesMarks (d : Design) (cells : List CellNumber) : Type 0 where
+  pub in_order : AreOrdered 0 cells
+  pub named : (row col : ℕ) → IsGiven d row col ↔ IsAmong (numbered row col) cells
+
+-- A certificate of a document with exactly its givens: the checker finds no fault, so the lines prove the picture, and there is no
+-- other. It has version 1 exactly where there are no givens.
+pub record IsCertificateFor (d : Design) (cert : Certificate) : Type 0 where
+  pub accepted : CertFirstFault d.rows cert None
+  pub proof : IsProof d.rows cert
+  pub no_other : (other : List (List ℕ)) → IsOtherFor d other → ⊥
+  pub givens : NamesMarks d cert.givens
+  pub version : (cert.version ≡ 1) ↔ (cert.givens ≡ [])
+
+-- a certificate, or there is another picture
+abbrev pub Certifies : Design → Option Certificate → Type 0
+Certifies d None = (other : List (List ℕ)) × IsOtherFor d other
+Certifies d (Some cert) = IsCertificateFor d cert

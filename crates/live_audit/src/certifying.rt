@@ -1,0 +1,28 @@
+//! Certificates of a document.
+
+ghost use Rattle.std.specs.Prelude.{◌≡◌, ◌≤◌, IfOk};
+ghost use Rattle.edits.specs.Design.{design_of};
+ghost use Rattle.live_audit.specs.Certify.{Certifies, ordered};
+
+use certificate::{Cert, make_cert};
+use edits::laws::marks_are_givens;
+use line_settle::LineEngine;
+use picture::{Document, MAX_SIDE};
+use std::alloc::{AllocError, Global};
+
+/// Makes a certificate of a document with its colours numbered as they appear.
+pub(crate) fn certify_ordered<E: LineEngine>(
+    alloc: Global,
+    engine: &mut E,
+    document: &Document,
+) -> Result<Option<Cert>, AllocError>
+    requires long { MAX_SIDE ≤ E.longest engine.old }
+    ensures certifies { IfOk result (Certifies (ordered (design_of document.now))) }
+    ensures same_longest { E.longest engine.new ≡ E.longest engine.old }
+{
+    marks_are_givens();
+    let _ = document.picture.height();
+    let document = document.ordered()?;
+    let _ = document.picture.height();
+    make_cert(alloc, engine, &document.picture, &document.givens)
+}
