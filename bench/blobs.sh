@@ -26,6 +26,41 @@ for side in (60, 120):
 PY
 }
 
+# draw_small FOLDER: writes pictures of blobs and of noise to the folder as P3 texts, 20, 40 and 60 cells a side, blobs in 2 and 4
+# colours and noise in 3 and 5, each a file KIND-SIDE-COLOURS-colours. Of a hundred cells of noise 90 are no background. The same
+# pictures come each time.
+draw_small() {
+    python3 - "$1" <<'PY'
+import pathlib
+import random
+import sys
+
+folder = pathlib.Path(sys.argv[1])
+
+def blobs(rng, side, colours):
+    cells = [[0] * side for _ in range(side)]
+    for _ in range(side):
+        row, col, size = rng.randrange(side), rng.randrange(side), rng.randrange(2, side // 5)
+        colour = rng.randrange(colours)
+        for r in range(max(0, row - size), min(side, row + size)):
+            for c in range(max(0, col - size), min(side, col + size)):
+                if (r - row) ** 2 + (c - col) ** 2 <= size * size:
+                    cells[r][c] = colour
+    return cells
+
+def noise(rng, side, colours):
+    return [[rng.randrange(1, colours) if rng.random() < 0.9 else 0 for _ in range(side)] for _ in range(side)]
+
+for kind, draw, palettes in (("blobs", blobs, (2, 4)), ("noise", noise, (3, 5))):
+    for side in (20, 40, 60):
+        for colours in palettes:
+            cells = draw(random.Random(side * 100 + colours), side, colours)
+            triple = lambda k: "255 255 255" if k == 0 else f"{k * 16} {255 - k * 16} 0"
+            text = f"P3\n{side} {side}\n255\n" + "".join(triple(k) + "\n" for row in cells for k in row)
+            (folder / f"{kind}-{side}-{colours}-colours").write_text(text)
+PY
+}
+
 # How many instructions a program takes, by callgrind: `instructions FILE PROGRAM WORD..` gives it the file as standard input.
 instructions() {
     local input=$1

@@ -242,7 +242,8 @@ fn choose_end<E: LineEngine>(
     dead_along(engine, picture, book, facts, Axis::Down)
 }
 
-// The line that comes next. There is none exactly where the facts show another picture.
+// The line that comes next: of the due lines those along an axis are tried first. There is none exactly where the facts
+// show another picture.
 pub(crate) fn choose<E: LineEngine>(
     engine: &mut E,
     picture: &Picture,
@@ -250,16 +251,17 @@ pub(crate) fn choose<E: LineEngine>(
     facts: &Facts,
     notes: &[Note],
     due: &mut LineSet,
+    first: Axis,
 ) -> Option<CertLine>
     requires can { CanCheck picture.now book.now (E.longest engine.old) }
     requires same_shape { SameShape picture.now facts.now }
     ensures writes { MatchOption result (ShowsOther picture.now facts.now) (CanWrite picture.now facts.now) }
     ensures same_longest { E.longest engine.new ≡ E.longest engine.old }
 {
-    if let Some(line) = try_due(engine, picture, book, facts, due, Axis::Across) {
+    if let Some(line) = try_due(engine, picture, book, facts, due, first) {
         return Some(line);
     }
-    if let Some(line) = try_due(engine, picture, book, facts, due, Axis::Down) {
+    if let Some(line) = try_due(engine, picture, book, facts, due, first.crossing()) {
         return Some(line);
     }
     choose_end(engine, picture, book, facts, notes)

@@ -43,6 +43,15 @@ pub(crate) fn put_crossing(due: &mut LineSet, axis: Axis, left: &[u16], out: &[u
     changed
 }
 
+// The axis along which due lines are tried first behind a line: that of the line, so that all that are due along it come
+// before those that cross them.
+pub(crate) fn axis_behind(line: CertLine, before: Axis) -> Axis {
+    match line {
+        CertLine::Line(at) | CertLine::Dead(at) => at.axis,
+        CertLine::Split(_) | CertLine::Done => before,
+    }
+}
+
 // The lines that are due behind a line. Where a branch begins, all was settled but for the cell that is held.
 pub(crate) fn renew(due: &mut LineSet, line: CertLine, notes: &[Note]) {
     if matches!(line, CertLine::Line(_)) {

@@ -10,7 +10,7 @@ ghost use Rattle.certificate.specs.Walk.{CanCheck, IsWalk};
 use crate::cert::Cert;
 use crate::checking::set_givens;
 use crate::choosing::{cell_number, choose};
-use crate::due::{all_due, renew};
+use crate::due::{all_due, axis_behind, renew};
 use crate::fault::CertFault;
 use crate::line::{CellNumber, CertLine};
 use crate::walk::take_line;
@@ -18,7 +18,7 @@ use clues::ClueBook;
 use clues::laws::{books_are_their_clues, clues_are_of_lines};
 use line_settle::laws::forcing_closes_a_line;
 use line_settle::{Facts, LineEngine};
-use picture::{CellSet, MAX_SIDE, Picture};
+use picture::{Axis, CellSet, MAX_SIDE, Picture};
 use std::alloc::{AllocError, Global};
 
 #[tactic(auto, using(crate::proofs::MakeLemmas::writing_trees))]
@@ -41,10 +41,12 @@ fn write_tree<E: LineEngine>(
     let mut notes = Vec::new(alloc);
     let mut lines = Vec::new(alloc);
     let mut due = all_due();
+    let mut first = Axis::Across;
     loop {
-        let Some(line) = choose(engine, picture, book, facts, &notes, &mut due) else {
+        let Some(line) = choose(engine, picture, book, facts, &notes, &mut due, first) else {
             return Ok(None);
         };
+        first = axis_behind(line, first);
         lines.push(line)?;
         if !take_line(engine, picture, book, facts, &mut notes, line, 0)? {
             return Ok(Some(lines));
