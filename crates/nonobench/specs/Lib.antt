@@ -1,5 +1,4 @@
 pub mod Background
 pub mod Check
-pub mod ClueText
 pub mod Faults
 pub mod Run

@@ -2,7 +2,6 @@
 #![tactic(auto)]
 
 mod check;
-mod clue_text;
 mod fault;
 mod input;
 mod run;

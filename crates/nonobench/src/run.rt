@@ -7,12 +7,12 @@ ghost use Rattle.edits.specs.Edit.{edited};
 ghost use Rattle.edits.specs.Fault.{edit_fault};
 ghost use Rattle.nonobench.specs.Run.{after_edit, edited_by, shown, shown_for, Writes};
 
-use crate::clue_text::clues_text;
 use crate::fault::ProgramFault;
 use clues::ClueBook;
 use edits::{Edit, Entry};
 use picture::{Document, send};
 use ppm_text::read_ppm;
+use session::clues_text;
 use std::alloc::Global;
 use std::io::Write;
 

@@ -1,6 +1,12 @@
+pub mod ClueText
 pub mod Faults
 pub mod Lines
 pub mod Numbers
 pub mod Parse
+pub mod ReasonText
+pub mod Refusal
+pub mod Report
+pub mod Shown
 pub mod Table
 pub mod Words
+pub mod Written

@@ -1,7 +1,8 @@
 mod reading;
+mod texts;
 
 use super::*;
-use edits::Edit;
+use edits::{Edit, EditFault};
 use picture::{Axis, LineId, Rgb};
 use std::test::Fail;
 

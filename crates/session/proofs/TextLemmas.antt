@@ -3,7 +3,7 @@ use Rattle.std.proofs.Common.{◌≡◌, ℕ, zero, suc, ◌+◌, ◌-◌, ◌<�
 use Rattle.std.specs.List.{flat_map}
 use Rattle.std.proofs.lemmas.List.{append-nil, take_more, take_all, take_rest, length-take-le}
 use Rattle.clues.specs.declared.block.Block.{Block}
-use Rattle.nonobench.specs.ClueText.{behind, block_text, clue_text, line_text, lines_text}
+use Rattle.session.specs.ClueText.{behind, block_text, clue_text, line_text, lines_text}
 
 pub clue_text-cons : (b : Block) (blocks : List Block) → clue_text (b ∷ blocks) ≡ block_text b ++ flat_map behind blocks
 clue_text-cons b [] = sym (append-nil (block_text b))

@@ -1,5 +1,5 @@
-use Rattle.nonobench.proofs.TextLemmas.{pushed_all}
-use Rattle.nonobench.proofs.clue_text.push_clue.Goals as goal
+use Rattle.session.proofs.TextLemmas.{pushed_all}
+use Rattle.session.proofs.clue_text.push_clue.Goals as goal
 
 pub returns-in_ok-push_others-in-len1-up : goal.returns-in_ok-push_others-in-len1-up
 returns-in_ok-push_others-in-len1-up c =

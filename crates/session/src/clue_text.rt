@@ -4,21 +4,28 @@ ghost use Rattle.std.specs.Prelude.{◌≡◌, ◌≤◌, ◌++◌, decimal, len
 ghost use Rattle.std.specs.List.{flat_map};
 ghost use Rattle.clues.specs.Clue.{IsBlock, IsClue};
 ghost use Rattle.clues.specs.ClueBook.{clues_along};
-ghost use Rattle.nonobench.specs.ClueText.{behind, block_text, clue_text, letter_of, line_text, lines_text, clues_text};
+ghost use Rattle.session.specs.ClueText.{behind, block_text, clue_text, letter_of, line_text, lines_text, clues_text};
 
 use clues::{Block, ClueBook};
 use itoa::Buffer;
 use picture::{Axis, LineId, MAX_SIDE};
 use std::alloc::{AllocError, Global};
 
-/// The clues of the rows and then of the columns, a line each.
+/// The clues of the rows and then of the columns, a line each, as the command `clues` shows them.
 pub fn clues_text(alloc: Global, book: &ClueBook) -> Result<Vec<u8>, AllocError>
     ensures { IfOk result (λ text. text.items ≡ clues_text book.now) }
 {
     let mut text = Vec::new(alloc);
-    push_lines(&mut text, book, Axis::Across)?;
-    push_lines(&mut text, book, Axis::Down)?;
+    push_clues(&mut text, book)?;
     Ok(text)
+}
+
+// The same, behind what is there.
+pub(crate) fn push_clues(text: &mut Vec<u8>, book: &ClueBook) -> Result<(), AllocError>
+    ensures { OnOk result (text.new.items ≡ text.old.items ++ clues_text book.now) }
+{
+    push_lines(text, book, Axis::Across)?;
+    push_lines(text, book, Axis::Down)
 }
 
 // A line for each row, or for each column.
@@ -28,13 +35,18 @@ fn push_lines(text: &mut Vec<u8>, book: &ClueBook, axis: Axis) -> Result<(), All
 {
     for at in 0..line_count(book, axis) {
         let clue = book.clue(LineId { axis, at });
-        push_line(text, letter_of(axis), at + 1, clue.blocks())?;
+        push_line(
+            text,
+            letter_of_axis(axis),
+            usize::from(at) + 1,
+            clue.blocks(),
+        )?;
     }
     Ok(())
 }
 
 // `r` for a row and `c` for a column.
-fn letter_of(axis: Axis) -> u8
+pub(crate) fn letter_of_axis(axis: Axis) -> u8
     ensures { result ≡ letter_of axis }
 {
     match axis {
@@ -55,7 +67,12 @@ fn line_count(book: &ClueBook, axis: Axis) -> u8
 }
 
 // A line's letter, number and clue.
-fn push_line(text: &mut Vec<u8>, letter: u8, number: u8, blocks: &[Block]) -> Result<(), AllocError>
+fn push_line(
+    text: &mut Vec<u8>,
+    letter: u8,
+    number: usize,
+    blocks: &[Block],
+) -> Result<(), AllocError>
     requires { IsClue blocks.now }
     ensures { OnOk result (text.new.items ≡ text.old.items ++ line_text letter number blocks.now) }
 {
@@ -100,18 +117,18 @@ fn push_block(text: &mut Vec<u8>, block: Block) -> Result<(), AllocError>
     requires { IsBlock block }
     ensures { OnOk result (text.new.items ≡ text.old.items ++ block_text block) }
 {
-    push_number(text, block.len)?;
+    push_number(text, usize::from(block.len))?;
     text.push(b'a' - 1 + block.colour)?;
     Ok(())
 }
 
 #[tactic(auto, using(std::proofs::lemmas::Fmt::decimal_digit))]
 // A number without leading zeros. Most have one digit, and the others are kept out of their way.
-fn push_number(text: &mut Vec<u8>, number: u8) -> Result<(), AllocError>
+pub(crate) fn push_number(text: &mut Vec<u8>, number: usize) -> Result<(), AllocError>
     ensures { OnOk result (text.new.items ≡ text.old.items ++ decimal number) }
 {
     if number < 10 {
-        text.push(b'0' + number)?;
+        text.push(b'0' + number as u8)?;
         return Ok(());
     }
     push_digits(text, number)
@@ -119,7 +136,7 @@ fn push_number(text: &mut Vec<u8>, number: u8) -> Result<(), AllocError>
 
 #[inline(never)]
 // A number of any length.
-fn push_digits(text: &mut Vec<u8>, number: u8) -> Result<(), AllocError>
+fn push_digits(text: &mut Vec<u8>, number: usize) -> Result<(), AllocError>
     ensures { OnOk result (text.new.items ≡ text.old.items ++ decimal number) }
 {
     text.extend_from_slice(Buffer::new().format(number).as_bytes())?;

@@ -1,0 +1,7 @@
+use Rattle.std.proofs.Common.{◌≡◌, ◌++◌, take}
+use Rattle.std.specs.List.{flat_map}
+use Rattle.session.specs.Shown.{letter, row_text}
+use Rattle.session.proofs.shown.push_picture.Given as goal
+
+abbrev pub invariant-loop-row : goal.invariant-loop-row
+invariant-loop-row l = l.text.items ≡ l.fn.text.items ++ flat_map (row_text letter) (take l.row l.picture)

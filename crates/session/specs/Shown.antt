@@ -1,0 +1,39 @@
+-- Pictures and maps as text: a letter for each cell, and a line for each row.
+use Rattle.std.specs.Prelude.{◌≡◌, ℕ, ◌+◌, List, [], ◌∷◌, ◌++◌, count_ones, map, ◌==◌, if◌then◌else◌}
+use Rattle.std.proofs.Common.{refl}
+use Rattle.std.specs.Int.{trailing_zeros, w16}
+use Rattle.std.specs.List.{flat_map}
+
+-- `.` for the background, and `a` to `o` for 1 to 15
+abbrev pub letter : ℕ → ℕ
+letter k = if k == 0 then 46 else 96 + k
+
+-- a row of cells, each by what is shown of it
+abbrev pub row_text : (ℕ → ℕ) → List ℕ → List ℕ
+row_text shown row = map shown row ++ 10 ∷ []
+
+-- the rows of a picture
+abbrev pub picture_text : List (List ℕ) → List ℕ
+picture_text rows = flat_map (row_text letter) rows
+
+-- the letter of the colour that a mask leaves alone, or `?`
+abbrev pub mask_letter : ℕ → ℕ
+mask_letter mask = if count_ones mask == 1 then letter (trailing_zeros w16 mask) else 63
+
+-- the rows of a map
+abbrev pub map_text : List (List ℕ) → List ℕ
+map_text masks = flat_map (row_text mask_letter) masks
+
+-- ---- worked cells
+
+only_the_first : mask_letter 1 ≡ 46
+unfolding lib.Count.ones lib.Count.count_trailing_zeros
+only_the_first = refl
+
+only_the_last : mask_letter 32768 ≡ 111
+unfolding lib.Count.ones lib.Count.count_trailing_zeros
+only_the_last = refl
+
+two_are_left : mask_letter 3 ≡ 63
+unfolding lib.Count.ones lib.Count.count_trailing_zeros
+two_are_left = refl

@@ -1,0 +1,206 @@
+//! The report of a bench.
+
+ghost use Rattle.std.specs.Prelude.{◌≡◌, ◌<◌, ◌≤◌, ◌++◌, ◌==◌, length, OnOk};
+ghost use Rattle.picture.specs.Rows.{cell_at, row_at, width_of};
+ghost use Rattle.edits.specs.Design.{design_of};
+ghost use Rattle.session.specs.Report.{audit_text, colour_line, colour_lines, colours_text, document_text, ending_text, first_number, given_line, givens_text, last_number, open_cells, open_in_row, report_text, row_givens, size_text};
+
+use crate::clue_text::{push_clues, push_number};
+use crate::shown::{letter_of, push_map, push_picture};
+use clues::ClueBook;
+use line_settle::Facts;
+use picture::{Document, Palette, Picture, Rgb};
+use std::alloc::AllocError;
+
+#[tactic(auto, using(std::proofs::lemmas::List::append_assoc))]
+// The report: the document, what follows from it, the verdict's word, and how many edits can be undone and made again.
+pub(crate) fn push_report(
+    text: &mut Vec<u8>,
+    document: &Document,
+    clues: &ClueBook,
+    map: &Facts,
+    verdict: &[u8],
+    past: usize,
+    future: usize,
+) -> Result<(), AllocError>
+    ensures { OnOk result (text.new.items ≡ text.old.items ++ report_text (design_of document.now) clues.now map.now verdict.now past future) }
+{
+    push_document(text, document)?;
+    push_audit(text, clues, map)?;
+    push_ending(text, verdict, past, future)
+}
+
+// A number and a space.
+fn push_first(text: &mut Vec<u8>, number: usize) -> Result<(), AllocError>
+    ensures { OnOk result (text.new.items ≡ text.old.items ++ first_number number) }
+{
+    push_number(text, number)?;
+    text.push(b' ')?;
+    Ok(())
+}
+
+// The last number of a line.
+fn push_last(text: &mut Vec<u8>, number: usize) -> Result<(), AllocError>
+    ensures { OnOk result (text.new.items ≡ text.old.items ++ last_number number) }
+{
+    push_number(text, number)?;
+    text.push(b'\n')?;
+    Ok(())
+}
+
+#[tactic(auto, using(std::proofs::lemmas::List::append_assoc))]
+fn push_document(text: &mut Vec<u8>, document: &Document) -> Result<(), AllocError>
+    ensures { OnOk result (text.new.items ≡ text.old.items ++ document_text (design_of document.now)) }
+{
+    push_size(text, &document.picture)?;
+    push_colours(text, &document.palette)?;
+    text.extend_from_slice(b"picture\n")?;
+    push_picture(text, &document.picture)?;
+    push_givens(text, document)
+}
+
+#[tactic(auto, using(std::proofs::lemmas::List::append_assoc))]
+fn push_size(text: &mut Vec<u8>, picture: &Picture) -> Result<(), AllocError>
+    ensures { OnOk result (text.new.items ≡ text.old.items ++ size_text picture.now) }
+{
+    text.extend_from_slice(b"size ")?;
+    push_first(text, usize::from(picture.height()))?;
+    push_last(text, usize::from(picture.width()))
+}
+
+#[tactic(auto, using(std::proofs::lemmas::List::append_assoc))]
+// How many colours there are, the largest sample, and a line for each colour.
+fn push_colours(text: &mut Vec<u8>, palette: &Palette) -> Result<(), AllocError>
+    ensures { OnOk result (text.new.items ≡ text.old.items ++ colours_text palette.now) }
+{
+    text.extend_from_slice(b"colours ")?;
+    push_first(text, usize::from(palette.len()))?;
+    text.extend_from_slice(b"maxval ")?;
+    push_last(text, usize::from(palette.maxval()))?;
+    push_triples(text, palette)
+}
+
+#[tactic(auto, using(crate::proofs::ReportLemmas::ranges))]
+fn push_triples(text: &mut Vec<u8>, palette: &Palette) -> Result<(), AllocError>
+    ensures { OnOk result (text.new.items ≡ text.old.items ++ colour_lines palette.now.triples (length palette.now.triples)) }
+{
+    for number in 0..palette.len() {
+        push_colour(text, number, palette.rgb(number))?;
+    }
+    Ok(())
+}
+
+#[tactic(auto, using(std::proofs::lemmas::List::append_assoc))]
+// A colour's letter and its triple.
+fn push_colour(text: &mut Vec<u8>, number: u8, rgb: Rgb) -> Result<(), AllocError>
+    requires { number < 16 }
+    ensures { OnOk result (text.new.items ≡ text.old.items ++ colour_line number rgb) }
+{
+    text.push(letter_of(number))?;
+    text.push(b' ')?;
+    push_first(text, usize::from(rgb.r))?;
+    push_first(text, usize::from(rgb.g))?;
+    push_last(text, usize::from(rgb.b))
+}
+
+#[tactic(auto, using(crate::proofs::ReportLemmas::ranges))]
+// A line for each given, in row order.
+fn push_givens(text: &mut Vec<u8>, document: &Document) -> Result<(), AllocError>
+    ensures { OnOk result (text.new.items ≡ text.old.items ++ givens_text (design_of document.now)) }
+{
+    for row in 0..document.picture.height() {
+        push_row_givens(text, document, row)?;
+    }
+    Ok(())
+}
+
+#[tactic(auto, using(crate::proofs::ReportLemmas::ranges))]
+fn push_row_givens(text: &mut Vec<u8>, document: &Document, row: u8) -> Result<(), AllocError>
+    requires { row < length document.now.picture }
+    ensures { OnOk result (text.new.items ≡ text.old.items ++ row_givens (design_of document.now) row (width_of document.now.picture)) }
+{
+    for col in 0..document.picture.width() {
+        if is_given(document, row, col) {
+            push_given(text, row, col)?;
+        }
+    }
+    Ok(())
+}
+
+#[tactic(auto, using(crate::proofs::ReportLemmas::marks))]
+// Whether a cell is a given.
+fn is_given(document: &Document, row: u8, col: u8) -> bool
+    requires in_rows { row < length document.now.picture }
+    requires in_columns { col < width_of document.now.picture }
+    ensures { result ≡ (cell_at (design_of document.now).marks row col == 1) }
+{
+    let _ = document.picture.height();
+    document.givens.has(row, col)
+}
+
+#[tactic(auto, using(std::proofs::lemmas::List::append_assoc))]
+// A given's row and column, from 1.
+fn push_given(text: &mut Vec<u8>, row: u8, col: u8) -> Result<(), AllocError>
+    ensures { OnOk result (text.new.items ≡ text.old.items ++ given_line row col) }
+{
+    text.extend_from_slice(b"given ")?;
+    push_first(text, usize::from(row) + 1)?;
+    push_last(text, usize::from(col) + 1)
+}
+
+#[tactic(auto, using(std::proofs::lemmas::List::append_assoc))]
+// The clues, the map, and how many cells are open.
+fn push_audit(text: &mut Vec<u8>, clues: &ClueBook, map: &Facts) -> Result<(), AllocError>
+    ensures { OnOk result (text.new.items ≡ text.old.items ++ audit_text clues.now map.now) }
+{
+    text.extend_from_slice(b"clues\n")?;
+    push_clues(text, clues)?;
+    text.extend_from_slice(b"map\n")?;
+    push_map(text, map)?;
+    text.extend_from_slice(b"open ")?;
+    push_last(text, open_cells(map))
+}
+
+#[tactic(auto, using(crate::proofs::ReportLemmas::sums))]
+// How many cells have more than one colour left.
+fn open_cells(map: &Facts) -> usize
+    ensures { result ≡ open_cells map.now }
+{
+    let mut count = 0;
+    for row in 0..map.height() {
+        count += open_in_row(map, row);
+    }
+    count
+}
+
+#[tactic(auto, using(crate::proofs::ReportLemmas::sums))]
+fn open_in_row(map: &Facts, row: u8) -> usize
+    requires { row < length map.now }
+    ensures value { result ≡ open_in_row (row_at map.now row) }
+    ensures small { result ≤ 120 }
+{
+    let mut count = 0;
+    for col in 0..map.width() {
+        if map.left(row, col).count_ones() > 1 {
+            count += 1;
+        }
+    }
+    count
+}
+
+#[tactic(auto, using(std::proofs::lemmas::List::append_assoc))]
+// The verdict's word, and how many edits can be undone and made again.
+fn push_ending(
+    text: &mut Vec<u8>,
+    verdict: &[u8],
+    past: usize,
+    future: usize,
+) -> Result<(), AllocError>
+    ensures { OnOk result (text.new.items ≡ text.old.items ++ ending_text verdict.now past future) }
+{
+    text.extend_from_slice(b"verdict ")?;
+    text.extend_from_slice(verdict)?;
+    text.extend_from_slice(b"\nhistory ")?;
+    push_first(text, past)?;
+    push_last(text, future)
+}
