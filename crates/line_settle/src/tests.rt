@@ -469,22 +469,22 @@ fn facts_are_a_set_of_exclusions(rt: HostRuntime) -> Result<(), Fail> {
     let mut facts = Facts::none(rt.alloc(), 2, 3)?;
     assert_eq!(rt; facts.height(), 2);
     assert_eq!(rt; facts.width(), 3);
-    assert_eq!(rt; facts.left(1, 2), ALL);
+    leaves(&rt, &facts, 1, 2, ALL);
     assert!(rt; !facts.excluded(1, 2, 15));
     facts.exclude(1, 2, !0b110);
-    assert_eq!(rt; facts.left(1, 2), 0b110);
+    leaves(&rt, &facts, 1, 2, 0b110);
     assert_eq!(rt; facts.shown(1, 2), None);
     assert!(rt; facts.excluded(1, 2, 0));
     let copy = facts.copy()?;
     facts.exclude(1, 2, 0b010);
     assert_eq!(rt; facts.shown(1, 2), Some(2));
-    assert_eq!(rt; copy.left(1, 2), 0b110);
-    assert_eq!(rt; facts.left(0, 2), ALL);
+    leaves(&rt, &copy, 1, 2, 0b110);
+    leaves(&rt, &facts, 0, 2, ALL);
     facts.set_left(1, 2, 0b110);
     facts.set_left(0, 2, 0b1000);
-    assert_eq!(rt; facts.left(1, 2), 0b110);
+    leaves(&rt, &facts, 1, 2, 0b110);
     assert_eq!(rt; facts.shown(0, 2), Some(3));
-    assert_eq!(rt; facts.left(0, 1), ALL);
+    leaves(&rt, &facts, 0, 1, ALL);
     Ok(())
 }
 
