@@ -10,7 +10,7 @@ use Rattle.certificate.specs.Making.{IsOtherPicture, Makes}
 use Rattle.edits.specs.Design.{Design, design_of}
 use Rattle.edits.specs.Laws.{MarksAreGivens}
 use Rattle.live_audit.specs.Bench.{IsGiven, Seen}
-use Rattle.live_audit.specs.Certify.{Certifies, ordered}
+use Rattle.live_audit.specs.Certify.{Certifies, CertifiesOrdered, IsCertificateFor, ordered}
 use Rattle.live_audit.specs.Verdict.{IsOtherFor}
 
 turned : (one other : List (List ℕ)) → SameShape one other → SameShape other one
@@ -34,7 +34,12 @@ other_seen d givens other g o = record {
   differs = o.differs;
 }
 
-made_for : (d : Design) (givens : List ℕ) (made : Option Certificate) → ((row col : ℕ) → HasCell givens row col ↔ IsGiven d row col) → Makes d.rows givens made → Certifies d made
+-- a certificate of a document, or another picture for it
+abbrev MadeFor : Design → Option Certificate → Type 0
+MadeFor d None = (other : List (List ℕ)) × IsOtherFor d other
+MadeFor d (Some cert) = IsCertificateFor d cert
+
+made_for : (d : Design) (givens : List ℕ) (made : Option Certificate) → ((row col : ℕ) → HasCell givens row col ↔ IsGiven d row col) → Makes d.rows givens made → MadeFor d made
 made_for d givens None g m = (m.0, other_made d givens m.0 g m.1)
 made_for d givens (Some cert) g m = record {
   accepted = m.accepted;
@@ -49,7 +54,7 @@ made_for d givens (Some cert) g m = record {
 
 -- a certificate of the ordered document is one of the document's ordered form
 pub certified : {X : Type 0} → MarksAreGivens → (d o : Document) (result : Result (Option Certificate) X) → AreInside d.givens d.picture → content_of o ≡ ordered_of (content_of d)
-    → IfOk result (Makes o.picture o.givens) → IfOk result (Certifies (ordered (design_of d)))
+    → IfOk result (Makes o.picture o.givens) → IfOk result (CertifiesOrdered (design_of d))
 certified {X = X} marks d o result inside e m =
     let rows : o.picture ≡ (ordered (design_of d)).rows = ap (λ (c : Content). c.rows) e in
     let givens : o.givens ≡ d.givens = ap (λ (c : Content). c.givens) e in
@@ -57,10 +62,11 @@ certified {X = X} marks d o result inside e m =
     let Q : List ℕ → Type 0 = λ g. IfOk result (Makes (ordered (design_of d)).rows g) in
     of result (subst Q givens (subst P rows m))
   where
-    of : (r : Result (Option Certificate) X) → IfOk r (Makes (ordered (design_of d)).rows d.givens) → IfOk r (Certifies (ordered (design_of d)))
-    of (Ok made) h = made_for (ordered (design_of d)) d.givens made (marks d.picture d.givens inside) h
+    of : (r : Result (Option Certificate) X) → IfOk r (Makes (ordered (design_of d)).rows d.givens) → IfOk r (CertifiesOrdered (design_of d))
+    of (Ok None) h = made_for (ordered (design_of d)) d.givens None (marks d.picture d.givens inside) h
+    of (Ok (Some cert)) h = made_for (ordered (design_of d)) d.givens (Some cert) (marks d.picture d.givens inside) h
     of (Err e) h = tt
 
 -- and one of the present document of a bench
-pub certified_now : {X : Type 0} (result : Result (Option Certificate) X) (d now : Design) → d ≡ now → IfOk result (Certifies (ordered d)) → IfOk result (Certifies (ordered now))
-certified_now result d now e c = subst (λ (x : Design). IfOk result (Certifies (ordered x))) e c
+pub certified_now : {X : Type 0} (result : Result (Option Certificate) X) (d now : Design) → d ≡ now → IfOk result (Certifies d) → IfOk result (Certifies now)
+certified_now result d now e c = subst (λ (x : Design). IfOk result (Certifies x)) e c

@@ -3,3 +3,7 @@ pub mod CallLemmas
 pub mod VerdictLemmas
 pub mod CarryLemmas
 pub mod CertifyLemmas
+pub mod ColourLemmas
+pub mod RenumberLemmas
+pub mod OrderLemmas
+pub mod OthersLemmas

@@ -30,7 +30,12 @@ pub record IsCertificateFor (d : Design) (cert : Certificate) : Type 0 where
   pub givens : NamesMarks d cert.givens
   pub version : (cert.version ≡ 1) ↔ (cert.givens ≡ [])
 
--- a certificate, or there is another picture
+-- a certificate of the ordered document, or there is another picture for it
+abbrev pub CertifiesOrdered : Design → Option Certificate → Type 0
+CertifiesOrdered d None = (other : List (List ℕ)) × IsOtherFor (ordered d) other
+CertifiesOrdered d (Some cert) = IsCertificateFor (ordered d) cert
+
+-- A certificate of the ordered document, and the document itself has no other picture; or it has another one.
 abbrev pub Certifies : Design → Option Certificate → Type 0
 Certifies d None = (other : List (List ℕ)) × IsOtherFor d other
-Certifies d (Some cert) = IsCertificateFor d cert
+Certifies d (Some cert) = IsCertificateFor (ordered d) cert × ((other : List (List ℕ)) → IsOtherFor d other → ⊥)

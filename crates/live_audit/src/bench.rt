@@ -8,7 +8,7 @@ ghost use Rattle.edits.specs.Design.{design_of};
 ghost use Rattle.edits.specs.History.{IsPlanFor, advanced};
 ghost use Rattle.live_audit.specs.Bench.{Begins, IsAudited};
 ghost use Rattle.live_audit.specs.Calls.{Accepts, CarriesOn, IsAsBefore, Refuses};
-ghost use Rattle.live_audit.specs.Certify.{Certifies, ordered};
+ghost use Rattle.live_audit.specs.Certify.{Certifies};
 ghost use Rattle.live_audit.specs.Reason.{Explains};
 ghost use Rattle.live_audit.specs.Stroke.{Edits, Redoes, Undoes};
 ghost use Rattle.live_audit.specs.Verdict.{Tells, Decides, IsRulingOn, IsVerdictOn, AnswersAs, judged_as};
@@ -249,10 +249,10 @@ impl<E: LineEngine + Drop, A: Agenda + Drop> Bench<E, A> {
     }
 
     /// A certificate of the present document with its colours numbered as they appear: the checker accepts it for the ordered
-    /// picture, and its givens are exactly the document's. None exactly where there is another picture with the ordered one's
+    /// picture, and its givens are exactly the document's. None exactly where there is another picture with the present one's
     /// clues and, in the givens, its colours. It knows no allowance, and only `calls` changes.
     pub fn certify(&mut self) -> Result<Option<Cert>, AllocError>
-        ensures certifies { IfOk result (Certifies (ordered self.old.history.document)) }
+        ensures certifies { IfOk result (Certifies self.old.history.document) }
         ensures as_before { IsAsBefore self.old self.new }
         ensures audited { IsAudited self.new }
     {

@@ -2,9 +2,10 @@
 
 ghost use Rattle.std.specs.Prelude.{◌≡◌, ◌≤◌, IfOk};
 ghost use Rattle.edits.specs.Design.{design_of};
-ghost use Rattle.live_audit.specs.Certify.{Certifies, ordered};
+ghost use Rattle.live_audit.specs.Certify.{Certifies};
 
 use certificate::{Cert, make_cert};
+use clues::laws::{books_are_their_clues, clues_are_of_lines};
 use edits::laws::marks_are_givens;
 use line_settle::LineEngine;
 use picture::{Document, MAX_SIDE};
@@ -17,11 +18,14 @@ pub(crate) fn certify_ordered<E: LineEngine>(
     document: &Document,
 ) -> Result<Option<Cert>, AllocError>
     requires long { MAX_SIDE ≤ E.longest engine.old }
-    ensures certifies { IfOk result (Certifies (ordered (design_of document.now))) }
+    ensures certifies { IfOk result (Certifies (design_of document.now)) }
     ensures same_longest { E.longest engine.new ≡ E.longest engine.old }
 {
     marks_are_givens();
+    clues_are_of_lines();
+    books_are_their_clues();
     let _ = document.picture.height();
+    let _ = document.palette.len();
     let document = document.ordered()?;
     let _ = document.picture.height();
     make_cert(alloc, engine, &document.picture, &document.givens)

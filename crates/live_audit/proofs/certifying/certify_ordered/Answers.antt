@@ -1,6 +1,12 @@
+use Rattle.edits.specs.Design.{design_of}
 use Rattle.live_audit.proofs.CertifyLemmas.{certified}
+use Rattle.live_audit.proofs.OthersLemmas.{joined, same_others}
 use Rattle.live_audit.proofs.certifying.certify_ordered.Goals as goal
 
 pub returns-clause-certifies : goal.returns-clause-certifies
 returns-clause-certifies g c =
-    certified c.marks_are_givens.ensures c.args.document.now c.in_ok-document.document c.make_cert.result c.args.document.now.inside c.in_ok-document.ensures.content c.make_cert.ensures.makes
+    let d = c.args.document.now in
+    let o = c.in_ok-document in
+    let others = same_others c.clues_are_of_lines.ensures c.books_are_their_clues.ensures d o.document c.len.ensures.palette d.coloured c.height.ensures.picture c.height-2.ensures.picture o.ensures.content o.ensures.shown in
+    joined (design_of d) c.make_cert.result others
+    (certified c.marks_are_givens.ensures d o.document c.make_cert.result d.inside o.ensures.content c.make_cert.ensures.makes)
