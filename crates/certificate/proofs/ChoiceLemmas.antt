@@ -1,11 +1,13 @@
 -- Which line may come next.
 use Rattle.std.proofs.Common.{◌≡◌, ℕ, ◌+◌, ◌-◌, ◌<◌, ◌≤◌, List, Option, None, Some, length, get_or, sym, ap, subst, ◌∙◌, arith, inl, inr}
-use Rattle.std.specs.Prelude.{MatchOption}
+use Rattle.std.specs.Prelude.{MatchOption, slice_index}
 use Rattle.std.proofs.lemmas.Bool.{cases_lt}
+use Rattle.std.proofs.lemmas.Grind.{same_number_lists}
 use Rattle.std.proofs.lemmas.List.{length-map}
 use Rattle.picture.specs.declared.line_id.Axis.{Axis}
 use Rattle.picture.specs.declared.line_id.Axis.TheVariants.{Across, Down}
 use Rattle.picture.specs.declared.line_id.LineId.{LineId}
+use Rattle.picture.specs.BitLaws.{same_bits}
 use Rattle.picture.specs.Picture.{IsPicture}
 use Rattle.picture.specs.Rows.{width_of, line_of, lines_along, HasLine}
 use Rattle.clues.specs.declared.block.Block.{Block}
@@ -20,7 +22,7 @@ use Rattle.certificate.specs.declared.line.CellNumber.{CellNumber}
 use Rattle.certificate.specs.declared.line.CertLine.{CertLine}
 use Rattle.certificate.specs.declared.line.CertLine.TheVariants.{Line, Split, Dead}
 use Rattle.certificate.specs.Making.{AreAlive, AreSingle, CanWrite, IsAlive, Numbers, ShowsOther}
-use Rattle.certificate.specs.Puzzle.{HasCellNumber, HasLineNumber, IsDead, ShowsOnly, line_id}
+use Rattle.certificate.specs.Puzzle.{HasCellNumber, HasLineNumber, IsDead, IsForced, ShowsOnly, line_id}
 use Rattle.certificate.specs.Walk.{CanCheck}
 use Rattle.certificate.proofs.WalkLemmas.{clues_are_there, short_along}
 
@@ -67,8 +69,8 @@ has_number picture line number h n =
     let e = n.1 in
     subst P (sym n.0) ((let p : 0 < number.number = omega arith in p), (let q : number.number ≤ lines_along line.axis picture = omega arith in q))
 
-pub line_writes : (picture facts : List (List ℕ)) (clues : Clues) (longest : ℕ) (line : LineId) (number : LineNumber) → CanCheck picture clues longest → HasLine picture line → Numbers line number → CanWrite picture facts (Line number)
-line_writes picture facts clues longest line number can h n =
+named_writes : (picture facts : List (List ℕ)) (clues : Clues) (longest : ℕ) (line : LineId) (number : LineNumber) → CanCheck picture clues longest → HasLine picture line → Numbers line number → HasLineNumber picture number × (number.number < 1000)
+named_writes picture facts clues longest line number can h n =
     let few = few_lines line.axis picture can.is_picture in
     let e = n.1 in
     (has_number picture line number h n, (let l : number.number < 1000 = omega arith in l))
@@ -77,6 +79,21 @@ line_writes picture facts clues longest line number can h n =
 
 by_clue : (picture facts : List (List ℕ)) (clues : Clues) (longest : ℕ) (clue : List Block) (line : LineId) → CanCheck picture clues longest → clue ≡ clue_at clues line → clue ≡ clue_at (clues_of picture) line
 by_clue picture facts clues longest clue line can c = c ∙ ap (λ (cs : Clues). clue_at cs line) can.clues_are
+
+-- masks that narrow to the same are the same
+narrowed_masks : (clue : List Block) (left one other : List ℕ) (first second : Outcome) → Narrows clue left first one → Narrows clue left second other → one ≡ other
+narrowed_masks clue left one other first second n m =
+    same_number_lists one other (n.same_length ∙ sym m.same_length) (λ i l. same_bits (slice_index one i) (slice_index other i) (λ k. ((λ b. (m.exact i k).1 ((n.exact i k).0 b)), (λ b. (n.exact i k).1 ((m.exact i k).0 b)))))
+
+pub line_writes : (picture facts : List (List ℕ)) (clues : Clues) (longest : ℕ) (clue : List Block) (line : LineId) (number : LineNumber) (outcome : Outcome) (out : List ℕ) → CanCheck picture clues longest → HasLine picture line → Numbers line number → clue ≡ clue_at clues line → Narrows clue (line_of facts line) outcome out → (line_of facts line ≡ out → ⊥) → CanWrite picture facts (Line number)
+line_writes picture facts clues longest clue line number outcome out can h n c narrows differ =
+    let w = named_writes picture facts clues longest line number can h n in
+    let P : List Block → Type 0 = λ bs. Narrows bs (line_of facts line) outcome out in
+    let here = subst P (by_clue picture facts clues longest clue line can c) narrows in
+    let goes : (gained : List (List ℕ)) → IsForced picture facts line gained → gained ≡ facts → ⊥ =
+    λ gained forced e. differ (ap (λ (fs : List (List ℕ)). line_of fs line) (sym e) ∙ narrowed_masks (clue_at (clues_of picture) line) (line_of facts line) (line_of gained line) out forced.0 outcome forced.1.narrows here) in
+    let Q : LineId → Type 0 = λ l. (gained : List (List ℕ)) → IsForced picture facts l gained → gained ≡ facts → ⊥ in
+    (w.0, w.1, subst Q (sym (number_is line number n)) goes)
 
 pub alive_writes : (picture facts : List (List ℕ)) (clues : Clues) (longest : ℕ) (clue : List Block) (line : LineId) (outcome : Outcome) (out : List ℕ) → CanCheck picture clues longest → clue ≡ clue_at clues line → Narrows clue (line_of facts line) outcome out → outcome ≡ Narrowed → IsAlive picture facts line
 alive_writes picture facts clues longest clue line outcome out can c n e =
@@ -93,8 +110,8 @@ not_alive picture facts clues longest clue line outcome out can c n e alive =
 pub dead_writes : (picture facts : List (List ℕ)) (clues : Clues) (longest : ℕ) (line : LineId) (number : LineNumber) → CanCheck picture clues longest → HasLine picture line → Numbers line number → (IsAlive picture facts line → ⊥) → CanWrite picture facts (Dead number)
 dead_writes picture facts clues longest line number can h n dead =
     let P : LineId → Type 0 = λ l. IsDead picture facts l in
-    let w = line_writes picture facts clues longest line number can h n in
-    ((w.0, subst P (sym (number_is line number n)) dead), w.1)
+    let w = named_writes picture facts clues longest line number can h n in
+    ((w.0, subst P (sym (number_is line number n)) dead), w.1, tt)
 
 -- ---- a cell to split
 
@@ -104,7 +121,7 @@ split_writes picture facts cell is s h =
     let columns = s.each 0 in
     let r = is.rows_fit in
     let c = is.columns_fit in
-    (((let a : 0 < cell.row = h.0 in a), (let a : cell.row ≤ length picture = omega arith in a), (let a : 0 < cell.col = h.2 in a), (let a : cell.col ≤ width_of picture = omega arith in a)), ((let a : cell.row < 1000 = omega arith in a), (let a : cell.col < 1000 = omega arith in a)))
+    (((let a : 0 < cell.row = h.0 in a), (let a : cell.row ≤ length picture = omega arith in a), (let a : 0 < cell.col = h.2 in a), (let a : cell.col ≤ width_of picture = omega arith in a)), ((let a : cell.row < 1000 = omega arith in a), (let a : cell.col < 1000 = omega arith in a)), tt)
 
 -- ---- no line at all
 

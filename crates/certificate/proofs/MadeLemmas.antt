@@ -11,8 +11,8 @@ use Rattle.certificate.specs.declared.line.CellNumber.{CellNumber}
 use Rattle.certificate.specs.declared.line.CertLine.{CertLine}
 use Rattle.certificate.specs.Cert.{Certificate}
 use Rattle.certificate.specs.FirstFault.{CertFirstFault, FirstFaultBehind}
-use Rattle.certificate.specs.Making.{HasNoFault, IsAmong, IsMade, IsOtherPicture, Makes, NamesGivens, WritesTree, numbered}
-use Rattle.certificate.specs.Puzzle.{KeepsGivens, IsUnique, HasCellNumbers, blank_for, with_givens}
+use Rattle.certificate.specs.Making.{EachExcludes, HasNoFault, IsAmong, IsMade, IsOtherPicture, Makes, NamesGivens, WritesTree, numbered}
+use Rattle.certificate.specs.Puzzle.{KeepsGivens, IsUnique, HasCellNumbers, base_of, blank_for, with_givens}
 use Rattle.certificate.specs.Walk.{GivesBase}
 use Rattle.certificate.proofs.BaseLemmas.{given_left}
 use Rattle.certificate.proofs.Exactness.{none_is_proof}
@@ -64,8 +64,8 @@ unique_has_no_other picture givens cells names unique other o =
       keeps_givens = kept picture other givens cells names.inside (λ r c m. (names.named r c).1 m) o.keeps_givens;
     }))
 
-pub some_made : (picture start : List (List ℕ)) (givens : List ℕ) (cells : List CellNumber) (lines : List CertLine) (cert : Certificate) → IsPicture picture → NamesGivens picture givens cells → GivesBase picture (blank_for picture) cells (Ok tt) start → HasNoFault picture (start ∷ []) lines → cert.givens ≡ cells → cert.lines ≡ lines → (cert.version ≡ 1) ↔ (cells ≡ []) → IsMade picture givens cert
-some_made picture start givens cells lines cert is names base none g l v =
+pub some_made : (picture start : List (List ℕ)) (givens : List ℕ) (cells : List CellNumber) (lines : List CertLine) (cert : Certificate) → IsPicture picture → NamesGivens picture givens cells → GivesBase picture (blank_for picture) cells (Ok tt) start → start ≡ with_givens picture cells (blank_for picture) → HasNoFault picture (start ∷ []) lines → EachExcludes picture (start ∷ []) lines → cert.givens ≡ cells → cert.lines ≡ lines → (cert.version ≡ 1) ↔ (cells ≡ []) → IsMade picture givens cert
+some_made picture start givens cells lines cert is names base root none each g l v =
     let P : List CellNumber → Type 0 = λ cs. FirstFaultBehind picture (blank_for picture) 2 cs cert.lines None in
     let Q : List CertLine → Type 0 = λ ls. FirstFaultBehind picture (blank_for picture) 2 cells ls None in
     let accepted : CertFirstFault picture cert None = subst P (sym g) (subst Q (sym l) (base.1 lines None (none (2 + length cells)))) in
@@ -73,6 +73,9 @@ some_made picture start givens cells lines cert is names base none g l v =
     let N : List CellNumber → Type 0 = NamesGivens picture givens in
     let named = subst N (sym g) names in
     let unique = proof_is_unique picture cert is proof in
+    let A : List (List ℕ) → Type 0 = λ facts. EachExcludes picture (facts ∷ []) lines in
+    let B : List CellNumber → Type 0 = λ cs. EachExcludes picture (base_of picture cs ∷ []) lines in
+    let C : List CertLine → Type 0 = λ ls. EachExcludes picture (base_of picture cert.givens ∷ []) ls in
     record {
       accepted = accepted;
       proof = proof;
@@ -80,6 +83,7 @@ some_made picture start givens cells lines cert is names base none g l v =
       no_other = unique_has_no_other picture givens cert.givens named unique;
       names = named;
       version = ((λ e. g ∙ v.0 e), (λ e. v.1 (sym g ∙ e)));
+      excludes = subst C (sym l) (subst B (sym g) (subst A root each));
     }
 
 -- the facts at the root, as they were made
@@ -90,9 +94,9 @@ pub makes_none : CluesAreOfLines → BooksAreTheirClues → (picture blank start
 makes_none clues books picture blank start givens cells height width is inside names h w b base are e t =
     none_made clues books picture start givens cells is inside names base.0 are (e ∙ ap (with_givens picture cells) (root_is picture blank start cells height width h w b)) t
 
-pub makes_some : (picture blank start : List (List ℕ)) (givens : List ℕ) (cells : List CellNumber) (lines : List CertLine) (cert : Certificate) (height width : ℕ) → IsPicture picture → NamesGivens picture givens cells → height ≡ length picture → width ≡ width_of picture → blank ≡ nothing_excluded height width → GivesBase picture blank cells (Ok tt) start → WritesTree picture start (Some lines) → cert.givens ≡ cells → cert.lines ≡ lines → (cert.version ≡ 1) ↔ (cells ≡ []) → Makes picture givens (Some cert)
-makes_some picture blank start givens cells lines cert height width is names h w b base t g l v =
+pub makes_some : (picture blank start : List (List ℕ)) (givens : List ℕ) (cells : List CellNumber) (lines : List CertLine) (cert : Certificate) (height width : ℕ) → IsPicture picture → NamesGivens picture givens cells → height ≡ length picture → width ≡ width_of picture → blank ≡ nothing_excluded height width → GivesBase picture blank cells (Ok tt) start → start ≡ with_givens picture cells blank → WritesTree picture start (Some lines) → cert.givens ≡ cells → cert.lines ≡ lines → (cert.version ≡ 1) ↔ (cells ≡ []) → Makes picture givens (Some cert)
+makes_some picture blank start givens cells lines cert height width is names h w b base e t g l v =
     let P : List (List ℕ) → Type 0 = λ f. GivesBase picture f cells (Ok tt) start in
-    some_made picture start givens cells lines cert is names (subst P (root_is picture blank start cells height width h w b) base) t.1 g l v
+    some_made picture start givens cells lines cert is names (subst P (root_is picture blank start cells height width h w b) base) (e ∙ ap (with_givens picture cells) (root_is picture blank start cells height width h w b)) t.1 t.2 g l v
 
 pub ruleset making = (makes_none, makes_some)

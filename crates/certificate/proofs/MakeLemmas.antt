@@ -18,7 +18,7 @@ use Rattle.certificate.specs.declared.line.CertLine.TheVariants.{Line, Split, De
 use Rattle.certificate.specs.declared.notes.Note.{Note}
 use Rattle.certificate.specs.Cert.{AreWritable}
 use Rattle.certificate.specs.FirstFault.{HasFault, Leads}
-use Rattle.certificate.specs.Making.{CanWrite, HasNoFault, ShowsOther, WritesTree}
+use Rattle.certificate.specs.Making.{CanWrite, EachExcludes, HasNoFault, ShowsOther, WritesTree}
 use Rattle.certificate.specs.Puzzle.{colours_of, held}
 use Rattle.certificate.specs.Walk.{Takes, pending, waiting}
 
@@ -106,12 +106,14 @@ led_within law picture start facts Done next l w = let P : List (List (List ℕ)
 pub record SoFar (picture start : List (List ℕ)) (waits : List (List (List ℕ))) (lines : List CertLine) : Type 0 where
   pub goes : (behind : List CertLine) → HasNoFault picture waits behind → HasNoFault picture (start ∷ []) (lines ++ behind)
   pub writable : (behind : List CertLine) → AreWritable behind → AreWritable (lines ++ behind)
+  pub excludes : (behind : List CertLine) → EachExcludes picture waits behind → EachExcludes picture (start ∷ []) (lines ++ behind)
   pub within : EachWithin start waits
 
 pub start_so_far : (picture start : List (List ℕ)) → SoFar picture start (start ∷ []) []
 start_so_far picture start = record {
   goes = λ behind h. h;
   writable = λ behind w. w;
+  excludes = λ behind h. h;
   within = (record { same_shape = record { rows = refl; each = λ i. refl }; leaves = λ row col k l. l }, tt);
 }
 
@@ -124,6 +126,9 @@ more_so_far law picture start facts others next lines new line e can leads so_fa
           let Q : List CertLine → Type 0 = HasNoFault picture (start ∷ []) in
           subst Q (sym (append_assoc lines (line ∷ []) behind)) (so_far.goes (line ∷ behind) (λ n. inr (next, (leads, h (n + 1)))));
       writable = λ behind w. subst AreWritable (sym (append_assoc lines (line ∷ []) behind)) (so_far.writable (line ∷ behind) (can.1, w));
+      excludes = λ behind h.
+          let Q : List CertLine → Type 0 = EachExcludes picture (start ∷ []) in
+          subst Q (sym (append_assoc lines (line ∷ []) behind)) (so_far.excludes (line ∷ behind) (can.2, (next, (leads, h))));
       within = both_within start next others (led_within law picture start facts line next leads so_far.within.0) so_far.within.1;
     })
 
@@ -137,8 +142,11 @@ taken_so_far law picture start facts gained notes left lines new line n going e 
 pub whole_tree : (picture start facts : List (List ℕ)) (notes : List Note) (lines : List CertLine) (going : Bool) → going ≡ false → SoFar picture start (waiting going facts notes) lines → WritesTree picture start (Some lines)
 whole_tree picture start facts notes lines going e so_far =
     let P : Bool → Type 0 = λ b. SoFar picture start (waiting b facts notes) lines in
-    let s = subst P e so_far in
-    (subst AreWritable (append-nil lines) (s.writable [] tt), (let Q : List CertLine → Type 0 = HasNoFault picture (start ∷ []) in subst Q (append-nil lines) (s.goes [] (λ n. refl))))
+    let s = subst P e so_far in (
+      subst AreWritable (append-nil lines) (s.writable [] tt),
+      (let Q : List CertLine → Type 0 = HasNoFault picture (start ∷ []) in subst Q (append-nil lines) (s.goes [] (λ n. refl))),
+      (let Q : List CertLine → Type 0 = EachExcludes picture (start ∷ []) in subst Q (append-nil lines) (s.excludes [] tt)),
+    )
 
 -- another picture
 pub no_tree : (picture start facts : List (List ℕ)) (notes : List Note) (lines : List CertLine) → SoFar picture start (waiting true facts notes) lines → ShowsOther picture facts → WritesTree picture start None

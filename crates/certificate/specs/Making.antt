@@ -14,8 +14,8 @@ use Rattle.certificate.specs.declared.line.LineNumber.{LineNumber}
 use Rattle.certificate.specs.declared.line.CertLine.{CertLine}
 use Rattle.certificate.specs.declared.line.CertLine.TheVariants.{Line, Split, Dead, Done}
 use Rattle.certificate.specs.Cert.{AreOrdered, AreWritable, Certificate, IsWritable}
-use Rattle.certificate.specs.FirstFault.{CertFirstFault, FirstFault}
-use Rattle.certificate.specs.Puzzle.{HasCellNumber, HasCellNumbers, HasLineNumber, IsDead, IsUnique, ShowsOnly, base_of, line_id}
+use Rattle.certificate.specs.FirstFault.{CertFirstFault, FirstFault, Leads}
+use Rattle.certificate.specs.Puzzle.{HasCellNumber, HasCellNumbers, HasLineNumber, IsDead, IsForced, IsUnique, ShowsOnly, base_of, line_id}
 use Rattle.certificate.specs.Text.{cell_number}
 use Rattle.certificate.specs.Tree.{IsProof}
 
@@ -28,9 +28,16 @@ Stands picture facts (Split cell) = HasCellNumber picture cell
 Stands picture facts (Dead number) = HasLineNumber picture number × IsDead picture facts (line_id number)
 Stands picture facts Done = ShowsOnly picture facts
 
+-- a `line` excludes something: the facts with all that it forces are others
+abbrev pub Excludes : List (List ℕ) → List (List ℕ) → CertLine → Type 0
+Excludes picture facts (Line number) = (gained : List (List ℕ)) → IsForced picture facts (line_id number) gained → gained ≡ facts → ⊥
+Excludes picture facts (Split cell) = Unit {0}
+Excludes picture facts (Dead number) = Unit {0}
+Excludes picture facts Done = Unit {0}
+
 -- a line that may come next
 abbrev pub CanWrite : List (List ℕ) → List (List ℕ) → CertLine → Type 0
-CanWrite picture facts line = Stands picture facts line × IsWritable line
+CanWrite picture facts line = Stands picture facts line × IsWritable line × Excludes picture facts line
 
 -- no cell of a row has two colours left
 abbrev pub IsSingleRow : List (List ℕ) → ℕ → Type 0
@@ -64,6 +71,14 @@ pub record ShowsOther (picture facts : List (List ℕ)) : Type 0 where
 abbrev pub HasNoFault : List (List ℕ) → List (List (List ℕ)) → List CertLine → Type 0
 HasNoFault picture waits lines = (n : ℕ) → FirstFault picture waits n lines None
 
+-- each `line` excludes something, where branches with these facts wait
+abbrev pub EachExcludes : List (List ℕ) → List (List (List ℕ)) → List CertLine → Type 0
+EachExcludes picture [] [] = Unit {0}
+EachExcludes picture (facts ∷ others) [] = Unit {0}
+EachExcludes picture [] (line ∷ lines) = Unit {0}
+EachExcludes picture (facts ∷ others) (line ∷ lines) =
+    Excludes picture facts line × ((next : List (List (List ℕ))) × (Leads picture facts line next × EachExcludes picture (next ++ others) lines))
+
 abbrev pub lines_seen : Option (Vec CertLine Global) → Option (List CertLine)
 lines_seen None = None
 lines_seen (Some lines) = Some lines.items
@@ -71,7 +86,7 @@ lines_seen (Some lines) = Some lines.items
 -- The lines of a tree that proves the picture from facts; or facts that exclude no less and show another picture.
 abbrev pub WritesTree : List (List ℕ) → List (List ℕ) → Option (List CertLine) → Type 0
 WritesTree picture start None = (facts : List (List ℕ)) × (IsWithin start facts × ShowsOther picture facts)
-WritesTree picture start (Some lines) = AreWritable lines × HasNoFault picture (start ∷ []) lines
+WritesTree picture start (Some lines) = AreWritable lines × HasNoFault picture (start ∷ []) lines × EachExcludes picture (start ∷ []) lines
 
 -- ---- the certificate
 
@@ -108,7 +123,7 @@ pub record IsOtherPicture (picture : List (List ℕ)) (givens : List ℕ) (other
   pub differs : other ≡ picture → ⊥
 
 -- A certificate with exactly these givens that has no fault: so it proves the picture, and there is no other with its givens or,
--- which is the same, those of the set. It has version 1 exactly where there are none.
+-- which is the same, those of the set. It has version 1 exactly where there are none, and each `line` excludes something.
 pub record IsMade (picture : List (List ℕ)) (givens : List ℕ) (cert : Certificate) : Type 0 where
   pub accepted : CertFirstFault picture cert None
   pub proof : IsProof picture cert
@@ -116,6 +131,7 @@ pub record IsMade (picture : List (List ℕ)) (givens : List ℕ) (cert : Certif
   pub no_other : (other : List (List ℕ)) → IsOtherPicture picture givens other → ⊥
   pub names : NamesGivens picture givens cert.givens
   pub version : (cert.version ≡ 1) ↔ (cert.givens ≡ [])
+  pub excludes : EachExcludes picture (base_of picture cert.givens ∷ []) cert.lines
 
 -- a certificate, or there is another picture
 abbrev pub Makes : List (List ℕ) → List ℕ → Option Certificate → Type 0

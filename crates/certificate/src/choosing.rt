@@ -1,7 +1,7 @@
 //! Which line of a certificate comes next.
 
-ghost use Rattle.std.specs.Prelude.{◌≡◌, ◌<◌, ◌↔◌, ℕ, false, length, IfSome, IsTrue, MatchOption};
-ghost use Rattle.picture.specs.Rows.{HasLine, width_of};
+ghost use Rattle.std.specs.Prelude.{◌≡◌, ◌<◌, ◌≤◌, ◌↔◌, ℕ, false, length, IfSome, IsTrue, MatchOption};
+ghost use Rattle.picture.specs.Rows.{HasLine, line_of, width_of};
 ghost use Rattle.line_settle.specs.FactSets.{Leaves, SameShape};
 ghost use Rattle.certificate.specs.Making.{AreAlive, AreSingle, CanWrite, IsAlive, IsSingleRow, Numbers, ShowsOther, numbered};
 ghost use Rattle.certificate.specs.Puzzle.{HasCellNumber};
@@ -31,7 +31,39 @@ fn number_of(line: LineId) -> LineNumber
 }
 
 #[tactic(auto, using(crate::proofs::ChoiceLemmas::lines_of_pictures))]
-// What a line of the picture gives: that it is dead, or what it forces where that is more than is known.
+// What a line of the picture gives: that it is dead, or what it forces where that is more than is known. The buffers are as
+// long as the line.
+fn try_by<E: LineEngine>(
+    engine: &mut E,
+    picture: &Picture,
+    book: &ClueBook,
+    facts: &Facts,
+    due: &mut LineSet,
+    line: LineId,
+    left: &mut [u16],
+    out: &mut [u16],
+) -> Option<CertLine>
+    requires can { CanCheck picture.now book.now (E.longest engine.old) }
+    requires same_shape { SameShape picture.now facts.now }
+    requires line { HasLine picture.now line }
+    requires left_whole { length left.old ≡ length (line_of facts.now line) }
+    requires out_whole { length out.old ≡ length (line_of facts.now line) }
+    requires short { length out.old ≤ MAX_SIDE }
+    ensures writes { IfSome result (CanWrite picture.now facts.now) }
+    ensures same_longest { E.longest engine.new ≡ E.longest engine.old }
+{
+    facts.copy_line(line, left);
+    match narrow_line(engine, facts, book.clue(line), line, out) {
+        Outcome::Dead => Some(CertLine::Dead(number_of(line))),
+        Outcome::Narrowed if put_crossing(due, line.axis, left, out) => {
+            Some(CertLine::Line(number_of(line)))
+        }
+        Outcome::Narrowed => None,
+    }
+}
+
+#[tactic(auto, using(crate::proofs::ChoiceLemmas::lines_of_pictures))]
+// The same, with buffers of its own.
 fn try_line<E: LineEngine>(
     engine: &mut E,
     picture: &Picture,
@@ -49,14 +81,16 @@ fn try_line<E: LineEngine>(
     let mut left = [0; MOST_CELLS];
     let mut out = [0; MOST_CELLS];
     let cells = usize::from(facts.line_len(line));
-    facts.copy_line(line, &mut left[..cells]);
-    match narrow_line(engine, facts, book.clue(line), line, &mut out[..cells]) {
-        Outcome::Dead => Some(CertLine::Dead(number_of(line))),
-        Outcome::Narrowed if put_crossing(due, line.axis, &left[..cells], &out[..cells]) => {
-            Some(CertLine::Line(number_of(line)))
-        }
-        Outcome::Narrowed => None,
-    }
+    try_by(
+        engine,
+        picture,
+        book,
+        facts,
+        due,
+        line,
+        &mut left[..cells],
+        &mut out[..cells],
+    )
 }
 
 #[tactic(auto, using(crate::proofs::ChoiceLemmas::lines_of_pictures))]

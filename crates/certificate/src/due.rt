@@ -1,7 +1,7 @@
 //! The lines that are due: those that may force something, since a cell of theirs has changed. They decide how long a
 //! certificate is and how soon it is made, and no clause speaks of them.
 
-ghost use Rattle.std.specs.Prelude.{◌≡◌, ◌≤◌, length};
+ghost use Rattle.std.specs.Prelude.{◌≡◌, ◌≤◌, length, IsTrue};
 
 use crate::line::CertLine;
 use crate::notes::Note;
@@ -28,6 +28,7 @@ fn put_due(due: &mut LineSet, axis: Axis, at: u8) {
 pub(crate) fn put_crossing(due: &mut LineSet, axis: Axis, left: &[u16], out: &[u16]) -> bool
     requires same_length { length out.now ≡ length left.now }
     requires short { length left.now ≤ MAX_SIDE }
+    ensures changed { IsTrue result → left.now ≡ out.now → ⊥ }
 {
     let crossing = match axis {
         Axis::Across => Axis::Down,
