@@ -5,6 +5,8 @@ mod bench;
 mod certifying;
 pub mod laws;
 mod making;
+#[cfg(test)]
+mod tests;
 mod verdict;
 mod why;
 mod work;

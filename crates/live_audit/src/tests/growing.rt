@@ -1,0 +1,173 @@
+//! Each growth of memory may be refused. Where the check runs these tests none is, and `bench/refuse_bench.sh` runs them again
+//! and again with another one refused each time.
+
+use super::shown::{clue_at, shows};
+use super::*;
+use crate::Why;
+
+// Whether a growth may be refused, or none is.
+#[derive(Clone, Copy, PartialEq, Eq)]
+enum Memory {
+    Refused,
+    Ample,
+}
+
+// What a bench shows of a picture of one row of two cells.
+#[derive(Clone, Copy)]
+struct State {
+    cells: [u8; 2],
+    left: [u16; 2],
+    colours: u8,
+    blocks: [usize; 3],
+    steps: usize,
+    evaluations: u64,
+    past: usize,
+    future: usize,
+}
+
+const STARTED: State = State {
+    cells: [0, 0],
+    left: [1, 1],
+    colours: 1,
+    blocks: [0, 0, 0],
+    steps: 1,
+    evaluations: 3,
+    past: 0,
+    future: 0,
+};
+
+const WITH_BLACK: State = State {
+    colours: 2,
+    evaluations: 0,
+    past: 1,
+    ..STARTED
+};
+
+const PAINTED: State = State {
+    cells: [0, 1],
+    left: [1, 2],
+    colours: 2,
+    blocks: [1, 0, 1],
+    steps: 3,
+    evaluations: 4,
+    past: 2,
+    future: 0,
+};
+
+// The step of the first column stands, which is without colour 1 as before. The row draws the rest at once.
+const UNDONE: State = State {
+    steps: 2,
+    past: 1,
+    future: 1,
+    evaluations: 3,
+    ..WITH_BLACK
+};
+
+// That step stands once more.
+const REDONE: State = State {
+    steps: 2,
+    evaluations: 3,
+    ..PAINTED
+};
+
+fn blocks_of(rt: &impl Abort, clues: &ClueBook) -> [usize; 3] {
+    [
+        clue_at(rt, clues, Axis::Across, 0).blocks().len(),
+        clue_at(rt, clues, Axis::Down, 0).blocks().len(),
+        clue_at(rt, clues, Axis::Down, 1).blocks().len(),
+    ]
+}
+
+// Compares all that a bench shows.
+fn is_in<E: LineEngine + Drop, A: Agenda + Drop>(
+    rt: &impl Abort,
+    bench: &Bench<E, A>,
+    state: &State,
+) {
+    shows(rt, bench, &state.cells, &state.left);
+    assert_eq!(rt; bench.document().palette.len(), state.colours);
+    assert_eq!(rt; bench.document().givens.len(), 0);
+    assert_eq!(rt; blocks_of(rt, bench.clues()), state.blocks);
+    assert_eq!(rt; bench.book().steps().len(), state.steps);
+    assert_eq!(rt; bench.work().edit.evaluations, state.evaluations);
+    assert_eq!(rt; bench.past_len(), state.past);
+    assert_eq!(rt; bench.future_len(), state.future);
+}
+
+// Makes a stroke. Where a growth is refused nothing has changed, and it is made again.
+fn makes<E: LineEngine + Drop, A: Agenda + Drop>(
+    rt: &impl Abort,
+    memory: Memory,
+    bench: &mut Bench<E, A>,
+    call: Call,
+    before: &State,
+    after: &State,
+) {
+    if let Some(fault) = answer(bench, call) {
+        assert!(rt; memory == Memory::Refused && fault == EditFault::Memory);
+        is_in(rt, bench, before);
+        assert!(rt; answer(bench, call).is_none());
+    }
+    is_in(rt, bench, after);
+}
+
+// The first value, or the second one where a growth was refused.
+fn first_of<T: Drop>(
+    rt: &impl Abort,
+    memory: Memory,
+    first: Result<T, AllocError>,
+    second: Result<T, AllocError>,
+) -> T {
+    match first {
+        Ok(value) => value,
+        Err(_) => {
+            assert!(rt; memory == Memory::Refused);
+            second.expect(rt, "only one growth is refused")
+        }
+    }
+}
+
+// A bench with a blank row of two cells.
+fn started(alloc: Global) -> Result<Bench<MaskEngine, InOrder>, AllocError> {
+    let engine = MaskEngine::make(alloc, 120)?;
+    let document = blank(alloc, 1, 2)?;
+    let _ = engine.longest();
+    Bench::start(alloc, document, 2, engine, InOrder::make())
+}
+
+// Asks why the first cell does not have colour 1: its column has no block.
+fn asks_why(rt: &impl Abort, memory: Memory, bench: &Bench<MaskEngine, InOrder>) {
+    let picture = &bench.document().picture;
+    assert!(rt; picture.height() == 1 && picture.width() == 2);
+    let why = first_of(rt, memory, bench.why(0, 0, 1), bench.why(0, 0, 1));
+    assert!(rt; matches!(why, Why::By(_)));
+}
+
+// Starts a bench and makes strokes.
+fn goes_on(rt: &impl Abort, alloc: Global, memory: Memory) {
+    let mut bench = first_of(rt, memory, started(alloc), started(alloc));
+    is_in(rt, &bench, &STARTED);
+    makes(rt, memory, &mut bench, add(BLACK), &STARTED, &WITH_BLACK);
+    makes(
+        rt,
+        memory,
+        &mut bench,
+        paint(0, 1, 1),
+        &WITH_BLACK,
+        &PAINTED,
+    );
+    asks_why(rt, memory, &bench);
+    is_in(rt, &bench, &PAINTED);
+    makes(rt, memory, &mut bench, Call::Undo, &PAINTED, &UNDONE);
+    makes(rt, memory, &mut bench, Call::Redo, &UNDONE, &REDONE);
+}
+
+#[test]
+fn a_refused_growth_changes_nothing(rt: HostRuntime) {
+    goes_on(&rt, rt.alloc(), Memory::Refused);
+}
+
+#[test]
+fn ample_memory_is_enough(rt: HostRuntime) {
+    goes_on(&rt, rt.alloc(), Memory::Ample);
+}
