@@ -2,6 +2,7 @@ ghost use Rattle.std.specs.Prelude.{◌≡◌, ◌≤◌, ℕ, List, length, IfO
 ghost use Rattle.picture.specs.Rows.{width_of};
 ghost use Rattle.clues.specs.Change.{IsChangeOf};
 ghost use Rattle.clues.specs.ClueBook.{clues_of};
+ghost use Rattle.line_settle.specs.Counting.{Counts};
 ghost use Rattle.line_settle.specs.FactSets.{IsLeast};
 ghost use Rattle.propagate.specs.declared.fault.CloseFault.TheVariants as fault;
 ghost use Rattle.kept_audit.specs.Audit.{GoesOn, IsAnew, IsAudit, IsBaseOf};
@@ -38,12 +39,15 @@ pub fn audit_anew<E: LineEngine, A: Agenda>(
     requires tall { length picture.now ≤ E.longest engine.old }
     ensures audit { IfOk result (λ audit. IsAudit picture.now base audit.clues audit.book) }
     ensures work { IfOk result (λ audit. IsAnew base audit.book meter.old meter.new (E.calls engine.old) (E.calls engine.new)) }
+    ensures counts { (evaluations : ℕ) × Counts evaluations 0 meter.old meter.new (E.calls engine.old) (E.calls engine.new) }
     ensures memory { IfErr result (λ e. e ≡ fault.Memory) }
     ensures same_longest { E.longest engine.new ≡ E.longest engine.old }
 {
     clues_are_of_lines();
     closing_keeps_fillings();
-    let _ = picture.height();
+    let _ = (picture.height(), engine.calls());
+    let _evaluations = meter.evaluations;
+    let _trials = meter.trials;
     let clues = ClueBook::of(alloc, picture)?;
     let book = Book::start(alloc, base)?;
     let dirty = all_lines(book.facts());
@@ -75,6 +79,7 @@ pub fn audit_again<E: LineEngine, A: Agenda>(
         → IfOk result (λ audit. audit.book.facts ≡ facts) }
     ensures goes_on { IfOk result (λ audit. GoesOn change.now.moves before.now.clues audit.clues before.now.book audit.book
         meter.old meter.new (E.calls engine.old) (E.calls engine.new)) }
+    ensures counts { (evaluations : ℕ) × Counts evaluations 0 meter.old meter.new (E.calls engine.old) (E.calls engine.new) }
     ensures memory { IfErr result (λ e. e ≡ fault.Memory) }
     ensures same_longest { E.longest engine.new ≡ E.longest engine.old }
 {
@@ -82,7 +87,9 @@ pub fn audit_again<E: LineEngine, A: Agenda>(
     untouched_clues_stand();
     closing_keeps_fillings();
     least_is_unique();
-    let _ = new.height();
+    let _ = (new.height(), engine.calls());
+    let _evaluations = meter.evaluations;
+    let _trials = meter.trials;
     let clues = before.clues.refresh(new, change)?;
     let Kept { book, dirty } = keep(alloc, &before.book, &before.clues, &clues, change, base)?;
     let _ = book.facts();
