@@ -15,6 +15,7 @@ mod listing;
 mod rows;
 mod shown;
 mod standing;
+mod verdicts;
 mod walk;
 
 const WHITE: Rgb = Rgb {
