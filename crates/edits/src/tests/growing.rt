@@ -1,4 +1,4 @@
-//! Each growth of memory may be refused. Where the check runs these tests none is, and `bench/refuse_edits.sh` runs
+//! Each growth of memory may be refused. Where the check runs these tests none is, and `bench/refuse.sh` runs the first of
 //! them again and again with another one refused each time.
 
 use super::history::{Call, fault_of, shows};

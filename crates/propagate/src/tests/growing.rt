@@ -1,5 +1,5 @@
-//! Each growth of memory may be refused. Where the check runs these tests none is, and `bench/refuse_book.sh` runs them
-//! again and again with another one refused each time.
+//! Each growth of memory may be refused. Where the check runs these tests none is, and `bench/refuse.sh` runs the first of
+//! them again and again with another one refused each time.
 
 use super::books::{close_all, column, row, run};
 use super::shows;

@@ -1,0 +1,56 @@
+#!/usr/bin/env bash
+# Refuses each growth of memory in turn, in each crate whose tests call again after a refusal. Until no growth is left to
+# refuse, that test must pass each time: each refused call answers by memory and leaves what it was lent as it was. The tests
+# are built as `rt test` builds them, and malloc and realloc are refused from outside, by a library that is loaded before the
+# C library. It takes seconds, once the tests are built and proved.
+# Usage: bench/refuse.sh [crate ..]   (all such crates)
+set -euo pipefail
+root=$(cd "$(dirname "$0")/.." && pwd)
+[ $# -gt 0 ] || set -- edits justify retract propagate certificate live_audit
+work=$(mktemp -d)
+trap 'rm -rf "$work"' EXIT
+cat >"$work/refuse.c" <<'C'
+#define _GNU_SOURCE
+#include <dlfcn.h>
+#include <stdlib.h>
+#include <unistd.h>
+static long asked, refused;
+static int is_refused(void) {
+    if (refused == 0) refused = atol(getenv("REFUSED"));
+    if (++asked != refused) return 0;
+    return write(2, "refused\n", 8) == 8;
+}
+void *malloc(size_t size) {
+    static void *(*real)(size_t);
+    if (!real) real = dlsym(RTLD_NEXT, "malloc");
+    return is_refused() ? NULL : real(size);
+}
+void *realloc(void *old, size_t size) {
+    static void *(*real)(void *, size_t);
+    if (!real) real = dlsym(RTLD_NEXT, "realloc");
+    return is_refused() ? NULL : real(old, size);
+}
+C
+cc -O1 -shared -fPIC -o "$work/refuse.so" "$work/refuse.c"
+
+# Refuses the growths of one crate's test, one a run.
+refuse_all() {
+    local crate=$1 tests=$root/crates/$1/out/$1_tests n
+    [ -x "$tests" ] || (cd "$root/crates/$crate" && rt test >/dev/null)
+    for n in $(seq 1 10000); do
+        REFUSED=$n LD_PRELOAD=$work/refuse.so "$tests" tests::growing::a_refused_growth_changes_nothing >"$work/out" 2>&1 || {
+            echo "$crate, growth $n: the test that calls again fails" >&2
+            return 1
+        }
+        grep -qx refused "$work/out" || {
+            echo "$crate: each of $((n - 1)) growths refused in turn changes nothing; then none is refused"
+            return
+        }
+    done
+    echo "$crate: more than 10000 growths" >&2
+    return 1
+}
+
+for crate; do
+    refuse_all "$crate"
+done
