@@ -10,6 +10,7 @@ use propagate::{Agenda, InOrder, NewestFirst};
 use std::alloc::{AllocError, Global};
 use std::process::Abort;
 
+mod certificates;
 mod growing;
 mod listing;
 mod rows;

@@ -1,9 +1,10 @@
-//! Each growth of memory may be refused. Where the check runs these tests none is, and `bench/refuse_bench.sh` runs them again
-//! and again with another one refused each time.
+//! Each growth of memory may be refused. Where the check runs these tests none is, and `bench/refuse.sh` runs the first of
+//! them again and again with another one refused each time.
 
-use super::shown::{clue_at, shows};
+use super::shown::{Shown, clue_at, copy_of, is_as_before, shows};
+use super::verdicts::{is_other, took};
 use super::*;
-use crate::Why;
+use crate::{Verdict, Why};
 
 // Whether a growth may be refused, or none is.
 #[derive(Clone, Copy, PartialEq, Eq)]
@@ -127,12 +128,21 @@ fn first_of<T: Drop>(
     }
 }
 
-// A bench with a blank row of two cells.
-fn started(alloc: Global) -> Result<Bench<MaskEngine, InOrder>, AllocError> {
+// A bench that can take back two edits.
+fn begun(alloc: Global, document: Document) -> Result<Bench<MaskEngine, InOrder>, AllocError> {
     let engine = MaskEngine::make(alloc, 120)?;
-    let document = blank(alloc, 1, 2)?;
     let _ = engine.longest();
     Bench::start(alloc, document, 2, engine, InOrder::make())
+}
+
+// A bench with a blank row of two cells.
+fn started(alloc: Global) -> Result<Bench<MaskEngine, InOrder>, AllocError> {
+    begun(alloc, blank(alloc, 1, 2)?)
+}
+
+// A bench with two blank rows of two cells.
+fn square(alloc: Global) -> Result<Bench<MaskEngine, InOrder>, AllocError> {
+    begun(alloc, blank(alloc, 2, 2)?)
 }
 
 // Asks why the first cell does not have colour 1: its column has no block.
@@ -162,12 +172,145 @@ fn goes_on(rt: &impl Abort, alloc: Global, memory: Memory) {
     makes(rt, memory, &mut bench, Call::Redo, &UNDONE, &REDONE);
 }
 
+// A copy of all that a bench shows.
+fn look_at<E: LineEngine + Drop, A: Agenda + Drop>(
+    rt: &impl Abort,
+    memory: Memory,
+    bench: &Bench<E, A>,
+) -> Shown {
+    first_of(rt, memory, copy_of(bench), copy_of(bench))
+}
+
+// Stops where no growth is refused, or where what a bench shows is not as before.
+fn was_refused<E: LineEngine + Drop, A: Agenda + Drop>(
+    rt: &impl Abort,
+    memory: Memory,
+    before: &Shown,
+    bench: &Bench<E, A>,
+) {
+    assert!(rt; memory == Memory::Refused);
+    is_as_before(rt, before, bench);
+}
+
+// Makes an edit, if need be again.
+fn edits<E: LineEngine + Drop, A: Agenda + Drop>(
+    rt: &impl Abort,
+    memory: Memory,
+    bench: &mut Bench<E, A>,
+    call: Call,
+) {
+    let before = look_at(rt, memory, bench);
+    if let Some(fault) = answer(bench, call) {
+        assert!(rt; fault == EditFault::Memory);
+        was_refused(rt, memory, &before, bench);
+        assert!(rt; answer(bench, call).is_none());
+    }
+}
+
+// What a verdict says, but for the other picture.
+#[derive(Clone, Copy, PartialEq, Eq)]
+enum Said {
+    Unique,
+    Ambiguous,
+    Undecided(u32),
+}
+
+fn says<E: LineEngine + Drop, A: Agenda + Drop>(
+    bench: &mut Bench<E, A>,
+) -> Result<Said, AllocError> {
+    let said = match bench.verdict()? {
+        Verdict::Unique => Said::Unique,
+        Verdict::Ambiguous(_) => Said::Ambiguous,
+        Verdict::Undecided { splits } => Said::Undecided(splits),
+    };
+    Ok(said)
+}
+
+// Asks for the verdict, if need be again, and compares what it says, and what parts and splits it took.
+fn judges<E: LineEngine + Drop, A: Agenda + Drop>(
+    rt: &impl Abort,
+    memory: Memory,
+    bench: &mut Bench<E, A>,
+    verdict: Said,
+    parts: u32,
+    splits: u32,
+) {
+    let before = look_at(rt, memory, bench);
+    let said = match says(bench) {
+        Ok(said) => said,
+        Err(_) => {
+            was_refused(rt, memory, &before, bench);
+            says(bench).expect(rt, "only one growth is refused")
+        }
+    };
+    assert!(rt; said == verdict);
+    took(rt, bench, parts, splits);
+}
+
+// Sets an allowance, for which no growth is refused and by which nothing is shown otherwise.
+fn allows<E: LineEngine + Drop, A: Agenda + Drop>(
+    rt: &impl Abort,
+    memory: Memory,
+    bench: &mut Bench<E, A>,
+    splits: u32,
+) {
+    let before = look_at(rt, memory, bench);
+    assert!(rt; splits <= 1);
+    bench.allow(Some(splits));
+    is_as_before(rt, &before, bench);
+}
+
+// Asks for a certificate, if need be again, after which all is as before: one with a given, or none.
+fn certifies<E: LineEngine + Drop, A: Agenda + Drop>(
+    rt: &impl Abort,
+    memory: Memory,
+    bench: &mut Bench<E, A>,
+    is_there: bool,
+) {
+    let before = look_at(rt, memory, bench);
+    let cert = match bench.certify() {
+        Ok(cert) => cert,
+        Err(_) => {
+            was_refused(rt, memory, &before, bench);
+            bench.certify().expect(rt, "only one growth is refused")
+        }
+    };
+    is_as_before(rt, &before, bench);
+    assert_eq!(rt; cert.is_some(), is_there);
+    if let Some(cert) = cert {
+        assert_eq!(rt; cert.givens_len(), 1);
+    }
+}
+
+// Draws a diagonal and asks for verdicts and certificates. A verdict that is kept takes no memory.
+fn asks_on(rt: &impl Abort, alloc: Global, memory: Memory) {
+    let mut bench = first_of(rt, memory, square(alloc), square(alloc));
+    for call in [add(BLACK), paint(0, 0, 1), paint(1, 1, 1)] {
+        edits(rt, memory, &mut bench, call);
+    }
+    allows(rt, memory, &mut bench, 0);
+    judges(rt, memory, &mut bench, Said::Undecided(0), 1, 0);
+    certifies(rt, memory, &mut bench, false);
+    allows(rt, memory, &mut bench, 1);
+    judges(rt, memory, &mut bench, Said::Ambiguous, 1, 1);
+    certifies(rt, memory, &mut bench, false);
+    allows(rt, memory, &mut bench, 0);
+    is_other(rt, &mut bench, &[0, 1, 1, 0]);
+    took(rt, &bench, 0, 0);
+    let pin = Call::Make(Edit::Pin { row: 0, col: 0 });
+    edits(rt, memory, &mut bench, pin);
+    judges(rt, memory, &mut bench, Said::Unique, 0, 0);
+    certifies(rt, memory, &mut bench, true);
+}
+
 #[test]
 fn a_refused_growth_changes_nothing(rt: HostRuntime) {
     goes_on(&rt, rt.alloc(), Memory::Refused);
+    asks_on(&rt, rt.alloc(), Memory::Refused);
 }
 
 #[test]
 fn ample_memory_is_enough(rt: HostRuntime) {
     goes_on(&rt, rt.alloc(), Memory::Ample);
+    asks_on(&rt, rt.alloc(), Memory::Ample);
 }

@@ -15,18 +15,24 @@ pub struct Shown {
     pub work: Work,
 }
 
+pub fn copy_of<E: LineEngine + Drop, A: Agenda + Drop>(
+    bench: &Bench<E, A>,
+) -> Result<Shown, AllocError> {
+    Ok(Shown {
+        document: bench.document().copy()?,
+        clues: bench.clues().copy()?,
+        book: bench.book().copy()?,
+        past: bench.past_len(),
+        future: bench.future_len(),
+        work: bench.work(),
+    })
+}
+
 pub fn look_at<E: LineEngine + Drop, A: Agenda + Drop>(
     rt: &impl Abort,
     bench: &Bench<E, A>,
 ) -> Shown {
-    Shown {
-        document: bench.document().copy().expect(rt, "memory"),
-        clues: bench.clues().copy().expect(rt, "memory"),
-        book: bench.book().copy().expect(rt, "memory"),
-        past: bench.past_len(),
-        future: bench.future_len(),
-        work: bench.work(),
-    }
+    copy_of(bench).expect(rt, "memory")
 }
 
 // Stops where a bench shows something else than before.

@@ -4,7 +4,7 @@ use super::*;
 use crate::Verdict;
 
 // Stops where a verdict is not that there is no other picture.
-fn is_unique<E: LineEngine + Drop, A: Agenda + Drop>(rt: &impl Abort, bench: &mut Bench<E, A>) {
+pub fn is_unique<E: LineEngine + Drop, A: Agenda + Drop>(rt: &impl Abort, bench: &mut Bench<E, A>) {
     match bench.verdict().expect(rt, "memory") {
         Verdict::Unique => {}
         _ => assert!(rt; false),
@@ -12,7 +12,7 @@ fn is_unique<E: LineEngine + Drop, A: Agenda + Drop>(rt: &impl Abort, bench: &mu
 }
 
 // Stops where a verdict does not show the other picture that has these cells, row after row.
-fn is_other<E: LineEngine + Drop, A: Agenda + Drop>(
+pub fn is_other<E: LineEngine + Drop, A: Agenda + Drop>(
     rt: &impl Abort,
     bench: &mut Bench<E, A>,
     cells: &[u8],
@@ -24,7 +24,7 @@ fn is_other<E: LineEngine + Drop, A: Agenda + Drop>(
 }
 
 // Stops where a verdict is not left undecided at an allowance.
-fn is_undecided<E: LineEngine + Drop, A: Agenda + Drop>(
+pub fn is_undecided<E: LineEngine + Drop, A: Agenda + Drop>(
     rt: &impl Abort,
     bench: &mut Bench<E, A>,
     allowed: u32,
@@ -35,7 +35,7 @@ fn is_undecided<E: LineEngine + Drop, A: Agenda + Drop>(
     }
 }
 
-fn has_cells(rt: &impl Abort, picture: &Picture, cells: &[u8]) {
+pub fn has_cells(rt: &impl Abort, picture: &Picture, cells: &[u8]) {
     let (height, width) = (usize::from(picture.height()), usize::from(picture.width()));
     assert!(rt; width > 0);
     assert_eq!(rt; cells.len(), height.wrapping_mul(width));
@@ -46,7 +46,7 @@ fn has_cells(rt: &impl Abort, picture: &Picture, cells: &[u8]) {
 }
 
 // Stops where the last verdict searched other numbers of parts and splits.
-fn took<E: LineEngine + Drop, A: Agenda + Drop>(
+pub fn took<E: LineEngine + Drop, A: Agenda + Drop>(
     rt: &impl Abort,
     bench: &Bench<E, A>,
     parts: u32,
@@ -57,7 +57,7 @@ fn took<E: LineEngine + Drop, A: Agenda + Drop>(
 }
 
 // Stops where asking for the verdict calls the engine.
-fn searches_nothing<E: LineEngine + Drop, A: Agenda + Drop>(
+pub fn searches_nothing<E: LineEngine + Drop, A: Agenda + Drop>(
     rt: &impl Abort,
     bench: &mut Bench<E, A>,
 ) {
@@ -68,7 +68,7 @@ fn searches_nothing<E: LineEngine + Drop, A: Agenda + Drop>(
     assert_eq!(rt; bench.calls(), calls);
 }
 
-fn makes<E: LineEngine + Drop, A: Agenda + Drop>(
+pub fn makes<E: LineEngine + Drop, A: Agenda + Drop>(
     rt: &impl Abort,
     bench: &mut Bench<E, A>,
     call: Call,
