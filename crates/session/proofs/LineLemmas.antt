@@ -5,7 +5,7 @@ use Rattle.std.specs.Str.Lines.{strip_carriage_return}
 use Rattle.std.proofs.lemmas.Option.{cond_some}
 use Rattle.std.proofs.lemmas.Bool.{eqb-true, ltb-true, ltb-false, lt-leb}
 use Rattle.std.proofs.lemmas.Bool.Decides.{nat_tests}
-use Rattle.std.proofs.lemmas.List.{drop-take, length-take, take_all, take_min}
+use Rattle.std.proofs.lemmas.List.{drop-take, length-append, length-take, take_all, take_min}
 use Rattle.std.proofs.lemmas.Slice.{take-put_mid}
 use borrow.Rule.Slice.PartMut.{put_mid}
 use Rattle.std.proofs.Math.Seq.{take-append-add, drop-drop}
@@ -13,7 +13,7 @@ use Rattle.std.proofs.lemmas.List.Splits.{length-slice_split}
 use Rattle.std.specs.Io.KnownBytes.{Keeps}
 use Rattle.std.proofs.KnownBytes.{Consumes-kept, Consumes-nil, Consumes-trans}
 use Rattle.session.specs.declared.lines.Lines.{Lines}
-use Rattle.session.specs.Lines.{BreaksOff, CutsNone, CutsOne, Drafts, NoFeed, TakesPiece, Waits, all_pieces, ended_lines_of, ended_pieces, is_feed, lines_of, has_word, request_by, request_of}
+use Rattle.session.specs.Lines.{BreaksOff, CutsNone, CutsOne, Drafts, NoFeed, TakesPiece, Waits, all_pieces, ended_lines_of, ended_pieces, is_feed, lines_of, has_word, request_by, request_of, steps_left}
 use Rattle.session.specs.Parse.{command_of, command_of_words}
 use Rattle.session.specs.declared.fault.CommandFault.TheVariants.{LongLine}
 use Rattle.session.specs.declared.request.Request.TheVariants.{Nothing, Refused}
@@ -201,7 +201,7 @@ all_skipped taken now same = ap (λ (xs : List ℕ). drop (length xs) now) same 
 
 -- no byte has come yet
 pub drafts_none : (had : Option (List ℕ)) (l : Lines) → Drafts had had l l []
-drafts_none had l = record { came = []; read = Consumes-nil had; raw = []; cut = append-nil l.inbox; no_feed = tt; kept = refl; end = λ h. h }
+drafts_none had l = record { came = []; read = Consumes-nil had; raw = []; cut = append-nil l.inbox; no_feed = tt; kept = refl; end = λ h. h; behind = λ met. (refl, met); steps = omega arith }
 
 -- bytes came, and wait
 pub drafts_wait : (had mid have : Option (List ℕ)) (old now new : Lines) (draft : List ℕ) (more : Bool) → Drafts had mid old now draft → Waits mid have now new more → Drafts had have old new draft
@@ -213,11 +213,22 @@ drafts_wait had mid have old now new draft more d w = record {
   no_feed = d.no_feed;
   kept = d.kept;
   end = λ h. w.end (d.end h);
+  behind = λ met. let before = d.behind met in let after = w.behind before.1 in (ap (λ (xs : List ℕ). xs ++ w.came) before.0 ∙ after.0, after.1);
+  steps = omega (arith, w.steps, d.steps);
 }
 
+-- what came to the line is no longer than what waited
+piece_steps : (old now new : Lines) (draft more : List ℕ) → steps_left now + length draft ≤ steps_left old → TakesPiece now new draft more false → new.reads ≡ now.reads → steps_left new + length more ≤ steps_left old
+piece_steps old now new draft more before t r =
+    let len : length more ≤ length draft + length now.inbox =
+    let whole = ap length t.1.1 in let cut = length-take 202 (draft ++ now.inbox) in let all = length-append draft now.inbox in omega (arith, whole, cut, all) in
+    let none : length new.inbox ≡ 0 = ap length t.0 in
+    let same : 1048576 - new.reads ≡ 1048576 - now.reads = ap (λ n. 1048576 - n) r in
+    omega (arith, before, len, none, same)
+
 -- and all that waited came to the line
-pub drafts_piece : (had have : Option (List ℕ)) (old now new : Lines) (draft more : List ℕ) → Drafts had have old now draft → TakesPiece now new draft more false → new.ended ≡ now.ended → Drafts had have old new more
-drafts_piece had have old now new draft more d t e = record {
+pub drafts_piece : (had have : Option (List ℕ)) (old now new : Lines) (draft more : List ℕ) → Drafts had have old now draft → TakesPiece now new draft more false → new.ended ≡ now.ended → new.reads ≡ now.reads → Drafts had have old new more
+drafts_piece had have old now new draft more d t e r = record {
   came = d.came;
   read = d.read;
   raw = d.raw ++ now.inbox;
@@ -225,7 +236,19 @@ drafts_piece had have old now new draft more d t e = record {
   no_feed = NoFeed-append d.raw now.inbox d.no_feed t.1.0;
   kept = t.1.1 ∙ ap (λ (xs : List ℕ). take 202 (xs ++ now.inbox)) d.kept ∙ take_front 202 d.raw now.inbox;
   end = λ h m. d.end h (sym e ∙ m);
+  behind = λ met. ((d.behind met).0, e ∙ (d.behind met).1);
+  steps = piece_steps old now new draft more d.steps t r;
 }
+
+-- a line whose end came took a step, and so did one that ends with the input
+pub line_steps : (old now new : Lines) (draft more : List ℕ) → steps_left now + length draft ≤ steps_left old → TakesPiece now new draft more true → new.reads ≡ now.reads → steps_left new < steps_left old
+line_steps old now new draft more before t r =
+    let some : length now.inbox ≡ length t.0 + suc (length new.inbox) = ap length t.1.0 ∙ length-append t.0 (10 ∷ new.inbox) in
+    let same : 1048576 - new.reads ≡ 1048576 - now.reads = ap (λ n. 1048576 - n) r in
+    omega (arith, before, some, same)
+
+pub last_steps : (had have : Option (List ℕ)) (old now : Lines) (draft : List ℕ) → Drafts had have old now draft → 0 < length draft → steps_left now < steps_left old
+last_steps had have old now draft d some = omega (arith, d.steps, some)
 
 -- the line ends at a line feed
 pub cuts_line : (had have : Option (List ℕ)) (old now new : Lines) (draft more : List ℕ) → Drafts had have old now draft → TakesPiece now new draft more true → new.ended ≡ now.ended
@@ -246,6 +269,7 @@ cuts_line had have old now new draft more d t e =
         lines = λ rest may. ap lines_of (all rest) ∙ lines_first raw (new.inbox ++ rest) none;
         ended = λ on rest. ap ended_lines_of (all rest) ∙ ended_first raw (new.inbox ++ rest) none;
         end = λ h m. d.end h (sym e ∙ m);
+        behind = λ met. ((d.behind met).0, e ∙ (d.behind met).1);
       };
       asks = ap (λ (xs : List ℕ). request_of (strip_carriage_return xs)) whole ∙ front_decides raw;
     }
@@ -277,6 +301,7 @@ cuts_last had have old now draft d none met some = record {
         ∙ ap (λ (lines : List (List ℕ)). strip_carriage_return d.raw ∷ lines) (sym (ap lines_of (ap (λ (xs : List ℕ). xs ++ rest) none ∙ may met) ∙ lines_none));
     ended = λ on rest. absurd (true_is_not_false (sym met ∙ on));
     end = d.end;
+    behind = d.behind;
   };
   asks = ap (λ (xs : List ℕ). request_of (strip_carriage_return xs)) d.kept ∙ front_decides d.raw;
 }
@@ -296,6 +321,7 @@ cuts_none had have old now draft d none met empty = record {
         ∙ sym (ap lines_of (ap (λ (xs : List ℕ). xs ++ rest) none ∙ may met));
     ended = λ on rest. absurd (true_is_not_false (sym met ∙ on));
     end = d.end;
+    behind = d.behind;
   };
   waiting = none;
   met = met;
@@ -305,9 +331,17 @@ cuts_none had have old now draft d none met empty = record {
     true_is_not_false e = cc
 
 -- a read failed
-pub breaks_off : (had mid have : Option (List ℕ)) (old now : Lines) (draft : List ℕ) → Drafts had mid old now draft → Keeps mid have → now.inbox ≡ [] → BreaksOff had have old
-breaks_off had mid have old now draft d kept none = record {
+pub breaks_off : (had mid have : Option (List ℕ)) (old now : Lines) (draft : List ℕ) → Drafts had mid old now draft → Keeps mid have → now.inbox ≡ [] → now.ended ≡ false → BreaksOff had have old
+breaks_off had mid have old now draft d kept none on = record {
   came = d.came;
   read = Consumes-kept had mid have d.came d.read kept;
   unfinished = ap ended_lines_of (d.cut ∙ ap (λ (xs : List ℕ). d.raw ++ xs) none ∙ append-nil d.raw) ∙ ended_none d.raw d.no_feed;
+  unended = not_met old.ended (λ met. true_is_not_false (sym (d.behind met).1 ∙ on));
 }
+  where
+    true_is_not_false : true ≡ false → ⊥
+    true_is_not_false e = cc
+
+    not_met : (b : Bool) → (b ≡ true → ⊥) → b ≡ false
+    not_met true never = absurd (never refl)
+    not_met false never = refl

@@ -9,7 +9,7 @@ use Rattle.session.specs.declared.fault.CommandFault.{CommandFault}
 use Rattle.session.specs.declared.request.Request.{Request}
 use Rattle.session.specs.declared.request.Request.TheVariants as request
 use Rattle.session.specs.declared.lines.Lines.{Lines}
-use Rattle.session.specs.Parse.{command_of}
+use Rattle.session.specs.Parse.{IsBounded, command_of}
 use Rattle.session.specs.Words.{has_byte, words_of}
 
 -- ---- lines
@@ -56,6 +56,12 @@ has_word (word ∷ words) = true
 unfoldable pub request_of : List ℕ → Request
 request_of line = if nat_le (length line) 200 && not (has_word (words_of line)) then request.Nothing else request_by (command_of line)
 
+-- the command that is asked for, if one is, has a colour and an allowance that are lawful
+abbrev pub AsksBounded : Request → Type 0
+AsksBounded request.Nothing = Unit {0}
+AsksBounded (request.Command c) = IsBounded c
+AsksBounded (request.Refused fault) = Unit {0}
+
 -- ---- what a call of the reader leaves
 
 -- what may come behind the bytes that were read: nothing, once the end was met
@@ -64,13 +70,15 @@ MayCome l rest = l.ended ≡ true → rest ≡ []
 
 -- The bytes that came in a call. Of those that waited before, the ones that came and whatever may come behind them, the first
 -- lines are these, and the others are those of the bytes that wait now and what comes. So it is for lines whose line feed has
--- come, too. A call does not take the end for met unless it was.
+-- come, too. A call does not take the end for met unless it was, and
+-- behind the end nothing comes.
 pub record Cuts (had have : Option (List ℕ)) (old new : Lines) (front : List (List ℕ)) : Type 0 where
   pub came : List ℕ
   pub read : Consumes had have came
   pub lines : (rest : List ℕ) → MayCome new rest → lines_of (old.inbox ++ (came ++ rest)) ≡ front ++ lines_of (new.inbox ++ rest)
   pub ended : new.ended ≡ false → (rest : List ℕ) → ended_lines_of (old.inbox ++ (came ++ rest)) ≡ front ++ ended_lines_of (new.inbox ++ rest)
   pub end : (old.ended ≡ true → IsAtEnd had) → new.ended ≡ true → IsAtEnd have
+  pub behind : old.ended ≡ true → (came ≡ []) × (new.ended ≡ true)
 
 -- the next line, and what it asks for
 pub record CutsOne (had have : Option (List ℕ)) (old new : Lines) (asked : Request) : Type 0 where
@@ -84,11 +92,12 @@ pub record CutsNone (had have : Option (List ℕ)) (old new : Lines) : Type 0 wh
   pub waiting : new.inbox ≡ []
   pub met : new.ended ≡ true
 
--- a read failed, and of the bytes that waited and those that came no line's end has come
+-- a read failed before the end was met, and of the bytes that waited and those that came no line's end has come
 pub record BreaksOff (had have : Option (List ℕ)) (old : Lines) : Type 0 where
   pub came : List ℕ
   pub read : Consumes had have came
   pub unfinished : ended_lines_of (old.inbox ++ came) ≡ []
+  pub unended : old.ended ≡ false
 
 -- what the reader answers
 abbrev pub Hands : Option (List ℕ) → Option (List ℕ) → Lines → Lines → {E : Type 0} → Result (Option Request) E → Type 0
@@ -108,7 +117,9 @@ pub record Waits (had have : Option (List ℕ)) (old new : Lines) (more : Bool) 
   pub read : Consumes had have came
   pub waiting : new.inbox ≡ old.inbox ++ came
   pub end : (old.ended ≡ true → IsAtEnd had) → new.ended ≡ true → IsAtEnd have
-  pub some : more ≡ true → (0 < length new.inbox) × (steps_left new ≤ steps_left old)
+  pub behind : old.ended ≡ true → (came ≡ []) × (new.ended ≡ true)
+  pub steps : steps_left new ≤ steps_left old
+  pub some : more ≡ true → 0 < length new.inbox
   pub none : more ≡ false → (new.inbox ≡ []) × (new.ended ≡ true)
 
 -- The bytes up to a line feed, which is taken too, or all bytes that wait, which have none, come to the line.
@@ -125,6 +136,8 @@ pub record Drafts (had have : Option (List ℕ)) (old now : Lines) (draft : List
   pub no_feed : NoFeed raw
   pub kept : draft ≡ take 202 raw
   pub end : (old.ended ≡ true → IsAtEnd had) → now.ended ≡ true → IsAtEnd have
+  pub behind : old.ended ≡ true → (came ≡ []) × (now.ended ≡ true)
+  pub steps : steps_left now + length draft ≤ steps_left old
 
 -- ---- worked inputs
 

@@ -1,5 +1,5 @@
 -- The command of a line, or the first fault.
-use Rattle.std.specs.Prelude.{ℕ, List, [], ◌∷◌, length, codes, Option, None, Some, Result, Ok, Err, nat_lt, option_map, ◌==◌, if◌then◌else◌}
+use Rattle.std.specs.Prelude.{ℕ, ◌<◌, IfSome, List, [], ◌∷◌, length, codes, Option, None, Some, Result, Ok, Err, nat_lt, option_map, ◌==◌, if◌then◌else◌}
 use Rattle.std.specs.Borrow.{Bor}
 use Rattle.std.specs.Option.{ok_or}
 use Rattle.picture.specs.Reading.{◌>>=◌}
@@ -161,6 +161,21 @@ command_by WritePpm words = Ok command.WritePpm
 command_by WriteNon words = Ok command.WriteNon
 command_by Report words = Ok command.Report
 command_by Allow words = allow_at words
+
+-- A colour is a number below 16, and an allowance one of at most five digits.
+abbrev pub IsBounded : Command → Type 0
+IsBounded (command.Edit edit) = Unit {0}
+IsBounded command.Undo = Unit {0}
+IsBounded command.Redo = Unit {0}
+IsBounded command.Clues = Unit {0}
+IsBounded command.Map = Unit {0}
+IsBounded command.Verdict = Unit {0}
+IsBounded (command.Why row col colour) = colour < 16
+IsBounded command.Certify = Unit {0}
+IsBounded command.WritePpm = Unit {0}
+IsBounded command.WriteNon = Unit {0}
+IsBounded command.Report = Unit {0}
+IsBounded (command.Allow allowance) = IfSome allowance (λ splits. splits < 100000)
 
 -- a second word where the first wants one, and the words behind the verb
 abbrev pub verb_behind : List (List ℕ × Verb) → List (List ℕ) → Result (Verb × List (List ℕ)) CommandFault

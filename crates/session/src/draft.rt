@@ -2,7 +2,7 @@
 
 ghost use Rattle.std.specs.Prelude.{◌≡◌, ◌≤◌, ◌++◌, ◌==◌, [], length, take};
 ghost use Rattle.std.specs.Str.Lines.{strip_carriage_return};
-ghost use Rattle.session.specs.Lines.{request_of};
+ghost use Rattle.session.specs.Lines.{AsksBounded, request_of};
 
 use crate::parse::MOST_BYTES;
 use crate::request::{Request, request_of};
@@ -58,7 +58,8 @@ impl Draft {
 
     // What the line asks for, now that its end has come.
     pub(crate) fn request(&self) -> Request
-        ensures { result ≡ request_of (strip_carriage_return self.now) }
+        ensures value { result ≡ request_of (strip_carriage_return self.now) }
+        ensures bounded { AsksBounded result }
     {
         match &self.bytes[..self.len] {
             [front @ .., b'\r'] => request_of(front),

@@ -1,6 +1,6 @@
 //! The values of a command, word by word from the left.
 
-ghost use Rattle.std.specs.Prelude.{◌≡◌, length, ◌==◌, ◌+◌};
+ghost use Rattle.std.specs.Prelude.{◌≡◌, ◌<◌, length, ◌==◌, ◌+◌, IfOk, IfSome};
 ghost use Rattle.picture.specs.Reading.{Reads};
 ghost use Rattle.session.specs.Parse.{allowance_at, allowance_of, cell_at, colour_at, field_seen, place_at, rgb_at, sample_at};
 ghost use Rattle.session.specs.Words.{words_of};
@@ -56,7 +56,8 @@ fn read_sample(rest: &[u8]) -> Result<(u16, &[u8]), CommandFault>
 
 // A colour, and what stands behind it.
 pub(crate) fn read_colour(rest: &[u8]) -> Result<(u8, &[u8]), CommandFault>
-    ensures { Reads field_seen result (colour_at (words_of rest.now)) }
+    ensures value { Reads field_seen result (colour_at (words_of rest.now)) }
+    ensures small { IfOk result (λ x. x.0 < 16) }
 {
     let Some((word, behind)) = next_word(rest) else {
         return Err(CommandFault::WordCount);
@@ -90,7 +91,8 @@ pub(crate) fn read_cell(rest: &[u8]) -> Result<(u8, u8), CommandFault>
 
 // `off`, or how many splits are allowed.
 fn allowance_in(word: &[u8]) -> Option<Option<u32>>
-    ensures { result ≡ allowance_of word.now }
+    ensures value { result ≡ allowance_of word.now }
+    ensures small { IfSome result (λ allowance. IfSome allowance (λ splits. splits < 100000)) }
 {
     if is_word(word, b"off") {
         return Some(None);
@@ -103,7 +105,8 @@ fn allowance_in(word: &[u8]) -> Option<Option<u32>>
 
 // The allowance of splits.
 pub(crate) fn read_allowance(rest: &[u8]) -> Result<(Option<u32>, &[u8]), CommandFault>
-    ensures { Reads field_seen result (allowance_at (words_of rest.now)) }
+    ensures value { Reads field_seen result (allowance_at (words_of rest.now)) }
+    ensures small { IfOk result (λ x. IfSome x.0 (λ splits. splits < 100000)) }
 {
     let Some((word, behind)) = next_word(rest) else {
         return Err(CommandFault::WordCount);

@@ -1,8 +1,8 @@
 //! The lines of a session, as they come from a reader.
 
-ghost use Rattle.std.specs.Prelude.{◌≡◌, ◌+◌, ◌-◌, ◌*◌, ◌<◌, ◌≤◌, ◌∷◌, ◌++◌, ◌==◌, [], false, length, take, drop, IfOk, OnErr, OnOk, position};
+ghost use Rattle.std.specs.Prelude.{◌≡◌, ◌+◌, ◌-◌, ◌*◌, ◌<◌, ◌≤◌, ◌∷◌, ◌++◌, ◌==◌, [], false, length, take, drop, IfOk, IfSome, OnErr, OnOk, OnSome, position};
 ghost use Rattle.std.specs.Io.KnownBytes.{Consumes, IsAtEnd, Keeps};
-ghost use Rattle.session.specs.Lines.{Hands, TakesPiece, Waits, is_feed, steps_left};
+ghost use Rattle.session.specs.Lines.{AsksBounded, Hands, TakesPiece, Waits, is_feed, steps_left};
 
 use crate::draft::Draft;
 use crate::request::Request;
@@ -109,7 +109,9 @@ impl Lines {
     /// line needs no line feed where it has a byte. Of a line of any length at most 202 bytes are kept. After a fault the
     /// line that was not finished is lost.
     pub fn next<R: Read>(&mut self, reader: &mut R) -> Result<Option<Request>, ReadFault>
-        ensures { Hands (R.remaining reader.old) (R.remaining reader.new) self.old self.new result }
+        ensures value { Hands (R.remaining reader.old) (R.remaining reader.new) self.old self.new result }
+        ensures bounded { IfOk result (λ asked. IfSome asked AsksBounded) }
+        ensures steps { IfOk result (λ asked. OnSome asked (steps_left self.new < steps_left self.old)) }
     {
         let mut draft = Draft::new();
         while self.has_more(reader)? {
@@ -126,7 +128,7 @@ impl Lines {
     // Whether a byte waits, after a read where none did. The end of the input is met once.
     fn has_more<R: Read>(&mut self, reader: &mut R) -> Result<bool, ReadFault>
         ensures waits { IfOk result (λ more. Waits (R.remaining reader.old) (R.remaining reader.new) self.old self.new more) }
-        ensures err { OnErr result (Keeps (R.remaining reader.old) (R.remaining reader.new) × (self.old.inbox ≡ [])) }
+        ensures err { OnErr result (Keeps (R.remaining reader.old) (R.remaining reader.new) × ((self.old.inbox ≡ []) × (self.old.ended ≡ false))) }
     {
         if !self.inbox.as_slice().is_empty() {
             return Ok(true);

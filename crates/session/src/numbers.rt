@@ -57,7 +57,8 @@ pub fn sample_in(word: &[u8]) -> Option<u16>
 
 // The number of the colour that a letter names.
 fn colour_at(letter: u8) -> Option<u8>
-    ensures { result ≡ colour_at letter }
+    ensures value { result ≡ colour_at letter }
+    ensures small { IfSome result (λ k. k < 16) }
 {
     match letter {
         b'.' => Some(0),
@@ -68,7 +69,8 @@ fn colour_at(letter: u8) -> Option<u8>
 
 // The number of a colour.
 pub(crate) fn colour_in(word: &[u8]) -> Option<u8>
-    ensures { result ≡ colour_of word.now }
+    ensures value { result ≡ colour_of word.now }
+    ensures small { IfSome result (λ k. k < 16) }
 {
     match word {
         [letter] => colour_at(*letter),

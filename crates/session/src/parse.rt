@@ -1,8 +1,8 @@
 //! The command of a line.
 
-ghost use Rattle.std.specs.Prelude.{◌≡◌};
+ghost use Rattle.std.specs.Prelude.{◌≡◌, IfOk};
 ghost use Rattle.picture.specs.Reading.{Reads};
-ghost use Rattle.session.specs.Parse.{add_colour_at, allow_at, command_by, command_of, delete_at, fill_at, insert_at, paint_at, pin_at, recolour_at, set_colour_at, swap_at, unpin_at, why_at};
+ghost use Rattle.session.specs.Parse.{IsBounded, add_colour_at, allow_at, command_by, command_of, delete_at, fill_at, insert_at, paint_at, pin_at, recolour_at, set_colour_at, swap_at, unpin_at, why_at};
 ghost use Rattle.session.specs.Words.{words_of};
 
 use crate::command::Command;
@@ -18,7 +18,8 @@ pub const MOST_BYTES: usize = 200;
 
 #[tactic(auto, unfolding(crate::specs::Parse::paint_at))]
 fn read_paint(rest: &[u8]) -> Result<Command, CommandFault>
-    ensures { Reads (λ c. c) result (paint_at (words_of rest.now)) }
+    ensures value { Reads (λ c. c) result (paint_at (words_of rest.now)) }
+    ensures bounded { IfOk result IsBounded }
 {
     let (row, rest) = read_place(rest)?;
     let (col, rest) = read_place(rest)?;
@@ -28,7 +29,8 @@ fn read_paint(rest: &[u8]) -> Result<Command, CommandFault>
 
 #[tactic(auto, unfolding(crate::specs::Parse::fill_at))]
 fn read_fill(rest: &[u8]) -> Result<Command, CommandFault>
-    ensures { Reads (λ c. c) result (fill_at (words_of rest.now)) }
+    ensures value { Reads (λ c. c) result (fill_at (words_of rest.now)) }
+    ensures bounded { IfOk result IsBounded }
 {
     let (top, rest) = read_place(rest)?;
     let (left, rest) = read_place(rest)?;
@@ -46,7 +48,8 @@ fn read_fill(rest: &[u8]) -> Result<Command, CommandFault>
 
 #[tactic(auto, unfolding(crate::specs::Parse::recolour_at))]
 fn read_recolour(rest: &[u8]) -> Result<Command, CommandFault>
-    ensures { Reads (λ c. c) result (recolour_at (words_of rest.now)) }
+    ensures value { Reads (λ c. c) result (recolour_at (words_of rest.now)) }
+    ensures bounded { IfOk result IsBounded }
 {
     let (source, rest) = read_colour(rest)?;
     let (target, _) = read_colour(rest)?;
@@ -55,7 +58,8 @@ fn read_recolour(rest: &[u8]) -> Result<Command, CommandFault>
 
 #[tactic(auto, unfolding(crate::specs::Parse::insert_at))]
 fn read_insert(axis: Axis, rest: &[u8]) -> Result<Command, CommandFault>
-    ensures { Reads (λ c. c) result (insert_at axis (words_of rest.now)) }
+    ensures value { Reads (λ c. c) result (insert_at axis (words_of rest.now)) }
+    ensures bounded { IfOk result IsBounded }
 {
     let (at, _) = read_place(rest)?;
     let line = LineId { axis, at };
@@ -64,7 +68,8 @@ fn read_insert(axis: Axis, rest: &[u8]) -> Result<Command, CommandFault>
 
 #[tactic(auto, unfolding(crate::specs::Parse::delete_at))]
 fn read_delete(axis: Axis, rest: &[u8]) -> Result<Command, CommandFault>
-    ensures { Reads (λ c. c) result (delete_at axis (words_of rest.now)) }
+    ensures value { Reads (λ c. c) result (delete_at axis (words_of rest.now)) }
+    ensures bounded { IfOk result IsBounded }
 {
     let (at, _) = read_place(rest)?;
     let line = LineId { axis, at };
@@ -73,7 +78,8 @@ fn read_delete(axis: Axis, rest: &[u8]) -> Result<Command, CommandFault>
 
 #[tactic(auto, unfolding(crate::specs::Parse::swap_at))]
 fn read_swap(axis: Axis, rest: &[u8]) -> Result<Command, CommandFault>
-    ensures { Reads (λ c. c) result (swap_at axis (words_of rest.now)) }
+    ensures value { Reads (λ c. c) result (swap_at axis (words_of rest.now)) }
+    ensures bounded { IfOk result IsBounded }
 {
     let (first, rest) = read_place(rest)?;
     let (second, _) = read_place(rest)?;
@@ -86,7 +92,8 @@ fn read_swap(axis: Axis, rest: &[u8]) -> Result<Command, CommandFault>
 
 #[tactic(auto, unfolding(crate::specs::Parse::add_colour_at))]
 fn read_add_colour(rest: &[u8]) -> Result<Command, CommandFault>
-    ensures { Reads (λ c. c) result (add_colour_at (words_of rest.now)) }
+    ensures value { Reads (λ c. c) result (add_colour_at (words_of rest.now)) }
+    ensures bounded { IfOk result IsBounded }
 {
     let rgb = read_rgb(rest)?;
     Ok(Command::Edit(Edit::AddColour { rgb }))
@@ -94,7 +101,8 @@ fn read_add_colour(rest: &[u8]) -> Result<Command, CommandFault>
 
 #[tactic(auto, unfolding(crate::specs::Parse::set_colour_at))]
 fn read_set_colour(rest: &[u8]) -> Result<Command, CommandFault>
-    ensures { Reads (λ c. c) result (set_colour_at (words_of rest.now)) }
+    ensures value { Reads (λ c. c) result (set_colour_at (words_of rest.now)) }
+    ensures bounded { IfOk result IsBounded }
 {
     let (colour, rest) = read_colour(rest)?;
     let rgb = read_rgb(rest)?;
@@ -103,7 +111,8 @@ fn read_set_colour(rest: &[u8]) -> Result<Command, CommandFault>
 
 #[tactic(auto, unfolding(crate::specs::Parse::pin_at))]
 fn read_pin(rest: &[u8]) -> Result<Command, CommandFault>
-    ensures { Reads (λ c. c) result (pin_at (words_of rest.now)) }
+    ensures value { Reads (λ c. c) result (pin_at (words_of rest.now)) }
+    ensures bounded { IfOk result IsBounded }
 {
     let (row, col) = read_cell(rest)?;
     Ok(Command::Edit(Edit::Pin { row, col }))
@@ -111,7 +120,8 @@ fn read_pin(rest: &[u8]) -> Result<Command, CommandFault>
 
 #[tactic(auto, unfolding(crate::specs::Parse::unpin_at))]
 fn read_unpin(rest: &[u8]) -> Result<Command, CommandFault>
-    ensures { Reads (λ c. c) result (unpin_at (words_of rest.now)) }
+    ensures value { Reads (λ c. c) result (unpin_at (words_of rest.now)) }
+    ensures bounded { IfOk result IsBounded }
 {
     let (row, col) = read_cell(rest)?;
     Ok(Command::Edit(Edit::Unpin { row, col }))
@@ -119,7 +129,8 @@ fn read_unpin(rest: &[u8]) -> Result<Command, CommandFault>
 
 #[tactic(auto, unfolding(crate::specs::Parse::why_at))]
 fn read_why(rest: &[u8]) -> Result<Command, CommandFault>
-    ensures { Reads (λ c. c) result (why_at (words_of rest.now)) }
+    ensures value { Reads (λ c. c) result (why_at (words_of rest.now)) }
+    ensures bounded { IfOk result IsBounded }
 {
     let (row, rest) = read_place(rest)?;
     let (col, rest) = read_place(rest)?;
@@ -129,7 +140,8 @@ fn read_why(rest: &[u8]) -> Result<Command, CommandFault>
 
 #[tactic(auto, unfolding(crate::specs::Parse::allow_at))]
 fn read_allow(rest: &[u8]) -> Result<Command, CommandFault>
-    ensures { Reads (λ c. c) result (allow_at (words_of rest.now)) }
+    ensures value { Reads (λ c. c) result (allow_at (words_of rest.now)) }
+    ensures bounded { IfOk result IsBounded }
 {
     let (splits, _) = read_allowance(rest)?;
     Ok(Command::Allow(splits))
@@ -137,7 +149,8 @@ fn read_allow(rest: &[u8]) -> Result<Command, CommandFault>
 
 // The command of a verb, by the words behind it.
 fn read_command(verb: Verb, rest: &[u8]) -> Result<Command, CommandFault>
-    ensures { Reads (λ c. c) result (command_by verb (words_of rest.now)) }
+    ensures value { Reads (λ c. c) result (command_by verb (words_of rest.now)) }
+    ensures bounded { IfOk result IsBounded }
 {
     match verb {
         Verb::Paint => read_paint(rest),
@@ -173,7 +186,8 @@ fn read_command(verb: Verb, rest: &[u8]) -> Result<Command, CommandFault>
 /// is `BadNumber`, or no colour's letter `BadColour`. Rows, columns and lines are numbered from 1 in the text and from 0
 /// in the command. A line of at most 200 bytes without a word, which a session passes over, is `UnknownWord`.
 pub fn parse_command(line: &[u8]) -> Result<Command, CommandFault>
-    ensures { Reads (λ c. c) result (command_of line.now) }
+    ensures value { Reads (λ c. c) result (command_of line.now) }
+    ensures bounded { IfOk result IsBounded }
 {
     if line.len() > MOST_BYTES {
         return Err(CommandFault::LongLine);

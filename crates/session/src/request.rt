@@ -1,7 +1,7 @@
 //! What a line of a session asks for, if it asks for anything.
 
 ghost use Rattle.std.specs.Prelude.{◌≡◌, not};
-ghost use Rattle.session.specs.Lines.{has_word, request_of};
+ghost use Rattle.session.specs.Lines.{AsksBounded, has_word, request_of};
 ghost use Rattle.session.specs.Words.{words_of};
 
 use crate::command::Command;
@@ -33,7 +33,8 @@ fn is_blank_line(line: &[u8]) -> bool
 #[tactic(auto, unfolding(crate::specs::Lines::request_of))]
 // What a line without its end asks for.
 pub(crate) fn request_of(line: &[u8]) -> Request
-    ensures { result ≡ request_of line.now }
+    ensures value { result ≡ request_of line.now }
+    ensures bounded { AsksBounded result }
 {
     if line.len() <= MOST_BYTES && is_blank_line(line) {
         return Request::Nothing;
