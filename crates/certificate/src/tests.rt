@@ -7,6 +7,7 @@ use std::alloc::{AllocError, Global};
 use std::process::Abort;
 
 mod changes;
+mod examples;
 mod growing;
 mod listing;
 mod making;
