@@ -15,6 +15,7 @@ mod flooded;
 mod judged;
 mod listing;
 mod plain;
+mod watched;
 
 use listing::{Cells, has_other, is_other, next_cells};
 

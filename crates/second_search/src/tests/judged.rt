@@ -62,7 +62,7 @@ pub fn puzzle_of(
 }
 
 // The puzzle of a picture with its clues, and a map that is settled from a start.
-fn puzzle_with(picture: Picture, book: ClueBook, start: Start, facts: Facts) -> Puzzle
+pub fn puzzle_with(picture: Picture, book: ClueBook, start: Start, facts: Facts) -> Puzzle
     requires clues { clues_of picture ≡ book }
     requires sound { AreSound (clues_of picture) start.givens picture start.facts }
     requires least { IsLeast book start.facts facts }
@@ -79,7 +79,7 @@ fn puzzle_with(picture: Picture, book: ClueBook, start: Start, facts: Facts) -> 
 }
 
 // The map that the clues settle from a base.
-fn settled(rt: &impl Abort, engine: &mut MaskEngine, book: &ClueBook, base: &Facts) -> Facts
+pub fn settled(rt: &impl Abort, engine: &mut MaskEngine, book: &ClueBook, base: &Facts) -> Facts
     ensures { IsLeast book.now base.now result }
 {
     let mut meter = Meter {
@@ -96,10 +96,10 @@ fn settled(rt: &impl Abort, engine: &mut MaskEngine, book: &ClueBook, base: &Fac
 }
 
 // Judges the picture of a puzzle.
-pub fn judge(
+pub fn judge<E: LineEngine>(
     rt: &impl Abort,
     keeper: &mut Keeper,
-    engine: &mut MaskEngine,
+    engine: &mut E,
     puzzle: &Puzzle,
     allowance: Option<u32>,
 ) -> Report
