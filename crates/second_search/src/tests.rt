@@ -12,6 +12,7 @@ use std::process::Abort;
 
 mod carried;
 mod flooded;
+mod growing;
 mod judged;
 mod listing;
 mod plain;
