@@ -12,10 +12,9 @@ use Rattle.second_search.specs.declared.counting.Ending.TheVariants as ending
 use Rattle.second_search.specs.declared.counting.Step.{Step}
 use Rattle.second_search.specs.declared.counting.Step.TheVariants as step
 use Rattle.second_search.specs.Branching.{Search, branches, search_of}
-use Rattle.second_search.specs.Searching.{Allows, Comes, EndsAs, KeepsOutside, Searches, none_waits, is_dead, is_known, is_other, is_split, raised}
+use Rattle.second_search.specs.Searching.{Allows, Comes, EndsAs, Searches, none_waits, is_dead, is_known, is_other, is_split, raised}
 use Rattle.second_search.specs.Stepping.{Compares, IsOneLess, Steps}
 use Rattle.second_search.proofs.ComingLemmas.{leads}
-use Rattle.second_search.proofs.KeepLemmas.{EachKeeps, each_branch}
 use Rattle.second_search.proofs.WeightLemmas.{branches_lighter, load, load_append, load_more, weight, weight_within}
 use Rattle.std.proofs.Math.Pow.{pow_mono, pow_pos}
 use Rattle.picture.specs.Rows.{row_at}
@@ -133,68 +132,62 @@ raised_none count l = omega arith
 
 -- ---- while facts wait
 
--- what waits ends as the first facts do, but for the splits that were made and counted; outside of the part nothing changed
-pub record Counting (clues : Clues) (known first : List (List ℕ)) (cells : List ℕ) (allowance : Option ℕ) (start : ℕ) (waiting : List (List (List ℕ))) (left : Option ℕ) (count : ℕ) : Type 0 where
+-- what waits ends as the first facts do, but for the splits that were made and counted
+pub record Counting (clues : Clues) (known first : List (List ℕ)) (allowance : Option ℕ) (start : ℕ) (waiting : List (List (List ℕ))) (left : Option ℕ) (count : ℕ) : Type 0 where
   pub made : ℕ
   pub going : Going clues known first waiting made
   pub is_left : IsLeft allowance made left
   pub counted : count ≡ raised start made
-  pub keeps : EachKeeps cells known waiting
 
-pub counting_starts : (clues : Clues) (known first : List (List ℕ)) (cells : List ℕ) (allowance : Option ℕ) (start : ℕ) (s : Search) → KeepsOutside cells known first → start < 2 ^ 32 → s ≡ search_of first [] → Counting clues known first cells allowance start (s.at_hand ∷ s.behind) allowance start
-counting_starts clues known first cells allowance start s k l e =
-    let P : Search → Type 0 = λ x. Counting clues known first cells allowance start (x.at_hand ∷ x.behind) allowance start in
+pub counting_starts : (clues : Clues) (known first : List (List ℕ)) (allowance : Option ℕ) (start : ℕ) (s : Search) → start < 2 ^ 32 → s ≡ search_of first [] [] → Counting clues known first allowance start (s.at_hand ∷ s.behind) allowance start
+counting_starts clues known first allowance start s l e =
+    let P : Search → Type 0 = λ x. Counting clues known first allowance start (x.at_hand ∷ x.behind) allowance start in
     subst P (sym e) (record {
       made = 0;
       going = going_starts clues known first;
       is_left = all_left allowance;
       counted = raised_none start l;
-      keeps = (k, tt);
     })
 
-pub counting_at : (clues : Clues) (known first : List (List ℕ)) (cells : List ℕ) (allowance : Option ℕ) (start : ℕ) (waiting : List (List (List ℕ))) (s : Search) (left : Option ℕ) (count : ℕ) → Counting clues known first cells allowance start waiting left count → waiting ≡ s.at_hand ∷ s.behind → Counting clues known first cells allowance start (s.at_hand ∷ s.behind) left count
-counting_at clues known first cells allowance start waiting s left count c e =
-    let P : List (List (List ℕ)) → Type 0 = λ x. Counting clues known first cells allowance start x left count in
+pub counting_at : (clues : Clues) (known first : List (List ℕ)) (allowance : Option ℕ) (start : ℕ) (waiting : List (List (List ℕ))) (s : Search) (left : Option ℕ) (count : ℕ) → Counting clues known first allowance start waiting left count → waiting ≡ s.at_hand ∷ s.behind → Counting clues known first allowance start (s.at_hand ∷ s.behind) left count
+counting_at clues known first allowance start waiting s left count c e =
+    let P : List (List (List ℕ)) → Type 0 = λ x. Counting clues known first allowance start x left count in
     subst P e c
 
-pub counting_passes : LeastIsUnique → (clues : Clues) (known first : List (List ℕ)) (cells : List ℕ) (allowance : Option ℕ) (start : ℕ) (s t : Search) (left rest : Option ℕ) (count more : ℕ) → Counting clues known first cells allowance start (s.at_hand ∷ s.behind) left count → Steps clues known s t left rest count more step.Passed → Counting clues known first cells allowance start t.behind rest more
-counting_passes unique clues known first cells allowance start s t left rest count more c h =
+pub counting_passes : LeastIsUnique → (clues : Clues) (known first : List (List ℕ)) (allowance : Option ℕ) (start : ℕ) (s t : Search) (left rest : Option ℕ) (count more : ℕ) → Counting clues known first allowance start (s.at_hand ∷ s.behind) left count → Steps clues known s t left rest count more step.Passed → Counting clues known first allowance start t.behind rest more
+counting_passes unique clues known first allowance start s t left rest count more c h =
     let P : Option ℕ → Type 0 = λ x. IsLeft allowance c.made x in
     let Q : List (List (List ℕ)) → Type 0 = λ x. Going clues known first x c.made in
-    let R : List (List (List ℕ)) → Type 0 = λ x. EachKeeps cells known x in
     let e = ap (λ (x : Search). x.behind) (sym h.1.0) in
     record {
       made = c.made;
       going = subst Q e (going_passes unique clues known first s.at_hand s.behind c.made c.going h.0);
       is_left = subst P (sym h.1.1.0) c.is_left;
       counted = h.1.1.1 ∙ c.counted;
-      keeps = subst R e c.keeps.1;
     }
 
-pub counting_splits : LeastIsUnique → (clues : Clues) (known first : List (List ℕ)) (cells : List ℕ) (allowance : Option ℕ) (start : ℕ) (s t : Search) (left rest : Option ℕ) (count more : ℕ) → Counting clues known first cells allowance start (s.at_hand ∷ s.behind) left count → Steps clues known s t left rest count more step.Split → Counting clues known first cells allowance start t.behind rest more
-counting_splits unique clues known first cells allowance start s t left rest count more c h =
+pub counting_splits : LeastIsUnique → (clues : Clues) (known first : List (List ℕ)) (allowance : Option ℕ) (start : ℕ) (s t : Search) (left rest : Option ℕ) (count more : ℕ) → Counting clues known first allowance start (s.at_hand ∷ s.behind) left count → Steps clues known s t left rest count more step.Split → Counting clues known first allowance start t.behind rest more
+counting_splits unique clues known first allowance start s t left rest count more c h =
     let Q : List (List (List ℕ)) → Type 0 = λ x. Going clues known first x (suc c.made) in
-    let R : List (List (List ℕ)) → Type 0 = λ x. EachKeeps cells known x in
     let e = ap (λ (x : Search). x.behind) (sym h.0.new_is) in
     record {
       made = suc c.made;
       going = subst Q e (going_splits unique clues known first s.at_hand h.0.settled h.0.cell s.behind c.made c.going h.0.comes);
       is_left = one_less allowance left rest c.made c.is_left h.1.0;
       counted = raised_again start count more c.made c.counted h.1.1;
-      keeps = subst R e (each_branch clues cells known s.at_hand h.0.settled h.0.cell s.behind c.keeps h.0.comes);
     }
 
 -- ---- how it ends, counted
 
-pub counted_nothing : (clues : Clues) (known first : List (List ℕ)) (cells : List ℕ) (allowance : Option ℕ) (start : ℕ) (waiting : List (List (List ℕ))) (left : Option ℕ) (count : ℕ) → Counting clues known first cells allowance start waiting left count → waiting ≡ [] → (n : ℕ) × ((count ≡ raised start n) × EndsAs clues known first allowance ending.Nothing n)
-counted_nothing clues known first cells allowance start waiting left count c e = (c.made, (c.counted, ends_with_nothing clues known first waiting c.made allowance left c.going e c.is_left))
+pub counted_nothing : (clues : Clues) (known first : List (List ℕ)) (allowance : Option ℕ) (start : ℕ) (waiting : List (List (List ℕ))) (left : Option ℕ) (count : ℕ) → Counting clues known first allowance start waiting left count → waiting ≡ [] → (n : ℕ) × ((count ≡ raised start n) × EndsAs clues known first allowance ending.Nothing n)
+counted_nothing clues known first allowance start waiting left count c e = (c.made, (c.counted, ends_with_nothing clues known first waiting c.made allowance left c.going e c.is_left))
 
-pub counted_other : (clues : Clues) (known first picture : List (List ℕ)) (cells : List ℕ) (allowance : Option ℕ) (start : ℕ) (s t : Search) (left rest : Option ℕ) (count more : ℕ) → Counting clues known first cells allowance start (s.at_hand ∷ s.behind) left count → Steps clues known s t left rest count more (step.Other picture) → (n : ℕ) × ((more ≡ raised start n) × EndsAs clues known first allowance (ending.Found picture) n)
-counted_other clues known first picture cells allowance start s t left rest count more c h =
+pub counted_other : (clues : Clues) (known first picture : List (List ℕ)) (allowance : Option ℕ) (start : ℕ) (s t : Search) (left rest : Option ℕ) (count more : ℕ) → Counting clues known first allowance start (s.at_hand ∷ s.behind) left count → Steps clues known s t left rest count more (step.Other picture) → (n : ℕ) × ((more ≡ raised start n) × EndsAs clues known first allowance (ending.Found picture) n)
+counted_other clues known first picture allowance start s t left rest count more c h =
     (c.made, (h.1 ∙ c.counted, ends_with_other clues known first s.at_hand picture s.behind c.made allowance left c.going h.0.0 h.0.1 c.is_left))
 
-pub counted_halted : LeastIsUnique → (clues : Clues) (known first : List (List ℕ)) (cells : List ℕ) (allowance : Option ℕ) (start : ℕ) (s t : Search) (left rest : Option ℕ) (count more : ℕ) → Counting clues known first cells allowance start (s.at_hand ∷ s.behind) left count → Steps clues known s t left rest count more step.Halted → (n : ℕ) × ((more ≡ raised start n) × EndsAs clues known first allowance ending.BrokenOff n)
-counted_halted unique clues known first cells allowance start s t left rest count more c h =
+pub counted_halted : LeastIsUnique → (clues : Clues) (known first : List (List ℕ)) (allowance : Option ℕ) (start : ℕ) (s t : Search) (left rest : Option ℕ) (count more : ℕ) → Counting clues known first allowance start (s.at_hand ∷ s.behind) left count → Steps clues known s t left rest count more step.Halted → (n : ℕ) × ((more ≡ raised start n) × EndsAs clues known first allowance ending.BrokenOff n)
+counted_halted unique clues known first allowance start s t left rest count more c h =
     (c.made, (h.1.1 ∙ c.counted, ends_broken_off unique clues known first s.at_hand h.0.0 h.0.1.0 s.behind c.made allowance left c.going h.0.1.1 h.1.0 c.is_left))
 
 -- ---- what waits weighs less

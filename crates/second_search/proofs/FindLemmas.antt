@@ -18,11 +18,12 @@ use Rattle.propagate.specs.Filling.{Fills}
 use Rattle.second_search.specs.declared.cell.Cell.{Cell}
 use Rattle.second_search.specs.declared.looking.Look.{Look}
 use Rattle.second_search.specs.declared.looking.Look.TheVariants.{Nothing, Found}
-use Rattle.second_search.specs.Branching.{FillsSome, Search, branches, colours_of, held, search_of}
+use Rattle.second_search.specs.Branching.{FillsSome, Search, branches, colours_of, held, places, search_of}
 use Rattle.second_search.specs.Looking.{FindsFilling, Looks, Narrows}
 use Rattle.second_search.specs.Other.{AreSound, FindsFirst, FindsOther, HasClues, Solves}
 use Rattle.line_settle.specs.GridLaws.{shape_refl, shape_sym, shape_trans, at_with_cell, off_with_cell, shape_with_cell}
 use Rattle.picture.specs.BitLaws.{bit_below, bit_is_set, power_has, set_bit}
+use Rattle.second_search.proofs.KeepLemmas.{EachQuiet, each_branch}
 use Rattle.second_search.proofs.WeightLemmas.{branches_lighter, load, load_append, no_load, load_more, weight, weight_within}
 
 -- ---- a cell held to each of its colours
@@ -167,8 +168,9 @@ pub record IsLookedAt (clues : Clues) (known : List (List ℕ)) (s t : Search) :
   pub alike : AreAlike s.at_hand front
   pub there : (picture : List (List ℕ)) → (picture ≡ known → ⊥) → Fills clues s.at_hand picture → FillsSome clues front picture
   pub back : (picture : List (List ℕ)) → FillsSome clues front picture → Fills clues s.at_hand picture
+  pub quiet : (first : List (List ℕ)) → SameShape first s.at_hand → EachQuiet clues first s.behind s.cells → EachQuiet clues first t.behind t.cells
 
-pub finding_starts : (clues : Clues) (first known : List (List ℕ)) (s : Search) → s ≡ search_of first [] → Finding clues first known s
+pub finding_starts : (clues : Clues) (first known : List (List ℕ)) (s : Search) → s ≡ search_of first [] [] → Finding clues first known s
 finding_starts clues first known s e =
     let P : Search → Type 0 = Finding clues first known in
     subst P (sym e) (record {
@@ -192,13 +194,14 @@ nothing_looked_at clues known s t h e = record {
   alike = tt;
   there = λ picture d f. absurd (h picture f d);
   back = λ picture f. absurd f;
+  quiet = λ first shape q. let P : Search → Type 0 = λ x. EachQuiet clues first x.behind x.cells in subst P (sym e) q;
 }
 
 held_alike : (first facts : List (List ℕ)) (row col : ℕ) → SameShape first facts → (ks : List ℕ) → AreAlike first (held facts row col ks)
 held_alike first facts row col s [] = tt
 held_alike first facts row col s (k ∷ ks) = (shape_trans s (shape_with_cell facts row col (2 ^ k)), held_alike first facts row col s ks)
 
-pub split_looked_at : (clues : Clues) (known settled : List (List ℕ)) (cell : Cell) (s t u : Search) → Narrows clues s.at_hand settled cell → t ≡ search_of settled s.behind → u ≡ search_of t.at_hand (branches t.at_hand cell.row cell.col (cell_at t.at_hand cell.row cell.col) ++ t.behind) → IsLookedAt clues known s u
+pub split_looked_at : (clues : Clues) (known settled : List (List ℕ)) (cell : Cell) (s t u : Search) → Narrows clues s.at_hand settled cell → t ≡ search_of settled s.behind s.cells → u ≡ search_of t.at_hand (branches t.at_hand cell.row cell.col (cell_at t.at_hand cell.row cell.col) ++ t.behind) (places cell.row cell.col (cell_at t.at_hand cell.row cell.col) ++ t.cells) → IsLookedAt clues known s u
 split_looked_at clues known settled cell s t u h et eu =
     let is = h.are_facts in
     let front = branches settled cell.row cell.col (cell_at settled cell.row cell.col) in
@@ -216,6 +219,10 @@ split_looked_at clues known settled cell s t u h et eu =
       alike = held_alike s.at_hand settled cell.row cell.col h.within.same_shape (colours_of (cell_at settled cell.row cell.col));
       there = λ picture d f. (same picture).0 ((h.fills picture).0 f);
       back = λ picture f. (h.fills picture).1 ((same picture).1 f);
+      quiet = λ first shape q.
+          let P : Search → Type 0 = λ x. EachQuiet clues first x.behind x.cells in
+          let Q : Search → Type 0 = λ x. EachQuiet clues first (branches x.at_hand cell.row cell.col (cell_at x.at_hand cell.row cell.col) ++ x.behind) (places cell.row cell.col (cell_at x.at_hand cell.row cell.col) ++ x.cells) in
+          subst P (sym eu) (subst Q (sym et) (each_branch clues first settled cell.row cell.col (cell_at settled cell.row cell.col) s.behind s.cells (shape_trans shape h.within.same_shape) h.closed h.fits h.splits.in_rows h.splits.in_columns q));
     }
 
 alike_both : (first facts : List (List ℕ)) (xs ys : List (List (List ℕ))) → SameShape first facts → AreAlike facts xs → AreAlike first ys → AreAlike first (xs ++ ys)

@@ -1,5 +1,6 @@
--- Outside of a part nothing changes while it is searched, so the lines that do not go through it stay quiet.
-use Rattle.std.proofs.Common.{◌≡◌, ℕ, ◌^◌, ◌<◌, List, [], ◌∷◌, ◌++◌, length, get_or, refl, sym, ap, subst, ◌∙◌, arith, inl, inr}
+-- Which lines are quiet while a search goes on: at first those that go past a part, and after a split all but the two through the
+-- split cell.
+use Rattle.std.proofs.Common.{◌≡◌, ℕ, ◌^◌, ◌<◌, Option, Some, List, [], ◌∷◌, ◌++◌, length, get_or, map, refl, sym, ap, subst, ◌∙◌, arith, inl, inr}
 use Rattle.std.specs.Prelude.{IsBitSet}
 use Rattle.std.proofs.lemmas.Bool.{cases_lt}
 use Rattle.std.proofs.lemmas.List.{get_or_past, length-map}
@@ -13,16 +14,18 @@ use Rattle.picture.specs.Rows.{width_of, row_at, cell_at, line_along, line_of, H
 use Rattle.clues.specs.Laws.{CluesAreOfLines}
 use Rattle.clues.specs.ClueBook.{Clues, clue_at, clues_of}
 use Rattle.line_settle.specs.Masks.{IsOnly}
-use Rattle.line_settle.specs.FactSets.{SameShape, col_on, row_on}
+use Rattle.line_settle.specs.FactSets.{IsClosed, SameShape, col_on, row_on}
 use Rattle.line_settle.specs.Fitting.{Fits}
-use Rattle.line_settle.specs.GridLaws.{same_has_line, same_line_length, shape_sym, shape_trans, cell_on, off_with_cell, shape_with_cell}
+use Rattle.line_settle.specs.GridLaws.{same_has_line, same_line_length, same_list, shape_refl, shape_sym, shape_trans, cell_on, off_with_cell, shape_with_cell}
 use Rattle.picture.specs.BitLaws.{no_bit}
-use Rattle.propagate.specs.Closing.{AreClosable, QuietOutside}
+use Rattle.propagate.specs.Closing.{AreClosable, EachFits, IsQuietLine, QuietOutside}
 use Rattle.propagate.specs.LineNames.{AreLinesOf}
 use Rattle.second_search.specs.declared.cell.Cell.{Cell}
-use Rattle.second_search.specs.declared.coming.Coming.TheVariants.{Splits}
-use Rattle.second_search.specs.Branching.{branches, colours_of, held}
-use Rattle.second_search.specs.Searching.{Comes, KeepsOutside, NamesLinesOf, SettlesTo}
+use Rattle.second_search.specs.declared.counting.Step.TheVariants as step
+use Rattle.second_search.specs.Branching.{GoesOn, Search, branches, colours_of, held, place, places, search_of}
+use Rattle.second_search.specs.Searching.{KeepsOutside, NamesLinesOf}
+use Rattle.second_search.specs.Stepping.{Steps}
+use Rattle.second_search.specs.Through.{NamesBoth, across, down}
 
 -- ---- sizes
 
@@ -36,13 +39,10 @@ closable_like clues longest a b s c =
     let h4 = c.tall in
     record { rows = omega arith; columns = omega arith; wide = omega arith; tall = omega arith }
 
-pub can_close_like : (clues : Clues) (before after : ℕ) (cells : List ℕ) (picture first facts : List (List ℕ)) → KeepsOutside cells picture first → KeepsOutside cells picture facts → after ≡ before → AreClosable clues before first → AreClosable clues after facts
-can_close_like clues before after cells picture first facts k l e c =
+pub can_close_like : (clues : Clues) (before after : ℕ) (first facts : List (List ℕ)) → SameShape first facts → after ≡ before → AreClosable clues before first → AreClosable clues after facts
+can_close_like clues before after first facts s e c =
     let P : ℕ → Type 0 = λ n. AreClosable clues n facts in
-    subst P (sym e) (closable_like clues before first facts (shape_trans (shape_sym k.same_shape) l.same_shape) c)
-
-pub lines_like : (cells : List ℕ) (picture first facts : List (List ℕ)) (lines : Lines) → KeepsOutside cells picture first → KeepsOutside cells picture facts → AreLinesOf first lines → AreLinesOf facts lines
-lines_like cells picture first facts lines k l of line h = same_has_line first facts line (shape_trans (shape_sym k.same_shape) l.same_shape) (of line h)
+    subst P (sym e) (closable_like clues before first facts s c)
 
 -- ---- the lines that are not named
 
@@ -89,51 +89,95 @@ quiet_outside law clues cells picture facts lines is e k n line has not =
       fits = (own, fits);
     }
 
--- ---- nothing changes outside
+-- ---- a cell held in closed facts
 
-settled_outside : (clues : Clues) (cells : List ℕ) (picture facts settled : List (List ℕ)) → KeepsOutside cells picture facts → SettlesTo clues facts settled → KeepsOutside cells picture settled
-settled_outside clues cells picture facts settled k s =
-    let shape = s.least.holds.same_shape in
-    record {
-      same_shape = shape_trans k.same_shape shape;
-      outside = λ row col l n j.
-          let each = shape.each row in
-          let only = k.outside row col (omega arith) n in
-          let left = s.least.holds.leaves row col in
-          let h : row < length settled = elim (cases_lt row (length settled)) [ inl m ↦ m | inr p ↦ absurd (let none : length (row_at settled row) ≡ 0 = ap length (get_or_past settled row [] p) in omega arith) ] in
-          let f = s.fits (record { axis = Across; at = row }) h in
-          let one = f.1.keeps col l in
-          let own : get_or f.0 col 0 ≡ cell_at picture row col = (only (get_or f.0 col 0)).0 (left (get_or f.0 col 0) one) in
-          let P : ℕ → Type 0 = λ x. IsBitSet (cell_at settled row col) x in (
-            (λ t. (only j).0 (left j t)),
-            (λ e. subst P (own ∙ sym e) one),
-          );
-    }
+-- facts in which a cell lies, and each line but the two through it is quiet
+pub record IsQuietBut (clues : Clues) (facts : List (List ℕ)) (cell : Cell) : Type 0 where
+  pub in_rows : cell.row < length facts
+  pub in_columns : cell.col < width_of facts
+  pub quiet : (lines : Lines) → NamesBoth lines cell.row cell.col → QuietOutside clues facts lines
 
-held_outside : (cells : List ℕ) (picture settled : List (List ℕ)) (row col x : ℕ) → KeepsOutside cells picture settled → ((k : ℕ) → IsOnly (cell_at settled row col) k → ⊥) → KeepsOutside cells picture (with_cell settled row col x)
-held_outside cells picture settled row col x k u =
+off_cell : (line : LineId) (lines : Lines) (row col i : ℕ) → NamesBoth lines row col → (HasName lines line → ⊥) → (row_on line.axis line.at i ≡ row) × (col_on line.axis line.at i ≡ col) → ⊥
+off_cell line lines row col i both not e = by line.axis not e
+  where
+    by : (a : Axis) → (HasName lines (record { axis = a; at = line.at }) → ⊥) → (row_on a line.at i ≡ row) × (col_on a line.at i ≡ col) → ⊥
+    by Across n e = n (let P : ℕ → Type 0 = λ x. HasName lines (across x) in subst P (sym e.0) both.0)
+    by Down n e = n (let P : ℕ → Type 0 = λ x. HasName lines (down x) in subst P (sym e.1) both.1)
+
+-- a line that does not go through a cell is as it was before the cell was held
+same_line_off : (facts : List (List ℕ)) (row col x : ℕ) (lines : Lines) (line : LineId) → NamesBoth lines row col → (HasName lines line → ⊥) → line_of (with_cell facts row col x) line ≡ line_of facts line
+same_line_off facts row col x lines line both not =
+    let held_to = with_cell facts row col x in
+    same_list (line_of held_to line) (line_of facts line) (same_line_length facts held_to line (shape_with_cell facts row col x)) (λ j l.
+    cell_on held_to line j
+    ∙ (off_with_cell facts row col x (row_on line.axis line.at j) (col_on line.axis line.at j) (off_cell line lines row col j both not)
+    ∙ sym (cell_on facts line j)))
+
+quiet_held : (clues : Clues) (settled : List (List ℕ)) (row col x : ℕ) → IsClosed clues settled → EachFits clues settled → row < length settled → col < width_of settled → IsQuietBut clues (with_cell settled row col x) (place row col)
+quiet_held clues settled row col x closed fits h l =
+    let held_to = with_cell settled row col x in
     let shape = shape_with_cell settled row col x in
+    let tall = shape.rows in
+    let wide : width_of settled ≡ width_of held_to = shape.each 0 in
     record {
-      same_shape = shape_trans k.same_shape shape;
-      outside = λ r c l n.
-          let each = shape.each r in
-          let only = k.outside r c (omega arith) n in
-          let off = off_with_cell settled row col x r c (λ p.
-          let P : ℕ → Type 0 = λ i. IsOnly (cell_at settled i c) (cell_at picture r c) in
-          let Q : ℕ → Type 0 = λ i. IsOnly (cell_at settled row i) (cell_at picture r c) in
-          u (cell_at picture r c) (subst Q p.1 (subst P p.0 only))) in
-          let R : ℕ → Type 0 = λ m. IsOnly m (cell_at picture r c) in
-          subst R (sym off) only;
+      in_rows = omega arith;
+      in_columns = omega arith;
+      quiet = λ lines both line has not.
+          let there = same_has_line held_to settled line (shape_sym shape) has in
+          let P : List ℕ → Type 0 = λ left. IsQuietLine (clue_at clues line) left in
+          subst P (sym (same_line_off settled row col x lines line both not)) (record { closed = closed line there; fits = fits line there });
     }
 
--- each of some facts leaves the picture alone outside
-abbrev pub EachKeeps : List ℕ → List (List ℕ) → List (List (List ℕ)) → Type 0
-EachKeeps cells picture [] = Unit {0}
-EachKeeps cells picture (facts ∷ others) = KeepsOutside cells picture facts × EachKeeps cells picture others
+-- Each of some facts has the shape of the first ones, and is quiet but for the lines through its cell.
+abbrev pub EachQuiet : Clues → List (List ℕ) → List (List (List ℕ)) → List Cell → Type 0
+EachQuiet clues first [] cells = Unit {0}
+EachQuiet clues first (facts ∷ others) [] = ⊥
+EachQuiet clues first (facts ∷ others) (cell ∷ cells) = (SameShape first facts × IsQuietBut clues facts cell) × EachQuiet clues first others cells
 
-each_held : (cells : List ℕ) (picture settled : List (List ℕ)) (row col : ℕ) (others : List (List (List ℕ))) → KeepsOutside cells picture settled → ((k : ℕ) → IsOnly (cell_at settled row col) k → ⊥) → EachKeeps cells picture others → (ks : List ℕ) → EachKeeps cells picture (held settled row col ks ++ others)
-each_held cells picture settled row col others k u o [] = o
-each_held cells picture settled row col others k u o (c ∷ ks) = (held_outside cells picture settled row col (2 ^ c) k u, each_held cells picture settled row col others k u o ks)
+each_held : (clues : Clues) (first settled : List (List ℕ)) (row col : ℕ) (others : List (List (List ℕ))) (cells : List Cell) → SameShape first settled → IsClosed clues settled → EachFits clues settled → row < length settled → col < width_of settled → EachQuiet clues first others cells → (ks : List ℕ) → EachQuiet clues first (held settled row col ks ++ others) (map (λ (k : ℕ). place row col) ks ++ cells)
+each_held clues first settled row col others cells s c f h l o [] = o
+each_held clues first settled row col others cells s c f h l o (k ∷ ks) = (
+  (shape_trans s (shape_with_cell settled row col (2 ^ k)), quiet_held clues settled row col (2 ^ k) c f h l),
+  each_held clues first settled row col others cells s c f h l o ks,
+)
 
-pub each_branch : (clues : Clues) (cells : List ℕ) (picture facts settled : List (List ℕ)) (cell : Cell) (others : List (List (List ℕ))) → EachKeeps cells picture (facts ∷ others) → Comes clues facts (Splits settled cell) → EachKeeps cells picture (branches settled cell.row cell.col (cell_at settled cell.row cell.col) ++ others)
-each_branch clues cells picture facts settled cell others k c = each_held cells picture settled cell.row cell.col others (settled_outside clues cells picture facts settled k.0 c.0) c.1.is.unsettled k.1 (colours_of (cell_at settled cell.row cell.col))
+-- the branches of a cell of closed facts
+pub each_branch : (clues : Clues) (first settled : List (List ℕ)) (row col mask : ℕ) (others : List (List (List ℕ))) (cells : List Cell) → SameShape first settled → IsClosed clues settled → EachFits clues settled → row < length settled → col < width_of settled → EachQuiet clues first others cells → EachQuiet clues first (branches settled row col mask ++ others) (places row col mask ++ cells)
+each_branch clues first settled row col mask others cells s c f h l o = each_held clues first settled row col others cells s c f h l o (colours_of mask)
+
+-- ---- on to the next facts
+
+-- the lines of a set are those of the facts, which have the first ones' shape, and each other line is quiet
+pub record IsReady (clues : Clues) (first facts : List (List ℕ)) (lines : Lines) : Type 0 where
+  pub same_shape : SameShape first facts
+  pub are_lines : AreLinesOf facts lines
+  pub quiet : QuietOutside clues facts lines
+
+pub ready_first : (clues : Clues) (first : List (List ℕ)) (lines : Lines) (s : Search) → s ≡ search_of first [] [] → AreLinesOf first lines → QuietOutside clues first lines → IsReady clues first s.at_hand lines × EachQuiet clues first s.behind s.cells
+ready_first clues first lines s e of quiet =
+    let P : Search → Type 0 = λ x. IsReady clues first x.at_hand lines × EachQuiet clues first x.behind x.cells in
+    subst P (sym e) (record { same_shape = shape_refl first; are_lines = of; quiet = quiet }, tt)
+
+pub quiet_at : (clues : Clues) (first : List (List ℕ)) (s t : Search) (cell : Cell) → EachQuiet clues first s.behind s.cells → GoesOn s t (Some cell) → (SameShape first t.at_hand × IsQuietBut clues t.at_hand cell) × EachQuiet clues first t.behind t.cells
+quiet_at clues first s t cell q on =
+    let P : List (List (List ℕ)) → Type 0 = λ x. EachQuiet clues first x s.cells in
+    let R : List Cell → Type 0 = λ x. EachQuiet clues first (t.at_hand ∷ t.behind) x in
+    subst R on.1 (subst P on.0 q)
+
+pub ready_at : (clues : Clues) (first facts : List (List ℕ)) (cell : Cell) (lines : Lines) → SameShape first facts → IsQuietBut clues facts cell → AreLinesOf facts lines → NamesBoth lines cell.row cell.col → IsReady clues first facts lines
+ready_at clues first facts cell lines s q of both = record { same_shape = s; are_lines = of; quiet = q.quiet lines both }
+
+-- where a look passed, nothing changed
+pub quiet_passes : (clues : Clues) (known first : List (List ℕ)) (s t : Search) (left rest : Option ℕ) (count more : ℕ) → EachQuiet clues first s.behind s.cells → Steps clues known s t left rest count more step.Passed → EachQuiet clues first t.behind t.cells
+quiet_passes clues known first s t left rest count more q h =
+    let P : Search → Type 0 = λ x. EachQuiet clues first x.behind x.cells in
+    subst P (sym h.1.0) q
+
+-- where it split, what waits now are branches of closed facts
+pub quiet_splits : (clues : Clues) (known first : List (List ℕ)) (s t : Search) (left rest : Option ℕ) (count more : ℕ) → SameShape first s.at_hand → EachQuiet clues first s.behind s.cells → Steps clues known s t left rest count more step.Split → EachQuiet clues first t.behind t.cells
+quiet_splits clues known first s t left rest count more shape q h =
+    let to = h.0.comes.0 in
+    let at = h.0.comes.1.is in
+    let cell = h.0.cell in
+    let P : Search → Type 0 = λ x. EachQuiet clues first x.behind x.cells in
+    subst P (sym h.0.new_is) (each_branch clues first h.0.settled cell.row cell.col (cell_at h.0.settled cell.row cell.col) s.behind s.cells (shape_trans shape to.least.holds.same_shape) to.least.closed to.fits at.in_rows at.in_columns q)

@@ -119,6 +119,8 @@ looks_back clues known facts settled w same (Split more cell) h = record {
     same_shape = shape_trans w.same_shape h.within.same_shape;
     leaves = λ r c k s. w.leaves r c k (h.within.leaves r c k s);
   };
+  closed = h.closed;
+  fits = h.fits;
   fills = λ picture. ((λ f. (h.fills picture).0 ((same picture).0 f)), (λ f. (same picture).1 ((h.fills picture).1 f)));
   splits = h.splits;
 }

@@ -1,5 +1,5 @@
 -- The colours of a mask, and facts told from notes.
-use Rattle.std.proofs.Common.{◌≡◌, ◌≢◌, ℕ, zero, suc, ◌+◌, ◌*◌, ◌%◌, ◌^◌, ◌<◌, ◌≤◌, ◌==◌, Bool, true, false, cond, List, [], ◌∷◌, ◌++◌, length, bit_and, reverse, refl, sym, ap, subst, ◌∙◌, arith, inl, inr, eqb-true, eq-eqb}
+use Rattle.std.proofs.Common.{◌≡◌, ◌≢◌, ℕ, zero, suc, ◌+◌, ◌*◌, ◌%◌, ◌^◌, ◌<◌, ◌≤◌, ◌==◌, Bool, true, false, cond, List, [], ◌∷◌, ◌++◌, length, map, bit_and, reverse, refl, sym, ap, subst, ◌∙◌, arith, inl, inr, eqb-true, eq-eqb}
 use Rattle.std.specs.List.{filter, range_with_len}
 use Rattle.std.specs.Int.{bit_at, bit_not, trailing_zeros, w16}
 use Rattle.std.proofs.lemmas.Bool.{cases_eq}
@@ -7,10 +7,11 @@ use Rattle.std.proofs.lemmas.List.{reverse-append}
 use Rattle.std.proofs.lemmas.Nat.Bits.{bit_at-zero, bit_at-trailing_zeros, bit_at_clear_same, bit_at_clear_other}
 use Rattle.picture.specs.Rows.{width_of, cell_at, with_cell}
 use Rattle.line_settle.specs.FactSets.{IsFacts}
+use Rattle.second_search.specs.declared.cell.Cell.{Cell}
 use Rattle.second_search.specs.declared.note.CellMask.{CellMask}
 use Rattle.second_search.specs.declared.note.Note.{Note}
 use Rattle.second_search.specs.declared.note.Note.TheVariants.{Restore, Branch}
-use Rattle.second_search.specs.Branching.{AreInside, IsInside, Search, branches, colours_of, held, search_of, waiting}
+use Rattle.second_search.specs.Branching.{AreInside, IsInside, Search, branches, cells_held, colours_of, held, place, places, search_of, waiting}
 use Rattle.line_settle.specs.MaskLaws.{lowest_below, shifted}
 use Rattle.second_search.proofs.GridLemmas.{cell_back, same_cell}
 
@@ -88,40 +89,43 @@ are_inside_same height width high wide (Restore cell ∷ notes) h w i = (inside_
 are_inside_same height width high wide (Branch cell ∷ notes) h w i = (inside_same height width high wide cell h w i.0, are_inside_same height width high wide notes h w i.1)
 
 -- a cell held to a mask, with the old one noted
-pub holds : (s : Search) (facts new : List (List ℕ)) (notes more : List Note) (cell : CellMask) (mask : ℕ) → search_of facts (waiting facts (reverse notes)) ≡ s → IsFacts facts → cell.row < length s.at_hand → cell.col < width_of s.at_hand → cell.mask ≡ cell_at facts cell.row cell.col → new ≡ with_cell facts cell.row cell.col mask → more ≡ notes ++ Restore cell ∷ [] → search_of new (waiting new (reverse more)) ≡ search_of (with_cell s.at_hand cell.row cell.col mask) s.behind
+pub holds : (s : Search) (facts new : List (List ℕ)) (notes more : List Note) (cell : CellMask) (mask : ℕ) → search_of facts (waiting facts (reverse notes)) (cells_held (reverse notes)) ≡ s → IsFacts facts → cell.row < length s.at_hand → cell.col < width_of s.at_hand → cell.mask ≡ cell_at facts cell.row cell.col → new ≡ with_cell facts cell.row cell.col mask → more ≡ notes ++ Restore cell ∷ [] → search_of new (waiting new (reverse more)) (cells_held (reverse more)) ≡ search_of (with_cell s.at_hand cell.row cell.col mask) s.behind s.cells
 holds s facts new notes more cell mask v is h w m n e =
     let front = ap (λ (x : Search). x.at_hand) v in
     let tall = ap length front in
     let wide = ap width_of front in
     let r = is.rectangular cell.row (omega arith) in
-    let P : List (List ℕ) → Type 0 = λ x. search_of x (waiting x (reverse more)) ≡ search_of (with_cell s.at_hand cell.row cell.col mask) s.behind in
+    let P : List (List ℕ) → Type 0 = λ x. search_of x (waiting x (reverse more)) (cells_held (reverse more)) ≡ search_of (with_cell s.at_hand cell.row cell.col mask) s.behind s.cells in
     let back : with_cell (with_cell facts cell.row cell.col mask) cell.row cell.col cell.mask ≡ facts =
     ap (λ x. with_cell (with_cell facts cell.row cell.col mask) cell.row cell.col x) m ∙ cell_back facts cell.row cell.col mask (omega arith) (omega arith) in
     let held_to = with_cell facts cell.row cell.col mask in
     let behind : waiting held_to (reverse more) ≡ s.behind =
     ap (waiting held_to) (newest notes more (Restore cell) e) ∙ (ap (λ x. waiting x (reverse notes)) back ∙ ap (λ (x : Search). x.behind) v) in
-    subst P (sym n) (ap (λ (x : List (List (List ℕ))). search_of held_to x) behind ∙ ap (λ (x : List (List ℕ)). search_of (with_cell x cell.row cell.col mask) s.behind) front)
+    let cells : cells_held (reverse more) ≡ s.cells = ap cells_held (newest notes more (Restore cell) e) ∙ ap (λ (x : Search). x.cells) v in
+    subst P (sym n) (ap (λ (x : List (List (List ℕ))). search_of held_to x (cells_held (reverse more))) behind
+    ∙ (ap (λ (x : List Cell). search_of held_to s.behind x) cells
+    ∙ ap (λ (x : List (List ℕ)). search_of (with_cell x cell.row cell.col mask) s.behind s.cells) front))
 
 -- a cell that has the mask already
-pub holds_same : (s : Search) (facts : List (List ℕ)) (behind : List (List (List ℕ))) (row col mask : ℕ) → search_of facts behind ≡ s → IsFacts facts → row < length s.at_hand → col < width_of s.at_hand → cell_at facts row col ≡ mask → s ≡ search_of (with_cell s.at_hand row col mask) s.behind
-holds_same s facts behind row col mask v is h w e =
+pub holds_same : (s : Search) (facts : List (List ℕ)) (behind : List (List (List ℕ))) (cells : List Cell) (row col mask : ℕ) → search_of facts behind cells ≡ s → IsFacts facts → row < length s.at_hand → col < width_of s.at_hand → cell_at facts row col ≡ mask → s ≡ search_of (with_cell s.at_hand row col mask) s.behind s.cells
+holds_same s facts behind cells row col mask v is h w e =
     let front = ap (λ (x : Search). x.at_hand) v in
     let tall = ap length front in
     let wide = ap width_of front in
     let r = is.rectangular row (omega arith) in
     let P : List (List ℕ) → Type 0 = λ x. with_cell x row col mask ≡ x in
     let same : with_cell facts row col mask ≡ facts = ap (λ x. with_cell facts row col x) (sym e) ∙ same_cell facts row col (omega arith) (omega arith) in
-    sym (ap (λ x. search_of x s.behind) (subst P front same))
+    sym (ap (λ x. search_of x s.behind s.cells) (subst P front same))
 
 -- no colours make no branches
-pub no_branches : (s : Search) (row col mask : ℕ) → mask ≡ 0 → s ≡ search_of s.at_hand (branches s.at_hand row col mask ++ s.behind)
-no_branches s row col mask e = ap (λ xs. search_of s.at_hand (held s.at_hand row col xs ++ s.behind)) (sym (ap colours_of e ∙ no_colours))
+pub no_branches : (s : Search) (row col mask : ℕ) → mask ≡ 0 → s ≡ search_of s.at_hand (branches s.at_hand row col mask ++ s.behind) (places row col mask ++ s.cells)
+no_branches s row col mask e = ap (λ xs. search_of s.at_hand (held s.at_hand row col xs ++ s.behind) (map (λ (k : ℕ). place row col) xs ++ s.cells)) (sym (ap colours_of e ∙ no_colours))
 
 first_branch : (facts : List (List ℕ)) (row col mask : ℕ) → 0 < mask → mask < 2 ^ 16 → branches facts row col mask ≡ with_cell facts row col (2 ^ trailing_zeros w16 mask) ∷ branches facts row col (bit_and mask (bit_not w16 (1 * 2 ^ trailing_zeros w16 mask % 65536)))
 first_branch facts row col mask p q = ap (held facts row col) (lowest_colour mask p q)
 
 -- the first branch begun, and the others put before what waits
-pub begins : (s t u : Search) (row col mask lowest rest : ℕ) → 0 < mask → mask < 2 ^ 16 → lowest ≡ 1 * 2 ^ trailing_zeros w16 mask % 65536 → rest ≡ bit_and mask (bit_not w16 lowest) → t ≡ search_of s.at_hand (branches s.at_hand row col rest ++ s.behind) → u ≡ search_of (with_cell t.at_hand row col lowest) t.behind → branches s.at_hand row col mask ++ s.behind ≡ u.at_hand ∷ u.behind
+pub begins : (s t u : Search) (row col mask lowest rest : ℕ) → 0 < mask → mask < 2 ^ 16 → lowest ≡ 1 * 2 ^ trailing_zeros w16 mask % 65536 → rest ≡ bit_and mask (bit_not w16 lowest) → t ≡ search_of s.at_hand (branches s.at_hand row col rest ++ s.behind) (places row col rest ++ s.cells) → u ≡ search_of (with_cell t.at_hand row col lowest) t.behind t.cells → branches s.at_hand row col mask ++ s.behind ≡ u.at_hand ∷ u.behind
 begins s t u row col mask lowest rest p q l r et eu =
     let power : 2 ^ trailing_zeros w16 mask ≡ lowest = sym (l ∙ shifted (trailing_zeros w16 mask) (lowest_below mask p q)) in
     let others : bit_and mask (bit_not w16 (1 * 2 ^ trailing_zeros w16 mask % 65536)) ≡ rest = ap (λ n. bit_and mask (bit_not w16 n)) (sym l) ∙ sym r in
@@ -132,10 +136,24 @@ begins s t u row col mask lowest rest p q l r et eu =
     ∙ (ap (λ n. with_cell s.at_hand row col lowest ∷ (branches s.at_hand row col n ++ s.behind)) others
     ∙ (ap (λ x. x ∷ (branches s.at_hand row col rest ++ s.behind)) front ∙ ap (λ xs. u.at_hand ∷ xs) behind)))
 
+first_place : (row col mask : ℕ) → 0 < mask → mask < 2 ^ 16 → places row col mask ≡ place row col ∷ places row col (bit_and mask (bit_not w16 (1 * 2 ^ trailing_zeros w16 mask % 65536)))
+first_place row col mask p q = ap (λ (xs : List ℕ). map (λ (k : ℕ). place row col) xs) (lowest_colour mask p q)
+
+-- its cell is the one held
+pub begins_held : (s t u : Search) (row col mask lowest rest : ℕ) → 0 < mask → mask < 2 ^ 16 → lowest ≡ 1 * 2 ^ trailing_zeros w16 mask % 65536 → rest ≡ bit_and mask (bit_not w16 lowest) → t ≡ search_of s.at_hand (branches s.at_hand row col rest ++ s.behind) (places row col rest ++ s.cells) → u ≡ search_of (with_cell t.at_hand row col lowest) t.behind t.cells → places row col mask ++ s.cells ≡ place row col ∷ u.cells
+begins_held s t u row col mask lowest rest p q l r et eu =
+    let others : bit_and mask (bit_not w16 (1 * 2 ^ trailing_zeros w16 mask % 65536)) ≡ rest = ap (λ n. bit_and mask (bit_not w16 n)) (sym l) ∙ sym r in
+    let cells : places row col rest ++ s.cells ≡ u.cells = sym (ap (λ (x : Search). x.cells) eu ∙ ap (λ (x : Search). x.cells) et) in
+    ap (λ xs. xs ++ s.cells) (first_place row col mask p q)
+    ∙ (ap (λ n. place row col ∷ (places row col n ++ s.cells)) others ∙ ap (λ xs. place row col ∷ xs) cells)
+
 -- a branch with no colours left is none
-pub skips : (facts : List (List ℕ)) (height width : ℕ) (notes more : List Note) (cell : CellMask) → notes ≡ more ++ Branch cell ∷ [] → cell.mask ≡ 0 → (waiting facts (reverse notes) ≡ waiting facts (reverse more)) × (AreInside height width (reverse notes) → AreInside height width (reverse more))
+pub skips : (facts : List (List ℕ)) (height width : ℕ) (notes more : List Note) (cell : CellMask) → notes ≡ more ++ Branch cell ∷ [] → cell.mask ≡ 0 → (waiting facts (reverse notes) ≡ waiting facts (reverse more)) × ((cells_held (reverse notes) ≡ cells_held (reverse more)) × (AreInside height width (reverse notes) → AreInside height width (reverse more)))
 skips facts height width notes more cell e z =
     let n = newest more notes (Branch cell) e in (
       ap (waiting facts) n ∙ ap (λ xs. held facts cell.row cell.col xs ++ waiting facts (reverse more)) (ap colours_of z ∙ no_colours),
-      (λ i. let P : List Note → Type 0 = AreInside height width in (subst P n i).1),
+      (
+        ap cells_held n ∙ ap (λ xs. map (λ (k : ℕ). place cell.row cell.col) xs ++ cells_held (reverse more)) (ap colours_of z ∙ no_colours),
+        (λ i. let P : List Note → Type 0 = AreInside height width in (subst P n i).1),
+      ),
     )

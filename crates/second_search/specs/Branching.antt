@@ -1,11 +1,12 @@
 -- Facts that wait to be searched, and the notes from which they are told.
-use Rattle.std.specs.Prelude.{◌≡◌, ℕ, ◌^◌, ◌<◌, ◌⊎◌, ◌==◌, Bool, true, false, Option, None, Some, List, [], ◌∷◌, ◌++◌, map}
+use Rattle.std.specs.Prelude.{◌≡◌, ℕ, ◌^◌, ◌<◌, ◌⊎◌, ◌==◌, Option, None, Some, List, [], ◌∷◌, ◌++◌, map}
 use Rattle.std.specs.List.{filter, range_with_len}
 use Rattle.std.specs.Int.{bit_at}
 use Rattle.picture.specs.Rows.{cell_at, with_cell}
 use Rattle.clues.specs.ClueBook.{Clues}
 use Rattle.line_settle.specs.FactSets.{SameShape}
 use Rattle.propagate.specs.Filling.{Fills}
+use Rattle.second_search.specs.declared.cell.Cell.{Cell}
 use Rattle.second_search.specs.declared.note.CellMask.{CellMask}
 use Rattle.second_search.specs.declared.note.Note.{Note}
 use Rattle.second_search.specs.declared.note.Note.TheVariants.{Restore, Branch}
@@ -22,12 +23,25 @@ held facts row col colours = map (λ (k : ℕ). with_cell facts row col (2 ^ k))
 abbrev pub branches : List (List ℕ) → ℕ → ℕ → ℕ → List (List (List ℕ))
 branches facts row col mask = held facts row col (colours_of mask)
 
+abbrev pub place : ℕ → ℕ → Cell
+place row col = record { row = row; col = col }
+
+-- the cell that is held in each of its branches
+abbrev pub places : ℕ → ℕ → ℕ → List Cell
+places row col mask = map (λ (k : ℕ). place row col) (colours_of mask)
+
 -- The facts that wait behind those at hand, told from the notes, the newest first: a cell gets its mask back, or is held to
 -- colours still to try.
 abbrev pub waiting : List (List ℕ) → List Note → List (List (List ℕ))
 waiting facts [] = []
 waiting facts (Restore cell ∷ notes) = waiting (with_cell facts cell.row cell.col cell.mask) notes
 waiting facts (Branch cell ∷ notes) = branches facts cell.row cell.col cell.mask ++ waiting facts notes
+
+-- of each of these facts the cell that is held in them
+abbrev pub cells_held : List Note → List Cell
+cells_held [] = []
+cells_held (Restore cell ∷ notes) = cells_held notes
+cells_held (Branch cell ∷ notes) = places cell.row cell.col cell.mask ++ cells_held notes
 
 -- a cell lies in a picture of that size, and its mask is one of sixteen colours
 pub record IsInside (height width : ℕ) (cell : CellMask) : Type 0 where
@@ -44,15 +58,17 @@ AreInside height width (Branch cell ∷ notes) = IsInside height width cell × A
 -- waits.
 abbrev pub PutsBack : List (List ℕ) → List Note → List (List ℕ) → List Note → Option CellMask → Type 0
 PutsBack old notes new rest None = waiting old notes ≡ []
-PutsBack old notes new rest (Some cell) = waiting old notes ≡ branches new cell.row cell.col cell.mask ++ waiting new rest
+PutsBack old notes new rest (Some cell) = (waiting old notes ≡ branches new cell.row cell.col cell.mask ++ waiting new rest)
+    × (cells_held notes ≡ places cell.row cell.col cell.mask ++ cells_held rest)
 
--- the facts at hand, and those that wait behind them
+-- the facts at hand, and those that wait behind them, of each of which a cell was held last
 pub record Search : Type 0 where
   pub at_hand : List (List ℕ)
   pub behind : List (List (List ℕ))
+  pub cells : List Cell
 
-abbrev pub search_of : List (List ℕ) → List (List (List ℕ)) → Search
-search_of at_hand behind = record { at_hand = at_hand; behind = behind }
+abbrev pub search_of : List (List ℕ) → List (List (List ℕ)) → List Cell → Search
+search_of at_hand behind cells = record { at_hand = at_hand; behind = behind; cells = cells }
 
 -- one row is that of other facts, and the other rows are as they were
 pub record IsRowTaken (old settled new : List (List ℕ)) (row : ℕ) : Type 0 where
@@ -60,10 +76,10 @@ pub record IsRowTaken (old settled new : List (List ℕ)) (row : ℕ) : Type 0 w
   pub here : (col : ℕ) → cell_at new row col ≡ cell_at settled row col
   pub elsewhere : (r col : ℕ) → (r ≡ row → ⊥) → cell_at new r col ≡ cell_at old r col
 
--- the search goes on to the next facts that wait, or none do
-abbrev pub GoesOn : Search → Search → Bool → Type 0
-GoesOn old new true = old.behind ≡ new.at_hand ∷ new.behind
-GoesOn old new false = old.behind ≡ []
+-- the search goes on to the next facts that wait, in which this cell is held, or none do
+abbrev pub GoesOn : Search → Search → Option Cell → Type 0
+GoesOn old new (Some cell) = (old.behind ≡ new.at_hand ∷ new.behind) × (old.cells ≡ cell ∷ new.cells)
+GoesOn old new None = old.behind ≡ []
 
 -- a picture fills some of the facts
 abbrev pub FillsSome : Clues → List (List (List ℕ)) → List (List ℕ) → Type 0

@@ -4,7 +4,8 @@ use Rattle.picture.specs.Picture.{IsPicture}
 use Rattle.picture.specs.Rows.{width_of, cell_at}
 use Rattle.clues.specs.ClueBook.{Clues}
 use Rattle.line_settle.specs.Masks.{IsOnly}
-use Rattle.line_settle.specs.FactSets.{IsFacts, IsWithin, SameShape}
+use Rattle.line_settle.specs.FactSets.{IsClosed, IsFacts, IsWithin, SameShape}
+use Rattle.propagate.specs.Closing.{EachFits}
 use Rattle.propagate.specs.Filling.{Fills}
 use Rattle.second_search.specs.declared.cell.Cell.{Cell}
 use Rattle.second_search.specs.declared.looking.Look.{Look}
@@ -32,10 +33,12 @@ pub record ShowsRow (facts old new : List (List ℕ)) (row : ℕ) : Type 0 where
   pub only : (col : ℕ) → col < width_of facts → IsOnly (cell_at facts row col) (cell_at new row col)
   pub elsewhere : (r col : ℕ) → (r ≡ row → ⊥) → cell_at new r col ≡ cell_at old r col
 
--- facts that exclude more, with a cell that is not settled, which the same pictures fill
+-- closed facts that exclude more, with a cell that is not settled, which the same pictures fill; some list fits each line
 pub record Narrows (clues : Clues) (facts settled : List (List ℕ)) (cell : Cell) : Type 0 where
   pub are_facts : IsFacts settled
   pub within : IsWithin facts settled
+  pub closed : IsClosed clues settled
+  pub fits : EachFits clues settled
   pub fills : (picture : List (List ℕ)) → Fills clues facts picture ↔ Fills clues settled picture
   pub splits : IsUnsettled settled cell
 

@@ -6,7 +6,7 @@ use Rattle.second_search.specs.declared.cell.Cell.{Cell}
 use Rattle.second_search.specs.declared.coming.Coming.TheVariants.{Dies, Ends, Splits}
 use Rattle.second_search.specs.declared.counting.Step.{Step}
 use Rattle.second_search.specs.declared.counting.Step.TheVariants.{Passed, Split, Other, Halted}
-use Rattle.second_search.specs.Branching.{Search, branches, search_of}
+use Rattle.second_search.specs.Branching.{Search, branches, places, search_of}
 use Rattle.second_search.specs.Searching.{Comes, raised}
 
 -- what is left of an allowance after one split more
@@ -31,7 +31,7 @@ pub record SplitsAt (clues : Clues) (old new : Search) : Type 0 where
   pub settled : List (List ℕ)
   pub cell : Cell
   pub comes : Comes clues old.at_hand (Splits settled cell)
-  pub new_is : new ≡ search_of settled (branches settled cell.row cell.col (cell_at settled cell.row cell.col) ++ old.behind)
+  pub new_is : new ≡ search_of settled (branches settled cell.row cell.col (cell_at settled cell.row cell.col) ++ old.behind) (places cell.row cell.col (cell_at settled cell.row cell.col) ++ old.cells)
 
 -- What a look at the facts at hand led to: they are done with, and others wait in their place where they were split; or another
 -- picture was found; or no split is left.

@@ -1,20 +1,19 @@
 //! The search in a fixed order, which counts its splits and may be broken off.
 
 ghost use Rattle.std.specs.Prelude.{◌≡◌, ℕ, IfOk};
-ghost use Rattle.clues.specs.ClueBook.{clues_of};
 ghost use Rattle.line_settle.specs.Counting.{Counts};
 ghost use Rattle.propagate.specs.Closing.{AreClosable, QuietOutside};
 ghost use Rattle.propagate.specs.LineNames.{AreLinesOf};
-ghost use Rattle.second_search.specs.Searching.{EndsAs, KeepsOutside, NamesLinesOf, raised};
+ghost use Rattle.second_search.specs.Searching.{EndsAs, raised};
 ghost use Rattle.second_search.specs.Stepping.{Compares, Spends, Steps};
 
+use crate::cell_lines::lines_at;
 use crate::coming::{Coming, come_to};
 use crate::pending::Pending;
 use clues::ClueBook;
-use clues::laws::clues_are_of_lines;
 use line_settle::laws::{counts_add, least_is_unique};
 use line_settle::{Facts, LineEngine, Meter};
-use picture::{CellSet, LineSet, Picture};
+use picture::{LineSet, Picture};
 use std::alloc::{AllocError, Global};
 
 // How a search ended: there is no other picture, or there is this one, or it would have split once more than allowed.
@@ -34,30 +33,27 @@ pub(crate) enum Step {
     Halted,
 }
 
-// Searches facts for another picture than a known one, which they leave alone outside of some cells. The lines named are all
-// that go through these cells, and only they are evaluated. Of the splits at most `allowance` are made, where there is one.
+// Searches facts for another picture than a known one. Each line that is not named has to be quiet; after a split the two
+// lines of the split cell alone need not be, since closed facts were split. Of the splits at most `allowance` are made, where
+// there is one.
 pub(crate) fn search_counted<E: LineEngine>(
     alloc: Global,
     engine: &mut E,
     book: &ClueBook,
     known: &Picture,
-    cells: &CellSet,
-    lines: &LineSet,
+    lines: LineSet,
     facts: Facts,
     allowance: Option<u32>,
     meter: &mut Meter,
     splits: &mut u32,
 ) -> Result<Ending, AllocError>
-    requires clues { clues_of known.now ≡ book.now }
     requires closable { AreClosable book.now (E.longest engine.old) facts }
-    requires outside { KeepsOutside cells.now known.now facts }
-    requires lines { AreLinesOf facts lines.now }
-    requires through { NamesLinesOf cells.now lines.now }
+    requires lines { AreLinesOf facts lines }
+    requires quiet { QuietOutside book.now facts lines }
     ensures ends { IfOk result (λ ending. (n : ℕ) × ((splits.new ≡ raised splits.old n) × EndsAs book.now known.now facts allowance ending n)) }
     ensures counts { (evaluations : ℕ) × Counts evaluations 0 meter.old meter.new (E.calls engine.old) (E.calls engine.new) }
     ensures same_longest { E.longest engine.new ≡ E.longest engine.old }
 {
-    clues_are_of_lines();
     counts_add();
     least_is_unique();
     let _ = (known.height(), engine.calls(), *splits);
@@ -65,13 +61,14 @@ pub(crate) fn search_counted<E: LineEngine>(
     let _trials = meter.trials;
     let mut pending = Pending::start(alloc, facts);
     let mut left = allowance;
+    let mut dirty = lines;
     loop {
         match look_once(
             alloc,
             engine,
             book,
             known,
-            lines,
+            &dirty,
             &mut pending,
             &mut left,
             meter,
@@ -82,8 +79,9 @@ pub(crate) fn search_counted<E: LineEngine>(
             Step::Passed => {}
             Step::Split => {}
         }
-        if !pending.advance()? {
-            return Ok(Ending::Nothing);
+        match pending.advance()? {
+            Some(cell) => dirty = lines_at(pending.at_hand(), cell),
+            None => return Ok(Ending::Nothing),
         }
     }
 }

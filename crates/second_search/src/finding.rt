@@ -6,12 +6,14 @@ ghost use Rattle.propagate.specs.Closing.{AreClosable};
 ghost use Rattle.second_search.specs.Other.{AreSound, FindsFirst, FindsOther};
 ghost use Rattle.second_search.specs.Looking.{FindsFilling};
 
+use crate::cell_lines::lines_at;
 use crate::looking::{Look, look_at};
 use crate::pending::Pending;
 use clues::ClueBook;
 use clues::laws::clues_are_of_lines;
 use line_settle::{Facts, LineEngine};
 use picture::{CellSet, Picture};
+use propagate::all_lines;
 use std::alloc::{AllocError, Global};
 
 /// A picture with these clues. There is none exactly where the answer is None. No line is longer than the engine's
@@ -61,7 +63,8 @@ pub fn find_other<E: LineEngine>(
     Ok(found)
 }
 
-// A picture that fills facts and is not the known one. There is none exactly where the answer is None.
+// A picture that fills facts and is not the known one. There is none exactly where the answer is None. After a split only the
+// two lines of the split cell are handed over, since closed facts were split.
 fn find_filling<E: LineEngine>(
     alloc: Global,
     engine: &mut E,
@@ -73,9 +76,10 @@ fn find_filling<E: LineEngine>(
     ensures finds { IfOk result (FindsFilling book.now facts known.now) }
     ensures same_longest { E.longest engine.new ≡ E.longest engine.old }
 {
+    let mut dirty = all_lines(&facts);
     let mut pending = Pending::start(alloc, facts);
     loop {
-        let look = look_at(alloc, engine, book, known, pending.at_hand())?;
+        let look = look_at(alloc, engine, book, known, pending.at_hand(), &dirty)?;
         match look {
             Look::Nothing => {}
             Look::Found(picture) => return Ok(Some(picture)),
@@ -84,8 +88,9 @@ fn find_filling<E: LineEngine>(
                 pending.split(cell)?;
             }
         }
-        if !pending.advance()? {
-            return Ok(None);
+        match pending.advance()? {
+            Some(cell) => dirty = lines_at(pending.at_hand(), cell),
+            None => return Ok(None),
         }
     }
 }

@@ -3,6 +3,7 @@
 
 mod carrying;
 mod cell;
+mod cell_lines;
 mod coming;
 mod counting;
 mod finding;

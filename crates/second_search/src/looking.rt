@@ -3,17 +3,18 @@
 ghost use Rattle.std.specs.Prelude.{◌≡◌, ℕ, ◌<◌, List, length, IfOk, IsTrue, MatchOption};
 ghost use Rattle.picture.specs.Rows.{width_of, cell_at};
 ghost use Rattle.line_settle.specs.Masks.{IsOnly};
-ghost use Rattle.line_settle.specs.FactSets.{SameShape};
-ghost use Rattle.propagate.specs.Closing.{AreClosable};
+ghost use Rattle.line_settle.specs.FactSets.{IsClosed, SameShape};
+ghost use Rattle.propagate.specs.Closing.{AreClosable, EachFits, QuietOutside};
+ghost use Rattle.propagate.specs.LineNames.{AreLinesOf};
 ghost use Rattle.second_search.specs.Looking.{AreSettled, Looks, Shows, ShowsRow};
 ghost use Rattle.second_search.specs.Searching.{IsFirstUnsettled};
 
 use crate::cell::Cell;
 use clues::ClueBook;
 use line_settle::{Facts, LineEngine, Meter, Outcome};
-use picture::Picture;
+use picture::{LineSet, Picture};
 use propagate::laws::closing_keeps_fillings;
-use propagate::{InOrder, all_lines, close_facts};
+use propagate::{InOrder, close_facts};
 use std::alloc::{AllocError, Global};
 
 // What a look at facts finds: no picture but the known one, another picture, or a cell in which several colours are left
@@ -25,15 +26,18 @@ pub(crate) enum Look {
     Split(Facts, Cell),
 }
 
-// Closes facts and looks at what they leave.
+// Closes facts and looks at what they leave. Each line that is not named has to be quiet.
 pub(crate) fn look_at<E: LineEngine>(
     alloc: Global,
     engine: &mut E,
     book: &ClueBook,
     known: &Picture,
     facts: &Facts,
+    lines: &LineSet,
 ) -> Result<Look, AllocError>
-    requires { AreClosable book.now (E.longest engine.old) facts.now }
+    requires closable { AreClosable book.now (E.longest engine.old) facts.now }
+    requires lines { AreLinesOf facts.now lines.now }
+    requires quiet { QuietOutside book.now facts.now lines.now }
     ensures looks { IfOk result (Looks book.now known.now facts.now) }
     ensures same_longest { E.longest engine.new ≡ E.longest engine.old }
 {
@@ -44,8 +48,7 @@ pub(crate) fn look_at<E: LineEngine>(
         evaluations: 0,
         trials: 0,
     };
-    let lines = all_lines(facts);
-    match close_facts(engine, &mut agenda, &mut settled, book, &lines, &mut meter) {
+    match close_facts(engine, &mut agenda, &mut settled, book, lines, &mut meter) {
         Outcome::Dead => Ok(Look::Nothing),
         Outcome::Narrowed => look_closer(alloc, book, known, settled),
     }
@@ -58,6 +61,8 @@ fn look_closer(
     known: &Picture,
     settled: Facts,
 ) -> Result<Look, AllocError>
+    requires closed { IsClosed book.now settled }
+    requires fits { EachFits book.now settled }
     ensures { IfOk result (Looks book.now known.now settled) }
 {
     let _ = settled.height();

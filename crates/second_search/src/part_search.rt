@@ -7,13 +7,14 @@ ghost use Rattle.line_settle.specs.FactSets.{SameShape};
 ghost use Rattle.propagate.specs.LineNames.{AreLinesOf};
 ghost use Rattle.second_search.specs.Parts.{IsPart, IsScene};
 ghost use Rattle.second_search.specs.Searching.{EndsAs, alone, raised};
-ghost use Rattle.second_search.specs.Through.{LeavesAlone, LeavesRowAlone, PutsBoth, PutsRow, PutsThrough};
+ghost use Rattle.second_search.specs.Through.{LeavesAlone, LeavesRowAlone, PutsRow, PutsThrough};
 
+use crate::cell_lines::put_both;
 use crate::counting::{Ending, search_counted};
 use crate::scene::Scene;
 use clues::laws::clues_are_of_lines;
 use line_settle::{Facts, LineEngine, Meter};
-use picture::{Axis, CellSet, LineId, LineSet, MAX_SIDE, Picture};
+use picture::{CellSet, LineSet, Picture};
 use propagate::laws::only_is_closed;
 use std::alloc::{AllocError, Global};
 
@@ -49,8 +50,7 @@ pub(crate) fn search_part<E: LineEngine>(
         engine,
         scene.clues,
         scene.picture,
-        cells,
-        &lines,
+        lines,
         facts,
         allowance,
         meter,
@@ -82,22 +82,6 @@ fn put_through(cells: &CellSet, facts: &Facts, row: u8, lines: &mut LineSet)
             put_both(lines, row, col);
         }
     }
-}
-
-// Puts the names of the lines through a cell into a set.
-fn put_both(lines: &mut LineSet, row: u8, col: u8)
-    requires in_rows { row < MAX_SIDE }
-    requires in_columns { col < MAX_SIDE }
-    ensures { PutsBoth row col lines.old lines.new }
-{
-    lines.put(LineId {
-        axis: Axis::Across,
-        at: row,
-    });
-    lines.put(LineId {
-        axis: Axis::Down,
-        at: col,
-    });
 }
 
 // Leaves outside of some cells a picture's colours alone.

@@ -3,7 +3,7 @@
 ghost use Rattle.std.specs.Prelude.{◌≡◌, ℕ, ◌<◌, [], ◌∷◌, ◌++◌, length, reverse, IfOk, OnOk, IfSome};
 ghost use Rattle.picture.specs.Rows.{width_of, cell_at, with_cell};
 ghost use Rattle.line_settle.specs.FactSets.{SameShape};
-ghost use Rattle.second_search.specs.Branching.{branches, search_of, AreInside, GoesOn, IsInside, IsRowTaken, PutsBack};
+ghost use Rattle.second_search.specs.Branching.{branches, place, places, search_of, AreInside, GoesOn, IsInside, IsRowTaken, PutsBack};
 
 use crate::cell::Cell;
 use crate::note::{CellMask, Note};
@@ -23,11 +23,11 @@ pub(crate) struct Pending {
 impl Model for Pending {
     ghost use Rattle.std.specs.Prelude.{length, reverse};
     ghost use Rattle.picture.specs.Rows.{width_of};
-    ghost use Rattle.second_search.specs.Branching.{AreInside, Search, search_of, waiting};
+    ghost use Rattle.second_search.specs.Branching.{AreInside, Search, cells_held, search_of, waiting};
 
     ghost Value = { Search };
 
-    ghost view = { λ p. search_of p.facts (waiting p.facts (reverse p.notes.items)) };
+    ghost view = { λ p. search_of p.facts (waiting p.facts (reverse p.notes.items)) (cells_held (reverse p.notes.items)) };
 
     ghost invariant = { λ p. AreInside (length p.facts) (width_of p.facts) (reverse p.notes.items) };
 }
@@ -35,7 +35,7 @@ impl Model for Pending {
 impl Pending {
     // The facts alone, with none behind them.
     pub(crate) fn start(alloc: Global, facts: Facts) -> Pending
-        ensures { result ≡ search_of facts [] }
+        ensures { result ≡ search_of facts [] [] }
     {
         Pending {
             facts,
@@ -53,7 +53,7 @@ impl Pending {
     // Narrows the facts at hand to others of their shape, and notes each cell that changes.
     pub(crate) fn narrow(&mut self, settled: &Facts) -> Result<(), AllocError>
         requires { SameShape self.old.at_hand settled.now }
-        ensures { OnOk result (self.new ≡ search_of settled.now self.old.behind) }
+        ensures { OnOk result (self.new ≡ search_of settled.now self.old.behind self.old.cells) }
     {
         for row in 0..settled.height() {
             self.narrow_row(settled, row)?;
@@ -66,6 +66,7 @@ impl Pending {
         requires same_shape { SameShape self.old.at_hand settled.now }
         requires in_rows { row < length settled.now }
         ensures behind { OnOk result (self.new.behind ≡ self.old.behind) }
+        ensures cells { OnOk result (self.new.cells ≡ self.old.cells) }
         ensures row { OnOk result (IsRowTaken self.old.at_hand settled.now self.new.at_hand row) }
     {
         for col in 0..settled.width() {
@@ -78,7 +79,7 @@ impl Pending {
     fn hold(&mut self, row: u8, col: u8, mask: u16) -> Result<(), AllocError>
         requires in_rows { row < length self.old.at_hand }
         requires in_columns { col < width_of self.old.at_hand }
-        ensures { OnOk result (self.new ≡ search_of (with_cell self.old.at_hand row col mask) self.old.behind) }
+        ensures { OnOk result (self.new ≡ search_of (with_cell self.old.at_hand row col mask) self.old.behind self.old.cells) }
     {
         let left = self.facts.left(row, col);
         if left != mask {
@@ -98,7 +99,8 @@ impl Pending {
         requires in_rows { cell.row < length self.old.at_hand }
         requires in_columns { cell.col < width_of self.old.at_hand }
         ensures { OnOk result (self.new ≡ search_of self.old.at_hand
-            (branches self.old.at_hand cell.row cell.col (cell_at self.old.at_hand cell.row cell.col) ++ self.old.behind)) }
+            (branches self.old.at_hand cell.row cell.col (cell_at self.old.at_hand cell.row cell.col) ++ self.old.behind)
+            (places cell.row cell.col (cell_at self.old.at_hand cell.row cell.col) ++ self.old.cells)) }
     {
         let mask = self.facts.left(cell.row, cell.col);
         self.push_branch(CellMask {
@@ -112,7 +114,9 @@ impl Pending {
     fn push_branch(&mut self, cell: CellMask) -> Result<(), AllocError>
         requires in_rows { cell.row < length self.old.at_hand }
         requires in_columns { cell.col < width_of self.old.at_hand }
-        ensures { OnOk result (self.new ≡ search_of self.old.at_hand (branches self.old.at_hand cell.row cell.col cell.mask ++ self.old.behind)) }
+        ensures { OnOk result (self.new ≡ search_of self.old.at_hand
+            (branches self.old.at_hand cell.row cell.col cell.mask ++ self.old.behind)
+            (places cell.row cell.col cell.mask ++ self.old.cells)) }
     {
         if cell.mask != 0 {
             self.notes.push(Note::Branch(cell))?;
@@ -120,16 +124,20 @@ impl Pending {
         Ok(())
     }
 
-    // Leaves the facts at hand, and goes on to the next that wait. There are none exactly where the answer is false.
-    pub(crate) fn advance(&mut self) -> Result<bool, AllocError>
+    // Leaves the facts at hand, and goes on to the next that wait. Answers the cell that is held in them; there are none
+    // exactly where the answer is None.
+    pub(crate) fn advance(&mut self) -> Result<Option<Cell>, AllocError>
         ensures { IfOk result (GoesOn self.old self.new) }
     {
         match put_back(&mut self.facts, &mut self.notes) {
             Some(cell) => {
                 self.begin(cell)?;
-                Ok(true)
+                Ok(Some(Cell {
+                    row: cell.row,
+                    col: cell.col,
+                }))
             }
-            None => Ok(false),
+            None => Ok(None),
         }
     }
 
@@ -137,7 +145,8 @@ impl Pending {
     fn begin(&mut self, cell: CellMask) -> Result<(), AllocError>
         requires inside { IsInside (length self.old.at_hand) (width_of self.old.at_hand) cell }
         requires some { 0 < cell.mask }
-        ensures { OnOk result (branches self.old.at_hand cell.row cell.col cell.mask ++ self.old.behind ≡ self.new.at_hand ∷ self.new.behind) }
+        ensures waits { OnOk result (branches self.old.at_hand cell.row cell.col cell.mask ++ self.old.behind ≡ self.new.at_hand ∷ self.new.behind) }
+        ensures held { OnOk result (places cell.row cell.col cell.mask ++ self.old.cells ≡ place cell.row cell.col ∷ self.new.cells) }
     {
         let lowest = 1 << cell.mask.trailing_zeros();
         self.push_branch(CellMask {

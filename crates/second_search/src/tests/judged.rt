@@ -391,7 +391,8 @@ fn judge_under(
 // The diagonal of three cells costs three splits. Each line has one cell, so nothing is settled at first, and the first cell
 // is split. Without it nothing more is settled, and the second cell is split. Without that the first row's cell is its last,
 // which settles the last column; the first cell of the second row is split. Without it the second row's cell is its second,
-// so the third row's is its first: another picture.
+// so the third row's is its first: another picture. The pair takes eight evaluations: its four lines at first, which settle
+// nothing, and then the two lines of the split cell, each of which settles a cell, and the two lines that cross these.
 #[test]
 fn worked_allowances(rt: HostRuntime) {
     let alloc = rt.alloc();
@@ -411,6 +412,7 @@ fn worked_allowances(rt: HostRuntime) {
     let report = judge_under(&rt, alloc, &pair, 2, None, Some(1));
     let other = cells_of(&[*b".a.", *b"a..", *b"..."]);
     assert!(rt; report.said == Said::Other(other) && report.splits == 1);
+    assert!(rt; report.evaluations == 8);
     let report = judge_under(&rt, alloc, &pair, 2, Some(0), Some(0));
     assert!(rt; report.said == Said::Unique && report.searched == 0 && report.evaluations == 0);
 }

@@ -1,13 +1,18 @@
-use Rattle.std.proofs.Common.{◌∙◌, Bool, arith, refl, subst}
+use Rattle.std.proofs.Common.{ℕ, ◌<◌, ◌∙◌, List, length, Option, Some, arith, refl, subst, sym}
+use Rattle.picture.specs.Rows.{width_of}
+use Rattle.propagate.specs.LineNames.{AreLinesOf}
+use Rattle.second_search.specs.declared.cell.Cell.{Cell}
 use Rattle.second_search.specs.Branching.{GoesOn}
 use Rattle.second_search.proofs.CountLemmas.{Counting, counted_halted, counted_nothing, counted_other, counting_at, counting_passes, counting_splits, counting_starts, counts_more, counts_none, passes_lighter, splits_lighter, steps_as}
-use Rattle.second_search.proofs.KeepLemmas.{can_close_like, lines_like, quiet_outside}
+use Rattle.second_search.proofs.KeepLemmas.{EachQuiet, can_close_like, quiet_at, quiet_passes, quiet_splits, ready_at, ready_first}
 use Rattle.second_search.proofs.counting.search_counted.Goals as goal
 use Rattle.second_search.proofs.counting.search_counted.Goals.{in-Passed, in-Split}
 
 pub loop-pending-init : goal.loop-pending-init
 loop-pending-init g c = record {
-  counting = counting_starts c.args.book.now c.args.known.now c.args.facts c.args.cells.now c.args.allowance c.args.splits.now c.start-pending.result c.requires.outside (omega arith) c.start-pending.ensures;
+  counting = counting_starts c.args.book.now c.args.known.now c.args.facts c.args.allowance c.args.splits.now c.start-pending.result (omega arith) c.start-pending.ensures;
+  ready = (ready_first c.args.book.now c.args.facts c.args.lines c.start-pending.result c.start-pending.ensures c.requires.lines c.requires.quiet).0;
+  behind = (ready_first c.args.book.now c.args.facts c.args.lines c.start-pending.result c.start-pending.ensures c.requires.lines c.requires.quiet).1;
   counts = counts_none c.args.meter.now (g.E.LineEngine.calls c.args.engine.now) (omega arith) (omega arith) (omega arith);
   same_longest = refl;
 }
@@ -15,17 +20,7 @@ loop-pending-init g c = record {
 pub look_once-requires-clause-closable : goal.look_once-requires-clause-closable
 look_once-requires-clause-closable g c =
     let i = c.loop-pending.invariant in
-    can_close_like c.args.book.now _ _ c.args.cells.now c.args.known.now c.args.facts c.loop-pending.pending.at_hand c.requires.outside i.counting.keeps.0 i.same_longest c.requires.closable
-
-pub look_once-requires-clause-lines : goal.look_once-requires-clause-lines
-look_once-requires-clause-lines g c =
-    let i = c.loop-pending.invariant in
-    lines_like c.args.cells.now c.args.known.now c.args.facts c.loop-pending.pending.at_hand c.args.lines.now c.requires.outside i.counting.keeps.0 c.requires.lines
-
-pub look_once-requires-clause-quiet : goal.look_once-requires-clause-quiet
-look_once-requires-clause-quiet g c =
-    let i = c.loop-pending.invariant in
-    quiet_outside c.clues_are_of_lines.ensures c.args.book.now c.args.cells.now c.args.known.now c.loop-pending.pending.at_hand c.args.lines.now c.height.ensures.picture c.requires.clues i.counting.keeps.0 c.requires.through
+    can_close_like c.args.book.now _ _ c.args.facts c.loop-pending.pending.at_hand i.ready.same_shape i.same_longest c.requires.closable
 
 pub returns-in_err-picture-clause-counts : goal.returns-in_err-picture-clause-counts
 returns-in_err-picture-clause-counts g c = counts_more c.counts_add.ensures _ _ _ _ _ _ c.loop-pending.invariant.counts c.look_once.ensures.counts
@@ -36,50 +31,95 @@ returns-in-Other-clause-counts g c = counts_more c.counts_add.ensures _ _ _ _ _ 
 pub returns-in-Halted-clause-counts : goal.returns-in-Halted-clause-counts
 returns-in-Halted-clause-counts g c = counts_more c.counts_add.ensures _ _ _ _ _ _ c.loop-pending.invariant.counts c.look_once.ensures.counts
 
-pub returns-in_err-advance-clause-counts : goal.returns-in_err-advance-clause-counts
-returns-in_err-advance-clause-counts g c = counts_more c.counts_add.ensures _ _ _ _ _ _ c.loop-pending.invariant.counts c.look_once.ensures.counts
+pub returns-in_err-cell-clause-counts : goal.returns-in_err-cell-clause-counts
+returns-in_err-cell-clause-counts g c = counts_more c.counts_add.ensures _ _ _ _ _ _ c.loop-pending.invariant.counts c.look_once.ensures.counts
 
-pub returns-then-not-branch-clause-counts : goal.returns-then-not-branch-clause-counts
-returns-then-not-branch-clause-counts g c = counts_more c.counts_add.ensures _ _ _ _ _ _ c.loop-pending.invariant.counts c.look_once.ensures.counts
+pub returns-in-None-clause-counts : goal.returns-in-None-clause-counts
+returns-in-None-clause-counts g c = counts_more c.counts_add.ensures _ _ _ _ _ _ c.loop-pending.invariant.counts c.look_once.ensures.counts
 
 pub returns-in-Other-clause-ends : goal.returns-in-Other-clause-ends
 returns-in-Other-clause-ends g c =
     let s = c.loop-pending.pending in
     let t = c.look_once.new.pending in
-    counted_other c.args.book.now c.args.known.now c.args.facts c.in-Other.picture c.args.cells.now c.args.allowance c.args.splits.now s t c.loop-pending.left c.look_once.new.left c.loop-pending.splits c.look_once.new.splits c.loop-pending.invariant.counting (steps_as _ _ s t _ _ _ _ _ _ c.in-Other.is c.in_ok-picture.ensures.steps)
+    counted_other c.args.book.now c.args.known.now c.args.facts c.in-Other.picture c.args.allowance c.args.splits.now s t c.loop-pending.left c.look_once.new.left c.loop-pending.splits c.look_once.new.splits c.loop-pending.invariant.counting (steps_as _ _ s t _ _ _ _ _ _ c.in-Other.is c.in_ok-picture.ensures.steps)
 
 pub returns-in-Halted-clause-ends : goal.returns-in-Halted-clause-ends
 returns-in-Halted-clause-ends g c =
     let s = c.loop-pending.pending in
     let t = c.look_once.new.pending in
-    counted_halted c.least_is_unique.ensures c.args.book.now c.args.known.now c.args.facts c.args.cells.now c.args.allowance c.args.splits.now s t c.loop-pending.left c.look_once.new.left c.loop-pending.splits c.look_once.new.splits c.loop-pending.invariant.counting (steps_as _ _ s t _ _ _ _ _ _ c.in-Halted.is c.in_ok-picture.ensures.steps)
+    counted_halted c.least_is_unique.ensures c.args.book.now c.args.known.now c.args.facts c.args.allowance c.args.splits.now s t c.loop-pending.left c.look_once.new.left c.loop-pending.splits c.look_once.new.splits c.loop-pending.invariant.counting (steps_as _ _ s t _ _ _ _ _ _ c.in-Halted.is c.in_ok-picture.ensures.steps)
 
-pub returns-then-not-branch-clause-ends : goal.returns-then-not-branch-clause-ends
-returns-then-not-branch-clause-ends g c =
+pub returns-in-None-clause-ends : goal.returns-in-None-clause-ends
+returns-in-None-clause-ends g c =
     let s = c.loop-pending.pending in
     let t = c.look_once.new.pending in
     let unique = c.least_is_unique.ensures in
     let i = c.loop-pending.invariant.counting in
-    let counting : Counting c.args.book.now c.args.known.now c.args.facts c.args.cells.now c.args.allowance c.args.splits.now t.behind c.look_once.new.left c.look_once.new.splits = elim c.match-branch-2.branch [
-      | in-Passed w ↦ counting_passes unique _ _ _ _ _ _ s t _ _ _ _ i (steps_as _ _ s t _ _ _ _ _ _ w.in-Passed.is c.in_ok-picture.ensures.steps)
-      | in-Split w ↦ counting_splits unique _ _ _ _ _ _ s t _ _ _ _ i (steps_as _ _ s t _ _ _ _ _ _ w.in-Split.is c.in_ok-picture.ensures.steps)
+    let counting : Counting c.args.book.now c.args.known.now c.args.facts c.args.allowance c.args.splits.now t.behind c.look_once.new.left c.look_once.new.splits = elim c.match-branch-2.branch [
+      | in-Passed w ↦ counting_passes unique _ _ _ _ _ s t _ _ _ _ i (steps_as _ _ s t _ _ _ _ _ _ w.in-Passed.is c.in_ok-picture.ensures.steps)
+      | in-Split w ↦ counting_splits unique _ _ _ _ _ s t _ _ _ _ i (steps_as _ _ s t _ _ _ _ _ _ w.in-Split.is c.in_ok-picture.ensures.steps)
     ] in
-    let P : Bool → Type 0 = GoesOn t c.advance.new.self in
-    counted_nothing _ _ _ _ _ _ _ _ _ counting (subst P c.if-not-branch.true c.in_ok-advance.ensures)
+    let P : Option Cell → Type 0 = GoesOn t c.advance.new.self in
+    counted_nothing _ _ _ _ _ _ _ _ counting (subst P c.in-None.is c.in_ok-cell.ensures)
+
+pub lines_at-dirty-requires-clause-in_rows : goal.lines_at-dirty-requires-clause-in_rows
+lines_at-dirty-requires-clause-in_rows g c =
+    let s = c.loop-pending.pending in
+    let t = c.look_once.new.pending in
+    let u = c.advance.new.self in
+    let book = c.args.book.now in
+    let first = c.args.facts in
+    let quiet : EachQuiet book first t.behind t.cells = elim c.match-branch-2.branch [
+      | in-Passed w ↦ quiet_passes book c.args.known.now first s t _ _ _ _ c.loop-pending.invariant.behind (steps_as _ _ s t _ _ _ _ _ _ w.in-Passed.is c.in_ok-picture.ensures.steps)
+      | in-Split w ↦ quiet_splits book c.args.known.now first s t _ _ _ _ c.loop-pending.invariant.ready.same_shape c.loop-pending.invariant.behind (steps_as _ _ s t _ _ _ _ _ _ w.in-Split.is c.in_ok-picture.ensures.steps)
+    ] in
+    let P : Option Cell → Type 0 = GoesOn t u in
+    let next = quiet_at book first t u c.in-Some.cell quiet (subst P c.in-Some.is c.in_ok-cell.ensures) in
+    let Q : List (List ℕ) → Type 0 = λ x. c.in-Some.cell.row < length x in
+    subst Q (sym c.at_hand.ensures) next.0.1.in_rows
+
+pub lines_at-dirty-requires-clause-in_columns : goal.lines_at-dirty-requires-clause-in_columns
+lines_at-dirty-requires-clause-in_columns g c =
+    let s = c.loop-pending.pending in
+    let t = c.look_once.new.pending in
+    let u = c.advance.new.self in
+    let book = c.args.book.now in
+    let first = c.args.facts in
+    let quiet : EachQuiet book first t.behind t.cells = elim c.match-branch-2.branch [
+      | in-Passed w ↦ quiet_passes book c.args.known.now first s t _ _ _ _ c.loop-pending.invariant.behind (steps_as _ _ s t _ _ _ _ _ _ w.in-Passed.is c.in_ok-picture.ensures.steps)
+      | in-Split w ↦ quiet_splits book c.args.known.now first s t _ _ _ _ c.loop-pending.invariant.ready.same_shape c.loop-pending.invariant.behind (steps_as _ _ s t _ _ _ _ _ _ w.in-Split.is c.in_ok-picture.ensures.steps)
+    ] in
+    let P : Option Cell → Type 0 = GoesOn t u in
+    let next = quiet_at book first t u c.in-Some.cell quiet (subst P c.in-Some.is c.in_ok-cell.ensures) in
+    let Q : List (List ℕ) → Type 0 = λ x. c.in-Some.cell.col < width_of x in
+    subst Q (sym c.at_hand.ensures) next.0.1.in_columns
 
 pub loop-pending-preserved : goal.loop-pending-preserved
 loop-pending-preserved g c =
     let s = c.loop-pending.pending in
     let t = c.look_once.new.pending in
+    let u = c.advance.new.self in
+    let cell = c.in-Some.cell in
+    let book = c.args.book.now in
+    let first = c.args.facts in
     let unique = c.least_is_unique.ensures in
     let i = c.loop-pending.invariant.counting in
-    let counting : Counting c.args.book.now c.args.known.now c.args.facts c.args.cells.now c.args.allowance c.args.splits.now t.behind c.look_once.new.left c.look_once.new.splits = elim c.match-branch-2.branch [
-      | in-Passed w ↦ counting_passes unique _ _ _ _ _ _ s t _ _ _ _ i (steps_as _ _ s t _ _ _ _ _ _ w.in-Passed.is c.in_ok-picture.ensures.steps)
-      | in-Split w ↦ counting_splits unique _ _ _ _ _ _ s t _ _ _ _ i (steps_as _ _ s t _ _ _ _ _ _ w.in-Split.is c.in_ok-picture.ensures.steps)
+    let counting : Counting book c.args.known.now first c.args.allowance c.args.splits.now t.behind c.look_once.new.left c.look_once.new.splits = elim c.match-branch-2.branch [
+      | in-Passed w ↦ counting_passes unique _ _ _ _ _ s t _ _ _ _ i (steps_as _ _ s t _ _ _ _ _ _ w.in-Passed.is c.in_ok-picture.ensures.steps)
+      | in-Split w ↦ counting_splits unique _ _ _ _ _ s t _ _ _ _ i (steps_as _ _ s t _ _ _ _ _ _ w.in-Split.is c.in_ok-picture.ensures.steps)
     ] in
-    let P : Bool → Type 0 = GoesOn t c.advance.new.self in
+    let quiet : EachQuiet book first t.behind t.cells = elim c.match-branch-2.branch [
+      | in-Passed w ↦ quiet_passes book c.args.known.now first s t _ _ _ _ c.loop-pending.invariant.behind (steps_as _ _ s t _ _ _ _ _ _ w.in-Passed.is c.in_ok-picture.ensures.steps)
+      | in-Split w ↦ quiet_splits book c.args.known.now first s t _ _ _ _ c.loop-pending.invariant.ready.same_shape c.loop-pending.invariant.behind (steps_as _ _ s t _ _ _ _ _ _ w.in-Split.is c.in_ok-picture.ensures.steps)
+    ] in
+    let P : Option Cell → Type 0 = GoesOn t u in
+    let on : GoesOn t u (Some cell) = subst P c.in-Some.is c.in_ok-cell.ensures in
+    let next = quiet_at book first t u cell quiet on in
+    let Q : List (List ℕ) → Type 0 = λ x. AreLinesOf x c.lines_at-dirty.result in
     record {
-      counting = counting_at _ _ _ _ _ _ _ _ _ _ counting (subst P c.if-not-branch.false c.in_ok-advance.ensures);
+      counting = counting_at _ _ _ _ _ _ u _ _ counting on.0;
+      ready = ready_at book first u.at_hand cell c.lines_at-dirty.result next.0.0 next.0.1 (subst Q c.at_hand.ensures c.lines_at-dirty.ensures.lines) c.lines_at-dirty.ensures.both;
+      behind = next.1;
       counts = counts_more c.counts_add.ensures _ _ _ _ _ _ c.loop-pending.invariant.counts c.look_once.ensures.counts;
       same_longest = c.look_once.ensures.same_longest ∙ c.loop-pending.invariant.same_longest;
     }
@@ -89,9 +129,9 @@ loop-pending-smaller g c =
     let s = c.loop-pending.pending in
     let t = c.look_once.new.pending in
     let u = c.advance.new.self in
-    let P : Bool → Type 0 = GoesOn t u in
-    let on = subst P c.if-not-branch.false c.in_ok-advance.ensures in
+    let P : Option Cell → Type 0 = GoesOn t u in
+    let on : GoesOn t u (Some c.in-Some.cell) = subst P c.in-Some.is c.in_ok-cell.ensures in
     elim c.match-branch-2.branch [
-      | in-Passed w ↦ passes_lighter c.args.book.now c.args.known.now s t u _ _ _ _ (steps_as _ _ s t _ _ _ _ _ _ w.in-Passed.is c.in_ok-picture.ensures.steps) on
-      | in-Split w ↦ splits_lighter c.args.book.now c.args.known.now s t u _ _ _ _ (steps_as _ _ s t _ _ _ _ _ _ w.in-Split.is c.in_ok-picture.ensures.steps) on
+      | in-Passed w ↦ passes_lighter c.args.book.now c.args.known.now s t u _ _ _ _ (steps_as _ _ s t _ _ _ _ _ _ w.in-Passed.is c.in_ok-picture.ensures.steps) on.0
+      | in-Split w ↦ splits_lighter c.args.book.now c.args.known.now s t u _ _ _ _ (steps_as _ _ s t _ _ _ _ _ _ w.in-Split.is c.in_ok-picture.ensures.steps) on.0
     ]

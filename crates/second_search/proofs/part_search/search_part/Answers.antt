@@ -1,5 +1,6 @@
 use Rattle.std.proofs.Common.{refl}
 use Rattle.second_search.proofs.AloneLemmas.{closable_alone, lines_alone, names_lines, outside_alone, searched_alone}
+use Rattle.second_search.proofs.KeepLemmas.{quiet_outside}
 use Rattle.second_search.proofs.part_search.search_part.Goals as goal
 
 pub search_counted-requires-clause-closable : goal.search_counted-requires-clause-closable
@@ -8,21 +9,18 @@ search_counted-requires-clause-closable g c =
     let keeps = outside_alone c.args.cells.now scene.picture.now scene.facts.now c.in_ok-facts.facts c.leave_alone.new.facts c.height.ensures.facts c.requires.scene.sound.same_shape c.in_ok-facts.ensures c.leave_alone.ensures in
     closable_alone c.clues_are_of_lines.ensures scene.clues.now c.args.cells.now scene.picture.now c.leave_alone.new.facts _ c.requires.scene.has_clues keeps c.requires.tall c.requires.wide
 
-pub search_counted-requires-clause-outside : goal.search_counted-requires-clause-outside
-search_counted-requires-clause-outside g c =
-    let scene = c.args.scene.now in
-    outside_alone c.args.cells.now scene.picture.now scene.facts.now c.in_ok-facts.facts c.leave_alone.new.facts c.height.ensures.facts c.requires.scene.sound.same_shape c.in_ok-facts.ensures c.leave_alone.ensures
-
 pub search_counted-requires-clause-lines : goal.search_counted-requires-clause-lines
 search_counted-requires-clause-lines g c =
     let scene = c.args.scene.now in
     let keeps = outside_alone c.args.cells.now scene.picture.now scene.facts.now c.in_ok-facts.facts c.leave_alone.new.facts c.height.ensures.facts c.requires.scene.sound.same_shape c.in_ok-facts.ensures c.leave_alone.ensures in
     lines_alone c.args.cells.now scene.picture.now scene.facts.now c.leave_alone.new.facts c.lines_through-lines.result c.requires.scene.sound.same_shape keeps c.lines_through-lines.ensures.lines
 
-pub search_counted-requires-clause-through : goal.search_counted-requires-clause-through
-search_counted-requires-clause-through g c =
+pub search_counted-requires-clause-quiet : goal.search_counted-requires-clause-quiet
+search_counted-requires-clause-quiet g c =
     let scene = c.args.scene.now in
-    names_lines scene.facts.now c.args.cells.now c.lines_through-lines.result _ c.height.ensures.facts c.requires.part refl c.lines_through-lines.ensures.through
+    let keeps = outside_alone c.args.cells.now scene.picture.now scene.facts.now c.in_ok-facts.facts c.leave_alone.new.facts c.height.ensures.facts c.requires.scene.sound.same_shape c.in_ok-facts.ensures c.leave_alone.ensures in
+    let names = names_lines scene.facts.now c.args.cells.now c.lines_through-lines.result _ c.height.ensures.facts c.requires.part refl c.lines_through-lines.ensures.through in
+    quiet_outside c.clues_are_of_lines.ensures scene.clues.now c.args.cells.now scene.picture.now c.leave_alone.new.facts c.lines_through-lines.result c.requires.scene.is_picture c.requires.scene.has_clues keeps names
 
 pub returns-clause-ends : goal.returns-clause-ends
 returns-clause-ends g c =

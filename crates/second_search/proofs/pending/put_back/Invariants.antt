@@ -1,11 +1,12 @@
 use Rattle.std.proofs.Common.{◌≡◌, length, reverse, vec_len}
 use Rattle.picture.specs.Rows.{width_of}
-use Rattle.second_search.specs.Branching.{AreInside, waiting}
+use Rattle.second_search.specs.Branching.{AreInside, cells_held, waiting}
 use Rattle.second_search.proofs.pending.put_back.Given as goal
 
 abbrev pub invariant-loop-note : goal.invariant-loop-note
 invariant-loop-note l = record {
   waits : waiting l.facts (reverse l.notes.items) ≡ waiting l.fn.facts (reverse l.fn.notes.items);
+  cells : cells_held (reverse l.notes.items) ≡ cells_held (reverse l.fn.notes.items);
   inside : AreInside (length l.facts) (width_of l.facts) (reverse l.notes.items);
 }
 

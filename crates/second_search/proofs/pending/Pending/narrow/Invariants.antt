@@ -7,5 +7,6 @@ abbrev pub invariant-loop-row : goal.invariant-loop-row
 invariant-loop-row l = record {
   same_shape : SameShape l.self.at_hand l.settled;
   behind : l.self.behind ≡ l.fn.self.behind;
+  cells : l.self.cells ≡ l.fn.self.cells;
   above : (r c : ℕ) → r < l.row → cell_at l.self.at_hand r c ≡ cell_at l.settled r c;
 }
