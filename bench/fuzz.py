@@ -5,6 +5,7 @@ fuzz.py PROGRAM FOLDER SECONDS|CASES SEED [KIND ..], where SECONDS ends with `s`
 """
 import os
 import random
+import signal
 import subprocess
 import sys
 import tempfile
@@ -57,7 +58,8 @@ def check_case(chance):
 
 def work_case(chance):
     """A session on a picture."""
-    rows, triples, text = made.some_ppm(chance, chance.choice((2, 3, 3, 4, 4, 5, 6)), chance.choice((2, 2, 2, 3, 4, 16)))
+    rows, triples, text = made.some_ppm(chance, chance.choice((2, 3, 3, 4, 4, 5, 6)) if chance.random() < 0.98 else 12,
+                                       chance.choice((2, 2, 2, 3, 4, 16)))
     if chance.random() < 0.05:
         text = made.mutated(chance, text, 1)
     commands = made.some_session(chance, rows, triples, chance.randint(5, 40))
@@ -129,6 +131,13 @@ class Fuzzer:
                 file.write(text)
         print(f'disagreement kept in {place}: {message[:500]}', flush=True)
 
+    def report(self, done, took):
+        """Tells how the cases ended."""
+        for (kind, end), count in sorted(self.ends.items()):
+            print(f'{kind}: {end}: {count}')
+        print(f'{done} cases, seed {self.seed}, {done / took:.0f} cases a second; program and reference disagree in '
+              f'{self.kept}' + (f', kept in {self.folder}' if self.kept else ''))
+
 
 def takes_work(program):
     """Whether the program has sessions."""
@@ -146,15 +155,15 @@ def main(program, folder, amount, seed, *words):
     fuzzer = Fuzzer(os.path.abspath(program), folder, seed)
     began = time.monotonic()
     done = 0
+    signal.signal(signal.SIGTERM, signal.default_int_handler)
     with tempfile.TemporaryDirectory(dir='/dev/shm' if os.path.isdir('/dev/shm') else None) as work:
-        while done < int(amount) if seconds is None else time.monotonic() - began < seconds:
-            fuzzer.one(kinds[done % len(kinds)], first + done // len(kinds), work)
-            done += 1
-    took = time.monotonic() - began
-    for (kind, end), count in sorted(fuzzer.ends.items()):
-        print(f'{kind}: {end}: {count}')
-    print(f'{done} cases, seed {seed}, {done / took:.0f} cases a second; '
-          f'program and reference disagree in {fuzzer.kept}' + (f', kept in {folder}' if fuzzer.kept else ''))
+        try:
+            while done < int(amount) if seconds is None else time.monotonic() - began < seconds:
+                fuzzer.one(kinds[done % len(kinds)], first + done // len(kinds), work)
+                done += 1
+        except KeyboardInterrupt:
+            print('broken off')
+    fuzzer.report(done, time.monotonic() - began)
     return 1 if fuzzer.kept else 0
 
 

@@ -23,11 +23,24 @@ def some_rows(chance, most, colours):
         rows = [[rows[0][0] if (row + col) % chance.choice((2, 3)) == 0 else 0 for col in range(width)]
                 for row in range(height)]
     elif style < 0.4:
+        rows = some_corners(chance, most, colours)
+    elif style < 0.55:
         for _ in range(chance.randint(1, 3)):
             colour = chance.randrange(colours)
             top, left = chance.randrange(height), chance.randrange(width)
             for row in range(top, chance.randint(top, height - 1) + 1):
                 rows[row][left:] = [colour] * (width - left)
+    return rows
+
+
+def some_corners(chance, most, colours):
+    """Squares of two by two down the diagonal, each with two equal corners: each can be turned over by itself."""
+    count = chance.randint(1, max(1, most // 2))
+    rows = [[0] * (2 * count) for _ in range(2 * count)]
+    for at in range(0, 2 * count, 2):
+        colour = chance.randrange(1, colours) if colours > 1 else 0
+        turn = chance.randrange(2)
+        rows[at][at + turn] = rows[at + 1][at + 1 - turn] = colour
     return rows
 
 
@@ -221,8 +234,8 @@ def some_triple(chance, triples):
     return tuple(chance.randint(0, top) for _ in range(3))
 
 
-def some_command(chance, height, width, triples):
-    """A command of a session."""
+def some_command(chance, height, width, triples, heed):
+    """A command of a session; where verdicts are heeded, one that moves a verdict or asks for it."""
     def row():
         return some_place(chance, height)
 
@@ -232,21 +245,23 @@ def some_command(chance, height, width, triples):
     def colour():
         return some_colour(chance, len(triples))
 
-    made = (
-        (10, lambda: ('paint', row(), col(), colour())), (3, lambda: ('fill', row(), col(), row(), col(), colour())),
-        (2, lambda: ('recolour', colour(), colour())), (1, lambda: ('insert row', row())),
-        (1, lambda: ('insert column', col())), (2, lambda: ('delete row', row())),
-        (2, lambda: ('delete column', col())), (2, lambda: ('swap row', row(), row())),
-        (2, lambda: ('swap column', col(), col())), (2, lambda: ('colour add', *some_triple(chance, triples))),
-        (2, lambda: ('colour set', colour(), *some_triple(chance, triples))), (4, lambda: ('pin', row(), col())),
-        (2, lambda: ('unpin', row(), col())), (5, lambda: ('undo',)), (3, lambda: ('redo',)), (3, lambda: ('clues',)),
-        (4, lambda: ('map',)), (6, lambda: ('verdict',)), (3, lambda: ('report',)),
-        (8, lambda: ('why', row(), col(), '.abcdefghijklmno'[chance.randrange(16)] if chance.random() < 0.3 else colour())),
-        (3, lambda: ('certify',)), (1, lambda: ('write ppm',)), (1, lambda: ('write non',)),
-        (3, lambda: ('allow', chance.choice(('off', 'off', 0, 1, 2, 3, 5, 99999, 100000)))),
+    small = chance.choice((0, 0, 1, 1, 2, 3))
+    made = (  # how often in general, how often where verdicts are heeded, and the words
+        (10, 4, lambda: ('paint', row(), col(), colour())), (3, 0, lambda: ('fill', row(), col(), row(), col(), colour())),
+        (2, 0, lambda: ('recolour', colour(), colour())), (1, 1, lambda: ('insert row', row())),
+        (1, 0, lambda: ('insert column', col())), (2, 0, lambda: ('delete row', row())),
+        (2, 0, lambda: ('delete column', col())), (2, 0, lambda: ('swap row', row(), row())),
+        (2, 1, lambda: ('swap column', col(), col())), (2, 0, lambda: ('colour add', *some_triple(chance, triples))),
+        (2, 0, lambda: ('colour set', colour(), *some_triple(chance, triples))), (4, 2, lambda: ('pin', row(), col())),
+        (2, 1, lambda: ('unpin', row(), col())), (5, 3, lambda: ('undo',)), (3, 2, lambda: ('redo',)),
+        (3, 0, lambda: ('clues',)), (4, 0, lambda: ('map',)), (6, 12, lambda: ('verdict',)), (3, 1, lambda: ('report',)),
+        (8, 0, lambda: ('why', row(), col(), '.abcdefghijklmno'[chance.randrange(16)] if chance.random() < 0.3 else colour())),
+        (3, 1, lambda: ('certify',)), (1, 0, lambda: ('write ppm',)), (1, 0, lambda: ('write non',)),
+        (3, 8, lambda: ('allow', small if heed else chance.choice(('off', 'off', 0, 1, 2, 3, 5, 99999, 100000)))),
+        (0, 2, lambda: ('allow off',)),
     )
-    weights = [weight for weight, _ in made]
-    return ' '.join(str(word) for word in chance.choices(made, weights)[0][1]()).encode()
+    weights = [heeded if heed else general for general, heeded, _ in made]
+    return ' '.join(str(word) for word in chance.choices(made, weights)[0][2]()).encode()
 
 
 def broken_line(chance, line):
@@ -262,8 +277,9 @@ def broken_line(chance, line):
 def some_session(chance, rows, triples, count):
     """The lines of a session on a picture."""
     text = b''
+    heed = chance.random() < 0.4
     for _ in range(count):
-        line = some_command(chance, len(rows), len(rows[0]), triples)
+        line = some_command(chance, len(rows), len(rows[0]), triples, heed)
         if chance.random() < 0.06:
             line = broken_line(chance, line)
         text += line + chance.choice((b'\n', b'\n', b'\n', b'\n', b'\r\n'))

@@ -103,7 +103,8 @@ def work_run(run, text, commands, is_non=False, background=None, depth=100):
     document = opened(run, text, is_non, background)
     if document is None:
         return 'refused'
-    session = Session(document, depth)
+    small = len(document.rows) * len(document.rows[0]) <= 40
+    session = Session(document, depth, 2000 if small else 40)
     session.run(commands, Output(run.wrote))
     run.must(0, run.wrote, b'')
     return 'replayed'
