@@ -1,7 +1,9 @@
+pub mod AnswerLemmas
 pub mod CountLemmas
 pub mod LineLemmas
 pub mod NumberLemmas
 pub mod ReportLemmas
+pub mod RunLemmas
 pub mod ShownLemmas
 pub mod TableLemmas
 pub mod TextLemmas

@@ -1,3 +1,4 @@
+pub mod Answer
 pub mod ClueText
 pub mod Faults
 pub mod Lines
@@ -6,6 +7,8 @@ pub mod Parse
 pub mod ReasonText
 pub mod Refusal
 pub mod Report
+pub mod Run
+pub mod Session
 pub mod Shown
 pub mod Table
 pub mod Words

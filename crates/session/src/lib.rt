@@ -1,6 +1,7 @@
 //! A session at the command line: commands in, text out.
 #![tactic(auto)]
 
+mod answer;
 mod clue_text;
 mod command;
 mod draft;
@@ -13,6 +14,7 @@ mod reason_text;
 mod refusal;
 mod report;
 mod request;
+mod session;
 mod shown;
 mod verb;
 mod words;
@@ -21,11 +23,9 @@ mod written;
 pub use clue_text::clues_text;
 pub use command::Command;
 pub use fault::CommandFault;
-pub use lines::{Lines, MOST_READS, ReadFault};
 pub use numbers::sample_in;
 pub use parse::{MOST_BYTES, parse_command};
-pub use refusal::Refusal;
-pub use request::Request;
+pub use session::{SessionFault, run_session};
 
 #[cfg(test)]
 mod tests;

@@ -10,13 +10,13 @@ use std::io::Read;
 use std::marker::Model;
 use thiserror::Error;
 
-/// A read failed, or one more than 1,048,576 was wanted.
+// A read failed, or one more than 1,048,576 was wanted.
 #[derive(Clone, Copy, Debug, PartialEq, Eq, Error)]
 #[error("read failed")]
-pub struct ReadFault;
+pub(crate) struct ReadFault;
 
-/// How many reads a session makes at the most.
-pub const MOST_READS: u32 = 1_048_576;
+// How many reads a session makes at the most.
+pub(crate) const MOST_READS: u32 = 1_048_576;
 
 // How many bytes one read has room for.
 const ROOM: usize = 4096;
@@ -82,17 +82,17 @@ impl Inbox {
     }
 }
 
-/// Cuts what a reader gives into lines. Lines may be cut anywhere by a read.
+// Cuts what a reader gives into lines. Lines may be cut anywhere by a read.
 #[derive(Drop)]
-pub struct Lines {
+pub(crate) struct Lines {
     inbox: Inbox,
     reads: u32,
     ended: bool,
 }
 
 impl Lines {
-    /// Begins with no byte read.
-    pub fn new() -> Lines
+    // Begins with no byte read.
+    pub(crate) fn new() -> Lines
         ensures waiting { result.inbox ≡ [] }
         ensures ended { result.ended ≡ false }
     {
@@ -103,12 +103,12 @@ impl Lines {
         }
     }
 
-    /// What the next line asks for, or None at the end of the input.
-    ///
-    /// A line ends with a line feed, and a carriage return before that, or at the end of the last line, is dropped. The last
-    /// line needs no line feed where it has a byte. Of a line of any length at most 202 bytes are kept. After a fault the
-    /// line that was not finished is lost.
-    pub fn next<R: Read>(&mut self, reader: &mut R) -> Result<Option<Request>, ReadFault>
+    // What the next line asks for, or None at the end of the input.
+    //
+    // A line ends with a line feed, and a carriage return before that, or at the end of the last line, is dropped. The last
+    // line needs no line feed where it has a byte. Of a line of any length at most 202 bytes are kept. After a fault the
+    // line that was not finished is lost.
+    pub(crate) fn next<R: Read>(&mut self, reader: &mut R) -> Result<Option<Request>, ReadFault>
         ensures value { Hands (R.remaining reader.old) (R.remaining reader.new) self.old self.new result }
         ensures bounded { IfOk result (λ asked. IfSome asked AsksBounded) }
         ensures steps { IfOk result (λ asked. OnSome asked (steps_left self.new < steps_left self.old)) }

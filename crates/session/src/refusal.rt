@@ -6,16 +6,16 @@ ghost use Rattle.session.specs.Refusal.{edit_line, line_line, refusal_line};
 use crate::fault::CommandFault;
 use edits::EditFault;
 
-/// Why a line of a session is refused.
+// Why a line of a session is refused.
 #[derive(Clone, Copy, Debug, PartialEq, Eq)]
-pub enum Refusal {
-    /// It is no command.
+pub(crate) enum Refusal {
+    // It is no command.
     Line(CommandFault),
-    /// The edit, the undo or the redo was refused.
+    // The edit, the undo or the redo was refused.
     Edit(EditFault),
-    /// A cell has a colour above 1, and the text that is asked for has two colours.
+    // A cell has a colour above 1, and the text that is asked for has two colours.
     TwoColoursOnly,
-    /// Memory ran out.
+    // Memory ran out.
     Memory,
 }
 

@@ -1,4 +1,7 @@
+mod fakes;
+mod faults;
 mod reading;
+mod sessions;
 mod texts;
 
 use super::*;

@@ -1,44 +1,7 @@
+use super::fakes::{Endless, Pieces};
 use super::*;
-use std::io::{self, Read};
-
-// Gives bytes in pieces, and then ends or fails.
-#[derive(Drop)]
-struct Pieces<'a> {
-    bytes: &'a [u8],
-    most: usize,
-    fails: bool,
-}
-
-impl Read for Pieces<'_> {
-    fn read(&mut self, buffer: &mut [u8]) -> io::Result<usize> {
-        if self.bytes.is_empty() && self.fails {
-            return Err(io::Error::from(io::ErrorKind::Other));
-        }
-        let count = self.bytes.len().min(self.most).min(buffer.len());
-        let (front, rest) = self.bytes.split_at(count);
-        buffer[..count].copy_from_slice(front);
-        self.bytes = rest;
-        Ok(count)
-    }
-}
-
-// Gives the same byte for ever.
-#[derive(Drop)]
-struct Endless {
-    byte: u8,
-    reads: u32,
-}
-
-impl Read for Endless {
-    fn read(&mut self, buffer: &mut [u8]) -> io::Result<usize> {
-        if buffer.is_empty() {
-            return Ok(0);
-        }
-        self.reads = self.reads.wrapping_add(1);
-        buffer[0] = self.byte;
-        Ok(1)
-    }
-}
+use crate::lines::{Lines, MOST_READS, ReadFault};
+use crate::request::Request;
 
 #[test]
 fn lines_may_be_cut_anywhere(rt: HostRuntime) {
@@ -55,7 +18,7 @@ fn lines_may_be_cut_anywhere(rt: HostRuntime) {
         let mut reader = Pieces {
             bytes: input,
             most,
-            fails: false,
+            reads: usize::MAX,
         };
         let mut lines = Lines::new();
         for asked in want {
@@ -68,11 +31,11 @@ fn lines_may_be_cut_anywhere(rt: HostRuntime) {
 
 #[test]
 fn an_unfinished_line_is_lost_with_a_failed_read(rt: HostRuntime) {
-    for most in [1, 3, 4096] {
+    for (most, reads) in [(1, 9), (3, 3), (4096, 1)] {
         let mut reader = Pieces {
             bytes: b"undo\nredo",
             most,
-            fails: true,
+            reads,
         };
         let mut lines = Lines::new();
         let undo = Request::Command(Command::Undo);
@@ -98,7 +61,7 @@ fn a_long_line_is_skipped(rt: HostRuntime) {
         let mut reader = Pieces {
             bytes,
             most,
-            fails: false,
+            reads: usize::MAX,
         };
         let mut lines = Lines::new();
         for asked in [undo, long, long, long, undo, None] {

@@ -1,4 +1,5 @@
 use super::*;
+use crate::refusal::Refusal;
 use crate::report::push_report;
 use crate::written::{non_text_of, ppm_text_of};
 use clues::ClueBook;

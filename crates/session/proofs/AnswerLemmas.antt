@@ -1,0 +1,169 @@
+-- What is answered is what a session says.
+use Rattle.std.proofs.Common.{◌≡◌, ℕ, ◌<◌, ◌≤◌, true, false, Bool, List, [], ◌++◌, length, Option, None, Some, Result, Ok, Err, IfErr, IfOk, IfSome, OnOk, MatchResult, inl, inr, refl, sym, ap, subst, ◌∙◌, arith}
+use Rattle.std.proofs.lemmas.Bool.Decides.{nat_tests}
+use Rattle.std.specs.Borrow.{Bor}
+use Rattle.std.specs.declared.vec.Vec.{Vec}
+use Rattle.std.specs.declared.alloc.Global.{Global}
+use Rattle.picture.specs.Rows.{width_of}
+use Rattle.picture.specs.declared.document.Document.{Document}
+use Rattle.picture.specs.Content.{content_of}
+use Rattle.ppm_text.specs.Text.{ppm_text}
+use Rattle.edits.specs.declared.edit.Edit.{Edit}
+use Rattle.edits.specs.declared.fault.EditFault.{EditFault}
+use Rattle.edits.specs.declared.fault.EditFault.TheVariants.{Place}
+use Rattle.edits.specs.Design.{Design, design_of}
+use Rattle.edits.specs.Fault.{has_cell}
+use Rattle.clues.specs.ClueBook.{Clues}
+use Rattle.non_text.specs.Writing.{is_two_colour}
+use Rattle.non_text.specs.Written.{non_text_of}
+use Rattle.certificate.specs.Cert.{Certificate}
+use Rattle.live_audit.specs.declared.verdict.Verdict.{Verdict}
+use Rattle.live_audit.specs.declared.why.Why.{Why}
+use Rattle.live_audit.specs.Bench.{IsAudited, Seen}
+use Rattle.live_audit.specs.Calls.{Accepts, IsAsBefore, Refuses}
+use Rattle.live_audit.specs.Certify.{Certifies}
+use Rattle.live_audit.specs.Reason.{Explains}
+use Rattle.live_audit.specs.Stroke.{Stroke, Edits, Undoes, Redoes}
+use Rattle.live_audit.specs.Verdict.{IsVerdictOn, Tells}
+use Rattle.session.specs.declared.command.Command.TheVariants as command
+use Rattle.session.specs.declared.refusal.Refusal.{Refusal}
+use Rattle.session.specs.declared.refusal.Refusal.TheVariants as refusal
+use Rattle.session.specs.Answer.{IsAsked, answer_text, stroke_said, text_said, written_said}
+use Rattle.session.specs.ClueText.{clues_text}
+use Rattle.session.specs.Refusal.{edit_line, refusal_line}
+use Rattle.session.specs.Session.{Judges, Replies, SaysStroke, certified_text, content, done_text, report_by, report_on, verdict_text, verdict_word, why_text}
+use Rattle.session.specs.Shown.{map_text}
+use Rattle.session.specs.Written.{GivesNon}
+
+-- a stroke, by what the bench answers
+pub says_stroke : (stroke : Stroke) (old new : Seen) (outcome : Result (Unit {0}) EditFault) → OnOk outcome (Accepts stroke old new) → IfErr outcome (λ fault. Refuses stroke fault old new) → IsAudited new
+    → SaysStroke stroke old (answer_text (stroke_said outcome)) new
+says_stroke stroke old new (Ok done) accepted refused audited = inl (refl, (accepted, audited))
+says_stroke stroke old new (Err fault) accepted refused audited = inr (fault, (refl, refused))
+
+pub replies_edit : (e : Edit) (old new : Seen) (outcome : Result (Unit {0}) EditFault) → OnOk outcome (Accepts (Edits e) old new) → IfErr outcome (λ fault. Refuses (Edits e) fault old new) → IsAudited new
+    → Replies (command.Edit e) old (answer_text (stroke_said outcome)) new
+unfolding Replies
+replies_edit e old new outcome accepted refused audited = inl (says_stroke (Edits e) old new outcome accepted refused audited)
+
+pub replies_undo : (old new : Seen) (outcome : Result (Unit {0}) EditFault) → OnOk outcome (Accepts Undoes old new) → IfErr outcome (λ fault. Refuses Undoes fault old new) → IsAudited new
+    → Replies command.Undo old (answer_text (stroke_said outcome)) new
+unfolding Replies
+replies_undo old new outcome accepted refused audited = inl (says_stroke Undoes old new outcome accepted refused audited)
+
+pub replies_redo : (old new : Seen) (outcome : Result (Unit {0}) EditFault) → OnOk outcome (Accepts Redoes old new) → IfErr outcome (λ fault. Refuses Redoes fault old new) → IsAudited new
+    → Replies command.Redo old (answer_text (stroke_said outcome)) new
+unfolding Replies
+replies_redo old new outcome accepted refused audited = inl (says_stroke Redoes old new outcome accepted refused audited)
+
+-- a text of the state, or want of memory
+pub replies_clues : {E : Type 0} (s : Seen) (clues : Clues) (outcome : Result (Vec ℕ Global) E) → clues ≡ s.clues → IsAudited s → IfOk outcome (λ text. text.items ≡ clues_text clues)
+    → Replies command.Clues s (answer_text (text_said outcome)) s
+unfolding Replies
+replies_clues s clues (Ok text) is audited same = inl (audited, (same ∙ ap (λ (k : Clues). clues_text k) is, refl))
+replies_clues s clues (Err e) is audited same = inr (refl, refl)
+
+pub replies_map : {E : Type 0} (s : Seen) (facts : List (List ℕ)) (outcome : Result (Vec ℕ Global) E) → facts ≡ s.book.facts → IsAudited s → IfOk outcome (λ text. text.items ≡ map_text facts)
+    → Replies command.Map s (answer_text (text_said outcome)) s
+unfolding Replies
+replies_map s facts (Ok text) is audited same = inl (audited, (same ∙ ap (λ (f : List (List ℕ)). map_text f) is, refl))
+replies_map s facts (Err e) is audited same = inr (refl, refl)
+
+pub replies_ppm : (s : Seen) (d : Document) (outcome : Result (Vec ℕ Global) Refusal) → design_of d ≡ s.history.document → IfOk outcome (λ text. text.items ≡ ppm_text (content_of d)) → IfErr outcome (λ e. e ≡ refusal.Memory)
+    → Replies command.WritePpm s (answer_text (written_said outcome)) s
+unfolding Replies
+replies_ppm s d (Ok text) is same short = inl (same ∙ ap (λ (e : Design). ppm_text (content e)) is, refl)
+replies_ppm s d (Err e) is same short = inr (ap refusal_line short, refl)
+
+pub replies_non : (s : Seen) (d : Document) (outcome : Result (Vec ℕ Global) Refusal) → design_of d ≡ s.history.document → GivesNon d.picture outcome → Replies command.WriteNon s (answer_text (written_said outcome)) s
+unfolding Replies
+replies_non s d (Ok text) is gives =
+    let rows : d.picture ≡ s.history.document.rows = ap (λ (e : Design). e.rows) is in
+    inl (inl (sym (ap is_two_colour rows) ∙ gives.0, (gives.1 ∙ ap non_text_of rows, refl)))
+replies_non s d (Err e) is (inl two) =
+    let rows : d.picture ≡ s.history.document.rows = ap (λ (e : Design). e.rows) is in
+    inl (inr (sym (ap is_two_colour rows) ∙ two.1, (ap refusal_line two.0, refl)))
+replies_non s d (Err e) is (inr short) =
+    let rows : d.picture ≡ s.history.document.rows = ap (λ (e : Design). e.rows) is in
+    inr (sym (ap is_two_colour rows) ∙ short.1, (ap refusal_line short.0, refl))
+
+-- a verdict, and what shows it
+pub replies_verdict : {E : Type 0} (old new : Seen) (outcome : Result (Vec ℕ Global) E) → IsAsked verdict_text old new outcome → Replies command.Verdict old (answer_text (text_said outcome)) new
+unfolding Replies
+replies_verdict old new (Ok text) asked = inl (asked.0, (asked.1.0, inl asked.1.1))
+replies_verdict old new (Err e) (inl before) = inr (refl, before)
+replies_verdict old new (Err e) (inr told) = inl (told.0, (told.1, inr refl))
+
+pub replies_report : {E : Type 0} (old new : Seen) (outcome : Result (Vec ℕ Global) E) → IsAsked (report_on old) old new outcome → Replies command.Report old (answer_text (text_said outcome)) new
+unfolding Replies
+replies_report old new (Ok text) asked = inl (asked.0, (asked.1.0, inl asked.1.1))
+replies_report old new (Err e) (inl before) = inr (refl, before)
+replies_report old new (Err e) (inr told) = inl (told.0, (told.1, inr refl))
+
+-- a reason
+pub replies_why : {E : Type 0} (s : Seen) (row col colour : ℕ) (outcome : Result (Vec ℕ Global) E) → has_cell s.history.document.rows row col ≡ true → IsAudited s
+    → IfOk outcome (λ text. (why : Why) × (Explains s row col colour why × (text.items ≡ why_text why))) → Replies (command.Why row col colour) s (answer_text (text_said outcome)) s
+unfolding Replies
+replies_why s row col colour (Ok text) inside audited found = inl (inr (inside, (found.0, (found.1.0, (audited, (found.1.1, refl))))))
+replies_why s row col colour (Err e) inside audited found = inr (inside, (refl, refl))
+
+pub replies_outside : (s : Seen) (row col colour : ℕ) → has_cell s.history.document.rows row col ≡ false → Replies (command.Why row col colour) s (edit_line Place) s
+unfolding Replies
+replies_outside s row col colour outside = inl (inl (outside, (refl, refl)))
+
+-- a certificate
+pub replies_certify : (old new : Seen) (outcome : Result (Vec ℕ Global) Refusal) → IsAsBefore old new
+    → IfOk outcome (λ text. (found : Option Certificate) × (Certifies old.history.document found × (text.items ≡ certified_text found))) → IfErr outcome (λ e. e ≡ refusal.Memory)
+    → Replies command.Certify old (answer_text (written_said outcome)) new
+unfolding Replies
+replies_certify old new (Ok text) before found short = inl (found.0, (found.1.0, (found.1.1, before)))
+replies_certify old new (Err e) before found short = inr (ap refusal_line short, before)
+
+-- an allowance
+pub replies_allow : (old new : Seen) (allowance : Option ℕ) → new ≡ record old { allowance = allowance } → Replies (command.Allow allowance) old done_text new
+unfolding Replies
+replies_allow old new allowance is = inl (refl, is)
+
+-- an allowance of at most five digits can be set
+pub allowed : (allowance : Option ℕ) → IfSome allowance (λ splits. splits < 100000) → IfSome allowance (λ splits. splits ≤ 99999)
+allowed None few = tt
+allowed (Some splits) few = omega (arith, few)
+
+-- ---- where a verdict was asked for
+
+pub judged_now : {E : Type 0} (old last : Seen) (outcome : Result Verdict E) (verdict : Verdict) → outcome ≡ Ok verdict → IsAudited last × MatchResult outcome (Tells old last) (λ _. IsAsBefore old last)
+    → IsVerdictOn old.history.document old.allowance verdict → Judges old last verdict
+judged_now {E} old last outcome verdict is told right =
+    let M : Result Verdict E → Type 0 = λ x. MatchResult x (Tells old last) (λ _. IsAsBefore old last) in
+    (subst M is told.1, (told.0, right))
+
+pub unjudged_now : {E : Type 0} (old last : Seen) (outcome : Result Verdict E) (e : E) → outcome ≡ Err e → IsAudited last × MatchResult outcome (Tells old last) (λ _. IsAsBefore old last) → IsAsBefore old last
+unjudged_now {E} old last outcome e is told =
+    let M : Result Verdict E → Type 0 = λ x. MatchResult x (Tells old last) (λ _. IsAsBefore old last) in
+    subst M is told.1
+
+-- nothing that a report shows changes where its verdict is asked for
+pub reported : {E : Type 0} (old new : Seen) (word : Bor (List ℕ)) (outcome : Result (Vec ℕ Global) E) → (verdict : Verdict) × (Judges old new verdict × (word.now ≡ verdict_word verdict))
+    → IfOk outcome (λ text. text.items ≡ report_by new word.now) → IsAsked (report_on old) old new outcome
+reported old new word (Ok text) asked is =
+    let d = asked.1.0.0.1.1 in
+    (asked.0, (asked.1.0, is ∙ (ap (λ (w : List ℕ). report_by new w) asked.1.1 ∙ ap (λ (s : Seen). report_by s (verdict_word asked.0)) d.same)))
+reported old new word (Err e) asked is = inr (asked.0, asked.1.0)
+
+-- ---- parts of answers
+
+pub certified_by : {E : Type 0} (d : Design) (found : Option Certificate) (outcome : Result (Vec ℕ Global) E) → Certifies d found → IfOk outcome (λ text. text.items ≡ certified_text found)
+    → IfOk outcome (λ text. (known : Option Certificate) × (Certifies d known × (text.items ≡ certified_text known)))
+certified_by d found (Ok text) right is = (found, (right, is))
+certified_by d found (Err e) right is = tt
+
+-- a text that was begun with nothing
+pub from_nothing : (has front text : List ℕ) → has ≡ front ++ text → front ≡ [] → has ≡ text
+from_nothing has front text is none = is ∙ ap (λ (xs : List ℕ). xs ++ text) none
+
+-- a cell of the picture is one of the document's
+pub there : (s : Seen) (d : Document) (row col : ℕ) (answer found : Bool) → design_of d ≡ s.history.document → answer ≡ has_cell d.picture row col → answer ≡ found → has_cell s.history.document.rows row col ≡ found
+there s d row col answer found is asked told = sym (ap (λ (e : Design). has_cell e.rows row col) is) ∙ (sym asked ∙ told)
+
+pub within : (rows : List (List ℕ)) (row col : ℕ) → has_cell rows row col ≡ true → (row < length rows) × (col < width_of rows)
+within rows row col inside = grind (arith, nat_tests)

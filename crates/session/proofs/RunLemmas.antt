@@ -1,0 +1,161 @@
+-- A session, line by line.
+use Rattle.std.proofs.Common.{◌≡◌, ◌⊎◌, inl, inr, ℕ, Bool, true, false, List, [], ◌∷◌, ◌++◌, take, Option, Some, None, Result, Ok, Err, refl, sym, ap, subst, ◌∙◌, append_assoc, append-nil}
+use Rattle.std.specs.Io.KnownBytes.{Appends, IsAtEnd}
+use Rattle.std.proofs.KnownBytes.{Appends-nil, Appends-trans, Consumes-nil, Consumes-trans}
+use Rattle.picture.specs.Writing.{AppendsFront}
+use Rattle.live_audit.specs.Bench.{Seen}
+use Rattle.session.specs.declared.lines.Lines.{Lines}
+use Rattle.session.specs.declared.request.Request.{Request}
+use Rattle.session.specs.declared.session.SessionFault.TheVariants as fault
+use Rattle.session.specs.Lines.{BreaksOff, CutsNone, CutsOne, Hands, MayCome, ended_lines_of, lines_of, request_of}
+use Rattle.session.specs.Run.{HasRun}
+use Rattle.session.specs.Session.{BrokenOff, Runs, Says, SaysToAll}
+use Rattle.session.proofs.LineLemmas.{lines_none}
+
+-- a call that answers a line has cut it, and one that answers none has met the end
+pub cuts_one : {E : Type 0} (had have : Option (List ℕ)) (old new : Lines) (found : Option Request) (asked : Request) (r : Result (Option Request) E) → r ≡ Ok found → found ≡ Some asked → Hands had have old new r → CutsOne had have old new asked
+cuts_one {E} had have old new found asked r was is h = let P : Result (Option Request) E → Type 0 = λ o. Hands had have old new o in subst P (was ∙ ap Ok is) h
+
+pub cuts_no_more : {E : Type 0} (had have : Option (List ℕ)) (old new : Lines) (found : Option Request) (r : Result (Option Request) E) → r ≡ Ok found → found ≡ None → Hands had have old new r → CutsNone had have old new
+cuts_no_more {E} had have old new found r was is h = let P : Result (Option Request) E → Type 0 = λ o. Hands had have old new o in subst P (was ∙ ap Ok is) h
+
+-- one line more
+pub says_next : (front : List (List ℕ)) (line said text : List ℕ) (old mid new : Seen) → SaysToAll front old said mid → Says mid (request_of line) text new → SaysToAll (front ++ line ∷ []) old (said ++ text) new
+says_next [] line said text old mid new all next =
+    (new, (text, ([], (ap (λ (xs : List ℕ). xs ++ text) all.0 ∙ sym (append-nil text), (from_old mid old (sym all.1) next, (refl, refl))))))
+  where
+    from_old : (m o : Seen) → o ≡ m → Says m (request_of line) text new → Says o (request_of line) text new
+    from_old m o e h = let P : Seen → Type 0 = λ s. Says s (request_of line) text new in subst P (sym e) h
+says_next (first ∷ front) line said text old mid new (between, (head, (rest, (is, (says, all))))) next =
+    (between, (head, (rest ++ text, (ap (λ (xs : List ℕ). xs ++ text) is ∙ append_assoc head rest text, (says, says_next front line rest text between mid new all next)))))
+
+-- nothing was read yet
+pub run_begins : (had held : Option (List ℕ)) (s : Seen) (l : Lines) → l.inbox ≡ [] → l.ended ≡ false → HasRun had had held held s s l
+run_begins had held s l none on = record {
+  front = [];
+  came = [];
+  read = Consumes-nil had;
+  lines = λ rest may. ap lines_of (sym (ap (λ (xs : List ℕ). xs ++ rest) none));
+  ended = λ still rest. ap ended_lines_of (sym (ap (λ (xs : List ℕ). xs ++ rest) none));
+  end = λ met. absurd (true_is_not_false (sym met ∙ on));
+  said = [];
+  answered = (refl, refl);
+  wrote = Appends-nil held;
+}
+  where
+    true_is_not_false : true ≡ false → ⊥
+    true_is_not_false e = cc
+
+-- what may come behind more bytes may come behind the bytes and those
+may_more : (old new : Lines) (more rest : List ℕ) → (old.ended ≡ true → (more ≡ []) × (new.ended ≡ true)) → MayCome new rest → MayCome old (more ++ rest)
+may_more old new more rest behind may met = let b = behind met in ap (λ (xs : List ℕ). xs ++ rest) b.0 ∙ may b.1
+
+-- the end was not met if it is not met
+still_on : (old new : Lines) (more : List ℕ) → (old.ended ≡ true → (more ≡ []) × (new.ended ≡ true)) → new.ended ≡ false → old.ended ≡ false
+still_on old new more behind on = not_met old.ended (λ met. true_is_not_false (sym (behind met).1 ∙ on))
+  where
+    true_is_not_false : true ≡ false → ⊥
+    true_is_not_false e = cc
+
+    not_met : (b : Bool) → (b ≡ true → ⊥) → b ≡ false
+    not_met true never = absurd (never refl)
+    not_met false never = refl
+
+-- a line was cut, answered and written
+pub run_goes_on : (had mid have held wrote holds : Option (List ℕ)) (first old new : Seen) (l next : Lines) (asked : Request) (text : List ℕ) → HasRun had mid held wrote first old l → CutsOne mid have l next asked
+    → Says old asked text new → Appends wrote holds text → HasRun had have held holds first new next
+run_goes_on had mid have held wrote holds first old new l next asked text run cut says sent =
+    let c = cut.cuts in
+    record {
+      front = run.front ++ cut.line ∷ [];
+      came = run.came ++ c.came;
+      read = Consumes-trans had mid have run.came c.came run.read c.read;
+      lines = λ rest may.
+          ap lines_of (append_assoc run.came c.came rest) ∙ run.lines (c.came ++ rest) (may_more l next c.came rest c.behind may)
+          ∙ ap (λ (xs : List (List ℕ)). run.front ++ xs) (c.lines rest may) ∙ sym (append_assoc run.front (cut.line ∷ []) (lines_of (next.inbox ++ rest)));
+      ended = λ on rest.
+          ap ended_lines_of (append_assoc run.came c.came rest) ∙ run.ended (still_on l next c.came c.behind on) (c.came ++ rest)
+          ∙ ap (λ (xs : List (List ℕ)). run.front ++ xs) (c.ended on rest) ∙ sym (append_assoc run.front (cut.line ∷ []) (ended_lines_of (next.inbox ++ rest)));
+      end = c.end run.end;
+      said = run.said ++ text;
+      answered = says_next run.front cut.line run.said text first old new run.answered (asked_by asked (request_of cut.line) cut.asks says);
+      wrote = Appends-trans held wrote holds run.said text run.wrote sent;
+    }
+  where
+    asked_by : (a b : Request) → a ≡ b → Says old a text new → Says old b text new
+    asked_by a b e h = let P : Request → Type 0 = λ r. Says old r text new in subst P e h
+
+-- the input ended
+pub run_ends : (had mid have held holds : Option (List ℕ)) (first old : Seen) (l next : Lines) → HasRun had mid held holds first old l → CutsNone mid have l next → Runs had have held holds first old (Ok tt)
+unfolding Runs
+run_ends had mid have held holds first old l next run none =
+    let c = none.cuts in
+    let read = run.came ++ c.came in
+    let all : lines_of read ≡ run.front =
+    ap (λ (xs : List ℕ). lines_of (run.came ++ xs)) (sym (append-nil c.came)) ∙ run.lines (c.came ++ []) (may_more l next c.came [] c.behind (λ met. refl))
+    ∙ ap (λ (xs : List (List ℕ)). run.front ++ xs) (c.lines [] (λ met. refl) ∙ ap (λ (xs : List ℕ). lines_of (xs ++ [])) none.waiting ∙ lines_none) ∙ append-nil run.front in
+    (read, (Consumes-trans had mid have run.came c.came run.read c.read, (c.end run.end none.met, (run.said, (said_to (lines_of read) run.front all run.answered, run.wrote)))))
+  where
+    said_to : (a b : List (List ℕ)) → a ≡ b → SaysToAll b first run.said old → SaysToAll a first run.said old
+    said_to a b e h = let P : List (List ℕ) → Type 0 = λ lines. SaysToAll lines first run.said old in subst P (sym e) h
+
+-- a read failed
+pub run_is_cut : (had mid have held holds : Option (List ℕ)) (first old : Seen) (l : Lines) → HasRun had mid held holds first old l → BreaksOff mid have l → Runs had have held holds first old (Err fault.Read)
+unfolding Runs
+run_is_cut had mid have held holds first old l run b =
+    let read = run.came ++ b.came in
+    let all : ended_lines_of read ≡ run.front =
+    run.ended b.unended b.came ∙ ap (λ (xs : List (List ℕ)). run.front ++ xs) b.unfinished ∙ append-nil run.front in
+    (read, (Consumes-trans had mid have run.came b.came run.read b.read, (run.said, (said_to (ended_lines_of read) run.front all run.answered, run.wrote))))
+  where
+    said_to : (a b : List (List ℕ)) → a ≡ b → SaysToAll b first run.said old → SaysToAll a first run.said old
+    said_to a b e h = let P : List (List ℕ) → Type 0 = λ lines. SaysToAll lines first run.said old in subst P (sym e) h
+
+-- what went out of a line that was being answered, behind the lines in front of it
+broken_off : (lines : List (List ℕ)) (held wrote holds : Option (List ℕ)) (first old new : Seen) (front behind : List (List ℕ)) (line said text : List ℕ) → lines ≡ front ++ line ∷ behind
+    → SaysToAll front first said old → Appends held wrote said → Says old (request_of line) text new → AppendsFront wrote holds text → BrokenOff lines held holds first new
+broken_off lines held wrote holds first old new front behind line said text cut answered wrote_said says sent = record {
+  before = front;
+  line = line;
+  behind = behind;
+  cut = cut;
+  between = old;
+  said = said;
+  text = text;
+  answered = answered;
+  says = says;
+  front = sent.0;
+  went_out = Appends-trans held wrote holds said (take sent.0 text) wrote_said sent.1;
+}
+
+-- a write failed
+pub run_breaks : (had mid have held wrote holds : Option (List ℕ)) (first old new : Seen) (l next : Lines) (asked : Request) (text : List ℕ) → HasRun had mid held wrote first old l → CutsOne mid have l next asked
+    → Says old asked text new → AppendsFront wrote holds text → Runs had have held holds first new (Err fault.Write)
+unfolding Runs
+run_breaks had mid have held wrote holds first old new l next asked text run cut says sent =
+    let c = cut.cuts in
+    let read = run.came ++ c.came in
+    let spoken = asked_by asked (request_of cut.line) cut.asks says in
+    let all : MayCome next [] → lines_of read ≡ run.front ++ cut.line ∷ lines_of (next.inbox ++ []) = λ may.
+    ap (λ (xs : List ℕ). lines_of (run.came ++ xs)) (sym (append-nil c.came)) ∙ run.lines (c.came ++ []) (may_more l next c.came [] c.behind may)
+    ∙ ap (λ (xs : List (List ℕ)). run.front ++ xs) (c.lines [] may) in
+    let whole : next.ended ≡ false → ended_lines_of read ≡ run.front ++ cut.line ∷ ended_lines_of (next.inbox ++ []) = λ on.
+    ap (λ (xs : List ℕ). ended_lines_of (run.came ++ xs)) (sym (append-nil c.came)) ∙ run.ended (still_on l next c.came c.behind on) (c.came ++ [])
+    ∙ ap (λ (xs : List (List ℕ)). run.front ++ xs) (c.ended on []) in
+    let broken = λ (lines : List (List ℕ)) (behind : List (List ℕ)) (is : lines ≡ run.front ++ cut.line ∷ behind).
+    broken_off lines held wrote holds first old new run.front behind cut.line run.said text is run.answered run.wrote spoken sent in (
+      read,
+      (
+        Consumes-trans had mid have run.came c.came run.read c.read,
+        by_end next.ended (BrokenOff (ended_lines_of read) held holds first new) (IsAtEnd have × BrokenOff (lines_of read) held holds first new)
+            (λ on. broken (ended_lines_of read) (ended_lines_of (next.inbox ++ [])) (whole on))
+            (λ met. (c.end run.end met, broken (lines_of read) (lines_of (next.inbox ++ [])) (all (λ _. refl)))),
+      ),
+    )
+  where
+    asked_by : (a b : Request) → a ≡ b → Says old a text new → Says old b text new
+    asked_by a b e h = let P : Request → Type 0 = λ r. Says old r text new in subst P e h
+
+    by_end : (ended : Bool) (P Q : Type 0) → (ended ≡ false → P) → (ended ≡ true → Q) → P ⊎ Q
+    by_end true P Q off met = inr (met refl)
+    by_end false P Q off met = inl (off refl)

@@ -1,0 +1,52 @@
+-- What is answered to a line, as the bytes that are written.
+use Rattle.std.specs.Prelude.{◌≡◌, ◌⊎◌, ℕ, List, [], codes, Result, Ok, Err}
+use Rattle.std.specs.declared.vec.Vec.{Vec}
+use Rattle.std.specs.declared.alloc.Global.{Global}
+use Rattle.std.specs.Borrow.{Bor}
+use Rattle.live_audit.specs.declared.verdict.Verdict.{Verdict}
+use Rattle.live_audit.specs.Bench.{Seen}
+use Rattle.live_audit.specs.Calls.{IsAsBefore}
+use Rattle.session.specs.Session.{Judges, verdict_word}
+use Rattle.edits.specs.declared.fault.EditFault.{EditFault}
+use Rattle.session.specs.declared.answer.Answer.{Answer}
+use Rattle.session.specs.declared.answer.Answer.TheVariants.{Silence, Done, Text, Refused}
+use Rattle.session.specs.declared.refusal.Refusal.{Refusal}
+use Rattle.session.specs.declared.refusal.Refusal.TheVariants.{Edit, Memory}
+use Rattle.session.specs.Refusal.{refusal_line}
+
+abbrev pub answer_text : Answer → List ℕ
+answer_text Silence = []
+answer_text Done = codes "ok\n"
+answer_text (Text text) = text.items
+answer_text (Refused refusal) = refusal_line refusal
+
+-- what is answered to a stroke
+abbrev pub stroke_said : Result (Unit {0}) EditFault → Answer
+stroke_said (Ok done) = Done
+stroke_said (Err fault) = Refused (Edit fault)
+
+-- to what shows a text, where memory may have been wanting
+abbrev pub text_said : {E : Type 0} → Result (Vec ℕ Global) E → Answer
+text_said (Ok text) = Text text
+text_said (Err e) = Refused Memory
+
+-- and to what may be refused otherwise
+abbrev pub written_said : Result (Vec ℕ Global) Refusal → Answer
+written_said (Ok text) = Text text
+written_said (Err refusal) = Refused refusal
+
+-- ---- where a verdict was asked for
+
+-- it was refused for want of memory, or it was given and memory was wanting for its text
+abbrev pub IsUntold : Seen → Seen → Type 0
+IsUntold old new = IsAsBefore old new ⊎ ((verdict : Verdict) × Judges old new verdict)
+
+-- a text that the verdict decides
+abbrev pub IsAsked : {E : Type 0} → (Verdict → List ℕ) → Seen → Seen → Result (Vec ℕ Global) E → Type 0
+IsAsked shown old new (Ok text) = (verdict : Verdict) × (Judges old new verdict × (text.items ≡ shown verdict))
+IsAsked shown old new (Err e) = IsUntold old new
+
+-- the verdict's word
+abbrev pub IsAskedWord : {E : Type 0} → Seen → Seen → Result (Bor (List ℕ)) E → Type 0
+IsAskedWord old new (Ok word) = (verdict : Verdict) × (Judges old new verdict × (word.now ≡ verdict_word verdict))
+IsAskedWord old new (Err e) = IsAsBefore old new

@@ -1,0 +1,402 @@
+//! What a session answers to a line: all that takes memory comes before the first byte goes out.
+
+ghost use Rattle.std.specs.Prelude.{◌≡◌, ◌++◌, ◌<◌, codes, length, Option, IfErr, IfOk, IfSome, OnOk};
+ghost use Rattle.picture.specs.Rows.{width_of};
+ghost use Rattle.edits.specs.Fault.{has_cell};
+ghost use Rattle.certificate.specs.Cert.{Certificate};
+ghost use Rattle.live_audit.specs.Calls.{IsAsBefore};
+ghost use Rattle.live_audit.specs.Certify.{Certifies};
+ghost use Rattle.live_audit.specs.Reason.{Explains};
+ghost use Rattle.live_audit.specs.declared.why.Why.{Why};
+ghost use Rattle.session.specs.Answer.{IsAsked, IsAskedWord, answer_text, stroke_said, text_said, written_said};
+ghost use Rattle.session.specs.Lines.{AsksBounded};
+ghost use Rattle.session.specs.Parse.{IsBounded};
+ghost use Rattle.session.specs.Session.{Replies, Says, certified_text, other_text, report_by, report_on, undecided_text, verdict_text, verdict_word, why_text};
+ghost use Rattle.session.specs.Shown.{map_text};
+ghost use Rattle.session.specs.declared.command.Command.TheVariants as command;
+ghost use Rattle.session.specs.declared.refusal.Refusal.TheVariants as refusal;
+
+use crate::clue_text::{clues_text, push_number};
+use crate::command::Command;
+use crate::reason_text::push_reason;
+use crate::refusal::Refusal;
+use crate::report::push_report;
+use crate::request::Request;
+use crate::shown::{push_map, push_picture};
+use crate::written::{cert_text_of, non_text_of, ppm_text_of};
+use certificate::Cert;
+use edits::{Edit, EditFault};
+use line_settle::{Facts, LineEngine};
+use live_audit::{Bench, Verdict, Why};
+use picture::Picture;
+use propagate::Agenda;
+use std::alloc::{AllocError, Global};
+
+/// What is answered to a line.
+#[derive(Drop)]
+pub(crate) enum Answer {
+    /// Nothing, to a line without a word.
+    Silence,
+    /// `ok`.
+    Done,
+    /// A text, made whole.
+    Text(Vec<u8>),
+    /// A refusal, whose line takes no memory.
+    Refused(Refusal),
+}
+
+impl Answer {
+    // The bytes that are written.
+    pub(crate) fn bytes(&self) -> &[u8]
+        ensures { result.now ≡ answer_text self.now }
+    {
+        match self {
+            Answer::Silence => &[],
+            Answer::Done => b"ok\n",
+            Answer::Text(text) => text.as_slice(),
+            Answer::Refused(refusal) => refusal.line(),
+        }
+    }
+}
+
+fn stroke_answer(outcome: Result<(), EditFault>) -> Answer
+    ensures { result ≡ stroke_said outcome }
+{
+    match outcome {
+        Ok(()) => Answer::Done,
+        Err(fault) => Answer::Refused(Refusal::Edit(fault)),
+    }
+}
+
+fn text_answer(outcome: Result<Vec<u8>, AllocError>) -> Answer
+    ensures { result ≡ text_said outcome }
+{
+    match outcome {
+        Ok(text) => Answer::Text(text),
+        Err(_) => Answer::Refused(Refusal::Memory),
+    }
+}
+
+fn written_answer(outcome: Result<Vec<u8>, Refusal>) -> Answer
+    ensures { result ≡ written_said outcome }
+{
+    match outcome {
+        Ok(text) => Answer::Text(text),
+        Err(refusal) => Answer::Refused(refusal),
+    }
+}
+
+fn answer_edit<E: LineEngine + Drop, A: Agenda + Drop>(
+    bench: &mut Bench<E, A>,
+    edit: &Edit,
+) -> Answer
+    ensures { Replies (command.Edit edit.now) bench.old (answer_text result) bench.new }
+{
+    stroke_answer(bench.apply(edit))
+}
+
+fn answer_undo<E: LineEngine + Drop, A: Agenda + Drop>(bench: &mut Bench<E, A>) -> Answer
+    ensures { Replies command.Undo bench.old (answer_text result) bench.new }
+{
+    stroke_answer(bench.undo())
+}
+
+fn answer_redo<E: LineEngine + Drop, A: Agenda + Drop>(bench: &mut Bench<E, A>) -> Answer
+    ensures { Replies command.Redo bench.old (answer_text result) bench.new }
+{
+    stroke_answer(bench.redo())
+}
+
+fn answer_clues<E: LineEngine + Drop, A: Agenda + Drop>(
+    alloc: Global,
+    bench: &Bench<E, A>,
+) -> Answer
+    ensures { Replies command.Clues bench.now (answer_text result) bench.now }
+{
+    text_answer(clues_text(alloc, bench.clues()))
+}
+
+fn answer_map<E: LineEngine + Drop, A: Agenda + Drop>(alloc: Global, bench: &Bench<E, A>) -> Answer
+    ensures { Replies command.Map bench.now (answer_text result) bench.now }
+{
+    text_answer(map_text(alloc, bench.map()))
+}
+
+fn map_text(alloc: Global, map: &Facts) -> Result<Vec<u8>, AllocError>
+    ensures { IfOk result (λ text. text.items ≡ map_text map.now) }
+{
+    let mut text = Vec::new(alloc);
+    push_map(&mut text, map)?;
+    Ok(text)
+}
+
+fn answer_ppm<E: LineEngine + Drop, A: Agenda + Drop>(alloc: Global, bench: &Bench<E, A>) -> Answer
+    ensures { Replies command.WritePpm bench.now (answer_text result) bench.now }
+{
+    written_answer(ppm_text_of(alloc, bench.document()))
+}
+
+fn answer_non<E: LineEngine + Drop, A: Agenda + Drop>(alloc: Global, bench: &Bench<E, A>) -> Answer
+    ensures { Replies command.WriteNon bench.now (answer_text result) bench.now }
+{
+    written_answer(non_text_of(alloc, &bench.document().picture))
+}
+
+fn answer_allow<E: LineEngine + Drop, A: Agenda + Drop>(
+    bench: &mut Bench<E, A>,
+    allowance: Option<u32>,
+) -> Answer
+    requires { IfSome allowance (λ splits. splits < 100000) }
+    ensures { Replies (command.Allow allowance) bench.old (answer_text result) bench.new }
+{
+    bench.allow(allowance);
+    Answer::Done
+}
+
+// Why a colour is not in a cell; a cell outside the picture is refused.
+fn answer_why<E: LineEngine + Drop, A: Agenda + Drop>(
+    alloc: Global,
+    bench: &Bench<E, A>,
+    row: u8,
+    col: u8,
+    colour: u8,
+) -> Answer
+    requires { colour < 16 }
+    ensures { Replies (command.Why row col colour) bench.now (answer_text result) bench.now }
+{
+    if !has_cell(&bench.document().picture, row, col) {
+        return Answer::Refused(Refusal::Edit(EditFault::Place));
+    }
+    text_answer(why_text(alloc, bench, row, col, colour))
+}
+
+// Whether the cell is one of the picture's.
+fn has_cell(picture: &Picture, row: u8, col: u8) -> bool
+    ensures { result ≡ has_cell picture.now row col }
+{
+    row < picture.height() && col < picture.width()
+}
+
+fn why_text<E: LineEngine + Drop, A: Agenda + Drop>(
+    alloc: Global,
+    bench: &Bench<E, A>,
+    row: u8,
+    col: u8,
+    colour: u8,
+) -> Result<Vec<u8>, AllocError>
+    requires in_rows { row < length bench.now.history.document.rows }
+    requires in_columns { col < width_of bench.now.history.document.rows }
+    requires in_colours { colour < 16 }
+    ensures { IfOk result (λ text. (why : Why) × (Explains bench.now row col colour why × (text.items ≡ why_text why))) }
+{
+    let mut text = Vec::new(alloc);
+    let why = bench.why(row, col, colour)?;
+    push_why(&mut text, &why)?;
+    Ok(text)
+}
+
+fn push_why(text: &mut Vec<u8>, why: &Why) -> Result<(), AllocError>
+    ensures { OnOk result (text.new.items ≡ text.old.items ++ why_text why.now) }
+{
+    match why {
+        Why::Possible => text.extend_from_slice(b"possible\n"),
+        Why::Given => text.extend_from_slice(b"given\n"),
+        Why::By(reason) => push_reason(text, reason),
+    }
+}
+
+fn answer_verdict<E: LineEngine + Drop, A: Agenda + Drop>(
+    alloc: Global,
+    bench: &mut Bench<E, A>,
+) -> Answer
+    ensures { Replies command.Verdict bench.old (answer_text result) bench.new }
+{
+    text_answer(verdict_text(alloc, bench))
+}
+
+fn verdict_text<E: LineEngine + Drop, A: Agenda + Drop>(
+    alloc: Global,
+    bench: &mut Bench<E, A>,
+) -> Result<Vec<u8>, AllocError>
+    ensures { IsAsked verdict_text bench.old bench.new result }
+{
+    let mut text = Vec::new(alloc);
+    let verdict = bench.verdict()?;
+    push_verdict(&mut text, &verdict)?;
+    Ok(text)
+}
+
+fn push_verdict(text: &mut Vec<u8>, verdict: &Verdict<'_>) -> Result<(), AllocError>
+    ensures { OnOk result (text.new.items ≡ text.old.items ++ verdict_text verdict.now) }
+{
+    match verdict {
+        Verdict::Unique => text.extend_from_slice(b"unique\n"),
+        Verdict::Ambiguous(other) => push_other(text, other),
+        Verdict::Undecided { splits } => push_undecided(text, *splits),
+    }
+}
+
+#[tactic(auto, using(std::proofs::lemmas::List::append_assoc))]
+fn push_other(text: &mut Vec<u8>, other: &Picture) -> Result<(), AllocError>
+    ensures { OnOk result (text.new.items ≡ text.old.items ++ other_text other.now) }
+{
+    text.extend_from_slice(b"ambiguous\n")?;
+    push_picture(text, other)
+}
+
+#[tactic(auto, using(std::proofs::lemmas::List::append_assoc))]
+fn push_undecided(text: &mut Vec<u8>, splits: u32) -> Result<(), AllocError>
+    ensures { OnOk result (text.new.items ≡ text.old.items ++ undecided_text splits) }
+{
+    text.extend_from_slice(b"undecided ")?;
+    push_number(text, splits as usize)?;
+    text.push(b'\n')?;
+    Ok(())
+}
+
+fn answer_report<E: LineEngine + Drop, A: Agenda + Drop>(
+    alloc: Global,
+    bench: &mut Bench<E, A>,
+) -> Answer
+    ensures { Replies command.Report bench.old (answer_text result) bench.new }
+{
+    text_answer(report_text(alloc, bench))
+}
+
+// The report. Its verdict is asked for first, since that may change what is kept.
+fn report_text<E: LineEngine + Drop, A: Agenda + Drop>(
+    alloc: Global,
+    bench: &mut Bench<E, A>,
+) -> Result<Vec<u8>, AllocError>
+    ensures { IsAsked (report_on bench.old) bench.old bench.new result }
+{
+    let word = asked_word(bench)?;
+    report_with(alloc, bench, word)
+}
+
+// The verdict's word.
+fn asked_word<E: LineEngine + Drop, A: Agenda + Drop>(
+    bench: &mut Bench<E, A>,
+) -> Result<&'static [u8], AllocError>
+    ensures { IsAskedWord bench.old bench.new result }
+{
+    let verdict = bench.verdict()?;
+    Ok(verdict_word(&verdict))
+}
+
+fn verdict_word(verdict: &Verdict<'_>) -> &'static [u8]
+    ensures { result.now ≡ verdict_word verdict.now }
+{
+    match verdict {
+        Verdict::Unique => b"unique",
+        Verdict::Ambiguous(_) => b"ambiguous",
+        Verdict::Undecided { .. } => b"undecided",
+    }
+}
+
+fn report_with<E: LineEngine + Drop, A: Agenda + Drop>(
+    alloc: Global,
+    bench: &Bench<E, A>,
+    word: &[u8],
+) -> Result<Vec<u8>, AllocError>
+    ensures { IfOk result (λ text. text.items ≡ report_by bench.now word.now) }
+{
+    let mut text = Vec::new(alloc);
+    push_report(
+        &mut text,
+        bench.document(),
+        bench.clues(),
+        bench.map(),
+        word,
+        bench.past_len(),
+        bench.future_len(),
+    )?;
+    Ok(text)
+}
+
+fn answer_certify<E: LineEngine + Drop, A: Agenda + Drop>(
+    alloc: Global,
+    bench: &mut Bench<E, A>,
+) -> Answer
+    ensures { Replies command.Certify bench.old (answer_text result) bench.new }
+{
+    written_answer(certificate_text(alloc, bench))
+}
+
+// The certificate's text, or that there is another picture.
+fn certificate_text<E: LineEngine + Drop, A: Agenda + Drop>(
+    alloc: Global,
+    bench: &mut Bench<E, A>,
+) -> Result<Vec<u8>, Refusal>
+    ensures text { IfOk result (λ text. (found : Option Certificate) × (Certifies bench.old.history.document found × (text.items ≡ certified_text found))) }
+    ensures err { IfErr result (λ e. e ≡ refusal.Memory) }
+    ensures as_before { IsAsBefore bench.old bench.new }
+{
+    match bench.certify() {
+        Ok(found) => found_text(alloc, &found),
+        Err(_) => Err(Refusal::Memory),
+    }
+}
+
+fn found_text(alloc: Global, found: &Option<Cert>) -> Result<Vec<u8>, Refusal>
+    ensures text { IfOk result (λ text. text.items ≡ certified_text found.now) }
+    ensures err { IfErr result (λ e. e ≡ refusal.Memory) }
+{
+    match found {
+        Some(cert) => cert_text_of(alloc, cert),
+        None => ambiguous_text(alloc),
+    }
+}
+
+fn ambiguous_text(alloc: Global) -> Result<Vec<u8>, Refusal>
+    ensures text { IfOk result (λ text. text.items ≡ codes "ambiguous\n") }
+    ensures err { IfErr result (λ e. e ≡ refusal.Memory) }
+{
+    let mut text = Vec::new(alloc);
+    match text.extend_from_slice(b"ambiguous\n") {
+        Ok(()) => Ok(text),
+        Err(_) => Err(Refusal::Memory),
+    }
+}
+
+// What is answered to a command.
+fn answer_command<E: LineEngine + Drop, A: Agenda + Drop>(
+    alloc: Global,
+    bench: &mut Bench<E, A>,
+    command: Command,
+) -> Answer
+    requires { IsBounded command }
+    ensures { Replies command bench.old (answer_text result) bench.new }
+{
+    match command {
+        Command::Edit(edit) => answer_edit(bench, &edit),
+        Command::Undo => answer_undo(bench),
+        Command::Redo => answer_redo(bench),
+        Command::Clues => answer_clues(alloc, bench),
+        Command::Map => answer_map(alloc, bench),
+        Command::Verdict => answer_verdict(alloc, bench),
+        Command::Why { row, col, colour } => answer_why(alloc, bench, row, col, colour),
+        Command::WritePpm => answer_ppm(alloc, bench),
+        Command::WriteNon => answer_non(alloc, bench),
+        Command::Report => answer_report(alloc, bench),
+        Command::Allow(allowance) => answer_allow(bench, allowance),
+        Command::Certify => answer_certify(alloc, bench),
+    }
+}
+
+#[tactic(auto, unfolding(crate::specs::Session::Says))]
+// What is answered to a line, and what the line does to the bench.
+pub(crate) fn answer_to<E: LineEngine + Drop, A: Agenda + Drop>(
+    alloc: Global,
+    bench: &mut Bench<E, A>,
+    request: Request,
+) -> Answer
+    requires { AsksBounded request }
+    ensures { Says bench.old request (answer_text result) bench.new }
+{
+    match request {
+        Request::Nothing => Answer::Silence,
+        Request::Refused(fault) => Answer::Refused(Refusal::Line(fault)),
+        Request::Command(command) => answer_command(alloc, bench, command),
+    }
+}

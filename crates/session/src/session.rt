@@ -1,0 +1,63 @@
+//! A whole session: commands in, text out.
+
+ghost use Rattle.std.specs.Prelude.{◌≡◌};
+ghost use Rattle.session.specs.Session.{Runs};
+ghost use Rattle.session.specs.declared.session.SessionFault.TheVariants.{Read as Unread, Write as Unwritten};
+
+use crate::answer::answer_to;
+use crate::lines::{Lines, ReadFault};
+use line_settle::LineEngine;
+use live_audit::Bench;
+use picture::{WriteFault, send};
+use propagate::Agenda;
+use std::alloc::Global;
+use std::io::{Read, Write};
+use thiserror::Error;
+
+/// Why a session ended before its input did.
+#[derive(Clone, Copy, Debug, PartialEq, Eq, Error)]
+pub enum SessionFault {
+    /// A read failed, or one more than 1,048,576 was wanted.
+    #[error("read failed")]
+    Read,
+    /// A write failed, or took no byte.
+    #[error("write failed")]
+    Write,
+}
+
+impl From<ReadFault> for SessionFault {
+    ghost from_gives = { λ _ e. e ≡ Unread };
+
+    fn from(_fault: ReadFault) -> SessionFault {
+        SessionFault::Read
+    }
+}
+
+impl From<WriteFault> for SessionFault {
+    ghost from_gives = { λ _ e. e ≡ Unwritten };
+
+    fn from(_fault: WriteFault) -> SessionFault {
+        SessionFault::Write
+    }
+}
+
+/// Answers each line of the reader's input on the writer, until the input ends.
+///
+/// A refused command prints its refusal and the session goes on. After a failed read each line is answered whose line feed had
+/// come, and an unfinished one is not. After a failed write a front of the right text went out, and the bench holds the effect
+/// of the command that was being answered.
+pub fn run_session<R: Read, W: Write, E: LineEngine + Drop, A: Agenda + Drop>(
+    alloc: Global,
+    reader: &mut R,
+    writer: &mut W,
+    bench: &mut Bench<E, A>,
+) -> Result<(), SessionFault>
+    ensures { Runs (R.remaining reader.old) (R.remaining reader.new) (W.contents writer.old) (W.contents writer.new) bench.old bench.new result }
+{
+    let mut lines = Lines::new();
+    while let Some(request) = lines.next(reader)? {
+        let answer = answer_to(alloc, bench, request);
+        send(answer.bytes(), writer)?;
+    }
+    Ok(())
+}
