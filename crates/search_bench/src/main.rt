@@ -1,5 +1,6 @@
 //! Judges a P3 picture from standard input by its parts, or looks for another picture with the same clues, so that the work of
-//! it can be measured from outside. The word is `settle`, `judge` or `other`; each settles the clues first.
+//! it can be measured from outside. The first word is `settle`, `judge` or `other`; each settles the clues first. A second word
+//! is the allowance of splits for `judge`; without one there is none.
 #![tactic(auto)]
 
 ghost use Rattle.std.specs.Prelude.{◌≡◌, ◌≤◌, IfOk};
@@ -21,11 +22,15 @@ use std::io::Read;
 fn main(rt: HostRuntime) -> Result<()> {
     let mut words = env::args(&rt)?.skip(1);
     let task = words.next().context("the task is missing")?;
+    let allowance: Option<u32> = match words.next() {
+        Some(most) => Some(most.parse().context("the allowance")?),
+        None => None,
+    };
     let mut bytes = Vec::new(rt.alloc());
     rt.reader().read_to_end(&mut bytes)?;
     let document = read_ppm(rt.alloc(), &bytes, None)?;
     let mut engine = MaskEngine::make(rt.alloc(), MAX_SIDE)?;
-    let tally = work(rt.alloc(), &mut engine, task.as_str(), &document)?;
+    let tally = work(rt.alloc(), &mut engine, task.as_str(), allowance, &document)?;
     let Tally {
         said,
         parts,
@@ -54,6 +59,7 @@ fn work<E: LineEngine>(
     alloc: Global,
     engine: &mut E,
     task: &str,
+    allowance: Option<u32>,
     document: &Document,
 ) -> Result<Tally>
     requires { MAX_SIDE ≤ E.longest engine.old }
@@ -70,7 +76,7 @@ fn work<E: LineEngine>(
             splits: 0,
             evaluations: settling,
         },
-        "judge" => judge(alloc, engine, &book, document, &facts)?,
+        "judge" => judge(alloc, engine, &book, document, &facts, allowance)?,
         "other" => other(alloc, engine, &book, document, &facts)?,
         _ => bail!("a task is settle, judge or other"),
     };
@@ -112,13 +118,14 @@ fn is_scene(book: &ClueBook, document: &Document, base: &Facts, facts: &Facts)
     let _ = document.picture.height();
 }
 
-// Judges the picture.
+// Judges the picture, under an allowance where there is one.
 fn judge<E: LineEngine>(
     alloc: Global,
     engine: &mut E,
     book: &ClueBook,
     document: &Document,
     facts: &Facts,
+    allowance: Option<u32>,
 ) -> Result<Tally>
     requires scene { IsScene book.now document.now.givens facts.now document.now.picture }
     requires long { MAX_SIDE ≤ E.longest engine.old }
@@ -138,7 +145,14 @@ fn judge<E: LineEngine>(
     let mut keeper = Keeper::start(alloc, facts)?;
     let parts = Parts::of(alloc, facts)?.len();
     let _ = (book.height(), book.width());
-    let said = match keeper.judge(engine, &scene, None, &mut meter, &mut searched, &mut splits)? {
+    let said = match keeper.judge(
+        engine,
+        &scene,
+        allowance,
+        &mut meter,
+        &mut searched,
+        &mut splits,
+    )? {
         Judged::Unique => "unique",
         Judged::Other(_) => "ambiguous",
         Judged::Undecided => "undecided",
