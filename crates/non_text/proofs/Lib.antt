@@ -12,3 +12,4 @@ pub mod ClueTexts
 pub mod WrittenLines
 pub mod PictureTexts
 pub mod RoundTrip
+pub mod BlackClues

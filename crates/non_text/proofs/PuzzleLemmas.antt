@@ -66,7 +66,7 @@ clue_decides a b = slice_eq-Decides block_decides a b _ refl
 list_decides : (a b : List (List Block)) → Decides (pointwise (pointwise same_block) a b) (a ≡ b)
 list_decides a b = slice_eq-Decides clue_decides a b _ refl
 
-clues_decides : (a b : Clues) → Decides (same_clues a b) (a ≡ b)
+pub clues_decides : (a b : Clues) → Decides (same_clues a b) (a ≡ b)
 unfolding same_clues
 clues_decides a b =
     let same_rows = pointwise (pointwise same_block) a.rows b.rows in
@@ -83,7 +83,7 @@ pub agreeing_none : (clues : Clues) → agreeing clues None ≡ Ok (record { clu
 unfolding agreeing
 agreeing_none clues = refl
 
-abbrev chosen : Bool → NonPuzzle → Result NonPuzzle NonFault
+abbrev pub chosen : Bool → NonPuzzle → Result NonPuzzle NonFault
 chosen t puzzle = cond t (Ok puzzle) (Err GoalDisagrees)
 
 pub agreeing_same : (clues : Clues) (rows : List (List ℕ)) → clues_of rows ≡ clues → agreeing clues (Some rows) ≡ Ok (record { clues = clues; goal = Some rows })

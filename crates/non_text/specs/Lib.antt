@@ -8,6 +8,7 @@ pub mod Puzzle
 pub mod RoundTrip
 pub mod Section
 pub mod Seen
+pub mod TwoColours
 pub mod Writing
 pub mod Written
 pub mod Counting

@@ -3,6 +3,7 @@
 ghost use Rattle.std.specs.Prelude.{◌≡◌, ℕ, List, true};
 ghost use Rattle.picture.specs.Picture.{IsPicture};
 ghost use Rattle.non_text.specs.RoundTrip.{IsReadAgain};
+ghost use Rattle.non_text.specs.TwoColours.{PuzzlesAreInTwoColours};
 ghost use Rattle.non_text.specs.Writing.{is_two_colour};
 
 use picture::Picture;
@@ -21,3 +22,10 @@ pub fn round_trip_of(picture: &Picture)
     round_trip();
     let _ = picture.height();
 }
+
+#[tactic(auto, using(crate::proofs::BlackClues::in_two_colours))]
+/// A puzzle that `read_non` reads is one in two colours: its goal has its clues, and no picture with its clues has a colour
+/// above 1.
+pub fn puzzles_are_in_two_colours()
+    ensures { PuzzlesAreInTwoColours }
+{}

@@ -17,7 +17,7 @@ mod text;
 mod writing;
 
 pub use fault::{NonFault, NonWriteFault};
-pub use laws::{round_trip, round_trip_of};
+pub use laws::{puzzles_are_in_two_colours, round_trip, round_trip_of};
 pub use non_puzzle::NonPuzzle;
 pub use reading::read_non;
 pub use writing::write_non;
