@@ -3,12 +3,17 @@ use Rattle.std.specs.Prelude.{ℕ, List, ◌++◌, codes, decimal, string_bytes,
 use Rattle.ppm_text.specs.declared.fault.PpmFault.{PpmFault}
 use Rattle.ppm_text.specs.declared.fault.PpmFault.TheVariants as ppm
 use Rattle.ppm_text.specs.Faults.{name_of, place_of}
+use Rattle.non_text.specs.declared.fault.NonFault.{NonFault}
+use Rattle.non_text.specs.declared.fault.NonFault.TheVariants as non
+use Rattle.non_text.specs.Faults as nons
 use Rattle.edits.specs.Fault.{fault_name}
 use Rattle.certificate.specs.declared.fault.CertFault.{CertFault}
 use Rattle.certificate.specs.declared.fault.CertFault.TheVariants as cert
 use Rattle.certificate.specs.Faults as certs
+use Rattle.session.specs.declared.session.SessionFault.{SessionFault}
+use Rattle.session.specs.declared.session.SessionFault.TheVariants as session
 use Rattle.nonobench.specs.declared.fault.ProgramFault.{ProgramFault}
-use Rattle.nonobench.specs.declared.fault.ProgramFault.TheVariants.{Ppm, Edit, Cert, Memory, TooLong, Words, Help, Background, Read, Write}
+use Rattle.nonobench.specs.declared.fault.ProgramFault.TheVariants.{Ppm, Non, Edit, NoPicture, Cert, Memory, TooLong, Words, Help, Background, BackgroundOfNon, Read, Write}
 
 -- a fault of the P3 text, but want of memory is one fault wherever it comes
 abbrev pub fault_of : PpmFault → ProgramFault
@@ -23,6 +28,18 @@ fault_of (ppm.SampleOver at) = Ppm (ppm.SampleOver at)
 fault_of (ppm.TooManyColours at) = Ppm (ppm.TooManyColours at)
 fault_of (ppm.TrailingToken at) = Ppm (ppm.TrailingToken at)
 
+-- a fault of the .non text, in the same way
+abbrev pub non_fault_of : NonFault → ProgramFault
+non_fault_of non.Memory = Memory
+non_fault_of non.MissingSize = Non non.MissingSize
+non_fault_of non.BadSize = Non non.BadSize
+non_fault_of non.Repeated = Non non.Repeated
+non_fault_of non.BadClue = Non non.BadClue
+non_fault_of non.BadCount = Non non.BadCount
+non_fault_of non.ClueTooLong = Non non.ClueTooLong
+non_fault_of non.BadGoal = Non non.BadGoal
+non_fault_of non.GoalDisagrees = Non non.GoalDisagrees
+
 -- a fault of a certificate, in the same way
 abbrev pub cert_fault_of : CertFault → ProgramFault
 cert_fault_of cert.Memory = Memory
@@ -34,10 +51,17 @@ cert_fault_of (cert.NotDone line) = Cert (cert.NotDone line)
 cert_fault_of (cert.Ended line) = Cert (cert.Ended line)
 cert_fault_of (cert.Trailing line) = Cert (cert.Trailing line)
 
+-- a session that ended before its input did
+abbrev pub session_fault_of : SessionFault → ProgramFault
+session_fault_of session.Read = Read
+session_fault_of session.Write = Write
+
 -- what stands behind `nonobench: ` on standard error; of the parser's own texts, the whole of it
 abbrev pub fault_text : ProgramFault → List ℕ
 fault_text (Ppm fault) = codes "ppm " ++ name_of fault ++ codes " at byte " ++ decimal (unwrap_or (place_of fault) 0)
+fault_text (Non fault) = codes "non " ++ nons.name_of fault
 fault_text (Edit fault) = codes "edit " ++ fault_name fault
+fault_text NoPicture = codes "no picture has these clues"
 fault_text (Cert fault) =
     codes "certificate " ++ certs.name_of fault ++ codes " at line " ++ decimal (unwrap_or (certs.place_of fault) 0)
 fault_text Memory = codes "memory"
@@ -45,18 +69,22 @@ fault_text TooLong = codes "input too long"
 fault_text (Words text) = string_bytes text
 fault_text (Help text) = string_bytes text
 fault_text Background = codes "background must be R,G,B"
+fault_text BackgroundOfNon = codes "background goes with ppm"
 fault_text Read = codes "read failed"
 fault_text Write = codes "write failed"
 
 -- the status with which the program ends
 abbrev pub status_of : ProgramFault → ℕ
 status_of (Ppm fault) = 1
+status_of (Non fault) = 1
 status_of (Edit fault) = 1
+status_of NoPicture = 1
 status_of (Cert fault) = 1
 status_of Memory = 1
 status_of TooLong = 1
 status_of (Words text) = 2
 status_of (Help text) = 0
 status_of Background = 2
+status_of BackgroundOfNon = 2
 status_of Read = 3
 status_of Write = 3

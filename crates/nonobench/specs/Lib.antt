@@ -1,4 +1,7 @@
 pub mod Background
 pub mod Check
 pub mod Faults
+pub mod Open
 pub mod Run
+pub mod Work
+pub mod Words

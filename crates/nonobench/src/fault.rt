@@ -2,12 +2,14 @@
 
 ghost use Rattle.std.specs.Prelude.{◌≡◌, Some};
 ghost use Rattle.nonobench.specs.declared.fault.ProgramFault.TheVariants.{Memory, Write as Unwritten};
-ghost use Rattle.nonobench.specs.Faults.{cert_fault_of, fault_of, fault_text, status_of};
+ghost use Rattle.nonobench.specs.Faults.{cert_fault_of, fault_of, fault_text, non_fault_of, session_fault_of, status_of};
 
 use certificate::CertFault;
 use edits::EditFault;
+use non_text::NonFault;
 use picture::WriteFault;
 use ppm_text::PpmFault;
+use session::SessionFault;
 use std::alloc::{AllocError, AllocFailed};
 use std::fmt;
 
@@ -16,8 +18,12 @@ use std::fmt;
 pub enum ProgramFault {
     /// The P3 text was refused.
     Ppm(PpmFault),
+    /// The .non text was refused.
+    Non(NonFault),
     /// The paint was refused.
     Edit(EditFault),
+    /// The .non text has no goal, and no picture has its clues.
+    NoPicture,
     /// The certificate was refused.
     Cert(CertFault),
     /// Memory ran out.
@@ -30,6 +36,8 @@ pub enum ProgramFault {
     Help(String),
     /// The background's colour has another form.
     Background,
+    /// A background's colour was given for a .non text.
+    BackgroundOfNon,
     /// A read failed.
     Read,
     /// A write failed.
@@ -42,9 +50,11 @@ impl ProgramFault {
         ensures { result ≡ status_of self.now }
     {
         match self {
-            ProgramFault::Ppm(_) | ProgramFault::Edit(_) | ProgramFault::Cert(_) => 1,
+            ProgramFault::Ppm(_) | ProgramFault::Non(_) | ProgramFault::Cert(_) => 1,
+            ProgramFault::Edit(_) | ProgramFault::NoPicture => 1,
             ProgramFault::Memory | ProgramFault::TooLong => 1,
             ProgramFault::Words(_) | ProgramFault::Background => 2,
+            ProgramFault::BackgroundOfNon => 2,
             ProgramFault::Help(_) => 0,
             ProgramFault::Read | ProgramFault::Write => 3,
         }
@@ -60,7 +70,9 @@ impl fmt::Display for ProgramFault {
                 let place = fault.place().unwrap_or(0);
                 write!(f, "ppm {} at byte {place}", fault.name())
             }
+            ProgramFault::Non(fault) => write!(f, "non {}", fault.name()),
             ProgramFault::Edit(fault) => write!(f, "edit {}", fault.name()),
+            ProgramFault::NoPicture => f.write_str("no picture has these clues"),
             ProgramFault::Cert(fault) => {
                 let line = fault.place().unwrap_or(0);
                 write!(f, "certificate {} at line {line}", fault.name())
@@ -69,6 +81,7 @@ impl fmt::Display for ProgramFault {
             ProgramFault::TooLong => f.write_str("input too long"),
             ProgramFault::Words(text) | ProgramFault::Help(text) => f.write_str(text.as_str()),
             ProgramFault::Background => f.write_str("background must be R,G,B"),
+            ProgramFault::BackgroundOfNon => f.write_str("background goes with ppm"),
             ProgramFault::Read => f.write_str("read failed"),
             ProgramFault::Write => f.write_str("write failed"),
         }
@@ -106,6 +119,28 @@ impl From<PpmFault> for ProgramFault {
         match fault {
             PpmFault::Memory => ProgramFault::Memory,
             _ => ProgramFault::Ppm(fault),
+        }
+    }
+}
+
+impl From<NonFault> for ProgramFault {
+    ghost from_gives = { λ fault e. e ≡ non_fault_of fault };
+
+    fn from(fault: NonFault) -> ProgramFault {
+        match fault {
+            NonFault::Memory => ProgramFault::Memory,
+            _ => ProgramFault::Non(fault),
+        }
+    }
+}
+
+impl From<SessionFault> for ProgramFault {
+    ghost from_gives = { λ fault e. e ≡ session_fault_of fault };
+
+    fn from(fault: SessionFault) -> ProgramFault {
+        match fault {
+            SessionFault::Read => ProgramFault::Read,
+            SessionFault::Write => ProgramFault::Write,
         }
     }
 }

@@ -1,19 +1,23 @@
-//! The program: the clues of a picture, and the check of its certificate.
+//! The program: a session on a picture, its clues alone, and the check of its certificate.
 #![tactic(auto)]
 
 mod check;
 mod fault;
 mod input;
+mod open;
+mod options;
 mod run;
 #[cfg(test)]
 mod tests;
 mod words;
+mod work;
 
 use crate::check::run_check;
 use crate::fault::ProgramFault;
 use crate::input::read_input;
 use crate::run::run_clues;
 use crate::words::{Task, read_words};
+use crate::work::run_work;
 use std::process::ExitCode;
 use std::rt::{Env, Files};
 use std::{env, fs, io};
@@ -47,6 +51,10 @@ fn answer(rt: &(impl AllocGlobal + Env + Files + Input + Print)) -> Result<(), P
         Task::Clues => {
             let bytes = read_input(alloc, &mut rt.reader())?;
             run_clues(alloc, &bytes, None, &mut io::writer(rt))
+        }
+        Task::Work { file, options } => {
+            let file = read_file(rt, file)?;
+            run_work(alloc, &file, options, &mut rt.reader(), &mut io::writer(rt))
         }
         Task::Check {
             file,

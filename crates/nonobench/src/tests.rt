@@ -1,9 +1,12 @@
 use super::*;
 use edits::EditFault;
+use non_text::NonFault;
 use picture::Rgb;
 use ppm_text::PpmFault;
 use std::io::{Read, Write};
 use std::test::Fail;
+
+mod sessions;
 
 const WHITE: &[u8] = b"P3\n1 1\n255\n255 255 255\n";
 
@@ -70,10 +73,13 @@ fn every_fault_has_its_line_and_status(rt: HostRuntime) -> Result<(), Fail> {
             "ppm Truncated at byte 35",
             1,
         ),
+        (ProgramFault::Non(NonFault::BadGoal), "non BadGoal", 1),
         (ProgramFault::Edit(EditFault::Colour), "edit Colour", 1),
+        (ProgramFault::NoPicture, "no picture has these clues", 1),
         (ProgramFault::Memory, "memory", 1),
         (ProgramFault::TooLong, "input too long", 1),
         (ProgramFault::Background, "background must be R,G,B", 2),
+        (ProgramFault::BackgroundOfNon, "background goes with ppm", 2),
         (ProgramFault::Read, "read failed", 3),
         (ProgramFault::Write, "write failed", 3),
     ];

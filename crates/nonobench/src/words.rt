@@ -1,12 +1,15 @@
 //! The words of the command line.
 
-ghost use Rattle.std.specs.Prelude.{◌≡◌, [], option_map, position};
+ghost use Rattle.std.specs.Prelude.{◌≡◌, ◌<◌, ◌≤◌, [], IfOk, option_map, position};
 ghost use Rattle.nonobench.specs.declared.words.Task.TheVariants.{Clues};
 ghost use Rattle.nonobench.specs.Background.{background_of, is_comma, sample_before, sample_seen};
+ghost use Rattle.nonobench.specs.Words.{IsLawfulTask};
 
 use crate::fault::ProgramFault;
+use crate::options::Options;
 use clap::error::ErrorKind;
-use clap::{Arg, ArgMatches, Command, Error};
+use clap::{Arg, ArgMatches, Command, Error, value_parser};
+use edits::MAX_DEPTH;
 use picture::Rgb;
 use session::sample_in;
 use std::alloc::{AllocError, Global};
@@ -16,6 +19,11 @@ use std::alloc::{AllocError, Global};
 pub enum Task<'a> {
     /// The clues of the picture on standard input.
     Clues,
+    /// A session on a picture or a puzzle.
+    Work {
+        file: &'a str,
+        options: Options,
+    },
     /// A yes where a certificate proves that a picture is the only one with its clues.
     Check {
         file: &'a str,
@@ -24,11 +32,18 @@ pub enum Task<'a> {
     },
 }
 
+// What a file can be.
+static FORMATS: [&str; 2] = ["ppm", "non"];
+
+// How many edits can be undone where no number is given.
+const DEPTH: u16 = 100;
+
 /// Reads the words behind the program's own name. Without a word the clues are asked for.
 ///
 /// A request for help or for the version, and words that the parser refuses, are faults that carry the parser's text.
 pub fn read_words<'a>(alloc: Global, words: &'a [&str]) -> Result<Task<'a>, ProgramFault>
-    ensures { words.entry.now ≡ [] → result ≡ Ok Clues }
+    ensures none { words.entry.now ≡ [] → result ≡ Ok Clues }
+    ensures lawful { IfOk result IsLawfulTask }
 {
     if words.is_empty() {
         return Ok(Task::Clues);
@@ -40,19 +55,61 @@ pub fn read_words<'a>(alloc: Global, words: &'a [&str]) -> Result<Task<'a>, Prog
 }
 
 // The task that words ask for.
-fn task_of<'a>(matches: &ArgMatches<'a>) -> Result<Task<'a>, ProgramFault> {
-    let Some(matches) = matches.subcommand_matches("check") else {
-        return Ok(Task::Clues);
-    };
-    let background = match matches.get_str("background") {
-        None => None,
-        Some(text) => Some(background_in(text.as_bytes()).ok_or(ProgramFault::Background)?),
-    };
-    Ok(Task::Check {
+fn task_of<'a>(matches: &ArgMatches<'a>) -> Result<Task<'a>, ProgramFault>
+    ensures { IfOk result IsLawfulTask }
+{
+    if let Some(matches) = matches.subcommand_matches("work") {
+        return work_of(matches);
+    }
+    if let Some(matches) = matches.subcommand_matches("check") {
+        return Ok(Task::Check {
+            file: matches.get_str("file").unwrap_or(""),
+            cert: matches.get_str("cert").unwrap_or(""),
+            background: background_of(matches)?,
+        });
+    }
+    Ok(Task::Clues)
+}
+
+// The session that words ask for.
+fn work_of<'a>(matches: &ArgMatches<'a>) -> Result<Task<'a>, ProgramFault>
+    ensures { IfOk result IsLawfulTask }
+{
+    let non = matches.get_str("format") == Some("non");
+    let background = background_of(matches)?;
+    if non && background.is_some() {
+        return Err(ProgramFault::BackgroundOfNon);
+    }
+    Ok(Task::Work {
         file: matches.get_str("file").unwrap_or(""),
-        cert: matches.get_str("cert").unwrap_or(""),
-        background,
+        options: Options {
+            non,
+            background,
+            history: history_of(matches),
+        },
     })
+}
+
+// The colour of the background, where one is given.
+fn background_of(matches: &ArgMatches<'_>) -> Result<Option<Rgb>, ProgramFault> {
+    match matches.get_str("background") {
+        None => Ok(None),
+        Some(text) => match background_in(text.as_bytes()) {
+            None => Err(ProgramFault::Background),
+            background => Ok(background),
+        },
+    }
+}
+
+// How many edits can be undone. The parser lets no other number through.
+fn history_of(matches: &ArgMatches<'_>) -> u16
+    ensures some { 0 < result }
+    ensures fits { result ≤ MAX_DEPTH }
+{
+    match matches.get_one::<u16>("history") {
+        Some(depth) if (1..=MAX_DEPTH).contains(&depth) => depth,
+        _ => DEPTH,
+    }
 }
 
 // What the parser says, as a fault.
@@ -78,8 +135,36 @@ fn command<'a>(alloc: Global) -> Result<Command<'a>, AllocError> {
         .bin_name("nonobench")?
         .no_binary_name(true)
         .subcommand_required(true)
+        .subcommand(work_command(alloc)?)?
         .subcommand(check_command(alloc)?)?;
     Ok(command)
+}
+
+// The words of a session.
+fn work_command<'a>(alloc: Global) -> Result<Command<'a>, AllocError> {
+    let file = Arg::new(alloc, "file")
+        .value_name("FILE")
+        .required(true)
+        .help("The picture, as a P3 text, or the puzzle, as a .non text");
+    let format = Arg::new(alloc, "format")
+        .long("format")
+        .value_name("FORMAT")
+        .value_parser(FORMATS.as_slice())
+        .default_value("ppm")
+        .help("The format of FILE");
+    let history = Arg::new(alloc, "history")
+        .long("history")
+        .value_name("N")
+        .value_parser(value_parser!(u16).range(1..=1000))
+        .default_value("100")
+        .help("How many edits can be undone, 1 to 1000");
+    Command::new(alloc, "work")
+        .about("Opens a picture or a puzzle, and answers each line of standard input")
+        .after_help("Example: echo verdict | nonobench work heart.ppm")
+        .arg(file)?
+        .arg(format)?
+        .arg(background(alloc))?
+        .arg(history)
 }
 
 // The words of the check.
@@ -92,16 +177,20 @@ fn check_command<'a>(alloc: Global) -> Result<Command<'a>, AllocError> {
         .value_name("CERT")
         .required(true)
         .help("Its certificate");
-    let background = Arg::new(alloc, "background")
-        .long("background")
-        .value_name("R,G,B")
-        .help("The colour of the background, white where it is not given");
     Command::new(alloc, "check")
         .about("Checks a certificate: whether the picture is the only one with its clues")
         .after_help("Example: nonobench check heart.ppm heart.cert")
         .arg(file)?
         .arg(cert)?
-        .arg(background)
+        .arg(background(alloc))
+}
+
+// The word for the colour of the background.
+fn background<'a>(alloc: Global) -> Arg<'a> {
+    Arg::new(alloc, "background")
+        .long("background")
+        .value_name("R,G,B")
+        .help("The colour of the background in a P3 text, white where it is not given")
 }
 
 // The colour that three samples with commas between them name.

@@ -1,0 +1,29 @@
+-- A session that ran on the bench that was begun with what the file is opened as.
+use Rattle.std.proofs.Common.{◌≡◌, ℕ, List, Option, Result, Ok, Err, refl, sym, subst, inl}
+use Rattle.edits.specs.Design.{Design}
+use Rattle.live_audit.specs.Bench.{Begins, IsAudited, Seen}
+use Rattle.session.specs.declared.session.SessionFault.{SessionFault}
+use Rattle.session.specs.Session.{Runs}
+use Rattle.nonobench.specs.declared.fault.ProgramFault.{ProgramFault}
+use Rattle.nonobench.specs.declared.options.Options.{Options}
+use Rattle.nonobench.specs.Faults.{session_fault_of}
+use Rattle.nonobench.specs.Open.{OpensFile}
+use Rattle.nonobench.specs.Work.{RunsOn, Works}
+
+pub ran : (had have held holds : Option (List ℕ)) (file : List ℕ) (options : Options) (d : Design) (calls : ℕ) (fresh last : Seen) (answered ended : Result (Unit {0}) SessionFault)
+    → OpensFile file options (Ok d) → calls ≡ 0 → Begins d options.history calls fresh → IsAudited fresh → answered ≡ ended
+    → Runs had have held holds fresh last answered → RunsOn had have held holds file options ended
+ran had have held holds file options d calls fresh last answered ended opens none begins audited same runs = record {
+  document = d;
+  opens = opens;
+  fresh = fresh;
+  begins = subst (λ n. Begins d options.history n fresh) none begins;
+  audited = audited;
+  last = last;
+  runs = subst (λ (r : Result (Unit {0}) SessionFault). Runs had have held holds fresh last r) same runs;
+}
+
+pub broke_off : (had have held holds : Option (List ℕ)) (file : List ℕ) (options : Options) (ended : SessionFault) (result : Result (Unit {0}) ProgramFault)
+    → result ≡ Err (session_fault_of ended) → RunsOn had have held holds file options (Err ended) → Works had have held holds file options result
+broke_off had have held holds file options ended result is runs =
+    subst (λ (r : Result (Unit {0}) ProgramFault). Works had have held holds file options r) (sym is) (inl (ended, (refl, runs)))

@@ -1,0 +1,36 @@
+-- The work on a file: it is opened, and a session runs on it.
+use Rattle.std.specs.Prelude.{◌≡◌, ◌⊎◌, ◌<◌, ◌≤◌, ℕ, true, List, Option, None, Result, Ok, Err}
+use Rattle.std.specs.Io.KnownBytes.{Keeps}
+use Rattle.edits.specs.declared.studio.TheConstants.{MAX_DEPTH}
+use Rattle.edits.specs.Design.{Design}
+use Rattle.live_audit.specs.Bench.{Begins, IsAudited, Seen}
+use Rattle.session.specs.declared.session.SessionFault.{SessionFault}
+use Rattle.session.specs.Session.{Runs}
+use Rattle.nonobench.specs.declared.fault.ProgramFault.{ProgramFault}
+use Rattle.nonobench.specs.declared.fault.ProgramFault.TheVariants.{Memory}
+use Rattle.nonobench.specs.declared.options.Options.{Options}
+use Rattle.nonobench.specs.Faults.{session_fault_of}
+use Rattle.nonobench.specs.Open.{OpensFile}
+
+-- the history is one that a bench can keep, and a background is given with a P3 text alone
+pub record IsLawful (options : Options) : Type 0 where
+  pub some : 0 < options.history
+  pub fits : options.history ≤ MAX_DEPTH
+  pub background : options.non ≡ true → options.background ≡ None
+
+-- The file is opened, and a session that ends so runs on a fresh bench with that document and a history of that depth.
+pub record RunsOn (had have held holds : Option (List ℕ)) (file : List ℕ) (options : Options) (ended : Result (Unit {0}) SessionFault) : Type 0 where
+  pub document : Design
+  pub opens : OpensFile file options (Ok document)
+  pub fresh : Seen
+  pub begins : Begins document options.history 0 fresh
+  pub audited : IsAudited fresh
+  pub last : Seen
+  pub runs : Runs had have held holds fresh last ended
+
+-- What comes of the work: a session ran; or the file was refused or memory was wanting, and nothing was read or written.
+abbrev pub Works : Option (List ℕ) → Option (List ℕ) → Option (List ℕ) → Option (List ℕ) → List ℕ → Options → Result (Unit {0}) ProgramFault → Type 0
+Works had have held holds file options (Ok done) = RunsOn had have held holds file options (Ok done)
+Works had have held holds file options (Err fault) =
+    ((ended : SessionFault) × ((fault ≡ session_fault_of ended) × RunsOn had have held holds file options (Err ended)))
+    ⊎ (((fault ≡ Memory) ⊎ OpensFile file options (Err fault)) × (Keeps had have × Keeps held holds))
