@@ -1,3 +1,5 @@
+ghost use Rattle.nonobench.specs.Work.{IsLawful};
+
 use super::*;
 use crate::options::Options;
 
@@ -20,7 +22,9 @@ fn says(
     options: Options,
     input: &str,
     want: &str,
-) -> Result<bool, Fail> {
+) -> Result<bool, Fail>
+    requires { IsLawful options }
+{
     let alloc = rt.alloc();
     let mut reader = input.as_bytes();
     let mut text = Vec::new(alloc);
@@ -100,20 +104,25 @@ fn a_puzzle_without_goal_is_opened_as_a_picture_found(rt: HostRuntime) -> Result
 #[test]
 fn a_refused_file_is_left_unread(rt: HostRuntime) -> Result<(), Fail> {
     let cases = [
-        (b"P6".as_slice(), PLAIN, "ppm NotP3 at byte 0"),
-        (b"P3 1 1 255 0 0 0".as_slice(), NON, "non MissingSize"),
+        (b"P6".as_slice(), false, "ppm NotP3 at byte 0"),
+        (b"P3 1 1 255 0 0 0".as_slice(), true, "non MissingSize"),
         (
             b"width 1\nheight 1\nrows\n1\ncolumns\n1\ngoal \"0\"".as_slice(),
-            NON,
+            true,
             "non GoalDisagrees",
         ),
         (
             b"width 1\nheight 1\nrows\n1\ncolumns\n0\n".as_slice(),
-            NON,
+            true,
             "no picture has these clues",
         ),
     ];
-    for (file, options, want) in cases {
+    for (file, non, want) in cases {
+        let options = Options {
+            non,
+            background: None,
+            history: 100,
+        };
         let mut reader = b"clues\n".as_slice();
         let mut text = Vec::new(rt.alloc());
         match run_work(rt.alloc(), file, options, &mut reader, &mut text) {
@@ -152,7 +161,7 @@ struct Blanks {
 
 impl Read for Blanks {
     fn read(&mut self, buffer: &mut [u8]) -> io::Result<usize> {
-        self.reads += 1;
+        self.reads = self.reads.saturating_add(1);
         match buffer.first_mut() {
             None => Ok(0),
             Some(byte) => {
