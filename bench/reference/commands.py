@@ -25,15 +25,6 @@ TWO_WORDS = {words[0] for words in TABLE if len(words) == 2}
 FIRST_WORDS = {words[0] for words in TABLE}
 
 
-def lines_of(text):
-    """The lines of a session's input without their ends."""
-    pieces = text.split(b'\n')
-    last = pieces.pop()
-    lines = [piece[:-1] if piece.endswith(b'\r') else piece for piece in pieces]
-    last = last[:-1] if last.endswith(b'\r') else last
-    return lines + [last] if last else lines
-
-
 def asks(line):
     """Whether a line asks for anything."""
     return len(line) > MOST_BYTES or bool(line.strip(b' \t'))

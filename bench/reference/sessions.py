@@ -2,11 +2,11 @@
 import re
 
 from . import certificates
-from .commands import asks, command_of, lines_of
+from .commands import asks, command_of
 from .designs import EDITS, History
 from .faults import Fault
 from .lines import base_of, clue_text, forces, letter, line_of, map_rows, mask_letters
-from .non import write_non
+from .non import lines_of, write_non
 from .pictures import write_ppm
 from .search import Keeper, Scene, is_other
 
