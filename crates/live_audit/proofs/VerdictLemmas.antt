@@ -1,11 +1,12 @@
 -- What a judgement by parts comes to for a document.
-use Rattle.std.proofs.Common.{◌≡◌, ℕ, List, Option, Some, None, unwrap_or, Result, Ok, MatchResult, refl, sym, ap, subst, ◌∙◌}
+use Rattle.std.proofs.Common.{◌≡◌, ℕ, ◌≤◌, List, Option, Some, None, unwrap_or, Result, Ok, MatchResult, refl, sym, ap, subst, ◌∙◌, arith}
 use Rattle.picture.specs.declared.document.Document.{Document}
 use Rattle.picture.specs.Document.{AreInside}
 use Rattle.picture.specs.Laws.{SameCellsAreEqual}
 use Rattle.picture.specs.Picture.{IsPicture}
 use Rattle.clues.specs.ClueBook.{Clues, clues_of}
 use Rattle.line_settle.specs.declared.meter.Meter.{Meter}
+use Rattle.line_settle.specs.Counting.{counted}
 use Rattle.line_settle.specs.FactSets.{IsBase}
 use Rattle.justify.specs.Book.{Account}
 use Rattle.second_search.specs.declared.keeper.Judged.{Judged}
@@ -147,6 +148,20 @@ heard {X = X} same law d clues sc facts sf sg sp allowance old new result answer
 
 -- ---- the same of a bench
 
+-- what is done is counted alike in the meter and in the engine's calls, and each search evaluates
+each_called : (parts splits : ℕ) (search : Meter) (before after : ℕ) (Is : ℕ → ℕ → Type 0) → Done 0 parts 0 splits nothing_done search before after Is → after ≡ counted before search.evaluations
+each_called parts splits search before after Is d =
+    let m = d.counts.evaluations in
+    let c = d.counts.calls in
+    omega arith
+
+each_evaluated : (parts splits : ℕ) (search : Meter) (before after : ℕ) (Is : ℕ → ℕ → Type 0) → Done 0 parts 0 splits nothing_done search before after Is → parts ≤ search.evaluations
+each_evaluated parts splits search before after Is d =
+    let m = d.counts.evaluations in
+    let s = d.searched_is in
+    let l = d.at_least in
+    omega arith
+
 -- what was judged of the present document is decided of the bench
 pub decided : (d : Document) (h : History) (clues : Clues) (book : Account) (kept next : List KeptPart) (allowance : Option ℕ) (work : Work) (search : Meter) (parts splits before after : ℕ) (old : Seen) (j : Judgement)
     → design_of d ≡ h.document → seen h clues book kept allowance work before ≡ old
@@ -155,7 +170,7 @@ pub decided : (d : Document) (h : History) (clues : Clues) (book : Account) (kep
 decided d h clues book kept next allowance work search parts splits before after old j e was done =
     let P : Design → Type 0 = λ x. Done 0 parts 0 splits nothing_done search before after (Judges clues book.facts x.rows allowance kept next j) in
     let new : Seen = seen h clues book next allowance (record { edit = work.edit; search = search; parts = parts; splits = splits }) after in
-    let here : Decides (seen h clues book kept allowance work before) new j = record { same = refl; work = subst P e done } in
+    let here : Decides (seen h clues book kept allowance work before) new j = record { same = refl; work = subst P e done; calls = each_called parts splits search before after _ done; evaluated = each_evaluated parts splits search before after _ done } in
     subst (λ (s : Seen). Decides s new j) was here
 
 -- the bench stays audited where only what is kept of the parts changes

@@ -285,6 +285,7 @@ module _ (clues : Clues) (dirty : Lines) (base old new : List (List ℕ)) (agend
         draws = both_draw;
         at_most = omega arith;
         at_least = λ e. (let x : Dead ≡ Narrowed = sym dead ∙ e in absurd cc);
+        some = λ h. (omega arith);
       }
 
 pub working_ends : (clues : Clues) (dirty : Lines) (base facts : List (List ℕ)) (agenda : Lines) (outcome : Outcome) (m0 m1 : Meter) (c0 c1 : ℕ) → Working clues dirty base facts agenda m0 m1 c0 c1 → agenda ≡ no_names → Works clues dirty base facts outcome m0 m1 c0 c1
@@ -293,4 +294,4 @@ working_ends clues dirty base facts agenda outcome m0 m1 c0 c1 w none =
     let z : name_count no_names ≡ 0 = no_names_counted in
     let a = w.at_most in
     let b = w.at_least in
-    record { evaluations = w.evaluations; cells = w.cells; counts = w.counts; draws = w.draws; at_most = omega arith; at_least = λ _. (omega arith) }
+    record { evaluations = w.evaluations; cells = w.cells; counts = w.counts; draws = w.draws; at_most = omega arith; at_least = λ _. (omega arith); some = λ h. (omega arith) }

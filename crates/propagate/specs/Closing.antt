@@ -1,5 +1,5 @@
 -- Facts closed line by line.
-use Rattle.std.specs.Prelude.{◌≡◌, ℕ, zero, suc, ◌+◌, ◌≤◌, ◌⊎◌, ◌↔◌, ◌==◌, cond, List, length, slice_index}
+use Rattle.std.specs.Prelude.{◌≡◌, ℕ, zero, suc, ◌+◌, ◌<◌, ◌≤◌, ◌⊎◌, ◌↔◌, ◌==◌, cond, List, length, slice_index}
 use Rattle.picture.specs.declared.line_id.LineId.{LineId}
 use Rattle.picture.specs.LineSet.{Lines, HasName, name_count}
 use Rattle.picture.specs.Rows.{width_of, line_of, HasLine}
@@ -78,7 +78,7 @@ Draws clues old new (suc n) cells =
     (between : List (List ℕ)) × ((before : ℕ) × ((last : ℕ) × (Draws clues old between n before × (Evaluates clues between new last × (cells ≡ before + last)))))
 
 -- The work of closing: at most the lines of the set and the cells drawn on along the way, and at least the lines of the set
--- where the outcome is Narrowed.
+-- where the outcome is Narrowed. Where the set has a line, at least one is evaluated.
 pub record Works (clues : Clues) (dirty : Lines) (base facts : List (List ℕ)) (outcome : Outcome) (old new : Meter) (before after : ℕ) : Type 0 where
   pub evaluations : ℕ
   pub cells : ℕ
@@ -86,3 +86,4 @@ pub record Works (clues : Clues) (dirty : Lines) (base facts : List (List ℕ)) 
   pub draws : Draws clues base facts evaluations cells
   pub at_most : evaluations ≤ name_count dirty + cells
   pub at_least : outcome ≡ Narrowed → name_count dirty ≤ evaluations
+  pub some : 0 < name_count dirty → 0 < evaluations

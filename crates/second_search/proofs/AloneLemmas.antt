@@ -8,7 +8,8 @@ use Rattle.std.proofs.lemmas.List.{get_or_past, length-map}
 use Rattle.std.proofs.lemmas.List.FromFn.{get_or-map-range_with_len, length-range_with_len}
 use Rattle.picture.specs.declared.line_id.LineId.{LineId}
 use Rattle.picture.specs.CellSet.{HasCell}
-use Rattle.picture.specs.LineSet.{Lines}
+use Rattle.picture.specs.LineSet.{Lines, HasName, name_count}
+use Rattle.picture.specs.LineSetLaws.{members}
 use Rattle.picture.specs.Picture.{IsPicture}
 use Rattle.picture.specs.Rows.{width_of, row_at, cell_at, HasLine}
 use Rattle.clues.specs.ClueBook.{Clues, clues_of}
@@ -138,6 +139,17 @@ pub names_lines : (facts : List (List ℕ)) (cells : List ℕ) (lines : Lines) (
 names_lines facts cells lines rows is p full puts row col h =
     let i = part_inside facts cells row col is p h in
     puts row col (let l = i.0 in omega arith) i.1 h
+
+-- a set with a name has at least one
+pub name_counts : (lines : Lines) (line : LineId) → HasName lines line → 0 < name_count lines
+name_counts lines line has = elim (cases_eq (name_count lines) 0) [
+  | inl z ↦ absurd (members.empty line (subst (λ (x : Lines). HasName x line) ((members.counted lines).0 z) has))
+  | inr d ↦ omega arith
+]
+
+-- a part has a cell, so a line goes through it
+pub names_some : (facts : List (List ℕ)) (cells : List ℕ) (lines : Lines) → IsPart facts cells → NamesLinesOf cells lines → 0 < name_count lines
+names_some facts cells lines p names = name_counts lines (across p.row) (names p.row p.col ((p.from.members p.row p.col).1 (begins p.from.is_open))).0
 
 -- ---- a search of one part
 

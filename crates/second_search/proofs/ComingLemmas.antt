@@ -1,6 +1,6 @@
 -- What facts come to is one, and from it what a search does next.
 use Rattle.std.proofs.Common.{◌≡◌, ℕ, suc, ◌⊎◌, Option, None, Some, List, [], ◌∷◌, ◌++◌, refl, sym, ap, subst, ◌∙◌, arith, inl, inr, Result, Ok, Err}
-use Rattle.std.specs.Prelude.{IsBitSet, IfOk}
+use Rattle.std.specs.Prelude.{IsBitSet, IfOk, OnOk}
 use Rattle.std.specs.declared.alloc.AllocError.{AllocError}
 use Rattle.std.proofs.lemmas.Bool.{cases_lt}
 use Rattle.picture.specs.Rows.{width_of, cell_at}
@@ -151,6 +151,11 @@ comes_closed clues facts first settled outcome (Ok coming) same c e h =
     let P : List (List ℕ) → Type 0 = λ x. Closes clues x settled outcome in
     comes_of clues facts settled outcome (subst P same c) e coming h
 comes_closed clues facts first settled outcome (Err fault) same c e h = h
+
+-- what holds whatever facts come to
+pub counted_some : (coming : Result Coming AllocError) (P : Type 0) → P → OnOk coming P
+counted_some (Ok coming) P p = p
+counted_some (Err fault) P p = tt
 
 -- ---- a search ends in one way
 

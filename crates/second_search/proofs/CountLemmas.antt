@@ -12,7 +12,7 @@ use Rattle.second_search.specs.declared.counting.Ending.TheVariants as ending
 use Rattle.second_search.specs.declared.counting.Step.{Step}
 use Rattle.second_search.specs.declared.counting.Step.TheVariants as step
 use Rattle.second_search.specs.Branching.{Search, branches, search_of}
-use Rattle.second_search.specs.Searching.{Allows, Comes, EndsAs, Searches, none_waits, is_dead, is_known, is_other, is_split, raised}
+use Rattle.second_search.specs.Searching.{Allows, Comes, CountsSome, EndsAs, Searches, none_waits, is_dead, is_known, is_other, is_split, raised}
 use Rattle.second_search.specs.Stepping.{Compares, IsOneLess, Steps}
 use Rattle.second_search.proofs.ComingLemmas.{leads}
 use Rattle.second_search.proofs.WeightLemmas.{branches_lighter, load, load_append, load_more, weight, weight_within}
@@ -224,6 +224,12 @@ counts_none meter calls a b c = (0, record { evaluations = omega arith; trials =
 
 pub counts_more : CountsAdd → (start between end : Meter) (p q r : ℕ) → (evaluations : ℕ) × Counts evaluations 0 start between p q → (evaluations : ℕ) × Counts evaluations 0 between end q r → (evaluations : ℕ) × Counts evaluations 0 start end p r
 counts_more add start between end p q r a b = (a.0 + b.0, add a.0 0 b.0 0 start between end p q r a.1 b.1)
+
+-- with one evaluation at least behind the others there is one
+pub counts_some : CountsAdd → (start between end : Meter) (p q r : ℕ) → (evaluations : ℕ) × Counts evaluations 0 start between p q → CountsSome between end q r → CountsSome start end p r
+counts_some add start between end p q r a b =
+    let m = b.1.0 in
+    (a.0 + b.0, (omega arith, add a.0 0 b.0 0 start between end p q r a.1 b.1.1))
 
 -- ---- one look
 

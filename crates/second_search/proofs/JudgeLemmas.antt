@@ -32,6 +32,7 @@ done_none searched splits meter calls Is a b c d e is = record {
   splits_is = omega arith;
   counts = record { evaluations = omega arith; trials = omega arith; calls = omega arith };
   none = λ z. refl;
+  at_least = omega arith;
 }
 
 pub done_as : (s t a b : ℕ) (start end : Meter) (p q : ℕ) (One Is : ℕ → ℕ → Type 0) → Done s t a b start end p q One → ((m n : ℕ) → One m n → Is m n) → Done s t a b start end p q Is
@@ -44,6 +45,7 @@ done_as s t a b start end p q One Is d turn = record {
   splits_is = d.splits_is;
   counts = d.counts;
   none = d.none;
+  at_least = d.at_least;
 }
 
 pub done_both : CountsAdd → (s t u a b c : ℕ) (start between end : Meter) (p q r : ℕ) (One Other Is : ℕ → ℕ → Type 0) → Done s t a b start between p q One → Done t u b c between end q r Other → ((m n x y : ℕ) → One m n → Other x y → Is (m + x) (n + y)) → Done s u a c start end p r Is
@@ -56,6 +58,7 @@ done_both add s t u a b c start between end p q r One Other Is d f join = record
   splits_is = raised_both a b c d.splits f.splits d.splits_is f.splits_is;
   counts = add d.evaluations 0 f.evaluations 0 start between end p q r d.counts f.counts;
   none = no_work d.searched f.searched d.evaluations f.evaluations d.none f.none;
+  at_least = (let one = d.at_least in let other = f.at_least in omega arith);
 }
 
 module _ (clues : Clues) (facts picture : List (List ℕ)) (allowance : Option ℕ) (kept : List KeptPart) where

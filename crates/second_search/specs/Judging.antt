@@ -99,7 +99,7 @@ Stops clues facts picture allowance kept (BrokenOff i) searched splits = StopsAt
 -- ---- the counts
 
 -- Something was done by so many searches and splits, which were added to their counts; each evaluation is a call of the engine,
--- and without a search there was none.
+-- there was at least one for each search, and without a search there was none.
 pub record Done (searched_before searched_after splits_before splits_after : ℕ) (meter_before meter_after : Meter) (calls_before calls_after : ℕ) (Is : ℕ → ℕ → Type 0) : Type 0 where
   pub searched : ℕ
   pub splits : ℕ
@@ -109,6 +109,7 @@ pub record Done (searched_before searched_after splits_before splits_after : ℕ
   pub splits_is : splits_after ≡ raised splits_before splits
   pub counts : Counts evaluations 0 meter_before meter_after calls_before calls_after
   pub none : searched ≡ 0 → evaluations ≡ 0
+  pub at_least : searched ≤ evaluations
 
 -- ---- what is known then
 

@@ -5,6 +5,8 @@ use Rattle.picture.specs.CellSet.{HasCell}
 use Rattle.picture.specs.LineSet.{Lines, HasName}
 use Rattle.picture.specs.Rows.{width_of, row_at, cell_at}
 use Rattle.clues.specs.ClueBook.{Clues}
+use Rattle.line_settle.specs.declared.meter.Meter.{Meter}
+use Rattle.line_settle.specs.Counting.{Counts}
 use Rattle.line_settle.specs.Masks.{IsOnly}
 use Rattle.line_settle.specs.FactSets.{IsFacts, IsLeast, SameShape}
 use Rattle.propagate.specs.Closing.{EachFits, HasDeadLine}
@@ -89,3 +91,7 @@ NamesLinesOf cells lines = (row col : ℕ) → HasCell cells row col → HasName
 -- a count of splits after n more, which stays at the largest 32-bit number
 abbrev pub raised : ℕ → ℕ → ℕ
 raised count n = min (count + n) (2 ^ 32 - 1)
+
+-- with at least one evaluation, which the meter counts and which is a call of the engine
+abbrev pub CountsSome : Meter → Meter → ℕ → ℕ → Type 0
+CountsSome old new before after = (evaluations : ℕ) × ((0 < evaluations) × Counts evaluations 0 old new before after)

@@ -1,12 +1,13 @@
 //! What facts come to when they are closed, exactly: a dead line, a picture, or a first open cell.
 
-ghost use Rattle.std.specs.Prelude.{◌≡◌, ℕ, IfOk};
+ghost use Rattle.std.specs.Prelude.{◌≡◌, ◌<◌, ℕ, IfOk, OnOk};
+ghost use Rattle.picture.specs.LineSet.{name_count};
 ghost use Rattle.line_settle.specs.Counting.{Counts};
 ghost use Rattle.line_settle.specs.FactSets.{IsFacts};
 ghost use Rattle.propagate.specs.Closing.{AreClosable, EachFits, QuietOutside};
 ghost use Rattle.propagate.specs.LineNames.{AreLinesOf};
 ghost use Rattle.second_search.specs.Looking.{Shows};
-ghost use Rattle.second_search.specs.Searching.{Comes, ComesClosed};
+ghost use Rattle.second_search.specs.Searching.{Comes, ComesClosed, CountsSome};
 
 use crate::cell::Cell;
 use crate::looking::{first_unsettled, shown_picture};
@@ -24,7 +25,7 @@ pub(crate) enum Coming {
     Splits(Facts, Cell),
 }
 
-// Closes facts and looks at what they leave. Each line that is not named has to be quiet.
+// Closes facts and looks at what they leave. A line is named, and each line that is not named has to be quiet.
 pub(crate) fn come_to<E: LineEngine>(
     alloc: Global,
     engine: &mut E,
@@ -36,8 +37,10 @@ pub(crate) fn come_to<E: LineEngine>(
     requires closable { AreClosable book.now (E.longest engine.old) facts.now }
     requires lines { AreLinesOf facts.now lines.now }
     requires quiet { QuietOutside book.now facts.now lines.now }
+    requires some { 0 < name_count lines.now }
     ensures comes { IfOk result (Comes book.now facts.now) }
     ensures counts { (evaluations : ℕ) × Counts evaluations 0 meter.old meter.new (E.calls engine.old) (E.calls engine.new) }
+    ensures evaluates { OnOk result (CountsSome meter.old meter.new (E.calls engine.old) (E.calls engine.new)) }
     ensures same_longest { E.longest engine.new ≡ E.longest engine.old }
 {
     let _ = engine.calls();

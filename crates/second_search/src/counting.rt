@@ -1,10 +1,11 @@
 //! The search in a fixed order, which counts its splits and may be broken off.
 
-ghost use Rattle.std.specs.Prelude.{◌≡◌, ℕ, IfOk};
+ghost use Rattle.std.specs.Prelude.{◌≡◌, ◌<◌, ℕ, IfOk, OnOk};
+ghost use Rattle.picture.specs.LineSet.{name_count};
 ghost use Rattle.line_settle.specs.Counting.{Counts};
 ghost use Rattle.propagate.specs.Closing.{AreClosable, QuietOutside};
 ghost use Rattle.propagate.specs.LineNames.{AreLinesOf};
-ghost use Rattle.second_search.specs.Searching.{EndsAs, raised};
+ghost use Rattle.second_search.specs.Searching.{CountsSome, EndsAs, raised};
 ghost use Rattle.second_search.specs.Stepping.{Compares, Spends, Steps};
 
 use crate::cell_lines::lines_at;
@@ -33,9 +34,9 @@ pub(crate) enum Step {
     Halted,
 }
 
-// Searches facts for another picture than a known one. Each line that is not named has to be quiet; after a split the two
-// lines of the split cell alone need not be, since closed facts were split. Of the splits at most `allowance` are made, where
-// there is one.
+// Searches facts for another picture than a known one. A line is named, and each line that is not has to be quiet; after a
+// split the two lines of the split cell alone need not be, since closed facts were split. Of the splits at most `allowance`
+// are made, where there is one.
 pub(crate) fn search_counted<E: LineEngine>(
     alloc: Global,
     engine: &mut E,
@@ -50,8 +51,10 @@ pub(crate) fn search_counted<E: LineEngine>(
     requires closable { AreClosable book.now (E.longest engine.old) facts }
     requires lines { AreLinesOf facts lines }
     requires quiet { QuietOutside book.now facts lines }
+    requires some { 0 < name_count lines }
     ensures ends { IfOk result (λ ending. (n : ℕ) × ((splits.new ≡ raised splits.old n) × EndsAs book.now known.now facts allowance ending n)) }
     ensures counts { (evaluations : ℕ) × Counts evaluations 0 meter.old meter.new (E.calls engine.old) (E.calls engine.new) }
+    ensures evaluates { OnOk result (CountsSome meter.old meter.new (E.calls engine.old) (E.calls engine.new)) }
     ensures same_longest { E.longest engine.new ≡ E.longest engine.old }
 {
     counts_add();
@@ -101,8 +104,10 @@ fn look_once<E: LineEngine>(
     requires closable { AreClosable book.now (E.longest engine.old) pending.old.at_hand }
     requires lines { AreLinesOf pending.old.at_hand lines.now }
     requires quiet { QuietOutside book.now pending.old.at_hand lines.now }
+    requires some { 0 < name_count lines.now }
     ensures steps { IfOk result (Steps book.now known.now pending.old pending.new left.old left.new splits.old splits.new) }
     ensures counts { (evaluations : ℕ) × Counts evaluations 0 meter.old meter.new (E.calls engine.old) (E.calls engine.new) }
+    ensures evaluates { OnOk result (CountsSome meter.old meter.new (E.calls engine.old) (E.calls engine.new)) }
     ensures same_longest { E.longest engine.new ≡ E.longest engine.old }
 {
     match come_to(alloc, engine, book, pending.at_hand(), lines, meter)? {

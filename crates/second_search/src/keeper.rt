@@ -216,9 +216,9 @@ impl Keeper {
     /// is kept, nothing is searched. Else the parts of which nothing is known are searched in order, up to the first that has
     /// another filling or costs more splits than are allowed. What the searches that ended found is kept; of one that was
     /// broken off, nothing is. Adds to `searched` how many parts were searched, the last of them too if it was broken off, and
-    /// to `splits` how often they split; both stay at the largest number. Where nothing is searched, no line is evaluated.
-    /// Want of memory leaves what is kept as it was. The parts kept are those of the scene's facts, and what is known of them
-    /// is true; no line is longer than the engine's `longest`.
+    /// to `splits` how often they split; both stay at the largest number. Each part that is searched takes an evaluation at
+    /// least, and where nothing is searched, no line is evaluated. Want of memory leaves what is kept as it was. The parts kept
+    /// are those of the scene's facts, and what is known of them is true; no line is longer than the engine's `longest`.
     #[tactic(auto, using(crate::proofs::AnswerLemmas::answer_true))]
     pub fn judge<E: LineEngine>(
         &mut self,

@@ -1,6 +1,16 @@
 use Rattle.std.proofs.Common.{refl}
-use Rattle.second_search.proofs.ComingLemmas.{comes_closed}
+use Rattle.second_search.proofs.ComingLemmas.{comes_closed, counted_some}
 use Rattle.second_search.proofs.coming.come_to.Goals as goal
 
 pub returns-in-Narrowed-clause-comes : goal.returns-in-Narrowed-clause-comes
 returns-in-Narrowed-clause-comes g c = comes_closed c.args.book.now c.args.facts.now c.in_ok-settled.settled c.close_facts.new.facts _ c.split_or_end.result c.in_ok-settled.ensures c.in-Narrowed.ensures.closes refl c.split_or_end.ensures
+
+pub returns-in-Narrowed-clause-evaluates : goal.returns-in-Narrowed-clause-evaluates
+returns-in-Narrowed-clause-evaluates g c =
+    let w = c.in-Narrowed.ensures.works in
+    counted_some c.split_or_end.result _ (w.evaluations, (w.some c.requires.some, w.counts))
+
+pub returns-in-Dead-clause-evaluates : goal.returns-in-Dead-clause-evaluates
+returns-in-Dead-clause-evaluates g c =
+    let w = c.in-Dead.ensures.works in
+    (w.evaluations, (w.some c.requires.some, w.counts))

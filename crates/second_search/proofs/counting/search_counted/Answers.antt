@@ -3,8 +3,10 @@ use Rattle.picture.specs.Rows.{width_of}
 use Rattle.propagate.specs.LineNames.{AreLinesOf}
 use Rattle.second_search.specs.declared.cell.Cell.{Cell}
 use Rattle.second_search.specs.Branching.{GoesOn}
-use Rattle.second_search.proofs.CountLemmas.{Counting, counted_halted, counted_nothing, counted_other, counting_at, counting_passes, counting_splits, counting_starts, counts_more, counts_none, passes_lighter, splits_lighter, steps_as}
+use Rattle.second_search.specs.Through.{across}
+use Rattle.second_search.proofs.CountLemmas.{Counting, counted_halted, counted_nothing, counted_other, counting_at, counting_passes, counting_splits, counting_starts, counts_more, counts_none, counts_some, passes_lighter, splits_lighter, steps_as}
 use Rattle.second_search.proofs.KeepLemmas.{EachQuiet, can_close_like, quiet_at, quiet_passes, quiet_splits, ready_at, ready_first}
+use Rattle.second_search.proofs.AloneLemmas.{name_counts}
 use Rattle.second_search.proofs.counting.search_counted.Goals as goal
 use Rattle.second_search.proofs.counting.search_counted.Goals.{in-Passed, in-Split}
 
@@ -12,6 +14,7 @@ pub loop-pending-init : goal.loop-pending-init
 loop-pending-init g c = record {
   counting = counting_starts c.args.book.now c.args.known.now c.args.facts c.args.allowance c.args.splits.now c.start-pending.result (omega arith) c.start-pending.ensures;
   ready = (ready_first c.args.book.now c.args.facts c.args.lines c.start-pending.result c.start-pending.ensures c.requires.lines c.requires.quiet).0;
+  some = c.requires.some;
   behind = (ready_first c.args.book.now c.args.facts c.args.lines c.start-pending.result c.start-pending.ensures c.requires.lines c.requires.quiet).1;
   counts = counts_none c.args.meter.now (g.E.LineEngine.calls c.args.engine.now) (omega arith) (omega arith) (omega arith);
   same_longest = refl;
@@ -36,6 +39,15 @@ returns-in_err-cell-clause-counts g c = counts_more c.counts_add.ensures _ _ _ _
 
 pub returns-in-None-clause-counts : goal.returns-in-None-clause-counts
 returns-in-None-clause-counts g c = counts_more c.counts_add.ensures _ _ _ _ _ _ c.loop-pending.invariant.counts c.look_once.ensures.counts
+
+pub returns-in-Other-clause-evaluates : goal.returns-in-Other-clause-evaluates
+returns-in-Other-clause-evaluates g c = counts_some c.counts_add.ensures _ _ _ _ _ _ c.loop-pending.invariant.counts c.in_ok-picture.ensures.evaluates
+
+pub returns-in-Halted-clause-evaluates : goal.returns-in-Halted-clause-evaluates
+returns-in-Halted-clause-evaluates g c = counts_some c.counts_add.ensures _ _ _ _ _ _ c.loop-pending.invariant.counts c.in_ok-picture.ensures.evaluates
+
+pub returns-in-None-clause-evaluates : goal.returns-in-None-clause-evaluates
+returns-in-None-clause-evaluates g c = counts_some c.counts_add.ensures _ _ _ _ _ _ c.loop-pending.invariant.counts c.in_ok-picture.ensures.evaluates
 
 pub returns-in-Other-clause-ends : goal.returns-in-Other-clause-ends
 returns-in-Other-clause-ends g c =
@@ -119,6 +131,7 @@ loop-pending-preserved g c =
     record {
       counting = counting_at _ _ _ _ _ _ u _ _ counting on.0;
       ready = ready_at book first u.at_hand cell c.lines_at-dirty.result next.0.0 next.0.1 (subst Q c.at_hand.ensures c.lines_at-dirty.ensures.lines) c.lines_at-dirty.ensures.both;
+      some = name_counts c.lines_at-dirty.result (across cell.row) c.lines_at-dirty.ensures.both.0;
       behind = next.1;
       counts = counts_more c.counts_add.ensures _ _ _ _ _ _ c.loop-pending.invariant.counts c.look_once.ensures.counts;
       same_longest = c.look_once.ensures.same_longest ∙ c.loop-pending.invariant.same_longest;

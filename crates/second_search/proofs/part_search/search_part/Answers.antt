@@ -1,5 +1,5 @@
 use Rattle.std.proofs.Common.{refl}
-use Rattle.second_search.proofs.AloneLemmas.{closable_alone, lines_alone, names_lines, outside_alone, searched_alone}
+use Rattle.second_search.proofs.AloneLemmas.{closable_alone, lines_alone, names_lines, names_some, outside_alone, searched_alone}
 use Rattle.second_search.proofs.KeepLemmas.{quiet_outside}
 use Rattle.second_search.proofs.part_search.search_part.Goals as goal
 
@@ -26,3 +26,9 @@ pub returns-clause-ends : goal.returns-clause-ends
 returns-clause-ends g c =
     let scene = c.args.scene.now in
     searched_alone c.only_is_closed.ensures scene.clues.now c.args.cells.now scene.picture.now scene.facts.now c.in_ok-facts.facts c.leave_alone.new.facts c.args.allowance c.args.splits.now c.search_counted.new.splits c.search_counted.result c.requires.scene.is_picture c.requires.scene.sound.same_shape c.in_ok-facts.ensures c.leave_alone.ensures c.search_counted.ensures.ends
+
+pub search_counted-requires-clause-some : goal.search_counted-requires-clause-some
+search_counted-requires-clause-some g c =
+    let scene = c.args.scene.now in
+    let names = names_lines scene.facts.now c.args.cells.now c.lines_through-lines.result _ c.height.ensures.facts c.requires.part refl c.lines_through-lines.ensures.through in
+    names_some scene.facts.now c.args.cells.now c.lines_through-lines.result c.requires.part names
