@@ -32,6 +32,8 @@ pub enum ProgramFault {
     TooLong,
     /// The words were refused by their parser, which says this of them.
     Words(String),
+    /// A word is not UTF-8.
+    NotText,
     /// Help was asked for, or the version: this text.
     Help(String),
     /// The background's colour has another form.
@@ -54,7 +56,7 @@ impl ProgramFault {
             ProgramFault::Edit(_) | ProgramFault::NoPicture => 1,
             ProgramFault::Memory | ProgramFault::TooLong => 1,
             ProgramFault::Words(_) | ProgramFault::Background => 2,
-            ProgramFault::BackgroundOfNon => 2,
+            ProgramFault::BackgroundOfNon | ProgramFault::NotText => 2,
             ProgramFault::Help(_) => 0,
             ProgramFault::Read | ProgramFault::Write => 3,
         }
@@ -80,6 +82,7 @@ impl fmt::Display for ProgramFault {
             ProgramFault::Memory => f.write_str("memory"),
             ProgramFault::TooLong => f.write_str("input too long"),
             ProgramFault::Words(text) | ProgramFault::Help(text) => f.write_str(text.as_str()),
+            ProgramFault::NotText => f.write_str("a word is not UTF-8"),
             ProgramFault::Background => f.write_str("background must be R,G,B"),
             ProgramFault::BackgroundOfNon => f.write_str("background goes with ppm"),
             ProgramFault::Read => f.write_str("read failed"),

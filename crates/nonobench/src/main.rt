@@ -44,7 +44,7 @@ fn say(rt: &(impl Eprint + Print), fault: &ProgramFault) {
 // Does what the words ask for.
 fn answer(rt: &(impl AllocGlobal + Env + Files + Input + Print)) -> Result<(), ProgramFault> {
     let alloc = rt.alloc();
-    let args = env::args(rt).map_err(|_| ProgramFault::Memory)?;
+    let args = env::args(rt).map_err(|error| unread_words(&error))?;
     let words: Vec<String> = args.skip(1).collect(alloc)?;
     let words: Vec<&str> = words.iter().map(|word| word.as_str()).collect(alloc)?;
     match read_words(alloc, &words)? {
@@ -65,6 +65,14 @@ fn answer(rt: &(impl AllocGlobal + Env + Files + Input + Print)) -> Result<(), P
             let cert = read_file(rt, cert)?;
             run_check(alloc, &file, &cert, background, &mut io::writer(rt))
         }
+    }
+}
+
+// Why the words could not be read: memory ran out, or one is not UTF-8.
+fn unread_words(error: &io::Error) -> ProgramFault {
+    match error.kind() {
+        io::ErrorKind::OutOfMemory => ProgramFault::Memory,
+        _ => ProgramFault::NotText,
     }
 }
 

@@ -78,6 +78,7 @@ fn every_fault_has_its_line_and_status(rt: HostRuntime) -> Result<(), Fail> {
         (ProgramFault::NoPicture, "no picture has these clues", 1),
         (ProgramFault::Memory, "memory", 1),
         (ProgramFault::TooLong, "input too long", 1),
+        (ProgramFault::NotText, "a word is not UTF-8", 2),
         (ProgramFault::Background, "background must be R,G,B", 2),
         (ProgramFault::BackgroundOfNon, "background goes with ppm", 2),
         (ProgramFault::Read, "read failed", 3),
