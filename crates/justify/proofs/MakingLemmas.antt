@@ -105,6 +105,7 @@ module _ (clue : List Block) (drawn old new others : List ℕ) (l : LeavesOut cl
 
   pub are_needed : AreNeeded clue old drawn premises
   are_needed = record {
+    are = g.are;
     inside = in_line;
     whole = λ i k m. (whole_said i k m, λ p. whole_says i k m p.0 p.1);
     forced = all_forced;

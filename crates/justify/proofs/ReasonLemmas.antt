@@ -69,6 +69,7 @@ module _ (clue : List Block) (all : List Premise) (left drawn : List ℕ) (place
 
   pub supports : (premises : List Premise) → AreNeeded clue left drawn premises → Supports clue (length left) all place colour premises
   supports premises a = record {
+    are = a.are;
     among = λ i k s.
         let m : Mentions premises i = record { which = s.which; within = s.within; here = s.here } in
         let w = (a.whole i k m).0 s in

@@ -2,7 +2,7 @@
 use Rattle.std.specs.Prelude.{ℕ, ◌<◌, ◌↔◌, List, length, slice_index, IsBitSet}
 use Rattle.clues.specs.declared.block.Block.{Block}
 use Rattle.justify.specs.declared.premise.Premise.{Premise}
-use Rattle.justify.specs.Premises.{Mentions, Says, SaysBut}
+use Rattle.justify.specs.Premises.{ArePremises, Mentions, Says, SaysBut}
 use Rattle.justify.specs.Forcing.{CanHaveWithout, ForcesFrom}
 
 -- without the premises of one cell, something that the masks draw is not forced
@@ -15,6 +15,7 @@ pub record DrawsLess (clue : List Block) (cells : ℕ) (drawn : List ℕ) (premi
 -- where these masks are left on a line: each premise has all colours that are excluded in its cell, together they force all
 -- that the masks draw, and none of their cells can be left out
 pub record AreNeeded (clue : List Block) (left drawn : List ℕ) (premises : List Premise) : Type 0 where
+  pub are : ArePremises premises
   pub inside : (i : ℕ) → Mentions premises i → i < length left
   pub whole : (i k : ℕ) → Mentions premises i → Says premises i k ↔ ((k < 16) × (IsBitSet (slice_index left i) k → ⊥))
   pub forced : (i k : ℕ) → IsBitSet (slice_index drawn i) k → ForcesFrom clue (length left) (Says premises) i k

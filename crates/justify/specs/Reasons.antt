@@ -7,7 +7,7 @@ use Rattle.line_settle.specs.FactSets.{Leaves, row_on, col_on}
 use Rattle.justify.specs.declared.premise.Premise.{Premise}
 use Rattle.justify.specs.declared.step.Step.{Step}
 use Rattle.justify.specs.declared.reason.Reason.{Reason}
-use Rattle.justify.specs.Premises.{Mentions, Says, SaysBut}
+use Rattle.justify.specs.Premises.{ArePremises, Mentions, Says, SaysBut}
 use Rattle.justify.specs.Forcing.{CanHaveWithout, ForcesFrom}
 use Rattle.justify.specs.Steps.{step_at, Draws}
 use Rattle.justify.specs.Book.{Account, IsDrawnBefore}
@@ -17,8 +17,9 @@ abbrev pub Finds : List Step → ℕ → ℕ → ℕ → Option ℕ → Type 0
 Finds steps row col k None = IsDrawnBefore steps (length steps) row col k → ⊥
 Finds steps row col k (Some n) = (n < length steps) × Draws (step_at steps n) row col k
 
--- premises of a step that a line needs to force one exclusion, and no more than it needs
+-- premises of a step, in rising places, that a line needs to force one exclusion, and no more than it needs
 pub record Supports (clue : List Block) (cells : ℕ) (all : List Premise) (place colour : ℕ) (premises : List Premise) : Type 0 where
+  pub are : ArePremises premises
   pub among : (i k : ℕ) → Says premises i k → Says all i k
   pub forced : ForcesFrom clue cells (Says premises) place colour
   pub trimmed : (cell : ℕ) → Mentions premises cell → CanHaveWithout clue cells (SaysBut premises cell) place colour
