@@ -23,3 +23,4 @@ pub mod TruthLemmas
 pub mod AnswerLemmas
 pub mod CarryLemmas
 pub mod BreakLemmas
+pub mod NearLemmas

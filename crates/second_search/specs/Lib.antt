@@ -3,6 +3,7 @@ pub mod Parts
 pub mod Growing
 pub mod Branching
 pub mod Looking
+pub mod Near
 pub mod Laws
 pub mod Searching
 pub mod Stepping

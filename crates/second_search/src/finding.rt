@@ -8,7 +8,9 @@ ghost use Rattle.second_search.specs.Looking.{FindsFilling};
 
 use crate::cell_lines::lines_at;
 use crate::looking::{Look, look_at};
+use crate::near::find_near;
 use crate::pending::Pending;
+use crate::scene::Scene;
 use clues::ClueBook;
 use clues::laws::clues_are_of_lines;
 use line_settle::{Facts, LineEngine};
@@ -40,7 +42,7 @@ pub fn find_first<E: LineEngine>(
 }
 
 /// Another picture with these clues, which has the picture's colours in the givens. There is none exactly where the answer
-/// is None. The picture has the clues; the facts leave in each given no colour but the picture's, and exclude nothing that
+/// is None. Near pictures are looked for first. The picture has the clues; the facts leave in each given no colour but the picture's, and exclude nothing that
 /// a picture with these clues and givens shows. No line is longer than the engine's `longest`.
 pub fn find_other<E: LineEngine>(
     alloc: Global,
@@ -58,7 +60,17 @@ pub fn find_other<E: LineEngine>(
     ensures same_longest { E.longest engine.new ≡ E.longest engine.old }
 {
     clues_are_of_lines();
-    let _ = (givens.len(), facts.height());
+    let _ = (givens.len(), facts.height(), picture.height());
+    let scene = Scene {
+        clues: book,
+        givens,
+        facts,
+        picture,
+    };
+    let near = find_near(alloc, engine, &scene)?;
+    if near.is_some() {
+        return Ok(near);
+    }
     let found = find_filling(alloc, engine, book, facts.copy()?, picture)?;
     Ok(found)
 }

@@ -10,6 +10,7 @@ mod finding;
 mod keeper;
 pub mod laws;
 mod looking;
+mod near;
 mod note;
 mod part_search;
 mod parts;

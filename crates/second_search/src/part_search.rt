@@ -86,7 +86,7 @@ fn put_through(cells: &CellSet, facts: &Facts, row: u8, lines: &mut LineSet)
 }
 
 // Leaves outside of some cells a picture's colours alone.
-fn leave_alone(facts: &mut Facts, picture: &Picture, cells: &CellSet)
+pub(crate) fn leave_alone(facts: &mut Facts, picture: &Picture, cells: &CellSet)
     requires { SameShape picture.now facts.old }
     ensures { LeavesAlone cells.now picture.now facts.old facts.new (length facts.old) }
 {

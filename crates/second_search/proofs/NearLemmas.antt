@@ -1,0 +1,56 @@
+-- What is found in a window is another picture.
+use Rattle.std.proofs.Common.{◌≡◌, ℕ, ◌<◌, List, [], ◌∷◌, length, Option, Some, refl, sym, ap, subst, arith, inl, inr}
+use Rattle.std.proofs.lemmas.Bool.{cases_eq}
+use Rattle.picture.specs.CellSet.{PutsCell}
+use Rattle.picture.specs.LineSet.{Lines, name_count, no_names}
+use Rattle.picture.specs.LineSetLaws.{members}
+use Rattle.picture.specs.Rows.{width_of}
+use Rattle.clues.specs.ClueBook.{Clues}
+use Rattle.clues.specs.Laws.{BooksAreTheirClues, CluesAreOfLines}
+use Rattle.propagate.specs.Laws.{ClosingKeepsFillings, OnlyIsClosed}
+use Rattle.second_search.specs.declared.counting.Ending.{Ending}
+use Rattle.second_search.specs.declared.counting.Ending.TheVariants.{Found}
+use Rattle.second_search.specs.declared.near.Window.{Window}
+use Rattle.second_search.specs.Laws.{FillingsAreOfFacts}
+use Rattle.second_search.specs.Near.{IsWindow}
+use Rattle.second_search.specs.Other.{IsOther}
+use Rattle.second_search.specs.Parts.{IsScene}
+use Rattle.second_search.specs.Searching.{EndsAs, Searches, raised}
+use Rattle.second_search.specs.Through.{LeavesAlone, PutsBoth, across, down}
+use Rattle.second_search.proofs.AloneLemmas.{alone_is, lines_more}
+use Rattle.second_search.proofs.EndLemmas.{one_found}
+
+-- a window stays one when a cell of the facts is put in with its lines
+pub more_open : (facts : List (List ℕ)) (old : Window) (cells : List ℕ) (lines : Lines) (row col : ℕ) → row < length facts → col < width_of facts → IsWindow facts old → PutsCell old.cells cells row col → PutsBoth row col old.lines lines → IsWindow facts (record { cells = cells; lines = lines })
+more_open facts old cells lines row col h l is puts both = record {
+  inside = λ r c has. elim ((puts r c).0 has) [
+    | inl before ↦ is.inside r c before
+    | inr e ↦ (
+      (let P : ℕ → Type 0 = λ x. x < length facts in subst P (sym e.0) h),
+      (let P : ℕ → Type 0 = λ x. x < width_of facts in subst P (sym e.1) l),
+    )
+  ];
+  lines = lines_more facts old.lines lines row col h l is.lines both;
+  through = λ r c has. elim ((puts r c).0 has) [
+    | inl before ↦ let n = is.through r c before in ((both (across r)).1 (inl n.0), (both (down c)).1 (inl n.1))
+    | inr e ↦ (
+      (both (across r)).1 (inr (inl (ap across e.0))),
+      (both (down c)).1 (inr (inr (ap down e.1))),
+    )
+  ];
+}
+
+-- a set that is not empty has a name
+pub some_name : (lines : Lines) → (lines ≡ no_names → ⊥) → 0 < name_count lines
+some_name lines n = elim (cases_eq (name_count lines) 0) [
+  | inl z ↦ absurd (n ((members.counted lines).0 z))
+  | inr d ↦ omega arith
+]
+
+pub found_inside : CluesAreOfLines → BooksAreTheirClues → ClosingKeepsFillings → OnlyIsClosed → FillingsAreOfFacts → (clues : Clues) (givens : List ℕ) (facts picture : List (List ℕ)) → IsScene clues givens facts picture → (cells : List ℕ) (first new : List (List ℕ)) → first ≡ facts → LeavesAlone cells picture first new (length first) → (most : Option ℕ) (start count : ℕ) (ending : Ending) (other : List (List ℕ)) → ending ≡ Found other → (n : ℕ) × ((count ≡ raised start n) × EndsAs clues picture new most ending n) → IsOther clues givens picture other
+found_inside law books closing own fillings clues givens facts picture scene cells first new e left most start count ending other f h =
+    let P : List (List ℕ) → Type 0 = λ x. LeavesAlone cells picture x new (length x) in
+    let same = alone_is own cells picture facts new (length facts) scene.is_picture scene.sound.same_shape refl (subst P e left) in
+    let Q : Ending → Type 0 = λ x. EndsAs clues picture new most x h.0 in
+    let R : List (List ℕ) → Type 0 = λ x. Searches clues picture (x ∷ []) (Some other) h.0 in
+    (one_found law books closing own fillings clues givens facts picture scene cells other h.0 (subst R same (subst Q f h.1.1).0)).is_other
