@@ -51,6 +51,7 @@ fn try_by<E: LineEngine>(
     requires short { length out.old ≤ MAX_SIDE }
     ensures writes { IfSome result (CanWrite picture.now facts.now) }
     ensures same_longest { E.longest engine.new ≡ E.longest engine.old }
+    ensures calls { E.calls engine.old ≤ E.calls engine.new }
 {
     facts.copy_line(line, left);
     match narrow_line(engine, facts, book.clue(line), line, out) {
@@ -77,6 +78,7 @@ fn try_line<E: LineEngine>(
     requires line { HasLine picture.now line }
     ensures writes { IfSome result (CanWrite picture.now facts.now) }
     ensures same_longest { E.longest engine.new ≡ E.longest engine.old }
+    ensures calls { E.calls engine.old ≤ E.calls engine.new }
 {
     let mut left = [0; MOST_CELLS];
     let mut out = [0; MOST_CELLS];
@@ -107,6 +109,7 @@ fn try_due<E: LineEngine>(
     requires same_shape { SameShape picture.now facts.now }
     ensures writes { IfSome result (CanWrite picture.now facts.now) }
     ensures same_longest { E.longest engine.new ≡ E.longest engine.old }
+    ensures calls { E.calls engine.old ≤ E.calls engine.new }
 {
     for at in 0..line_count(picture, axis) {
         let line = LineId { axis, at };
@@ -134,6 +137,7 @@ fn is_alive<E: LineEngine>(
     requires line { HasLine picture.now line }
     ensures alive { IsTrue result ↔ IsAlive picture.now facts.now line }
     ensures same_longest { E.longest engine.new ≡ E.longest engine.old }
+    ensures calls { E.calls engine.old ≤ E.calls engine.new }
 {
     let mut out = [0; MOST_CELLS];
     let cells = usize::from(facts.line_len(line));
@@ -156,6 +160,7 @@ fn dead_along<E: LineEngine>(
     requires same_shape { SameShape picture.now facts.now }
     ensures dead { MatchOption result (AreAlive picture.now facts.now axis) (CanWrite picture.now facts.now) }
     ensures same_longest { E.longest engine.new ≡ E.longest engine.old }
+    ensures calls { E.calls engine.old ≤ E.calls engine.new }
 {
     for at in 0..line_count(picture, axis) {
         let line = LineId { axis, at };
@@ -263,6 +268,7 @@ fn choose_end<E: LineEngine>(
     requires same_shape { SameShape picture.now facts.now }
     ensures writes { MatchOption result (ShowsOther picture.now facts.now) (CanWrite picture.now facts.now) }
     ensures same_longest { E.longest engine.new ≡ E.longest engine.old }
+    ensures calls { E.calls engine.old ≤ E.calls engine.new }
 {
     if shows_only(facts, picture) {
         return Some(CertLine::Done);
@@ -291,6 +297,7 @@ pub(crate) fn choose<E: LineEngine>(
     requires same_shape { SameShape picture.now facts.now }
     ensures writes { MatchOption result (ShowsOther picture.now facts.now) (CanWrite picture.now facts.now) }
     ensures same_longest { E.longest engine.new ≡ E.longest engine.old }
+    ensures calls { E.calls engine.old ≤ E.calls engine.new }
 {
     if let Some(line) = try_due(engine, picture, book, facts, due, first) {
         return Some(line);

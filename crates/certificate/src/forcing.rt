@@ -29,7 +29,9 @@ pub(crate) fn narrow_line<E: LineEngine>(
     requires fits { length out.old ≤ MAX_SIDE }
     ensures narrows { Narrows clue.now (line_of facts.now line) result out.new }
     ensures same_longest { E.longest engine.new ≡ E.longest engine.old }
+    ensures calls { E.calls engine.old ≤ E.calls engine.new }
 {
+    let _ = engine.calls();
     let mut left = [0; MOST_CELLS];
     let mut count = 0;
     let cells = out.len();
@@ -48,6 +50,7 @@ pub(crate) fn is_dead<E: LineEngine>(
     requires short { length (line_of facts.now line) ≤ E.longest engine.old }
     ensures dead { IsTrue result ↔ (CanFit clue.now (line_of facts.now line) → ⊥) }
     ensures same_longest { E.longest engine.new ≡ E.longest engine.old }
+    ensures calls { E.calls engine.old ≤ E.calls engine.new }
 {
     let mut out = [0; MOST_CELLS];
     let cells = usize::from(facts.line_len(line));
@@ -123,6 +126,7 @@ fn force_by<E: LineEngine>(
     ensures inside { OnOk result (AreInside (length facts.old) (width_of facts.old) (reverse notes.new.items)) }
     ensures err { IfErr result (λ e. e ≡ CertFault.Memory) }
     ensures same_longest { E.longest engine.new ≡ E.longest engine.old }
+    ensures calls { E.calls engine.old ≤ E.calls engine.new }
 {
     let _outcome = narrow_line(engine, facts, clue, line, out);
     hold_line(facts, notes, line, out)?;
@@ -145,6 +149,7 @@ pub(crate) fn force<E: LineEngine>(
     ensures inside { OnOk result (AreInside (length facts.old) (width_of facts.old) (reverse notes.new.items)) }
     ensures err { IfErr result (λ e. e ≡ CertFault.Memory) }
     ensures same_longest { E.longest engine.new ≡ E.longest engine.old }
+    ensures calls { E.calls engine.old ≤ E.calls engine.new }
 {
     let mut out = [0; MOST_CELLS];
     let cells = usize::from(facts.line_len(line));

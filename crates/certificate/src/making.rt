@@ -36,6 +36,7 @@ fn write_tree<E: LineEngine>(
     ensures writes { IfOk result (λ lines. WritesTree picture.now facts.old (lines_seen lines)) }
     ensures err { IfErr result (λ e. e ≡ CertFault.Memory) }
     ensures same_longest { E.longest engine.new ≡ E.longest engine.old }
+    ensures calls { E.calls engine.old ≤ E.calls engine.new }
 {
     forcing_closes_a_line();
     let mut notes = Vec::new(alloc);
@@ -121,6 +122,7 @@ fn made<E: LineEngine>(
     ensures makes { IfOk result (Makes picture.now givens.now) }
     ensures err { IfErr result (λ e. e ≡ CertFault.Memory) }
     ensures same_longest { E.longest engine.new ≡ E.longest engine.old }
+    ensures calls { E.calls engine.old ≤ E.calls engine.new }
 {
     clues_are_of_lines();
     books_are_their_clues();
@@ -139,7 +141,8 @@ fn made<E: LineEngine>(
 /// clues and, in the givens, the colours. It has version 1 exactly where there are none. The answer is None exactly where there
 /// is another picture. No line of the picture may be longer than the engine takes.
 ///
-/// The tree is written while it is searched, and a refused growth is answered as the error. Nothing is said of its length.
+/// The tree is written while it is searched, and a refused growth is answered as the error. Nothing is said of its length. The
+/// engine's calls do not fall; how many lines are evaluated is not said.
 pub fn make_cert<E: LineEngine>(
     alloc: Global,
     engine: &mut E,
@@ -151,6 +154,7 @@ pub fn make_cert<E: LineEngine>(
     requires tall { length picture.now ≤ E.longest engine.old }
     ensures makes { IfOk result (Makes picture.now givens.now) }
     ensures same_longest { E.longest engine.new ≡ E.longest engine.old }
+    ensures calls { E.calls engine.old ≤ E.calls engine.new }
 {
     match made(alloc, engine, picture, givens) {
         Ok(cert) => Ok(cert),

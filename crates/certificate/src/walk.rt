@@ -28,6 +28,7 @@ fn take_forced<E: LineEngine>(
     requires walk { IsWalk picture.now facts.old (reverse notes.old.items) }
     ensures takes { Takes picture.now facts.old (reverse notes.old.items) (line.Line at) number result facts.new (reverse notes.new.items) }
     ensures same_longest { E.longest engine.new ≡ E.longest engine.old }
+    ensures calls { E.calls engine.old ≤ E.calls engine.new }
 {
     let Some(line) = line_at(picture, at) else {
         return Err(CertFault::Place(number));
@@ -50,6 +51,7 @@ fn take_dead<E: LineEngine>(
     requires walk { IsWalk picture.now facts.old (reverse notes.old.items) }
     ensures takes { Takes picture.now facts.old (reverse notes.old.items) (line.Dead at) number result facts.new (reverse notes.new.items) }
     ensures same_longest { E.longest engine.new ≡ E.longest engine.old }
+    ensures calls { E.calls engine.old ≤ E.calls engine.new }
 {
     let Some(line) = line_at(picture, at) else {
         return Err(CertFault::Place(number));
@@ -110,6 +112,7 @@ pub(crate) fn take_line<E: LineEngine>(
     requires walk { IsWalk picture.now facts.old (reverse notes.old.items) }
     ensures takes { Takes picture.now facts.old (reverse notes.old.items) line number result facts.new (reverse notes.new.items) }
     ensures same_longest { E.longest engine.new ≡ E.longest engine.old }
+    ensures calls { E.calls engine.old ≤ E.calls engine.new }
 {
     match line {
         CertLine::Line(at) => take_forced(engine, picture, book, facts, notes, at, number),

@@ -9,7 +9,8 @@ use line_settle::leave_out;
 use std::alloc::{AllocError, Global};
 
 // The premises that a line needs to force all that is drawn, of those by which these colours are left. The masks are used
-// up.
+// up. It stays a function of its own, for a profiler.
+#[inline(never)]
 pub(crate) fn needed_for(
     alloc: Global,
     clue: &Clue,

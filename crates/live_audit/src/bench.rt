@@ -250,10 +250,11 @@ impl<E: LineEngine + Drop, A: Agenda + Drop> Bench<E, A> {
 
     /// A certificate of the present document with its colours numbered as they appear: the checker accepts it for the ordered
     /// picture, and its givens are exactly the document's. None exactly where there is another picture with the present one's
-    /// clues and, in the givens, its colours. It knows no allowance, and only `calls` changes.
+    /// clues and, in the givens, its colours. It knows no allowance, and only `calls` changes, which do not fall.
     pub fn certify(&mut self) -> Result<Option<Cert>, AllocError>
         ensures certifies { IfOk result (Certifies self.old.history.document) }
         ensures as_before { IsAsBefore self.old self.new }
+        ensures calls { self.old.calls ≤ self.new.calls }
         ensures audited { IsAudited self.new }
     {
         let _ = &self.audit;

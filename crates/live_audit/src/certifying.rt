@@ -20,6 +20,7 @@ pub(crate) fn certify_ordered<E: LineEngine>(
     requires long { MAX_SIDE ≤ E.longest engine.old }
     ensures certifies { IfOk result (Certifies (design_of document.now)) }
     ensures same_longest { E.longest engine.new ≡ E.longest engine.old }
+    ensures calls { E.calls engine.old ≤ E.calls engine.new }
 {
     marks_are_givens();
     clues_are_of_lines();

@@ -1,4 +1,4 @@
-//! Audits of a document, made beside a bench.
+//! Audits of a document, made beside a bench. What is never put inline stays a function of its own, for a profiler.
 
 ghost use Rattle.std.specs.Prelude.{◌≡◌, ◌≤◌, IfOk, OnErr};
 ghost use Rattle.second_search.specs.Carrying.{Carries};
@@ -25,6 +25,7 @@ use second_search::{Keeper, Scene};
 use std::alloc::{AllocError, Global};
 
 // What the givens of a document exclude.
+#[inline(never)]
 fn base_of(alloc: Global, document: &Document) -> Result<Facts, AllocError>
     ensures { IfOk result (IsBaseFor (design_of document.now)) }
 {
@@ -132,6 +133,7 @@ pub(crate) fn answers_first(
 }
 
 /// The parts of a document's map, with what stays known of them from the document before.
+#[inline(never)]
 pub(crate) fn answers_next(
     keeper: &Keeper,
     old: &Document,

@@ -1,4 +1,4 @@
-use Rattle.std.proofs.Common.{◌∙◌, Bool, reverse, subst, sym}
+use Rattle.std.proofs.Common.{◌∙◌, Bool, arith, reverse, subst, sym}
 use Rattle.certificate.specs.Walk.{CanCheck, waiting}
 use Rattle.certificate.proofs.MakeLemmas.{SoFar, taken_so_far}
 use Rattle.certificate.proofs.making.write_tree.Goals as goal
@@ -11,5 +11,6 @@ loop-line-preserved g c =
       walk = c.in_ok-take_line.ensures.takes.0;
       can = subst (CanCheck c.args.picture.now c.args.book.now) (sym (c.in_ok-take_line.ensures.same_longest ∙ c.in-Some.ensures.same_longest)) c.loop-line.invariant.can;
       same_longest = c.in_ok-take_line.ensures.same_longest ∙ (c.in-Some.ensures.same_longest ∙ c.loop-line.invariant.same_longest);
+      calls = omega (arith, c.loop-line.invariant.calls, c.in-Some.ensures.calls, c.in_ok-take_line.ensures.calls);
       so_far = subst P c.if-not-branch.false so_far;
     }
