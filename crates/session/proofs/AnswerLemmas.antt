@@ -1,7 +1,6 @@
 -- What is answered is what a session says.
 use Rattle.std.proofs.Common.{◌≡◌, ℕ, ◌<◌, ◌≤◌, true, false, Bool, List, [], ◌++◌, length, Option, None, Some, Result, Ok, Err, IfErr, IfOk, IfSome, OnOk, MatchResult, inl, inr, refl, sym, ap, subst, ◌∙◌, arith}
 use Rattle.std.proofs.lemmas.Bool.Decides.{nat_tests}
-use Rattle.std.specs.Borrow.{Bor}
 use Rattle.std.specs.declared.vec.Vec.{Vec}
 use Rattle.std.specs.declared.alloc.Global.{Global}
 use Rattle.picture.specs.Rows.{width_of}
@@ -31,7 +30,8 @@ use Rattle.session.specs.declared.refusal.Refusal.TheVariants as refusal
 use Rattle.session.specs.Answer.{IsAsked, answer_text, stroke_said, text_said, written_said}
 use Rattle.session.specs.ClueText.{clues_text}
 use Rattle.session.specs.Refusal.{edit_line, refusal_line}
-use Rattle.session.specs.Session.{Judges, Replies, SaysStroke, certified_text, content, done_text, report_by, report_on, verdict_text, verdict_word, why_text}
+use Rattle.session.specs.Session.{Judges, Replies, SaysStroke, certified_text, content, done_text, report_on, verdict_text, verdict_word, why_text}
+use Rattle.session.specs.Report.{ending_text, front_text}
 use Rattle.session.specs.Shown.{map_text}
 use Rattle.session.specs.Written.{GivesNon}
 
@@ -90,15 +90,13 @@ replies_non s d (Err e) is (inr short) =
 -- a verdict, and what shows it
 pub replies_verdict : {E : Type 0} (old new : Seen) (outcome : Result (Vec ℕ Global) E) → IsAsked verdict_text old new outcome → Replies command.Verdict old (answer_text (text_said outcome)) new
 unfolding Replies
-replies_verdict old new (Ok text) asked = inl (asked.0, (asked.1.0, inl asked.1.1))
-replies_verdict old new (Err e) (inl before) = inr (refl, before)
-replies_verdict old new (Err e) (inr told) = inl (told.0, (told.1, inr refl))
+replies_verdict old new (Ok text) asked = inl asked
+replies_verdict old new (Err e) before = inr (refl, before)
 
 pub replies_report : {E : Type 0} (old new : Seen) (outcome : Result (Vec ℕ Global) E) → IsAsked (report_on old) old new outcome → Replies command.Report old (answer_text (text_said outcome)) new
 unfolding Replies
-replies_report old new (Ok text) asked = inl (asked.0, (asked.1.0, inl asked.1.1))
-replies_report old new (Err e) (inl before) = inr (refl, before)
-replies_report old new (Err e) (inr told) = inl (told.0, (told.1, inr refl))
+replies_report old new (Ok text) asked = inl asked
+replies_report old new (Err e) before = inr (refl, before)
 
 -- a reason
 pub replies_why : {E : Type 0} (s : Seen) (row col colour : ℕ) (outcome : Result (Vec ℕ Global) E) → has_cell s.history.document.rows row col ≡ true → IsAudited s
@@ -143,12 +141,15 @@ unjudged_now {E} old last outcome e is told =
     subst M is told.1
 
 -- nothing that a report shows changes where its verdict is asked for
-pub reported : {E : Type 0} (old new : Seen) (word : Bor (List ℕ)) (outcome : Result (Vec ℕ Global) E) → (verdict : Verdict) × (Judges old new verdict × (word.now ≡ verdict_word verdict))
-    → IfOk outcome (λ text. text.items ≡ report_by new word.now) → IsAsked (report_on old) old new outcome
-reported old new word (Ok text) asked is =
+pub reported : (old new : Seen) (word front text : List ℕ) (past future : ℕ) → (asked : (verdict : Verdict) × (Judges old new verdict × (word ≡ verdict_word verdict)))
+    → front ≡ front_text old.history.document old.clues old.book.facts → text ≡ front ++ ending_text word past future
+    → past ≡ length new.history.past → future ≡ length new.history.future → text ≡ report_on old asked.0
+reported old new word front text past future asked begun is back forth =
     let d = asked.1.0.0.1.1 in
-    (asked.0, (asked.1.0, is ∙ (ap (λ (w : List ℕ). report_by new w) asked.1.1 ∙ ap (λ (s : Seen). report_by s (verdict_word asked.0)) d.same)))
-reported old new word (Err e) asked is = inr (asked.0, asked.1.0)
+    let shown = front_text old.history.document old.clues old.book.facts in
+    is ∙ ap (λ (f : List ℕ). f ++ ending_text word past future) begun ∙ ap (λ (w : List ℕ). shown ++ ending_text w past future) asked.1.1
+    ∙ ap (λ (n : ℕ). shown ++ ending_text (verdict_word asked.0) n future) back ∙ ap (λ (n : ℕ). shown ++ ending_text (verdict_word asked.0) (length new.history.past) n) forth
+    ∙ ap (λ (s : Seen). shown ++ ending_text (verdict_word asked.0) (length s.history.past) (length s.history.future)) d.same
 
 -- ---- parts of answers
 

@@ -3,6 +3,7 @@ pub mod CountLemmas
 pub mod LineLemmas
 pub mod NumberLemmas
 pub mod ReportLemmas
+pub mod RoomLemmas
 pub mod RunLemmas
 pub mod ShownLemmas
 pub mod TableLemmas

@@ -1,5 +1,5 @@
 -- What is answered to a line, as the bytes that are written.
-use Rattle.std.specs.Prelude.{◌≡◌, ◌⊎◌, ℕ, List, [], codes, Result, Ok, Err}
+use Rattle.std.specs.Prelude.{◌≡◌, ℕ, List, [], codes, Result, Ok, Err}
 use Rattle.std.specs.declared.vec.Vec.{Vec}
 use Rattle.std.specs.declared.alloc.Global.{Global}
 use Rattle.std.specs.Borrow.{Bor}
@@ -37,14 +37,10 @@ written_said (Err refusal) = Refused refusal
 
 -- ---- where a verdict was asked for
 
--- it was refused for want of memory, or it was given and memory was wanting for its text
-abbrev pub IsUntold : Seen → Seen → Type 0
-IsUntold old new = IsAsBefore old new ⊎ ((verdict : Verdict) × Judges old new verdict)
-
--- a text that the verdict decides
+-- a text that the verdict decides; where memory is wanting for either, nothing changes
 abbrev pub IsAsked : {E : Type 0} → (Verdict → List ℕ) → Seen → Seen → Result (Vec ℕ Global) E → Type 0
 IsAsked shown old new (Ok text) = (verdict : Verdict) × (Judges old new verdict × (text.items ≡ shown verdict))
-IsAsked shown old new (Err e) = IsUntold old new
+IsAsked shown old new (Err e) = IsAsBefore old new
 
 -- the verdict's word
 abbrev pub IsAskedWord : {E : Type 0} → Seen → Seen → Result (Bor (List ℕ)) E → Type 0

@@ -7,6 +7,7 @@ pub mod Parse
 pub mod ReasonText
 pub mod Refusal
 pub mod Report
+pub mod Room
 pub mod Run
 pub mod Session
 pub mod Shown

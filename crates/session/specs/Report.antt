@@ -71,5 +71,9 @@ audit_text clues facts = codes "clues\n" ++ (clues_text clues ++ (codes "map\n" 
 abbrev pub ending_text : List ℕ → ℕ → ℕ → List ℕ
 ending_text word past future = codes "verdict " ++ (word ++ (codes "\nhistory " ++ (first_number past ++ last_number future)))
 
+-- all that stands before the ending
+abbrev pub front_text : Design → Clues → List (List ℕ) → List ℕ
+front_text d clues facts = document_text d ++ audit_text clues facts
+
 abbrev pub report_text : Design → Clues → List (List ℕ) → List ℕ → ℕ → ℕ → List ℕ
-report_text d clues facts word past future = document_text d ++ (audit_text clues facts ++ ending_text word past future)
+report_text d clues facts word past future = front_text d clues facts ++ ending_text word past future

@@ -99,10 +99,6 @@ ShowsAudit shown old text new = IsAudited old × Shows shown old text new
 abbrev pub Judges : Seen → Seen → Verdict → Type 0
 Judges old new verdict = Tells old new verdict × (IsAudited new × IsVerdictOn old.history.document old.allowance verdict)
 
--- a verdict is kept also where memory is wanting for the text that tells it
-abbrev pub IsTold : List ℕ → List ℕ → Type 0
-IsTold shown text = (text ≡ shown) ⊎ (text ≡ refusal_line refusal.Memory)
-
 -- memory was wanting, and the state is as before
 abbrev pub LacksMemory : Seen → List ℕ → Seen → Type 0
 LacksMemory old text new = (text ≡ refusal_line refusal.Memory) × IsAsBefore old new
@@ -130,7 +126,7 @@ SaysTo old command.Undo text new = SaysStroke Undoes old text new
 SaysTo old command.Redo text new = SaysStroke Redoes old text new
 SaysTo old command.Clues text new = ShowsAudit (clues_text old.clues) old text new
 SaysTo old command.Map text new = ShowsAudit (map_text old.book.facts) old text new
-SaysTo old command.Verdict text new = (verdict : Verdict) × (Judges old new verdict × IsTold (verdict_text verdict) text)
+SaysTo old command.Verdict text new = (verdict : Verdict) × (Judges old new verdict × (text ≡ verdict_text verdict))
 SaysTo old (command.Why row col colour) text new =
     ((has_cell old.history.document.rows row col ≡ false) × Shows (edit_line Place) old text new)
     ⊎ ((has_cell old.history.document.rows row col ≡ true) × ((why : Why) × (Explains old row col colour why × ShowsAudit (why_text why) old text new)))
@@ -138,8 +134,7 @@ SaysTo old command.WritePpm text new = Shows (ppm_text (content old.history.docu
 SaysTo old command.WriteNon text new =
     ((is_two_colour old.history.document.rows ≡ true) × Shows (non_text_of old.history.document.rows) old text new)
     ⊎ ((is_two_colour old.history.document.rows ≡ false) × Shows (refusal_line refusal.TwoColoursOnly) old text new)
-SaysTo old command.Report text new =
-    (verdict : Verdict) × (Judges old new verdict × IsTold (report_on old verdict) text)
+SaysTo old command.Report text new = (verdict : Verdict) × (Judges old new verdict × (text ≡ report_on old verdict))
 SaysTo old command.Certify text new =
     (found : Option Certificate) × (Certifies old.history.document found × ((text ≡ certified_text found) × IsAsBefore old new))
 SaysTo old (command.Allow allowance) text new = (text ≡ done_text) × (new ≡ record old { allowance = allowance })

@@ -1,6 +1,6 @@
 //! What a session answers to a line: all that takes memory comes before the first byte goes out.
 
-ghost use Rattle.std.specs.Prelude.{◌≡◌, ◌++◌, ◌<◌, codes, length, Option, IfErr, IfOk, IfSome, OnOk};
+ghost use Rattle.std.specs.Prelude.{◌≡◌, ◌+◌, ◌++◌, ◌<◌, ◌≤◌, [], codes, length, vec_capacity, vec_len, Option, IfErr, IfOk, IfSome, OnOk};
 ghost use Rattle.picture.specs.Rows.{width_of};
 ghost use Rattle.edits.specs.Fault.{has_cell};
 ghost use Rattle.certificate.specs.Cert.{Certificate};
@@ -11,7 +11,9 @@ ghost use Rattle.live_audit.specs.declared.why.Why.{Why};
 ghost use Rattle.session.specs.Answer.{IsAsked, IsAskedWord, answer_text, stroke_said, text_said, written_said};
 ghost use Rattle.session.specs.Lines.{AsksBounded};
 ghost use Rattle.session.specs.Parse.{IsBounded};
-ghost use Rattle.session.specs.Session.{Replies, Says, certified_text, other_text, report_by, report_on, undecided_text, verdict_text, verdict_word, why_text};
+ghost use Rattle.session.specs.Report.{front_text};
+ghost use Rattle.session.specs.Room.{TakesRoom, picture_room, verdict_room};
+ghost use Rattle.session.specs.Session.{Replies, Says, certified_text, other_text, report_on, undecided_text, verdict_text, verdict_word, why_text};
 ghost use Rattle.session.specs.Shown.{map_text};
 ghost use Rattle.session.specs.declared.command.Command.TheVariants as command;
 ghost use Rattle.session.specs.declared.refusal.Refusal.TheVariants as refusal;
@@ -20,7 +22,7 @@ use crate::clue_text::{clues_text, push_number};
 use crate::command::Command;
 use crate::reason_text::push_reason;
 use crate::refusal::Refusal;
-use crate::report::push_report;
+use crate::report::{ENDING_ROOM, push_ending, push_front};
 use crate::request::Request;
 use crate::shown::{push_map, push_picture};
 use crate::written::{cert_text_of, non_text_of, ppm_text_of};
@@ -31,6 +33,9 @@ use live_audit::{Bench, Verdict, Why};
 use picture::Picture;
 use propagate::Agenda;
 use std::alloc::{AllocError, Global};
+
+// How many bytes `undecided`, a number of at most ten digits and the line's end take.
+const UNDECIDED_ROOM: usize = 21;
 
 /// What is answered to a line.
 #[derive(Drop)]
@@ -220,14 +225,25 @@ fn verdict_text<E: LineEngine + Drop, A: Agenda + Drop>(
 ) -> Result<Vec<u8>, AllocError>
     ensures { IsAsked verdict_text bench.old bench.new result }
 {
-    let mut text = Vec::new(alloc);
+    let mut text = room_for_verdict(alloc, &bench.document().picture)?;
     let verdict = bench.verdict()?;
     push_verdict(&mut text, &verdict)?;
     Ok(text)
 }
 
+// An empty text with room for each verdict on a picture.
+fn room_for_verdict(alloc: Global, picture: &Picture) -> Result<Vec<u8>, AllocError>
+    ensures empty { IfOk result (λ text. text.items ≡ []) }
+    ensures room { IfOk result (λ text. vec_len text + (21 + picture_room picture.now) ≤ vec_capacity text) }
+{
+    let row_room = usize::from(picture.width()) + 1;
+    let picture_room = usize::from(picture.height()) * row_room;
+    Vec::with_capacity(alloc, UNDECIDED_ROOM + picture_room)
+}
+
 fn push_verdict(text: &mut Vec<u8>, verdict: &Verdict<'_>) -> Result<(), AllocError>
-    ensures { OnOk result (text.new.items ≡ text.old.items ++ verdict_text verdict.now) }
+    ensures items { OnOk result (text.new.items ≡ text.old.items ++ verdict_text verdict.now) }
+    ensures room { TakesRoom text.old text.new (verdict_room verdict.now) result }
 {
     match verdict {
         Verdict::Unique => text.extend_from_slice(b"unique\n"),
@@ -238,15 +254,17 @@ fn push_verdict(text: &mut Vec<u8>, verdict: &Verdict<'_>) -> Result<(), AllocEr
 
 #[tactic(auto, using(std::proofs::lemmas::List::append_assoc))]
 fn push_other(text: &mut Vec<u8>, other: &Picture) -> Result<(), AllocError>
-    ensures { OnOk result (text.new.items ≡ text.old.items ++ other_text other.now) }
+    ensures items { OnOk result (text.new.items ≡ text.old.items ++ other_text other.now) }
+    ensures room { TakesRoom text.old text.new (10 + picture_room other.now) result }
 {
     text.extend_from_slice(b"ambiguous\n")?;
     push_picture(text, other)
 }
 
-#[tactic(auto, using(std::proofs::lemmas::List::append_assoc))]
+#[tactic(auto, using(crate::proofs::RoomLemmas::numbers))]
 fn push_undecided(text: &mut Vec<u8>, splits: u32) -> Result<(), AllocError>
-    ensures { OnOk result (text.new.items ≡ text.old.items ++ undecided_text splits) }
+    ensures items { OnOk result (text.new.items ≡ text.old.items ++ undecided_text splits) }
+    ensures room { TakesRoom text.old text.new 21 result }
 {
     text.extend_from_slice(b"undecided ")?;
     push_number(text, splits as usize)?;
@@ -263,15 +281,31 @@ fn answer_report<E: LineEngine + Drop, A: Agenda + Drop>(
     text_answer(report_text(alloc, bench))
 }
 
-// The report. Its verdict is asked for first, since that may change what is kept.
+// The report. All its memory is taken before its verdict is asked for, since that may change what is kept.
 fn report_text<E: LineEngine + Drop, A: Agenda + Drop>(
     alloc: Global,
     bench: &mut Bench<E, A>,
 ) -> Result<Vec<u8>, AllocError>
     ensures { IsAsked (report_on bench.old) bench.old bench.new result }
 {
+    let mut text = report_front(alloc, bench)?;
     let word = asked_word(bench)?;
-    report_with(alloc, bench, word)
+    push_ending(&mut text, word, bench.past_len(), bench.future_len())?;
+    Ok(text)
+}
+
+// A report up to its ending, with room for that.
+fn report_front<E: LineEngine + Drop, A: Agenda + Drop>(
+    alloc: Global,
+    bench: &Bench<E, A>,
+) -> Result<Vec<u8>, AllocError>
+    ensures front { IfOk result (λ text. text.items ≡ front_text bench.now.history.document bench.now.clues bench.now.book.facts) }
+    ensures room { IfOk result (λ text. vec_len text + 68 ≤ vec_capacity text) }
+{
+    let mut text = Vec::new(alloc);
+    push_front(&mut text, bench.document(), bench.clues(), bench.map())?;
+    text.reserve(ENDING_ROOM)?;
+    Ok(text)
 }
 
 // The verdict's word.
@@ -292,26 +326,6 @@ fn verdict_word(verdict: &Verdict<'_>) -> &'static [u8]
         Verdict::Ambiguous(_) => b"ambiguous",
         Verdict::Undecided { .. } => b"undecided",
     }
-}
-
-fn report_with<E: LineEngine + Drop, A: Agenda + Drop>(
-    alloc: Global,
-    bench: &Bench<E, A>,
-    word: &[u8],
-) -> Result<Vec<u8>, AllocError>
-    ensures { IfOk result (λ text. text.items ≡ report_by bench.now word.now) }
-{
-    let mut text = Vec::new(alloc);
-    push_report(
-        &mut text,
-        bench.document(),
-        bench.clues(),
-        bench.map(),
-        word,
-        bench.past_len(),
-        bench.future_len(),
-    )?;
-    Ok(text)
 }
 
 fn answer_certify<E: LineEngine + Drop, A: Agenda + Drop>(

@@ -4,6 +4,7 @@ ghost use Rattle.std.specs.Prelude.{◌≡◌, ◌≤◌, ◌++◌, decimal, len
 ghost use Rattle.std.specs.List.{flat_map};
 ghost use Rattle.clues.specs.Clue.{IsBlock, IsClue};
 ghost use Rattle.clues.specs.ClueBook.{clues_along};
+ghost use Rattle.session.specs.Room.{TakesRoom};
 ghost use Rattle.session.specs.ClueText.{behind, block_text, clue_text, letter_of, line_text, lines_text, clues_text};
 
 use clues::{Block, ClueBook};
@@ -125,7 +126,8 @@ fn push_block(text: &mut Vec<u8>, block: Block) -> Result<(), AllocError>
 #[tactic(auto, using(std::proofs::lemmas::Fmt::decimal_digit))]
 // A number without leading zeros. Most have one digit, and the others are kept out of their way.
 pub(crate) fn push_number(text: &mut Vec<u8>, number: usize) -> Result<(), AllocError>
-    ensures { OnOk result (text.new.items ≡ text.old.items ++ decimal number) }
+    ensures items { OnOk result (text.new.items ≡ text.old.items ++ decimal number) }
+    ensures room { TakesRoom text.old text.new (length (decimal number)) result }
 {
     if number < 10 {
         text.push(b'0' + number as u8)?;
@@ -137,7 +139,8 @@ pub(crate) fn push_number(text: &mut Vec<u8>, number: usize) -> Result<(), Alloc
 #[inline(never)]
 // A number of any length.
 fn push_digits(text: &mut Vec<u8>, number: usize) -> Result<(), AllocError>
-    ensures { OnOk result (text.new.items ≡ text.old.items ++ decimal number) }
+    ensures items { OnOk result (text.new.items ≡ text.old.items ++ decimal number) }
+    ensures room { TakesRoom text.old text.new (length (decimal number)) result }
 {
     text.extend_from_slice(Buffer::new().format(number).as_bytes())?;
     Ok(())

@@ -1,9 +1,10 @@
 //! The report of a bench.
 
-ghost use Rattle.std.specs.Prelude.{◌≡◌, ◌<◌, ◌≤◌, ◌++◌, ◌==◌, length, OnOk};
+ghost use Rattle.std.specs.Prelude.{◌≡◌, ◌<◌, ◌≤◌, ◌+◌, ◌++◌, ◌==◌, length, OnOk};
 ghost use Rattle.picture.specs.Rows.{cell_at, row_at, width_of};
 ghost use Rattle.edits.specs.Design.{design_of};
-ghost use Rattle.session.specs.Report.{audit_text, colour_line, colour_lines, colours_text, document_text, ending_text, first_number, given_line, givens_text, last_number, open_cells, open_in_row, report_text, row_givens, size_text};
+ghost use Rattle.session.specs.Room.{TakesRoom};
+ghost use Rattle.session.specs.Report.{audit_text, colour_line, colour_lines, colours_text, document_text, ending_text, first_number, given_line, front_text, givens_text, last_number, open_cells, open_in_row, row_givens, size_text};
 
 use crate::clue_text::{push_clues, push_number};
 use crate::shown::{letter_of, push_map, push_picture};
@@ -12,36 +13,39 @@ use line_settle::Facts;
 use picture::{Document, Palette, Picture, Rgb};
 use std::alloc::AllocError;
 
+// How many bytes the ending takes at the most: a word of nine bytes, two numbers of twenty, and what stands between.
+pub(crate) const ENDING_ROOM: usize = 68;
+
 #[tactic(auto, using(std::proofs::lemmas::List::append_assoc))]
-// The report: the document, what follows from it, the verdict's word, and how many edits can be undone and made again.
-pub(crate) fn push_report(
+// A report up to its ending: the document, and what follows from it.
+pub(crate) fn push_front(
     text: &mut Vec<u8>,
     document: &Document,
     clues: &ClueBook,
     map: &Facts,
-    verdict: &[u8],
-    past: usize,
-    future: usize,
 ) -> Result<(), AllocError>
-    ensures { OnOk result (text.new.items ≡ text.old.items ++ report_text (design_of document.now) clues.now map.now verdict.now past future) }
+    ensures { OnOk result (text.new.items ≡ text.old.items ++ front_text (design_of document.now) clues.now map.now) }
 {
     push_document(text, document)?;
-    push_audit(text, clues, map)?;
-    push_ending(text, verdict, past, future)
+    push_audit(text, clues, map)
 }
 
+#[tactic(auto, using(crate::proofs::RoomLemmas::long_numbers))]
 // A number and a space.
 fn push_first(text: &mut Vec<u8>, number: usize) -> Result<(), AllocError>
-    ensures { OnOk result (text.new.items ≡ text.old.items ++ first_number number) }
+    ensures items { OnOk result (text.new.items ≡ text.old.items ++ first_number number) }
+    ensures room { TakesRoom text.old text.new 21 result }
 {
     push_number(text, number)?;
     text.push(b' ')?;
     Ok(())
 }
 
+#[tactic(auto, using(crate::proofs::RoomLemmas::long_numbers))]
 // The last number of a line.
 fn push_last(text: &mut Vec<u8>, number: usize) -> Result<(), AllocError>
-    ensures { OnOk result (text.new.items ≡ text.old.items ++ last_number number) }
+    ensures items { OnOk result (text.new.items ≡ text.old.items ++ last_number number) }
+    ensures room { TakesRoom text.old text.new 21 result }
 {
     push_number(text, number)?;
     text.push(b'\n')?;
@@ -190,13 +194,14 @@ fn open_in_row(map: &Facts, row: u8) -> usize
 
 #[tactic(auto, using(std::proofs::lemmas::List::append_assoc))]
 // The verdict's word, and how many edits can be undone and made again.
-fn push_ending(
+pub(crate) fn push_ending(
     text: &mut Vec<u8>,
     verdict: &[u8],
     past: usize,
     future: usize,
 ) -> Result<(), AllocError>
-    ensures { OnOk result (text.new.items ≡ text.old.items ++ ending_text verdict.now past future) }
+    ensures items { OnOk result (text.new.items ≡ text.old.items ++ ending_text verdict.now past future) }
+    ensures room { TakesRoom text.old text.new (length verdict.now + 59) result }
 {
     text.extend_from_slice(b"verdict ")?;
     text.extend_from_slice(verdict)?;

@@ -1,9 +1,10 @@
 //! Pictures and maps as text, a line for each row.
 
-ghost use Rattle.std.specs.Prelude.{◌≡◌, ◌<◌, ◌++◌, ◌==◌, length, map, OnOk};
+ghost use Rattle.std.specs.Prelude.{◌≡◌, ◌<◌, ◌+◌, ◌++◌, ◌==◌, length, map, OnOk};
 ghost use Rattle.std.specs.Int.{bit_at};
 ghost use Rattle.std.specs.List.{flat_map};
 ghost use Rattle.picture.specs.Rows.{row_at, width_of};
+ghost use Rattle.session.specs.Room.{TakesRoom, picture_room};
 ghost use Rattle.session.specs.Shown.{letter, map_text, mask_letter, picture_text, row_text};
 
 use line_settle::Facts;
@@ -41,7 +42,8 @@ pub(crate) fn has_colour(mask: u16, colour: u8) -> bool
 #[tactic(auto, using(crate::proofs::ShownLemmas::rows))]
 // The rows of a picture.
 pub(crate) fn push_picture(text: &mut Vec<u8>, picture: &Picture) -> Result<(), AllocError>
-    ensures { OnOk result (text.new.items ≡ text.old.items ++ picture_text picture.now) }
+    ensures items { OnOk result (text.new.items ≡ text.old.items ++ picture_text picture.now) }
+    ensures room { TakesRoom text.old text.new (picture_room picture.now) result }
 {
     for row in 0..picture.height() {
         push_row(text, picture, row)?;
@@ -53,7 +55,8 @@ pub(crate) fn push_picture(text: &mut Vec<u8>, picture: &Picture) -> Result<(), 
 // A row of a picture.
 fn push_row(text: &mut Vec<u8>, picture: &Picture, row: u8) -> Result<(), AllocError>
     requires { row < length picture.now }
-    ensures { OnOk result (text.new.items ≡ text.old.items ++ row_text letter (row_at picture.now row)) }
+    ensures items { OnOk result (text.new.items ≡ text.old.items ++ row_text letter (row_at picture.now row)) }
+    ensures room { TakesRoom text.old text.new (width_of picture.now + 1) result }
 {
     for col in 0..picture.width() {
         text.push(letter_of(picture.cell(row, col)))?;

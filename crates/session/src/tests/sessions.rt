@@ -334,6 +334,14 @@ fn one_of_the_reasons_is_shown(rt: HostRuntime) -> Result<(), Fail> {
 }
 
 #[test]
+fn the_premises_of_a_reason_rise(rt: HostRuntime) -> Result<(), Fail> {
+    // Of two blocks of one, the first is in cell 1 where 2 and 3 are empty, and not where one of these is left open.
+    let want = "by r 1 given 2=. 3=.\n";
+    assert!(rt; says(&rt, "a...a/....a", "why 1 1 .\n", want)?);
+    Ok(())
+}
+
+#[test]
 fn a_day_of_edits_ends_in_its_report(rt: HostRuntime) -> Result<(), Fail> {
     let edits =
         "colour add 0 0 255\npaint 1 2 c\npin 1 1\nrecolour c a\nunpin 1 1\ninsert column 1\nswap column 1 2\ndelete row 2\nundo\nundo\nredo\n";

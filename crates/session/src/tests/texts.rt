@@ -1,6 +1,6 @@
 use super::*;
 use crate::refusal::Refusal;
-use crate::report::push_report;
+use crate::report::{push_ending, push_front};
 use crate::written::{non_text_of, ppm_text_of};
 use clues::ClueBook;
 use line_settle::Facts;
@@ -29,7 +29,8 @@ fn a_report_has_all_parts(rt: HostRuntime) -> Result<(), Fail> {
     map.exclude(1, 1, but(1));
     map.exclude(0, 1, 1 << 15);
     let mut text = Vec::new(rt.alloc());
-    push_report(&mut text, &document, &clues, &map, b"unique", 12, 1)?;
+    push_front(&mut text, &document, &clues, &map)?;
+    push_ending(&mut text, b"unique", 12, 1)?;
     assert_eq!(rt; text.as_slice(), REPORT.as_bytes());
     Ok(())
 }

@@ -1,6 +1,20 @@
+use Rattle.std.proofs.Common.{arith}
 use Rattle.session.proofs.AnswerLemmas.{reported}
+use Rattle.session.proofs.RoomLemmas.{word_fits}
 use Rattle.session.proofs.answer.report_text.Goals as goal
+
+-- there was room for the ending
+pub returns-in_err-push_ending : goal.returns-in_err-push_ending
+returns-in_err-push_ending g c =
+    let asked = c.in_ok-word.ensures in
+    absurd (omega (arith, c.in_err-push_ending.ensures.room.short, c.in_ok-text.ensures.room, word_fits c.in_ok-word.word.now asked.0 asked.1.1))
 
 pub returns : goal.returns
 returns g c =
-    reported c.args.bench.now c.asked_word.new.bench c.in_ok-word.word c.report_with.result c.in_ok-word.ensures c.report_with.ensures
+    let asked = c.in_ok-word.ensures in (
+      asked.0,
+      (
+        asked.1.0,
+        reported c.args.bench.now c.asked_word.new.bench c.in_ok-word.word.now c.in_ok-text.text.items _ c.past_len.result c.future_len.result asked c.in_ok-text.ensures.front c.in_ok-push_ending.ensures.items c.past_len.ensures c.future_len.ensures,
+      ),
+    )
