@@ -16,6 +16,7 @@ SESSION_BYTES = 10_000_000
 COUNTED = (1 << 16, 1 << 17, 1 << 18)  # sizes at which instructions are counted
 MOST_OVER = 64 * MEBIBYTE
 PIECE = 1 << 14
+TIME = '/usr/bin/time'
 SIDE = 20
 
 
@@ -171,19 +172,26 @@ class Machine:
         return bytes_of, words, os.devnull if 'text' in kind.words else path
 
     def measure(self, kind, size):
-        """The bytes of the text, the peak of memory in bytes, the seconds, the status and what was said."""
+        """The bytes of the text, the peak of memory in bytes, the seconds, the status, a signal, and what was said."""
         bytes_of, words, given = self.prepare(kind, size)
-        said = os.path.join(self.folder, 'said')
+        said, told = (os.path.join(self.folder, name) for name in ('said', 'told'))
+        # A process begun by this one has its peak too. One that TIME begins has its own.
+        before = [TIME, '-q', '-f', '%M', '-o', told] if os.path.exists(TIME) else []
+        words = [*before, self.program, *words]
         with open(given, 'rb') as source, open(os.devnull, 'wb') as sink, open(said, 'wb') as errors:
             began = time.monotonic()
-            process = os.posix_spawn(self.program, [self.program, *words], {}, file_actions=[
+            process = os.posix_spawn(words[0], words, {}, file_actions=[
                 (os.POSIX_SPAWN_DUP2, source.fileno(), 0), (os.POSIX_SPAWN_DUP2, sink.fileno(), 1),
                 (os.POSIX_SPAWN_DUP2, errors.fileno(), 2)])
-            _, status, usage = os.wait4(process, 0)
+            _, ended, usage = os.wait4(process, 0)
         with open(said, 'rb') as errors:
             text = errors.read(200).decode('latin-1').strip()
-        seconds = usage.ru_utime + usage.ru_stime
-        return bytes_of, usage.ru_maxrss * 1024, min(seconds, time.monotonic() - began), status >> 8, status & 127, text
+        took = min(usage.ru_utime + usage.ru_stime, time.monotonic() - began)
+        status, signal = ended >> 8, ended & 127
+        if not before:
+            return bytes_of, usage.ru_maxrss * 1024, took, status, signal, text
+        with open(told, encoding='ascii') as figure:
+            return bytes_of, int(figure.read()) * 1024, took, status, max(0, status - 128), text
 
     def instructions(self, kind, size):
         """The instructions that a text of a size takes, and its bytes."""

@@ -2,7 +2,8 @@
 # The longest texts that the program takes, of each hostile kind: comments, zeros, tokens and samples without end; .non texts of
 # a million sections or numbers; certificates of nested splits, of idle splits and idle lines; sessions without a line end. For
 # each the instructions a byte (by callgrind, on texts of 64 to 256 KiB; none where valgrind is missing), the seconds, and the
-# peak of memory beyond the text (a session keeps no text; below some 10 MiB the figure is that of the script that measures).
+# peak of memory beyond the text (a session keeps no text; where /usr/bin/time is missing, what lies below some 15 MiB is that
+# of the script that measures).
 # The status is 1 where the cost of a byte grows with the text, or the memory reaches 64 MiB.
 # Usage: bench/hostile.sh [KIND ..]   (words of the names of kinds; PROGRAM names another program than the proved one)
 set -euo pipefail

@@ -9,29 +9,8 @@ root=$(cd "$(dirname "$0")/.." && pwd)
 [ $# -gt 0 ] || set -- edits justify retract propagate second_search certificate live_audit
 work=$(mktemp -d)
 trap 'rm -rf "$work"' EXIT
-cat >"$work/refuse.c" <<'C'
-#define _GNU_SOURCE
-#include <dlfcn.h>
-#include <stdlib.h>
-#include <unistd.h>
-static long asked, refused;
-static int is_refused(void) {
-    if (refused == 0) refused = atol(getenv("REFUSED"));
-    if (++asked != refused) return 0;
-    return write(2, "refused\n", 8) == 8;
-}
-void *malloc(size_t size) {
-    static void *(*real)(size_t);
-    if (!real) real = dlsym(RTLD_NEXT, "malloc");
-    return is_refused() ? NULL : real(size);
-}
-void *realloc(void *old, size_t size) {
-    static void *(*real)(void *, size_t);
-    if (!real) real = dlsym(RTLD_NEXT, "realloc");
-    return is_refused() ? NULL : real(old, size);
-}
-C
-cc -O1 -shared -fPIC -o "$work/refuse.so" "$work/refuse.c"
+source "$root/bench/refusing.sh"
+make_refusing "$work"
 
 # Refuses the growths of one crate's test, one a run.
 refuse_all() {

@@ -1,18 +1,22 @@
 #!/usr/bin/env bash
-# Refuses each growth of the stored run in turn: until one run succeeds with the right answer, each must end with
-# status 1, the line `nonobench: memory` and nothing of an answer. It takes about half a minute a growth.
+# Refuses each growth of memory of the built program in turn: the clues of each picture in examples/, words that are refused
+# or ask for help, checks of certificates, and sessions on pictures and puzzles. A run that answers once must end with status
+# 1, the line `nonobench: memory` and nothing of an answer; so must a session whose file is not open yet. A command of a
+# session must be answered by `refused: Memory` alone, after which clues, map and picture are as before, and the command is
+# answered when it is said again, as are all behind it. A growth may also be refused without a trace, where the program can go
+# on with less memory than it asked for: then all is as with ample memory.
+# Usage: bench/refuse_growths.sh [WORD ..]   (all runs, or those whose names hold a word; PROGRAM names another program than
+# the proved one)
 set -euo pipefail
-cd "$(dirname "$0")/../crates/nonobench"
-for n in $(seq 1 100); do
-    status=0
-    rt try --fail-alloc "$n" <stdin >/tmp/refuse_out 2>/tmp/refuse_err || status=$?
-    if [ "$status" -eq 0 ]; then
-        cmp /tmp/refuse_out stdout
-        echo "each of $((n - 1)) growths refused in turn is answered by memory; then the run succeeds"
-        exit 0
-    fi
-    [ "$status" -eq 1 ] && [ ! -s /tmp/refuse_out ] && grep -qx 'nonobench: memory' /tmp/refuse_err || {
-        echo "growth $n: status $status, $(wc -c </tmp/refuse_out) bytes written" >&2
-        exit 1
-    }
-done
+here=$(cd "$(dirname "$0")" && pwd)
+program=${PROGRAM:-$here/../crates/nonobench/out/nonobench}
+if ! [ -x "$program" ]; then
+    sed -n 's/^# //p' "$0" >&2
+    exit 2
+fi
+# shellcheck source=bench/refusing.sh
+source "$here/refusing.sh"
+work=$(mktemp -d)
+trap 'rm -rf "$work"' EXIT
+make_refusing "$work"
+PYTHONDONTWRITEBYTECODE=1 python3 "$here/refuse_growths.py" "$(realpath "$program")" "$work/refuse.so" "$work" "$@"

@@ -1,0 +1,28 @@
+# Sourced by refuse.sh and refuse_growths.sh: a library that is loaded before the C library and refuses the growth of memory
+# whose number stands in the variable REFUSED, and says so on standard error by the line `refused`.
+# Usage: make_refusing FOLDER, which makes FOLDER/refuse.so
+make_refusing() {
+    cat >"$1/refuse.c" <<'C'
+#define _GNU_SOURCE
+#include <dlfcn.h>
+#include <stdlib.h>
+#include <unistd.h>
+static long asked, refused;
+static int is_refused(void) {
+    if (refused == 0) refused = atol(getenv("REFUSED"));
+    if (++asked != refused) return 0;
+    return write(2, "refused\n", 8) == 8;
+}
+void *malloc(size_t size) {
+    static void *(*real)(size_t);
+    if (!real) real = dlsym(RTLD_NEXT, "malloc");
+    return is_refused() ? NULL : real(size);
+}
+void *realloc(void *old, size_t size) {
+    static void *(*real)(void *, size_t);
+    if (!real) real = dlsym(RTLD_NEXT, "realloc");
+    return is_refused() ? NULL : real(old, size);
+}
+C
+    cc -O1 -shared -fPIC -o "$1/refuse.so" "$1/refuse.c"
+}

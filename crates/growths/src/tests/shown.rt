@@ -1,0 +1,85 @@
+//! Whether two benches show the same.
+
+use super::*;
+
+// Stops where two benches show other documents, clues, books, maps, histories or counts of work.
+pub fn same_audit<E: LineEngine + Drop, A: Agenda + Drop>(
+    rt: &impl Abort,
+    one: &Bench<E, A>,
+    other: &Bench<E, A>,
+) {
+    same_document(rt, one.document(), other.document());
+    same_clues(rt, one.clues(), other.clues());
+    same_book(rt, one.book(), other.book());
+    same_facts(rt, one.map(), other.map());
+    assert_eq!(rt; one.past_len(), other.past_len());
+    assert_eq!(rt; one.future_len(), other.future_len());
+    assert!(rt; one.work() == other.work());
+}
+
+fn same_document(rt: &impl Abort, one: &Document, other: &Document) {
+    assert!(rt; one.picture.same(&other.picture));
+    assert_eq!(rt; one.palette.len(), other.palette.len());
+    for k in 0..one.palette.len() {
+        assert!(rt; k < other.palette.len());
+        assert!(rt; one.palette.rgb(k) == other.palette.rgb(k));
+    }
+    same_givens(rt, one, other);
+}
+
+fn same_givens(rt: &impl Abort, one: &Document, other: &Document) {
+    assert_eq!(rt; one.givens.len(), other.givens.len());
+    for row in 0..one.picture.height() {
+        for col in 0..one.picture.width() {
+            assert!(rt; row < 120 && col < 120);
+            assert_eq!(rt; one.givens.has(row, col), other.givens.has(row, col));
+        }
+    }
+}
+
+// The clue of a row or column by its place.
+fn clue_at<'a>(rt: &impl Abort, clues: &'a ClueBook, axis: Axis, at: u8) -> &'a Clue {
+    match axis {
+        Axis::Across => assert!(rt; at < clues.height()),
+        Axis::Down => assert!(rt; at < clues.width()),
+    }
+    clues.clue(LineId { axis, at })
+}
+
+fn same_clues(rt: &impl Abort, one: &ClueBook, other: &ClueBook) {
+    assert!(rt; one.height() == other.height() && one.width() == other.width());
+    for at in 0..one.height() {
+        let clue = clue_at(rt, one, Axis::Across, at);
+        assert!(rt; clue.same(clue_at(rt, other, Axis::Across, at)));
+    }
+    for at in 0..one.width() {
+        let clue = clue_at(rt, one, Axis::Down, at);
+        assert!(rt; clue.same(clue_at(rt, other, Axis::Down, at)));
+    }
+}
+
+fn same_step(rt: &impl Abort, one: &Step, other: &Step) {
+    assert!(rt; one.line == other.line);
+    assert_eq!(rt; one.premises.as_slice(), other.premises.as_slice());
+    assert_eq!(rt; one.drawn.as_slice(), other.drawn.as_slice());
+}
+
+// Stops where two books have another base, other steps or other facts.
+fn same_book(rt: &impl Abort, one: &Book, other: &Book) {
+    same_facts(rt, one.base(), other.base());
+    assert_eq!(rt; one.steps().len(), other.steps().len());
+    for (one, other) in one.steps().iter().zip(other.steps()) {
+        same_step(rt, one, other);
+    }
+    same_facts(rt, one.facts(), other.facts());
+}
+
+// Compares the colours left in each cell.
+fn same_facts(rt: &impl Abort, one: &Facts, other: &Facts) {
+    assert!(rt; one.height() == other.height() && one.width() == other.width());
+    for row in 0..one.height() {
+        for col in 0..one.width() {
+            assert_eq!(rt; one.left(row, col), other.left(row, col));
+        }
+    }
+}
