@@ -17,8 +17,15 @@ line_line fault = refused (name_of fault)
 abbrev pub edit_line : EditFault → List ℕ
 edit_line fault = refused (fault_name fault)
 
+abbrev pub two_colours_line : List ℕ
+two_colours_line = refused (codes "TwoColoursOnly")
+
+abbrev pub memory_line : List ℕ
+memory_line = refused (codes "Memory")
+
+-- within the crate: the line of a refusal
 abbrev pub refusal_line : Refusal → List ℕ
 refusal_line (Line fault) = line_line fault
 refusal_line (Edit fault) = edit_line fault
-refusal_line TwoColoursOnly = refused (codes "TwoColoursOnly")
-refusal_line Memory = refused (codes "Memory")
+refusal_line TwoColoursOnly = two_colours_line
+refusal_line Memory = memory_line

@@ -29,11 +29,10 @@ use Rattle.session.specs.declared.request.Request.{Request}
 use Rattle.session.specs.declared.session.SessionFault.{SessionFault}
 use Rattle.session.specs.declared.session.SessionFault.TheVariants as fault
 use Rattle.session.specs.declared.request.Request.TheVariants as request
-use Rattle.session.specs.declared.refusal.Refusal.TheVariants as refusal
 use Rattle.session.specs.ClueText.{clues_text}
 use Rattle.session.specs.Lines.{ended_lines_of, lines_of, request_of}
 use Rattle.session.specs.ReasonText.{reason_text}
-use Rattle.session.specs.Refusal.{edit_line, line_line, refusal_line}
+use Rattle.session.specs.Refusal.{edit_line, line_line, memory_line, two_colours_line}
 use Rattle.session.specs.Report.{report_text}
 use Rattle.session.specs.Shown.{map_text, picture_text}
 
@@ -101,7 +100,7 @@ Judges old new verdict = Tells old new verdict × (IsAudited new × IsVerdictOn 
 
 -- memory was wanting, and the state is as before
 abbrev pub LacksMemory : Seen → List ℕ → Seen → Type 0
-LacksMemory old text new = (text ≡ refusal_line refusal.Memory) × IsAsBefore old new
+LacksMemory old text new = (text ≡ memory_line) × IsAsBefore old new
 
 -- Where it may be: an edit, an undo and a redo have it among their own refusals, an allowance takes no memory, and a cell or a
 -- picture that is refused otherwise takes none either.
@@ -133,7 +132,7 @@ SaysTo old (command.Why row col colour) text new =
 SaysTo old command.WritePpm text new = Shows (ppm_text (content old.history.document)) old text new
 SaysTo old command.WriteNon text new =
     ((is_two_colour old.history.document.rows ≡ true) × Shows (non_text_of old.history.document.rows) old text new)
-    ⊎ ((is_two_colour old.history.document.rows ≡ false) × Shows (refusal_line refusal.TwoColoursOnly) old text new)
+    ⊎ ((is_two_colour old.history.document.rows ≡ false) × Shows two_colours_line old text new)
 SaysTo old command.Report text new = (verdict : Verdict) × (Judges old new verdict × (text ≡ report_on old verdict))
 SaysTo old command.Certify text new =
     (found : Option Certificate) × (Certifies old.history.document found × ((text ≡ certified_text found) × IsAsBefore old new))

@@ -25,6 +25,7 @@ pub use command::Command;
 pub use fault::CommandFault;
 pub use numbers::sample_in;
 pub use parse::{MOST_BYTES, parse_command};
+pub use request::Request;
 pub use session::{SessionFault, run_session};
 
 #[cfg(test)]

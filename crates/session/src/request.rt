@@ -9,14 +9,14 @@ use crate::fault::CommandFault;
 use crate::parse::{MOST_BYTES, parse_command};
 use crate::words::next_word;
 
-// What a line asks for.
+/// What a line asks for.
 #[derive(Clone, Copy, Debug, PartialEq, Eq)]
-pub(crate) enum Request {
-    // Nothing: it has no word, and at most 200 bytes.
+pub enum Request {
+    /// Nothing: it has no word, and at most 200 bytes.
     Nothing,
-    // A command.
+    /// A command.
     Command(Command),
-    // No command: this is the first fault.
+    /// No command: this is the first fault.
     Refused(CommandFault),
 }
 
