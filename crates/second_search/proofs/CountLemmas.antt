@@ -12,7 +12,7 @@ use Rattle.second_search.specs.declared.counting.Ending.TheVariants as ending
 use Rattle.second_search.specs.declared.counting.Step.{Step}
 use Rattle.second_search.specs.declared.counting.Step.TheVariants as step
 use Rattle.second_search.specs.Branching.{Search, branches, search_of}
-use Rattle.second_search.specs.Searching.{Allows, Comes, CountsSome, EndsAs, Searches, none_waits, is_dead, is_known, is_other, is_split, raised}
+use Rattle.second_search.specs.Searching.{Allows, Comes, CountsSome, EndsAs, Searches, SplitsPast, none_waits, is_dead, is_known, is_other, is_split, once_more, past_dead, past_known, past_split, raised}
 use Rattle.second_search.specs.Stepping.{Compares, IsOneLess, Steps}
 use Rattle.second_search.proofs.ComingLemmas.{leads}
 use Rattle.second_search.proofs.WeightLemmas.{branches_lighter, load, load_append, load_more, weight, weight_within}
@@ -23,17 +23,20 @@ use Rattle.picture.specs.Rows.{row_at}
 pub record Going (clues : Clues) (known first : List (List ℕ)) (waiting : List (List (List ℕ))) (n : ℕ) : Type 0 where
   pub on : (found : Option (List (List ℕ))) (m : ℕ) → Searches clues known waiting found m → Searches clues known (first ∷ []) found (m + n)
   pub back : (found : Option (List (List ℕ))) (m : ℕ) → Searches clues known (first ∷ []) found m → (k : ℕ) × ((m ≡ k + n) × Searches clues known waiting found k)
+  pub past : (m : ℕ) → SplitsPast clues known waiting m → SplitsPast clues known (first ∷ []) (m + n)
 
 pub going_starts : (clues : Clues) (known first : List (List ℕ)) → Going clues known first (first ∷ []) 0
 going_starts clues known first = record {
   on = λ found m s. let P : ℕ → Type 0 = λ x. Searches clues known (first ∷ []) found x in subst P (let e : m ≡ m + 0 = omega arith in e) s;
   back = λ found m s. (m, ((let e : m ≡ m + 0 = omega arith in e), s));
+  past = λ m s. let P : ℕ → Type 0 = λ x. SplitsPast clues known (first ∷ []) x in subst P (let e : m ≡ m + 0 = omega arith in e) s;
 }
 
 pub going_passes : LeastIsUnique → (clues : Clues) (known first facts : List (List ℕ)) (others : List (List (List ℕ))) (n : ℕ) → Going clues known first (facts ∷ others) n → Comes clues facts Dies ⊎ Comes clues facts (Ends known) → Going clues known first others n
 going_passes unique clues known first facts others n g (inl c) = record {
   on = λ found m s. g.on found m (is_dead facts others found m c s);
   back = λ found m s. let b = g.back found m s in (b.0, (b.1.0, leads unique clues known facts others Dies found b.0 c b.1.1));
+  past = λ m s. g.past m (past_dead facts others m c s);
 }
 going_passes unique clues known first facts others n g (inr c) = record {
   on = λ found m s. g.on found m (is_known facts others found m c s);
@@ -48,6 +51,7 @@ going_passes unique clues known first facts others n g (inr c) = record {
           ],
         ),
       );
+  past = λ m s. g.past m (past_known facts others m c s);
 }
 
 pub going_splits : LeastIsUnique → (clues : Clues) (known first facts settled : List (List ℕ)) (cell : Cell) (others : List (List (List ℕ))) (n : ℕ) → Going clues known first (facts ∷ others) n → Comes clues facts (Splits settled cell) → Going clues known first (branches settled cell.row cell.col (cell_at settled cell.row cell.col) ++ others) (suc n)
@@ -61,6 +65,9 @@ going_splits unique clues known first facts settled cell others n g c = record {
       let same = b.1.0 in
       let more = l.1.0 in
       (l.0, ((let e : m ≡ l.0 + suc n = omega arith in e), l.1.1));
+  past = λ m s.
+      let P : ℕ → Type 0 = λ x. SplitsPast clues known (first ∷ []) x in
+      subst P (let e : suc m + n ≡ m + suc n = omega arith in e) (g.past (suc m) (past_split facts others settled cell m c s));
 }
 
 -- ---- how it ends
@@ -114,12 +121,16 @@ ends_with_other clues known first facts picture others n allowance left g c d l 
 pub ends_broken_off : LeastIsUnique → (clues : Clues) (known first facts settled : List (List ℕ)) (cell : Cell) (others : List (List (List ℕ))) (n : ℕ) (allowance left : Option ℕ) → Going clues known first (facts ∷ others) n → Comes clues facts (Splits settled cell) → left ≡ Some 0 → IsLeft allowance n left → EndsAs clues known first allowance ending.BrokenOff n
 ends_broken_off unique clues known first facts settled cell others n allowance left g c z l = (
   used allowance left n l z,
-  (λ cost h.
-      let b = g.back h.0 cost h.1 in
-      let m = leads unique clues known facts others (Splits settled cell) h.0 b.0 c b.1.1 in
-      let e = b.1.0 in
-      let f = m.1.0 in
-      omega arith),
+  (
+    (let P : ℕ → Type 0 = λ x. SplitsPast clues known (first ∷ []) x in
+     subst P (let e : 0 + n ≡ n = omega arith in e) (g.past 0 (once_more facts others settled cell c))),
+    (λ cost h.
+        let b = g.back h.0 cost h.1 in
+        let m = leads unique clues known facts others (Splits settled cell) h.0 b.0 c b.1.1 in
+        let e = b.1.0 in
+        let f = m.1.0 in
+        omega arith),
+  ),
 )
 
 -- ---- the count

@@ -55,6 +55,13 @@ pub data Searches (clues : Clues) (known : List (List ℕ)) : List (List (List �
   is_other : (facts : List (List ℕ)) (others : List (List (List ℕ))) (picture : List (List ℕ)) → Comes clues facts (Ends picture) → (picture ≡ known → ⊥) → Searches clues known (facts ∷ others) (Some picture) 0
   is_split : (facts : List (List ℕ)) (others : List (List (List ℕ))) (settled : List (List ℕ)) (cell : Cell) (found : Option (List (List ℕ))) (n : ℕ) → Comes clues facts (Splits settled cell) → Searches clues known (branches settled cell.row cell.col (cell_at settled cell.row cell.col) ++ others) found n → Searches clues known (facts ∷ others) found (suc n)
 
+-- The search through the facts that wait splits n times, and comes then to a first open cell once more.
+pub data SplitsPast (clues : Clues) (known : List (List ℕ)) : List (List (List ℕ)) → ℕ → Type 0 where
+  once_more : (facts : List (List ℕ)) (others : List (List (List ℕ))) (settled : List (List ℕ)) (cell : Cell) → Comes clues facts (Splits settled cell) → SplitsPast clues known (facts ∷ others) 0
+  past_dead : (facts : List (List ℕ)) (others : List (List (List ℕ))) (n : ℕ) → Comes clues facts Dies → SplitsPast clues known others n → SplitsPast clues known (facts ∷ others) n
+  past_known : (facts : List (List ℕ)) (others : List (List (List ℕ))) (n : ℕ) → Comes clues facts (Ends known) → SplitsPast clues known others n → SplitsPast clues known (facts ∷ others) n
+  past_split : (facts : List (List ℕ)) (others : List (List (List ℕ))) (settled : List (List ℕ)) (cell : Cell) (n : ℕ) → Comes clues facts (Splits settled cell) → SplitsPast clues known (branches settled cell.row cell.col (cell_at settled cell.row cell.col) ++ others) n → SplitsPast clues known (facts ∷ others) (suc n)
+
 -- the facts in which a part is searched: those on the part, and elsewhere a picture's colours alone
 abbrev pub alone : List ℕ → List (List ℕ) → List (List ℕ) → List (List ℕ)
 alone cells facts picture = picked cells facts (only picture)
@@ -73,11 +80,12 @@ Allows None n = Unit {0}
 Allows (Some most) n = n ≤ most
 
 -- How the search from some facts ends after n splits: it found nothing or another picture, by so many splits as are allowed; or
--- it was broken off at the allowance, since it costs more.
+-- it was broken off at the allowance, since it goes on past it: as many splits are made as are allowed and one more is wanted, and
+-- whatever it costs is more.
 abbrev pub EndsAs : Clues → List (List ℕ) → List (List ℕ) → Option ℕ → Ending → ℕ → Type 0
 EndsAs clues known facts allowance Nothing n = Searches clues known (facts ∷ []) None n × Allows allowance n
 EndsAs clues known facts allowance (Found picture) n = Searches clues known (facts ∷ []) (Some picture) n × Allows allowance n
-EndsAs clues known facts allowance BrokenOff n = (allowance ≡ Some n) × ((cost : ℕ) → HasCost clues known facts cost → n < cost)
+EndsAs clues known facts allowance BrokenOff n = (allowance ≡ Some n) × (SplitsPast clues known (facts ∷ []) n × ((cost : ℕ) → HasCost clues known facts cost → n < cost))
 
 -- outside of some cells the facts leave a picture's colour alone
 pub record KeepsOutside (cells : List ℕ) (picture facts : List (List ℕ)) : Type 0 where

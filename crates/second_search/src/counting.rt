@@ -17,9 +17,10 @@ use line_settle::{Facts, LineEngine, Meter};
 use picture::{LineSet, Picture};
 use std::alloc::{AllocError, Global};
 
-// How a search ended: there is no other picture, or there is this one, or it would have split once more than allowed.
+/// How the search of a part ended, in the words of contracts: there is no other picture, or there is this one, or it would have
+/// split once more than allowed.
 #[derive(Drop)]
-pub(crate) enum Ending {
+pub enum Ending {
     Nothing,
     Found(Picture),
     BrokenOff,

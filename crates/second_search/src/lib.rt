@@ -18,6 +18,7 @@ mod pending;
 mod same_lines;
 mod scene;
 
+pub use counting::Ending;
 pub use finding::{find_first, find_other};
 pub use keeper::{Answer, Judged, Keeper, KeptPart, Verdict};
 pub use parts::Parts;
