@@ -1,5 +1,5 @@
 -- What a certificate that was made is for a document.
-use Rattle.std.proofs.Common.{◌≡◌, ℕ, ◌↔◌, List, Option, None, Some, Result, Ok, Err, IfOk, sym, ap, subst, ◌∙◌}
+use Rattle.std.proofs.Common.{◌≡◌, ℕ, ◌↔◌, List, Option, None, Some, Result, Ok, Err, IfOk, sym, ap, subst}
 use Rattle.picture.specs.declared.document.Document.{Document}
 use Rattle.picture.specs.CellSet.{HasCell}
 use Rattle.picture.specs.Content.{content_of}
@@ -9,7 +9,7 @@ use Rattle.certificate.specs.Cert.{Certificate}
 use Rattle.certificate.specs.Making.{IsOtherPicture, Makes}
 use Rattle.edits.specs.Design.{Design, design_of}
 use Rattle.edits.specs.Laws.{MarksAreGivens}
-use Rattle.live_audit.specs.Bench.{IsGiven, Seen}
+use Rattle.live_audit.specs.Bench.{IsGiven}
 use Rattle.live_audit.specs.Certify.{Certifies, CertifiesOrdered, IsCertificateFor, ordered}
 use Rattle.live_audit.specs.Verdict.{IsOtherFor}
 
