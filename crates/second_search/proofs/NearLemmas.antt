@@ -1,9 +1,7 @@
 -- What is found in a window is another picture.
-use Rattle.std.proofs.Common.{◌≡◌, ℕ, ◌<◌, List, [], ◌∷◌, length, Option, Some, refl, sym, ap, subst, arith, inl, inr}
-use Rattle.std.proofs.lemmas.Bool.{cases_eq}
+use Rattle.std.proofs.Common.{◌≡◌, ℕ, ◌<◌, List, [], ◌∷◌, length, Option, Some, refl, sym, ap, subst, inl, inr}
 use Rattle.picture.specs.CellSet.{PutsCell}
-use Rattle.picture.specs.LineSet.{Lines, name_count, no_names}
-use Rattle.picture.specs.LineSetLaws.{members}
+use Rattle.picture.specs.LineSet.{Lines}
 use Rattle.picture.specs.Rows.{width_of}
 use Rattle.clues.specs.ClueBook.{Clues}
 use Rattle.clues.specs.Laws.{BooksAreTheirClues, CluesAreOfLines}
@@ -39,13 +37,6 @@ more_open facts old cells lines row col h l is puts both = record {
     )
   ];
 }
-
--- a set that is not empty has a name
-pub some_name : (lines : Lines) → (lines ≡ no_names → ⊥) → 0 < name_count lines
-some_name lines n = elim (cases_eq (name_count lines) 0) [
-  | inl z ↦ absurd (n ((members.counted lines).0 z))
-  | inr d ↦ omega arith
-]
 
 pub found_inside : CluesAreOfLines → BooksAreTheirClues → ClosingKeepsFillings → OnlyIsClosed → FillingsAreOfFacts → (clues : Clues) (givens : List ℕ) (facts picture : List (List ℕ)) → IsScene clues givens facts picture → (cells : List ℕ) (first new : List (List ℕ)) → first ≡ facts → LeavesAlone cells picture first new (length first) → (most : Option ℕ) (start count : ℕ) (ending : Ending) (other : List (List ℕ)) → ending ≡ Found other → (n : ℕ) × ((count ≡ raised start n) × EndsAs clues picture new most ending n) → IsOther clues givens picture other
 found_inside law books closing own fillings clues givens facts picture scene cells first new e left most start count ending other f h =

@@ -23,6 +23,9 @@ const SIDE: u8 = 8;
 
 const SPLITS: u32 = 16;
 
+// A line with the same clue differs in two cells or in none, so another picture differs in two rows and in two columns.
+const FEWEST: usize = 4;
+
 // The open cells of a window, and the lines through them.
 #[derive(Drop)]
 pub(crate) struct Window {
@@ -89,7 +92,7 @@ fn find_inside<E: LineEngine>(
     ensures other { IfOk result (λ found. IfSome found (IsOther scene.now.clues.now scene.now.givens.now scene.now.picture.now)) }
     ensures same_longest { E.longest engine.new ≡ E.longest engine.old }
 {
-    if window.lines.is_empty() {
+    if window.lines.len() < FEWEST {
         return Ok(None);
     }
     clues_are_of_lines();

@@ -1,8 +1,7 @@
 use Rattle.std.proofs.Common.{Some}
-use Rattle.std.proofs.lemmas.Bool.{false≢true}
 use Rattle.second_search.proofs.AloneLemmas.{closable_alone, outside_alone}
 use Rattle.second_search.proofs.KeepLemmas.{quiet_outside}
-use Rattle.second_search.proofs.NearLemmas.{found_inside, some_name}
+use Rattle.second_search.proofs.NearLemmas.{found_inside}
 use Rattle.second_search.proofs.near.find_inside.Goals as goal
 
 pub search_counted-requires-clause-closable : goal.search_counted-requires-clause-closable
@@ -16,9 +15,6 @@ search_counted-requires-clause-quiet g c =
     let scene = c.args.scene.now in
     let keeps = outside_alone c.args.window.cells scene.picture.now scene.facts.now c.in_ok-facts.facts c.leave_alone.new.facts c.height.ensures.facts c.requires.scene.sound.same_shape c.in_ok-facts.ensures c.leave_alone.ensures in
     quiet_outside c.clues_are_of_lines.ensures scene.clues.now c.args.window.cells scene.picture.now c.leave_alone.new.facts c.args.window.lines c.requires.scene.is_picture c.requires.scene.has_clues keeps c.requires.window.through
-
-pub search_counted-requires-clause-some : goal.search_counted-requires-clause-some
-search_counted-requires-clause-some g c = some_name c.args.window.lines (λ e. false≢true (c.if-is_empty.ensures.value.1 e))
 
 pub returns-in-Found-clause-other : goal.returns-in-Found-clause-other
 returns-in-Found-clause-other g c =
