@@ -13,7 +13,7 @@ use Rattle.certificate.specs.Faults as certs
 use Rattle.session.specs.declared.session.SessionFault.{SessionFault}
 use Rattle.session.specs.declared.session.SessionFault.TheVariants as session
 use Rattle.nonobench.specs.declared.fault.ProgramFault.{ProgramFault}
-use Rattle.nonobench.specs.declared.fault.ProgramFault.TheVariants.{Ppm, Non, Edit, NoPicture, Cert, Memory, TooLong, Words, NotText, Help, Background, BackgroundOfNon, Read, Write}
+use Rattle.nonobench.specs.declared.fault.ProgramFault.TheVariants.{Ppm, Non, Edit, NoPicture, Cert, Memory, TooLong, Words, NotText, Background, BackgroundOfNon, Read, Write}
 
 -- a fault of the P3 text, but want of memory is one fault wherever it comes
 abbrev pub fault_of : PpmFault → ProgramFault
@@ -68,7 +68,6 @@ fault_text Memory = codes "memory"
 fault_text TooLong = codes "input too long"
 fault_text (Words text) = string_bytes text
 fault_text NotText = codes "a word is not UTF-8"
-fault_text (Help text) = string_bytes text
 fault_text Background = codes "background must be R,G,B"
 fault_text BackgroundOfNon = codes "background goes with ppm"
 fault_text Read = codes "read failed"
@@ -85,7 +84,6 @@ status_of Memory = 1
 status_of TooLong = 1
 status_of (Words text) = 2
 status_of NotText = 2
-status_of (Help text) = 0
 status_of Background = 2
 status_of BackgroundOfNon = 2
 status_of Read = 3

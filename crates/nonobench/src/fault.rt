@@ -34,8 +34,6 @@ pub enum ProgramFault {
     Words(String),
     /// A word is not UTF-8.
     NotText,
-    /// Help was asked for, or the version: this text.
-    Help(String),
     /// The background's colour has another form.
     Background,
     /// A background's colour was given for a .non text.
@@ -57,7 +55,6 @@ impl ProgramFault {
             ProgramFault::Memory | ProgramFault::TooLong => 1,
             ProgramFault::Words(_) | ProgramFault::Background => 2,
             ProgramFault::BackgroundOfNon | ProgramFault::NotText => 2,
-            ProgramFault::Help(_) => 0,
             ProgramFault::Read | ProgramFault::Write => 3,
         }
     }
@@ -81,7 +78,7 @@ impl fmt::Display for ProgramFault {
             }
             ProgramFault::Memory => f.write_str("memory"),
             ProgramFault::TooLong => f.write_str("input too long"),
-            ProgramFault::Words(text) | ProgramFault::Help(text) => f.write_str(text.as_str()),
+            ProgramFault::Words(text) => f.write_str(text.as_str()),
             ProgramFault::NotText => f.write_str("a word is not UTF-8"),
             ProgramFault::Background => f.write_str("background must be R,G,B"),
             ProgramFault::BackgroundOfNon => f.write_str("background goes with ppm"),

@@ -18,6 +18,7 @@ use crate::input::read_input;
 use crate::run::run_clues;
 use crate::words::{Task, read_words};
 use crate::work::run_work;
+use picture::send;
 use std::process::ExitCode;
 use std::rt::{Env, Files};
 use std::{env, fs, io};
@@ -32,10 +33,9 @@ fn main(rt: HostRuntime) -> ExitCode {
     }
 }
 
-// Says why the program ends. What the parser of the words says is said as it is, and help is no fault.
-fn say(rt: &(impl Eprint + Print), fault: &ProgramFault) {
+// Says why the program ends. What the parser of the words says is said as it is.
+fn say(rt: &impl Eprint, fault: &ProgramFault) {
     let _unwritten = match fault {
-        ProgramFault::Help(text) => print!(rt; "{text}"),
         ProgramFault::Words(text) => eprint!(rt; "{text}"),
         _ => eprintln!(rt; "nonobench: {fault}"),
     };
@@ -64,6 +64,10 @@ fn answer(rt: &(impl AllocGlobal + Env + Files + Input + Print)) -> Result<(), P
             let file = read_file(rt, file)?;
             let cert = read_file(rt, cert)?;
             run_check(alloc, &file, &cert, background, &mut io::writer(rt))
+        }
+        Task::Help(text) => {
+            send(text.as_bytes(), &mut io::writer(rt))?;
+            Ok(())
         }
     }
 }

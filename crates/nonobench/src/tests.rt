@@ -283,10 +283,5 @@ fn words_are_read(rt: HostRuntime) -> Result<(), Fail> {
         Err(fault) => assert_eq!(rt; fault.status(), 2),
         Ok(_) => assert!(rt; false, "a word is missing"),
     }
-    let words = ["--help"];
-    match read_words(rt.alloc(), &words) {
-        Err(fault) => assert_eq!(rt; fault.status(), 0),
-        Ok(_) => assert!(rt; false, "help"),
-    }
     Ok(())
 }

@@ -30,6 +30,8 @@ pub enum Task<'a> {
         cert: &'a str,
         background: Option<Rgb>,
     },
+    /// Help, or the version: this text of the parser.
+    Help(String),
 }
 
 // What a file can be.
@@ -40,7 +42,7 @@ const DEPTH: u16 = 100;
 
 /// Reads the words behind the program's own name. Without a word the clues are asked for.
 ///
-/// A request for help or for the version, and words that the parser refuses, are faults that carry the parser's text.
+/// Words that the parser refuses are a fault that carries the parser's text.
 pub fn read_words<'a>(alloc: Global, words: &'a [&str]) -> Result<Task<'a>, ProgramFault>
     ensures none { words.entry.now ≡ [] → result ≡ Ok Clues }
     ensures lawful { IfOk result IsLawfulTask }
@@ -50,7 +52,7 @@ pub fn read_words<'a>(alloc: Global, words: &'a [&str]) -> Result<Task<'a>, Prog
     }
     match command(alloc)?.try_get_matches_from(words) {
         Ok(matches) => task_of(&matches),
-        Err(error) => Err(refusal(alloc, &error)?),
+        Err(error) => untaken(alloc, &error),
     }
 }
 
@@ -112,16 +114,18 @@ fn history_of(matches: &ArgMatches<'_>) -> u16
     }
 }
 
-// What the parser says, as a fault.
-fn refusal(alloc: Global, error: &Error) -> Result<ProgramFault, AllocError> {
+// What the parser says where it takes no words: why it refuses them, or the help that they ask for.
+fn untaken<'a>(alloc: Global, error: &Error) -> Result<Task<'a>, ProgramFault>
+    ensures { IfOk result IsLawfulTask }
+{
     if error.kind() == ErrorKind::OutOfMemory {
-        return Ok(ProgramFault::Memory);
+        return Err(ProgramFault::Memory);
     }
     let text = format!(in alloc; "{error}")?;
     if error.use_stderr() {
-        Ok(ProgramFault::Words(text))
+        Err(ProgramFault::Words(text))
     } else {
-        Ok(ProgramFault::Help(text))
+        Ok(Task::Help(text))
     }
 }
 

@@ -266,7 +266,20 @@ fn words_of_a_session_are_refused(rt: HostRuntime) -> Result<(), Fail> {
     assert_eq!(rt; status, 2);
     let (status, _) = refusal(&rt, &["work"])?;
     assert_eq!(rt; status, 2);
-    let (status, _) = refusal(&rt, &["work", "--help"])?;
-    assert_eq!(rt; status, 0);
+    Ok(())
+}
+
+#[test]
+fn help_is_asked_for(rt: HostRuntime) -> Result<(), Fail> {
+    let version = read_words(rt.alloc(), &["--version"]);
+    let want = String::from_str(rt.alloc(), "nonobench 0.1.0\n")?;
+    assert_eq!(rt; version, Ok(Task::Help(want)));
+    let Ok(Task::Help(help)) = read_words(rt.alloc(), &["work", "--help"]) else {
+        return Err(Fail::from("no help"));
+    };
+    assert!(rt;
+        help.as_str()
+            .ends_with("Example: echo verdict | nonobench work heart.ppm\n")
+    );
     Ok(())
 }
