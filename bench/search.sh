@@ -2,8 +2,8 @@
 # How much work it takes to judge a picture by its parts and to find another picture in the whole: splits, evaluations and
 # instructions, after the clues were settled. Seeded pictures: noise with so many of a hundred cells drawn, a diagonal in two
 # colours with two cells of each in turn, checkers of two by two cells, and blobs; and the P3 files of a folder PICTURES, where
-# there is one. A dash stands where a search took longer than the seconds allowed. The whole search starts with closing what was
-# settled, which the search of no part does.
+# there is one. A dash stands where a search took longer than the seconds allowed. Looking for another picture begins with
+# windows, and the search of the whole behind them with closing what was settled, which the search of no part does.
 # Where REFERENCE is a program that says by `--d20 verdict FILE` what a plain search in the same order finds, and by `verdict FILE`
 # what a search of its own finds, the instructions of its whole run stand beside those of ours, and how many times as many ours
 # takes; those of a picture of one cell are taken off on both sides.
