@@ -6,6 +6,7 @@ use ppm_text::PpmFault;
 use std::io::{Read, Write};
 use std::test::Fail;
 
+mod growing;
 mod sessions;
 
 const WHITE: &[u8] = b"P3\n1 1\n255\n255 255 255\n";
