@@ -1,5 +1,5 @@
 -- A search that counts its splits: what waits ends as the first facts do, but for the splits made so far.
-use Rattle.std.proofs.Common.{◌≡◌, ℕ, suc, ◌+◌, ◌*◌, ◌^◌, ◌<◌, ◌⊎◌, Option, None, Some, List, [], ◌∷◌, ◌++◌, length, refl, sym, ap, subst, ◌∙◌, arith, inl, inr}
+use Rattle.std.proofs.Common.{◌≡◌, ℕ, suc, ◌+◌, ◌*◌, ◌^◌, ◌<◌, ◌≤◌, ◌⊎◌, Bool, true, false, Option, None, Some, List, [], ◌∷◌, ◌++◌, length, refl, sym, ap, subst, ◌∙◌, arith, inl, inr}
 use Rattle.picture.specs.Rows.{cell_at}
 use Rattle.clues.specs.ClueBook.{Clues}
 use Rattle.line_settle.specs.declared.meter.Meter.{Meter}
@@ -13,7 +13,7 @@ use Rattle.second_search.specs.declared.counting.Step.{Step}
 use Rattle.second_search.specs.declared.counting.Step.TheVariants as step
 use Rattle.second_search.specs.Branching.{Search, branches, search_of}
 use Rattle.second_search.specs.Searching.{Allows, Comes, CountsSome, EndsAs, Searches, SplitsPast, none_waits, is_dead, is_known, is_other, is_split, once_more, past_dead, past_known, past_split, raised}
-use Rattle.second_search.specs.Stepping.{Compares, IsOneLess, Steps}
+use Rattle.second_search.specs.Stepping.{Compares, IsOneLess, Spends, Steps}
 use Rattle.second_search.proofs.ComingLemmas.{leads}
 use Rattle.second_search.proofs.WeightLemmas.{branches_lighter, load, load_append, load_more, weight, weight_within}
 use Rattle.std.proofs.Math.Pow.{pow_mono, pow_pos}
@@ -123,7 +123,7 @@ ends_broken_off unique clues known first facts settled cell others n allowance l
   used allowance left n l z,
   (
     (let P : ℕ → Type 0 = λ x. SplitsPast clues known (first ∷ []) x in
-     subst P (let e : 0 + n ≡ n = omega arith in e) (g.past 0 (once_more facts others settled cell c))),
+        subst P (let e : 0 + n ≡ n = omega arith in e) (g.past 0 (once_more facts others settled cell c))),
     (λ cost h.
         let b = g.back h.0 cost h.1 in
         let m = leads unique clues known facts others (Splits settled cell) h.0 b.0 c b.1.1 in
@@ -140,6 +140,10 @@ raised_again start before after n a b = omega arith
 
 pub raised_none : (count : ℕ) → count < 2 ^ 32 → count ≡ raised count 0
 raised_none count l = omega arith
+
+pub spending_rises : (old new : Option ℕ) (count more : ℕ) (spent : Bool) → count < 2 ^ 32 → Spends old new count more spent → count ≤ more
+spending_rises old new count more true l h = let e = h.1 in omega arith
+spending_rises old new count more false l h = let e = h.1.1 in omega arith
 
 -- ---- while facts wait
 

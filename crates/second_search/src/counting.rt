@@ -1,6 +1,6 @@
 //! The search in a fixed order, which counts its splits and may be broken off.
 
-ghost use Rattle.std.specs.Prelude.{◌≡◌, ◌<◌, ℕ, IfOk, OnOk};
+ghost use Rattle.std.specs.Prelude.{◌≡◌, ◌<◌, ◌≤◌, ℕ, IfOk, OnOk};
 ghost use Rattle.picture.specs.LineSet.{name_count};
 ghost use Rattle.line_settle.specs.Counting.{Counts};
 ghost use Rattle.propagate.specs.Closing.{AreClosable, QuietOutside};
@@ -56,6 +56,7 @@ pub(crate) fn search_counted<E: LineEngine>(
     ensures ends { IfOk result (λ ending. (n : ℕ) × ((splits.new ≡ raised splits.old n) × EndsAs book.now known.now facts allowance ending n)) }
     ensures counts { (evaluations : ℕ) × Counts evaluations 0 meter.old meter.new (E.calls engine.old) (E.calls engine.new) }
     ensures evaluates { OnOk result (CountsSome meter.old meter.new (E.calls engine.old) (E.calls engine.new)) }
+    ensures rises { splits.old ≤ splits.new }
     ensures same_longest { E.longest engine.new ≡ E.longest engine.old }
 {
     counts_add();
@@ -109,8 +110,10 @@ fn look_once<E: LineEngine>(
     ensures steps { IfOk result (Steps book.now known.now pending.old pending.new left.old left.new splits.old splits.new) }
     ensures counts { (evaluations : ℕ) × Counts evaluations 0 meter.old meter.new (E.calls engine.old) (E.calls engine.new) }
     ensures evaluates { OnOk result (CountsSome meter.old meter.new (E.calls engine.old) (E.calls engine.new)) }
+    ensures rises { splits.old ≤ splits.new }
     ensures same_longest { E.longest engine.new ≡ E.longest engine.old }
 {
+    let _splits = *splits;
     match come_to(alloc, engine, book, pending.at_hand(), lines, meter)? {
         Coming::Dies => Ok(Step::Passed),
         Coming::Ends(picture) => Ok(compare(picture, known)),

@@ -217,8 +217,9 @@ impl Keeper {
     /// another filling or costs more splits than are allowed. What the searches that ended found is kept; of one that was
     /// broken off, nothing is. Adds to `searched` how many parts were searched, the last of them too if it was broken off, and
     /// to `splits` how often they split; both stay at the largest number. Each part that is searched takes an evaluation at
-    /// least, and where nothing is searched, no line is evaluated. Want of memory leaves what is kept as it was. The parts kept
-    /// are those of the scene's facts, and what is known of them is true; no line is longer than the engine's `longest`.
+    /// least, and where nothing is searched, no line is evaluated. Want of memory leaves what is kept as it was, and neither
+    /// count falls by it. The parts kept are those of the scene's facts, and what is known of them is true; no line is longer
+    /// than the engine's `longest`.
     #[tactic(auto, using(crate::proofs::AnswerLemmas::answer_true))]
     pub fn judge<E: LineEngine>(
         &mut self,
@@ -243,6 +244,7 @@ impl Keeper {
             (λ _. last ≡ self.old))) }
         ensures answer { IfOk result (IsAnswer scene.now.clues.now scene.now.givens.now scene.now.picture.now) }
         ensures counts { (evaluations : ℕ) × Counts evaluations 0 meter.old meter.new (E.calls engine.old) (E.calls engine.new) }
+        ensures rises { (searched.old ≤ searched.new) × (splits.old ≤ splits.new) }
         ensures same_longest { E.longest engine.new ≡ E.longest engine.old }
     {
         let verdict = self.decide(engine, scene, allowance, meter, searched, splits)?;
@@ -287,6 +289,7 @@ impl Keeper {
         ensures shown { IfOk result (IsShown self.new) }
         ensures verdict { IfOk result (IsVerdict scene.now.clues.now scene.now.givens.now scene.now.picture.now) }
         ensures counts { (evaluations : ℕ) × Counts evaluations 0 meter.old meter.new (E.calls engine.old) (E.calls engine.new) }
+        ensures rises { (searched.old ≤ searched.new) × (splits.old ≤ splits.new) }
         ensures same_longest { E.longest engine.new ≡ E.longest engine.old }
     {
         clues_are_of_lines();
@@ -349,6 +352,7 @@ impl Keeper {
         ensures stops { IfOk result (λ stop. Done searched.old searched.new splits.old splits.new meter.old meter.new (E.calls engine.old) (E.calls engine.new)
             (Stops scene.now.clues.now scene.now.facts.now scene.now.picture.now allowance self.now stop)) }
         ensures counts { (evaluations : ℕ) × Counts evaluations 0 meter.old meter.new (E.calls engine.old) (E.calls engine.new) }
+        ensures rises { (searched.old ≤ searched.new) × (splits.old ≤ splits.new) }
         ensures same_longest { E.longest engine.new ≡ E.longest engine.old }
     {
         counts_add();
@@ -384,6 +388,7 @@ impl Keeper {
         ensures ends { IfOk result (λ ending. Done searched.old searched.new splits.old splits.new meter.old meter.new (E.calls engine.old) (E.calls engine.new)
             (EndsPart scene.now.clues.now scene.now.facts.now scene.now.picture.now allowance (kept_at self.now i) ending)) }
         ensures counts { (evaluations : ℕ) × Counts evaluations 0 meter.old meter.new (E.calls engine.old) (E.calls engine.new) }
+        ensures rises { (searched.old ≤ searched.new) × (splits.old ≤ splits.new) }
         ensures same_longest { E.longest engine.new ≡ E.longest engine.old }
     {
         let _ = (engine.calls(), *splits, *searched);

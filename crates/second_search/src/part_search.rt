@@ -36,6 +36,7 @@ pub(crate) fn search_part<E: LineEngine>(
         × EndsAs scene.now.clues.now scene.now.picture.now (alone cells.now scene.now.facts.now scene.now.picture.now) allowance ending n)) }
     ensures counts { (evaluations : ℕ) × Counts evaluations 0 meter.old meter.new (E.calls engine.old) (E.calls engine.new) }
     ensures evaluates { OnOk result (CountsSome meter.old meter.new (E.calls engine.old) (E.calls engine.new)) }
+    ensures rises { splits.old ≤ splits.new }
     ensures same_longest { E.longest engine.new ≡ E.longest engine.old }
 {
     clues_are_of_lines();

@@ -148,3 +148,33 @@ loop-pending-smaller g c =
       | in-Passed w ↦ passes_lighter c.args.book.now c.args.known.now s t u _ _ _ _ (steps_as _ _ s t _ _ _ _ _ _ w.in-Passed.is c.in_ok-picture.ensures.steps) on.0
       | in-Split w ↦ splits_lighter c.args.book.now c.args.known.now s t u _ _ _ _ (steps_as _ _ s t _ _ _ _ _ _ w.in-Split.is c.in_ok-picture.ensures.steps) on.0
     ]
+
+pub returns-in_err-picture-clause-rises : goal.returns-in_err-picture-clause-rises
+returns-in_err-picture-clause-rises g c =
+    let before = c.loop-pending.invariant.counting.counted in
+    let here = c.look_once.ensures.rises in
+    omega arith
+
+pub returns-in-Other-clause-rises : goal.returns-in-Other-clause-rises
+returns-in-Other-clause-rises g c =
+    let before = c.loop-pending.invariant.counting.counted in
+    let here = c.look_once.ensures.rises in
+    omega arith
+
+pub returns-in-Halted-clause-rises : goal.returns-in-Halted-clause-rises
+returns-in-Halted-clause-rises g c =
+    let before = c.loop-pending.invariant.counting.counted in
+    let here = c.look_once.ensures.rises in
+    omega arith
+
+pub returns-in_err-cell-clause-rises : goal.returns-in_err-cell-clause-rises
+returns-in_err-cell-clause-rises g c =
+    let before = c.loop-pending.invariant.counting.counted in
+    let here = c.look_once.ensures.rises in
+    omega arith
+
+pub returns-in-None-clause-rises : goal.returns-in-None-clause-rises
+returns-in-None-clause-rises g c =
+    let before = c.loop-pending.invariant.counting.counted in
+    let here = c.look_once.ensures.rises in
+    omega arith

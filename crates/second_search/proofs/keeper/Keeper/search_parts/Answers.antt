@@ -60,3 +60,33 @@ loop-i-preserved g c =
       done = subst Q next (done_both c.counts_add.ensures _ _ _ _ _ _ _ _ _ _ _ _ before (here ending.Nothing) (Passes s.clues.now s.facts.now s.picture.now c.args.allowance kept (suc n)) c.loop-i.invariant.done (subst P c.in-Nothing.is c.in_ok-search_one.ensures.ends) (λ m k x y. passes_more s.clues.now s.facts.now s.picture.now c.args.allowance kept n m k x y));
       same_longest = c.search_one.ensures.same_longest ∙ c.loop-i.invariant.same_longest;
     }
+
+pub returns-in_err-search_one-clause-rises : goal.returns-in_err-search_one-clause-rises
+returns-in_err-search_one-clause-rises g c =
+    let done = c.loop-i.invariant.done in
+    let searched = done.searched_is in
+    let splits = done.splits_is in
+    let here = c.search_one.ensures.rises in
+    let more = here.0 in
+    let split = here.1 in
+    (omega arith, omega arith)
+
+pub returns-in-Found-clause-rises : goal.returns-in-Found-clause-rises
+returns-in-Found-clause-rises g c =
+    let done = c.loop-i.invariant.done in
+    let searched = done.searched_is in
+    let splits = done.splits_is in
+    let here = c.search_one.ensures.rises in
+    let more = here.0 in
+    let split = here.1 in
+    (omega arith, omega arith)
+
+pub returns-in-BrokenOff-clause-rises : goal.returns-in-BrokenOff-clause-rises
+returns-in-BrokenOff-clause-rises g c =
+    let done = c.loop-i.invariant.done in
+    let searched = done.searched_is in
+    let splits = done.splits_is in
+    let here = c.search_one.ensures.rises in
+    let more = here.0 in
+    let split = here.1 in
+    (omega arith, omega arith)
