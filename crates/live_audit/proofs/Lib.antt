@@ -2,6 +2,7 @@ pub mod AuditLemmas
 pub mod CallLemmas
 pub mod VerdictLemmas
 pub mod CarryLemmas
+pub mod DepthLemmas
 pub mod CertifyLemmas
 pub mod ColourLemmas
 pub mod RenumberLemmas

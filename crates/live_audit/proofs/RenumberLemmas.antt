@@ -12,6 +12,7 @@ use Rattle.clues.specs.ClueBook.{clue_at, clues_along, clues_of}
 use Rattle.clues.specs.Laws.{BooksAreTheirClues, CluesAreOfLines}
 use Rattle.line_settle.specs.FactSets.{SameShape}
 use Rattle.edits.specs.Design.{Design}
+use Rattle.live_audit.specs.Laws.{OthersAreColoured}
 use Rattle.live_audit.specs.Verdict.{IsOtherFor}
 use Rattle.live_audit.proofs.ColourLemmas.{ComesBack, EachBlockIs, EachIs, blocks_are, cells_are, clue_recoloured, recoloured}
 
@@ -162,3 +163,12 @@ other_moved law books there back t b d e are marks comes small other o =
           ∙ (sym (cell_moved there t d.rows row col) ∙ ap (λ (rows : List (List ℕ)). cell_at rows row col) (sym are)));
       differs = λ h. o.differs (sym (restored there back other come) ∙ (ap (moved back) (h ∙ are) ∙ restored there back d.rows comes));
     }
+
+-- ---- other pictures of a document
+
+pub coloured : CluesAreOfLines → OthersAreColoured
+coloured law d other colours o i j =
+    let first = colours 0 0 in
+    each_of_other law (λ (x : ℕ). x < length d.colours.triples) (omega arith) d.rows other o.same_shape.rows o.same_clues colours i j
+
+pub ruleset others = (coloured)

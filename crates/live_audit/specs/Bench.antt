@@ -1,5 +1,5 @@
 -- What a caller sees of a bench, and what holds of it after every call.
-use Rattle.std.specs.Prelude.{◌≡◌, ℕ, ◌<◌, ◌≤◌, ◌↔◌, List, [], length, Option, None}
+use Rattle.std.specs.Prelude.{◌≡◌, ℕ, ◌+◌, ◌<◌, ◌≤◌, ◌↔◌, List, [], length, Option, None}
 use Rattle.picture.specs.declared.picture.TheConstants.{MAX_SIDE}
 use Rattle.picture.specs.CellSet.{HasCell, IsCellSet}
 use Rattle.picture.specs.Rows.{cell_at, width_of}
@@ -13,6 +13,7 @@ use Rattle.second_search.specs.declared.keeper.KeptPart.{KeptPart}
 use Rattle.second_search.specs.Judging.{AreTrue, Starts, parts_of}
 use Rattle.second_search.specs.Parts.{AreParts}
 use Rattle.edits.specs.Design.{Design}
+use Rattle.edits.specs.declared.studio.TheConstants.{MAX_DEPTH}
 use Rattle.edits.specs.History.{History, history}
 use Rattle.live_audit.specs.declared.work.Work.{Work}
 
@@ -73,9 +74,17 @@ pub record IsAudited (s : Seen) : Type 0 where
   pub audit : IsAuditOf s.history.document s.clues s.book
   pub answers : AreAnswersOf s.history.document s.clues s.book.facts s.kept
 
--- what a bench keeps: all of that, and an engine for each line that a picture can have
+-- A history is 1 to 1,000 edits deep, and has no more of them than that before and after the present document. So there is
+-- room for an edit that is made, and it can be taken back.
+pub record FitsDepth (h : History) : Type 0 where
+  pub some : 0 < h.depth
+  pub most : h.depth ≤ MAX_DEPTH
+  pub few : length h.past + length h.future ≤ h.depth
+
+-- what a bench keeps: all of that, a history that fits its depth, and an engine for each line that a picture can have
 pub record IsBench (longest : ℕ) (s : Seen) : Type 0 where
   pub audited : IsAudited s
+  pub history : FitsDepth s.history
   pub long : MAX_SIDE ≤ longest
 
 -- A bench that begins with a document, by an engine that was called so often: no history, a book made anew in which all lines

@@ -6,7 +6,7 @@ ghost use Rattle.clues.specs.Change.{IsChangeOf};
 ghost use Rattle.edits.specs.declared.fault.EditFault.TheVariants.{Memory};
 ghost use Rattle.edits.specs.Design.{design_of};
 ghost use Rattle.edits.specs.History.{IsPlanFor, advanced};
-ghost use Rattle.live_audit.specs.Bench.{Begins, IsAudited};
+ghost use Rattle.live_audit.specs.Bench.{Begins, FitsDepth, IsAudited};
 ghost use Rattle.live_audit.specs.Calls.{Accepts, CarriesOn, IsAsBefore, Refuses};
 ghost use Rattle.live_audit.specs.Certify.{Certifies};
 ghost use Rattle.live_audit.specs.Reason.{Explains};
@@ -295,14 +295,16 @@ impl<E: LineEngine + Drop, A: Agenda + Drop> Bench<E, A> {
 
     /// How many edits can be undone.
     pub fn past_len(&self) -> usize
-        ensures { result ≡ length self.now.history.past }
+        ensures value { result ≡ length self.now.history.past }
+        ensures fits { FitsDepth self.now.history }
     {
         self.studio.past_len()
     }
 
     /// How many edits can be made again.
     pub fn future_len(&self) -> usize
-        ensures { result ≡ length self.now.history.future }
+        ensures value { result ≡ length self.now.history.future }
+        ensures fits { FitsDepth self.now.history }
     {
         self.studio.future_len()
     }

@@ -1,6 +1,8 @@
-//! A law of lists of calls. The function does nothing, and its contract is the law.
+//! Laws of lists of calls and of other pictures. Each function does nothing, and its contract is the law.
 
-ghost use Rattle.live_audit.specs.Laws.{ListsStayAudited};
+ghost use Rattle.live_audit.specs.Laws.{ListsStayAudited, OthersAreColoured};
+
+use clues::laws::clues_are_of_lines;
 
 #[tactic(auto, using(crate::proofs::CallLemmas::lists))]
 /// After any list of edits, undos and redos, verdicts and allowances, accepted or refused, the state is audited, history and
@@ -8,3 +10,11 @@ ghost use Rattle.live_audit.specs.Laws.{ListsStayAudited};
 pub fn lists_stay_audited()
     ensures { ListsStayAudited }
 {}
+
+#[tactic(auto, using(crate::proofs::RenumberLemmas::others))]
+/// Another picture for a document, as a verdict shows one, has colours of the document's palette alone.
+pub fn others_are_coloured()
+    ensures { OthersAreColoured }
+{
+    clues_are_of_lines();
+}

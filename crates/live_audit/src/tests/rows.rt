@@ -509,4 +509,5 @@ fn clues_are_those_of_the_picture_after_an_edit(rt: HostRuntime) {
 #[test]
 fn the_law_does_nothing() {
     crate::laws::lists_stay_audited();
+    crate::laws::others_are_coloured();
 }

@@ -10,6 +10,7 @@ invariant_of-self-2 g c =
     let s = c.self.inside in
     record {
       audited = audited_so c.document.result.now s.studio s.audit.clues s.audit.book s.keeper _ s.allowance s.work _ _ _ c.document.ensures c.self.invariant.audited c.in_ok-ruling.ensures.answers;
+      history = c.self.invariant.history;
       long = subst (λ n. MAX_SIDE ≤ n) (sym c.in_ok-ruling.ensures.same_longest) c.self.invariant.long;
     }
 
