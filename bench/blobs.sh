@@ -1,32 +1,24 @@
 # Sourced by the scripts that measure on pictures of blobs.
-# What the Python of both begins with: pictures of blobs, of a size below the given part of the side, and P3 texts.
+# What the Python of what draws begins with. `root` is the top of the repository.
 drawing='
 import pathlib
 import random
 import sys
 
+from drawing import blobs, noise, text
+
 folder = pathlib.Path(sys.argv[1])
-
-def blobs(rng, side, colours, part):
-    cells = [[0] * side for _ in range(side)]
-    for _ in range(side):
-        row, col, size = rng.randrange(side), rng.randrange(side), rng.randrange(2, side // part)
-        colour = rng.randrange(colours)
-        for r in range(max(0, row - size), min(side, row + size)):
-            for c in range(max(0, col - size), min(side, col + size)):
-                if (r - row) ** 2 + (c - col) ** 2 <= size * size:
-                    cells[r][c] = colour
-    return cells
-
-def text(rows):
-    triple = lambda k: "255 255 255" if k == 0 else f"{k * 16} {255 - k * 16} 0"
-    return f"P3\n{len(rows[0])} {len(rows)}\n255\n" + "".join(triple(k) + "\n" for row in rows for k in row)
 '
+
+# Runs Python that draws.
+drawn() {
+    PYTHONPATH=$root/bench python3 -B -c "$drawing$1" "${@:2}"
+}
 
 # draw_blobs FOLDER ROWS: writes pictures of blobs to the folder as P3 texts, 60 and 120 cells wide and as high, in 2, 4 and 15
 # colours, each a file SIDExROWS-COLOURS-colours. None has more rows than ROWS. The same pictures come each time.
 draw_blobs() {
-    python3 -c "$drawing"'
+    drawn '
 most = int(sys.argv[2])
 for side in (60, 120):
     for colours in (2, 4, 15):
@@ -39,10 +31,7 @@ for side in (60, 120):
 # colours and noise in 3 and 5, each a file KIND-SIDE-COLOURS-colours. Of a hundred cells of noise 90 are no background. The same
 # pictures come each time.
 draw_small() {
-    python3 -c "$drawing"'
-def noise(rng, side, colours):
-    return [[rng.randrange(1, colours) if rng.random() < 0.9 else 0 for _ in range(side)] for _ in range(side)]
-
+    drawn '
 def small(rng, side, colours):
     return blobs(rng, side, colours, 5)
 

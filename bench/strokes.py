@@ -12,35 +12,16 @@ import statistics
 import sys
 from collections import Counter
 
+from drawing import blobs, noise, text
+
 EDITS = ("paint", "fill", "insert", "delete", "swap", "undo", "redo")
 OFTEN = (58, 8, 3, 3, 4, 15, 9)
-
-
-def blobs(rng, side, colours):
-    cells = [[0] * side for _ in range(side)]
-    for _ in range(side):
-        row, col, size = rng.randrange(side), rng.randrange(side), rng.randrange(2, max(3, side // 6))
-        colour = rng.randrange(colours)
-        for r in range(max(0, row - size), min(side, row + size)):
-            for c in range(max(0, col - size), min(side, col + size)):
-                if (r - row) ** 2 + (c - col) ** 2 <= size * size:
-                    cells[r][c] = colour
-    return cells
-
-
-def noise(rng, side, colours):
-    return [[rng.randrange(1, colours) if rng.random() < 0.9 else 0 for _ in range(side)] for _ in range(side)]
 
 
 def renumbered(rows):
     """The same picture with its colours numbered as they appear, as a reader of P3 texts numbers them."""
     seen = {0: 0}
     return [[seen.setdefault(k, len(seen)) for k in row] for row in rows]
-
-
-def text(rows):
-    triple = lambda k: "255 255 255" if k == 0 else f"{k * 16} {255 - k * 16} 0"
-    return f"P3\n{len(rows[0])} {len(rows)}\n255\n" + "".join(triple(k) + "\n" for row in rows for k in row)
 
 
 def turned(rows):

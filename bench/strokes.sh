@@ -24,14 +24,14 @@ tell() {
     "$program" count "$1" <"$2" >"$work/counts"
     profiles "$work/strokes" "$1" "$2" 0
     profiles "$work/starts" "$1" "$2" 1
-    python3 "$root/bench/strokes.py" tell "$(basename "$1" .ppm)" "$work/counts" "$work/strokes" "$work/starts"
+    python3 -B "$root/bench/strokes.py" tell "$(basename "$1" .ppm)" "$work/counts" "$work/strokes" "$work/starts"
     rm -rf "$work/strokes" "$work/starts"
 }
-python3 "$root/bench/strokes.py" head
+python3 -B "$root/bench/strokes.py" head
 [ $# -gt 0 ] || set -- 20 60 120
 for side; do
     mkdir "$work/$side"
-    python3 "$root/bench/strokes.py" draw "$work/$side" "$side" "$strokes"
+    python3 -B "$root/bench/strokes.py" draw "$work/$side" "$side" "$strokes"
     for picture in "$work/$side"/*.ppm; do
         tell "$picture" "${picture%.ppm}.txt"
     done
