@@ -15,6 +15,6 @@ returns g c =
       asked.0,
       (
         asked.1.0,
-        reported c.args.bench.now c.asked_word.new.bench c.in_ok-word.word.now c.in_ok-text.text.items _ c.past_len.result c.future_len.result asked c.in_ok-text.ensures.front c.in_ok-push_ending.ensures.items c.past_len.ensures c.future_len.ensures,
+        reported c.args.bench.now c.asked_word.new.bench c.in_ok-word.word.now c.in_ok-text.text.items _ c.past_len.result c.future_len.result asked c.in_ok-text.ensures.front c.in_ok-push_ending.ensures.items c.past_len.ensures.value c.future_len.ensures.value,
       ),
     )
