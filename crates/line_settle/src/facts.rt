@@ -1,5 +1,5 @@
 ghost use Rattle.std.specs.Prelude.{◌≡◌, ℕ, ◌<◌, ◌≤◌, ◌↔◌, List, length, IfOk, IsTrue, MatchOption, false};
-ghost use Rattle.picture.specs.Rows.{rows_of, width_of, cell_at, line_of, with_cell, HasLine};
+ghost use Rattle.picture.specs.Rows.{rows_of, width_of, row_at, cell_at, line_of, with_cell, HasLine};
 ghost use Rattle.line_settle.specs.Masks.{IsOnly};
 ghost use Rattle.line_settle.specs.FactSets.{AreMasks, HoldsLine, IsFacts, Leaves, Excludes, ExcludesAt, nothing_excluded};
 
@@ -118,6 +118,24 @@ impl Facts {
             (λ k. IsOnly (cell_at self.now row col) k) }
     {
         only_colour(self.left(row, col))
+    }
+
+    /// Whether other facts leave the same colours in each cell of a row.
+    pub fn same_row(&self, other: &Facts, row: u8) -> bool
+        requires here { row < length self.now }
+        requires there { row < length other.now }
+        ensures { IsTrue result ↔ (row_at self.now row ≡ row_at other.now row) }
+    {
+        self.row_masks(row) == other.row_masks(row)
+    }
+
+    // The masks of a row, from the left.
+    fn row_masks(&self, row: u8) -> &[u16]
+        requires { row < length self.now }
+        ensures { result.now ≡ row_at self.now row }
+    {
+        let start = row as usize * self.width as usize;
+        &self.masks[start..start + self.width as usize]
     }
 
     // Gives the cells of a line other masks, from the left or from the top.
