@@ -69,6 +69,9 @@ impl Pending {
         ensures cells { OnOk result (self.new.cells ≡ self.old.cells) }
         ensures row { OnOk result (IsRowTaken self.old.at_hand settled.now self.new.at_hand row) }
     {
+        if self.facts.same_row(settled, row) {
+            return Ok(());
+        }
         for col in 0..settled.width() {
             self.hold(row, col, settled.left(row, col))?;
         }
