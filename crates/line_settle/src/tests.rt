@@ -489,7 +489,7 @@ fn facts_are_a_set_of_exclusions(rt: HostRuntime) -> Result<(), Fail> {
 }
 
 // Sees whether two facts leave the same in a row.
-fn agrees(rt: &impl Abort, facts: &Facts, other: &Facts, row: u8, want: bool) {
+fn rows_agree(rt: &impl Abort, facts: &Facts, other: &Facts, row: u8, want: bool) {
     assert!(rt; row < facts.height() && row < other.height());
     assert_eq!(rt; facts.same_row(other, row), want);
 }
@@ -500,20 +500,20 @@ fn rows_are_compared_cell_by_cell(rt: HostRuntime) -> Result<(), Fail> {
     let mut other = facts.copy()?;
     assert!(rt; facts.height() == 2 && facts.width() == 3);
     facts.exclude(1, 2, 0b1);
-    agrees(&rt, &facts, &other, 0, true);
-    agrees(&rt, &facts, &other, 1, false);
+    rows_agree(&rt, &facts, &other, 0, true);
+    rows_agree(&rt, &facts, &other, 1, false);
     assert!(rt; other.height() == 2 && other.width() == 3);
     other.exclude(1, 2, 0b10);
-    agrees(&rt, &facts, &other, 1, false);
+    rows_agree(&rt, &facts, &other, 1, false);
     assert!(rt; other.height() == 2 && other.width() == 3);
     other.set_left(1, 2, !0b1);
-    agrees(&rt, &facts, &other, 1, true);
+    rows_agree(&rt, &facts, &other, 1, true);
     assert!(rt; other.height() == 2 && other.width() == 3);
     other.exclude(1, 0, 0b1);
-    agrees(&rt, &facts, &other, 0, true);
-    agrees(&rt, &facts, &other, 1, false);
+    rows_agree(&rt, &facts, &other, 0, true);
+    rows_agree(&rt, &facts, &other, 1, false);
     let wider = Facts::none(rt.alloc(), 1, 4)?;
-    agrees(&rt, &facts, &wider, 0, false);
+    rows_agree(&rt, &facts, &wider, 0, false);
     Ok(())
 }
 
