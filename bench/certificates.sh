@@ -7,8 +7,7 @@
 set -euo pipefail
 root=$(cd "$(dirname "$0")/.." && pwd)
 . "$root/bench/blobs.sh"
-program=$root/crates/cert_bench/out/cert_bench
-[ -x "$program" ] || (cd "$root/crates/cert_bench" && rt run -- 1 1 1 0 <stdin >/dev/null)
+. "$root/bench/driver.sh"
 work=$(mktemp -d)
 trap 'rm -rf "$work"' EXIT
 if [ $# -eq 0 ]; then
@@ -17,13 +16,13 @@ if [ $# -eq 0 ]; then
 fi
 # The instructions of one more call: of three calls less those of one, halved.
 one_more() {
-    echo $((($(instructions "$picture" "$program" $2 "$percent") - $(instructions "$picture" "$program" $1 "$percent")) / 2))
+    echo $((($(instructions "$picture" "$program" cert $2 "$percent") - $(instructions "$picture" "$program" cert $1 "$percent")) / 2))
 }
 printf '%-22s %7s %6s %6s %7s %12s %12s %12s\n' picture givens lines splits bytes make check settle
 for picture in "$@"; do
     name=$(basename "$picture")
     for percent in 0 10; do
-        line=$(timeout 60 "$program" 1 1 1 "$percent" <"$picture") || {
+        line=$(timeout 60 "$program" cert 1 1 1 "$percent" <"$picture") || {
             printf '%-22s %6s%% not made within a minute\n' "$name" "$percent"
             continue
         }

@@ -7,8 +7,7 @@ set -euo pipefail
 root=$(cd "$(dirname "$0")/.." && pwd)
 . "$root/bench/blobs.sh"
 rounds=${1:-6}
-program=$root/crates/keep_bench/out/keep_bench
-[ -x "$program" ] || (cd "$root/crates/keep_bench" && rt run -- base paint 1 <stdin >/dev/null)
+. "$root/bench/driver.sh"
 work=$(mktemp -d)
 trap 'rm -rf "$work"' EXIT
 # a picture of 120 rows has no room for one more
@@ -16,15 +15,15 @@ draw_blobs "$work" 119
 # the instructions of one round of such work after a stroke of a picture
 round() {
     local many one
-    many=$(instructions "$3" "$program" "$1" "$2" "$rounds")
-    one=$(instructions "$3" "$program" "$1" "$2" 1)
+    many=$(instructions "$3" "$program" keep "$1" "$2" "$rounds")
+    one=$(instructions "$3" "$program" keep "$1" "$2" 1)
     echo $(((many - one) / (rounds - 1)))
 }
 printf '%-20s %-8s %7s %6s %6s %6s %12s %9s %9s %9s %11s\n' \
     picture stroke before kept dirty added evaluations base refresh keep close
 for picture in "$work"/*; do
     for stroke in paint fill insert delete swap; do
-        set -- $("$program" base "$stroke" 1 <"$picture" | tr -dc '0-9 ')
+        set -- $("$program" keep base "$stroke" 1 <"$picture" | tr -dc '0-9 ')
         base=$(round base "$stroke" "$picture")
         refresh=$(round refresh "$stroke" "$picture")
         keep=$(round keep "$stroke" "$picture")

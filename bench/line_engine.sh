@@ -5,10 +5,9 @@
 set -euo pipefail
 root=$(cd "$(dirname "$0")/.." && pwd)
 rounds=${1:-500}
-program=$root/crates/line_bench/out/line_bench
-[ -x "$program" ] || (cd "$root/crates/line_bench" && rt run -- mask 120 15 open 3 >/dev/null)
+. "$root/bench/driver.sh"
 instructions() {
-    valgrind --tool=callgrind --callgrind-out-file=/dev/null "$program" "$@" 2>&1 >/dev/null | sed -n 's/.*Collected : //p'
+    valgrind --tool=callgrind --callgrind-out-file=/dev/null "$program" line "$@" 2>&1 >/dev/null | sed -n 's/.*Collected : //p'
 }
 printf '%-6s %-7s %-8s %14s %14s %8s %12s %8s %11s\n' cells blocks settled plain mask ratio 'mask a cell' sweep sweep/mask
 for cells in 120 60 30 15; do

@@ -17,8 +17,7 @@ set -euo pipefail
 root=$(cd "$(dirname "$0")/.." && pwd)
 . "$root/bench/blobs.sh"
 seconds=${1:-20}
-program=$root/crates/search_bench/out/search_bench
-[ -x "$program" ] || (cd "$root/crates/search_bench" && rt run -- judge <stdin >/dev/null)
+. "$root/bench/driver.sh"
 work=$(mktemp -d)
 trap 'rm -rf "$work"' EXIT
 mkdir "$work/pictures"
@@ -70,7 +69,7 @@ counted() {
 # The instructions within closing facts alone.
 closing() {
     timeout "$((seconds * 60))" valgrind --tool=callgrind --callgrind-out-file=/dev/null \
-        --toggle-collect='propagate::closing::close_facts*' "$program" "$2" <"$1" 2>&1 >/dev/null | sed -n 's/.*Collected : //p' || true
+        --toggle-collect='propagate::closing::close_facts*' "$program" search "$2" <"$1" 2>&1 >/dev/null | sed -n 's/.*Collected : //p' || true
 }
 
 # One number less another, or a dash where one is missing.
@@ -91,7 +90,7 @@ referred() {
 
 declare -A ours theirs
 for task in judge other; do
-    ours[$task]=$(counted "$work/cell" "$program" "$task")
+    ours[$task]=$(counted "$work/cell" "$program" search "$task")
     theirs[$task]=$(referred "$work/cell" "$task")
 done
 
@@ -99,8 +98,8 @@ done
 row() {
     local picture=$1 task=$2 said=${3%%:*} all search closed whole reference cells=- times=-
     set -- $(tr -dc '0-9 ' <<<"${3#*:}")
-    all=$(counted "$picture" "$program" "$task")
-    search=$(less "$all" "$(counted "$picture" "$program" settle)")
+    all=$(counted "$picture" "$program" search "$task")
+    search=$(less "$all" "$(counted "$picture" "$program" search settle)")
     if [ "$3" -gt 0 ] && [ "$search" != - ]; then
         closed=$(less "$(closing "$picture" "$task")" "$(closing "$picture" settle)")
         [ "$closed" = - ] || cells=$(awk "BEGIN { printf \"%.0f%%\", 100 - 100 * $closed / $search }")
@@ -118,7 +117,7 @@ printf '%-26s %-6s %-10s %6s %8s %9s %12s %15s %6s %15s %15s %6s\n' \
     picture task said parts searched splits evaluations instructions cells whole reference times
 for picture in "$work"/pictures/*; do
     for task in judge other; do
-        if line=$(timeout "$seconds" "$program" "$task" <"$picture"); then
+        if line=$(timeout "$seconds" "$program" search "$task" <"$picture"); then
             row "$picture" "$task" "$line"
         else
             printf '%-26s %-6s %-10s\n' "$(basename "$picture")" "$task" -
@@ -128,5 +127,5 @@ done
 
 for most in 1000 1000000; do
     printf 'checkers of 80 by 80, at most %s splits: ' "$most"
-    /usr/bin/time -f '  %U s, peak %M KiB' "$program" judge "$most" <"$work/checkers" 2>&1
+    /usr/bin/time -f '  %U s, peak %M KiB' "$program" search judge "$most" <"$work/checkers" 2>&1
 done

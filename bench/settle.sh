@@ -5,8 +5,7 @@ set -euo pipefail
 root=$(cd "$(dirname "$0")/.." && pwd)
 . "$root/bench/blobs.sh"
 engine=${1:-mask}
-program=$root/crates/settle_bench/out/settle_bench
-[ -x "$program" ] || (cd "$root/crates/settle_bench" && rt run -- mask inorder <stdin >/dev/null)
+. "$root/bench/driver.sh"
 work=$(mktemp -d)
 trap 'rm -rf "$work"' EXIT
 draw_blobs "$work" 120
@@ -14,9 +13,9 @@ printf '%-20s %-8s %12s %10s %8s %8s %14s\n' picture agenda evaluations narrowed
 for picture in "$work"/*; do
     side=$(basename "$picture" | cut -dx -f1 | sed 's/^0*//')
     for agenda in inorder newest; do
-        line=$("$program" "$engine" "$agenda" <"$picture")
+        line=$("$program" settle "$engine" "$agenda" <"$picture")
         set -- $(echo "$line" | tr -dc '0-9 ')
-        cost=$(instructions "$picture" "$program" "$engine" "$agenda")
+        cost=$(instructions "$picture" "$program" settle "$engine" "$agenda")
         printf '%-20s %-8s %12s %10s %8s %8s %14s\n' "$(basename "$picture")" "$agenda" "$1" "$2" "$3" "$((2 * side))" "$cost"
     done
 done

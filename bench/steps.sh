@@ -5,10 +5,9 @@
 set -euo pipefail
 root=$(cd "$(dirname "$0")/.." && pwd)
 rounds=${1:-200}
-program=$root/crates/step_bench/out/step_bench
-[ -x "$program" ] || (cd "$root/crates/step_bench" && rt run -- step 4 1 1 2 3 >/dev/null)
+. "$root/bench/driver.sh"
 collected() {
-    valgrind --tool=callgrind --callgrind-out-file=/dev/null "$program" "$@" 2>&1 >/dev/null | sed -n 's/.*Collected : //p'
+    valgrind --tool=callgrind --callgrind-out-file=/dev/null "$program" step "$@" 2>&1 >/dev/null | sed -n 's/.*Collected : //p'
 }
 instructions() {
     echo $((($(collected "$@" "$rounds") - $(collected "$@" 1)) / (rounds - 1)))
@@ -22,7 +21,7 @@ for cells in 120 60 30 15; do
         for settled in 1 5 9; do
             for colours in 2 4 15; do
                 line=("$cells" "$blocks" "$settled" "$colours")
-                premises=$("$program" step "${line[@]}" 1 | tr -dc 0-9)
+                premises=$("$program" step step "${line[@]}" 1 | tr -dc 0-9)
                 narrow=$(instructions narrow "${line[@]}")
                 sweep=$(instructions sweep "${line[@]}")
                 step=$(instructions step "${line[@]}")

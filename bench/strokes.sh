@@ -9,19 +9,18 @@
 set -euo pipefail
 root=$(cd "$(dirname "$0")/.." && pwd)
 strokes=${STROKES:-200}
-program=$root/crates/keep_bench/out/keep_bench
-[ -x "$program" ] || (cd "$root/crates/keep_bench" && rt run -- base paint 1 <stdin >/dev/null)
+. "$root/bench/driver.sh"
 work=$(mktemp -d)
 trap 'rm -rf "$work"' EXIT
 # profiles FOLDER PICTURE SESSION EVERY: a profile of each stroke, with the fresh start behind each so many of them
 profiles() {
     mkdir -p "$1"
-    valgrind --tool=callgrind --callgrind-out-file="$1/prof" --compress-strings=no '--dump-after=keep_bench::striking::strike*' \
-        "$program" strike "$2" "$4" <"$3" >/dev/null 2>&1
+    valgrind --tool=callgrind --callgrind-out-file="$1/prof" --compress-strings=no '--dump-after=bench_driver::keep::striking::strike*' \
+        "$program" keep strike "$2" "$4" <"$3" >/dev/null 2>&1
 }
 # a line of the table for a picture and a session
 tell() {
-    "$program" count "$1" <"$2" >"$work/counts"
+    "$program" keep count "$1" <"$2" >"$work/counts"
     profiles "$work/strokes" "$1" "$2" 0
     profiles "$work/starts" "$1" "$2" 1
     python3 -B "$root/bench/strokes.py" tell "$(basename "$1" .ppm)" "$work/counts" "$work/strokes" "$work/starts"
