@@ -7,10 +7,23 @@ mod texts;
 use super::*;
 use edits::{Edit, EditFault};
 use picture::{Axis, LineId, Rgb};
-use std::test::Fail;
+use std::process::Abort;
+
+// Stops where a line is not read as a command.
+fn is_read(rt: &impl Abort, line: &str, want: Command) {
+    assert!(rt; parse_command(line.as_bytes()) == Ok(want), "{line}");
+}
+
+// Stops where a line has no fault of a name.
+fn has_fault(rt: &impl Abort, line: &str, want: &str) {
+    match parse_command(line.as_bytes()) {
+        Ok(_) => assert!(rt; false, "{line}"),
+        Err(fault) => assert!(rt; fault.name() == want, "{line}"),
+    }
+}
 
 #[test]
-fn each_command_is_read(rt: HostRuntime) -> Result<(), Fail> {
+fn each_command_is_read(rt: HostRuntime) {
     let (across, down) = (Axis::Across, Axis::Down);
     let rgb = Rgb {
         r: 0,
@@ -98,13 +111,12 @@ fn each_command_is_read(rt: HostRuntime) -> Result<(), Fail> {
         ("report", Command::Report),
     ];
     for (line, want) in cases {
-        assert_eq!(rt; parse_command(line.as_bytes()), Ok(want), "{line}");
+        is_read(&rt, line, want);
     }
-    Ok(())
 }
 
 #[test]
-fn the_first_fault_of_a_line_is_answered(rt: HostRuntime) -> Result<(), Fail> {
+fn the_first_fault_of_a_line_is_answered(rt: HostRuntime) {
     let cases = [
         ("paint 0 1 a", "BadNumber"),
         ("paint 1 1 z", "BadColour"),
@@ -135,20 +147,16 @@ fn the_first_fault_of_a_line_is_answered(rt: HostRuntime) -> Result<(), Fail> {
         ("\u{ff}", "UnknownWord"),
     ];
     for (line, want) in cases {
-        match parse_command(line.as_bytes()) {
-            Ok(_) => assert!(rt; false, "{line}"),
-            Err(fault) => assert_eq!(rt; fault.name(), want, "{line}"),
-        }
+        has_fault(&rt, line, want);
     }
-    assert_eq!(rt; parse_command(&[0xff]), Err(CommandFault::UnknownWord));
-    Ok(())
+    assert!(rt; parse_command(&[0xff]) == Err(CommandFault::UnknownWord));
 }
 
 #[test]
 fn two_hundred_bytes_are_a_line(rt: HostRuntime) {
     let mut line = [b' '; 201];
     line[..4].copy_from_slice(b"undo");
-    assert_eq!(rt; parse_command(&line[..200]), Ok(Command::Undo));
-    assert_eq!(rt; parse_command(&line), Err(CommandFault::LongLine));
-    assert_eq!(rt; parse_command(&[b' '; 201]), Err(CommandFault::LongLine));
+    assert!(rt; parse_command(&line[..200]) == Ok(Command::Undo));
+    assert!(rt; parse_command(&line) == Err(CommandFault::LongLine));
+    assert!(rt; parse_command(&[b' '; 201]) == Err(CommandFault::LongLine));
 }

@@ -2,6 +2,18 @@ use super::fakes::{Endless, Pieces};
 use super::*;
 use crate::lines::{Lines, MOST_READS, ReadFault};
 use crate::request::Request;
+use std::io::Read;
+use std::process::Abort;
+
+// Stops where the next line is not as it is wanted.
+fn is_next<R: Read>(
+    rt: &impl Abort,
+    lines: &mut Lines,
+    reader: &mut R,
+    want: Result<Option<Request>, ReadFault>,
+) {
+    assert_eq!(rt; lines.next(reader), want);
+}
 
 #[test]
 fn lines_may_be_cut_anywhere(rt: HostRuntime) {
@@ -22,10 +34,10 @@ fn lines_may_be_cut_anywhere(rt: HostRuntime) {
         };
         let mut lines = Lines::new();
         for asked in want {
-            assert_eq!(rt; lines.next(&mut reader), Ok(Some(asked)));
+            is_next(&rt, &mut lines, &mut reader, Ok(Some(asked)));
         }
-        assert_eq!(rt; lines.next(&mut reader), Ok(None));
-        assert_eq!(rt; lines.next(&mut reader), Ok(None));
+        is_next(&rt, &mut lines, &mut reader, Ok(None));
+        is_next(&rt, &mut lines, &mut reader, Ok(None));
     }
 }
 
@@ -39,8 +51,8 @@ fn an_unfinished_line_is_lost_with_a_failed_read(rt: HostRuntime) {
         };
         let mut lines = Lines::new();
         let undo = Request::Command(Command::Undo);
-        assert_eq!(rt; lines.next(&mut reader), Ok(Some(undo)));
-        assert_eq!(rt; lines.next(&mut reader), Err(ReadFault));
+        is_next(&rt, &mut lines, &mut reader, Ok(Some(undo)));
+        is_next(&rt, &mut lines, &mut reader, Err(ReadFault));
     }
 }
 
@@ -65,7 +77,7 @@ fn a_long_line_is_skipped(rt: HostRuntime) {
         };
         let mut lines = Lines::new();
         for asked in [undo, long, long, long, undo, None] {
-            assert_eq!(rt; lines.next(&mut reader), Ok(asked));
+            is_next(&rt, &mut lines, &mut reader, Ok(asked));
         }
     }
 }
@@ -78,15 +90,15 @@ fn reads_are_counted(rt: HostRuntime) {
     };
     let mut lines = Lines::new();
     for _ in 0..MOST_READS {
-        assert_eq!(rt; lines.next(&mut blank), Ok(Some(Request::Nothing)));
+        is_next(&rt, &mut lines, &mut blank, Ok(Some(Request::Nothing)));
     }
-    assert_eq!(rt; lines.next(&mut blank), Err(ReadFault));
-    assert_eq!(rt; blank.reads, 1_048_576);
+    is_next(&rt, &mut lines, &mut blank, Err(ReadFault));
+    assert!(rt; blank.reads == 1_048_576);
     let mut letters = Endless {
         byte: b'a',
         reads: 0,
     };
     let mut lines = Lines::new();
-    assert_eq!(rt; lines.next(&mut letters), Err(ReadFault));
-    assert_eq!(rt; letters.reads, 1_048_576);
+    is_next(&rt, &mut lines, &mut letters, Err(ReadFault));
+    assert!(rt; letters.reads == 1_048_576);
 }

@@ -4,8 +4,10 @@ use crate::report::{push_ending, push_front};
 use crate::written::{non_text_of, ppm_text_of};
 use clues::ClueBook;
 use line_settle::Facts;
+use picture::Document;
 use ppm_text::read_ppm;
-use std::test::Fail;
+use std::alloc::Global;
+use std::process::Abort;
 
 // Three black cells and a white one.
 const THREE_BLACK: &[u8] = b"P3\n2 2\n255\n0 0 0\n0 0 0\n0 0 0\n255 255 255\n";
@@ -13,41 +15,41 @@ const THREE_BLACK: &[u8] = b"P3\n2 2\n255\n0 0 0\n0 0 0\n0 0 0\n255 255 255\n";
 const REPORT: &str =
     "size 2 2\ncolours 2 maxval 255\n. 255 255 255\na 0 0 0\npicture\naa\na.\nclues\nr 1: 2a\nr 2: 1a\nc 1: 2a\nc 2: 1a\nmap\na?\n?.\nopen 2\nverdict unique\nhistory 12 1\n";
 
+fn three_black(rt: &impl Abort, alloc: Global) -> Document {
+    let document = read_ppm(alloc, THREE_BLACK, None);
+    document.ok().expect(rt, "a picture")
+}
+
 // All but one colour.
 fn but(colour: u16) -> u16 {
     u16::MAX ^ colour
 }
 
 #[test]
-fn a_report_has_all_parts(rt: HostRuntime) -> Result<(), Fail> {
-    let document = read_ppm(rt.alloc(), THREE_BLACK, None)
-        .ok()
-        .ok_or("it is a picture")?;
-    let clues = ClueBook::of(rt.alloc(), &document.picture)?;
-    let mut map = Facts::none(rt.alloc(), 2, 2)?;
+fn a_report_has_all_parts(rt: HostRuntime) {
+    let document = three_black(&rt, rt.alloc());
+    let clues = ClueBook::of(rt.alloc(), &document.picture).expect(&rt, "memory");
+    let mut map = Facts::none(rt.alloc(), 2, 2).expect(&rt, "memory");
     map.exclude(0, 0, but(2));
     map.exclude(1, 1, but(1));
     map.exclude(0, 1, 1 << 15);
     let mut text = Vec::new(rt.alloc());
-    push_front(&mut text, &document, &clues, &map)?;
-    push_ending(&mut text, b"unique", 12, 1)?;
-    assert_eq!(rt; text.as_slice(), REPORT.as_bytes());
-    Ok(())
+    push_front(&mut text, &document, &clues, &map).expect(&rt, "memory");
+    push_ending(&mut text, b"unique", 12, 1).expect(&rt, "memory");
+    assert!(rt; text.as_slice() == REPORT.as_bytes());
 }
 
 #[test]
-fn pictures_are_written(rt: HostRuntime) -> Result<(), Fail> {
-    let document = read_ppm(rt.alloc(), THREE_BLACK, None)
+fn pictures_are_written(rt: HostRuntime) {
+    let document = three_black(&rt, rt.alloc());
+    let ppm = ppm_text_of(rt.alloc(), &document)
         .ok()
-        .ok_or("it is a picture")?;
-    let ppm = ppm_text_of(rt.alloc(), &document).ok().ok_or("memory")?;
-    assert_eq!(rt; ppm.as_slice(), THREE_BLACK);
-    let non = non_text_of(rt.alloc(), &document.picture)
-        .ok()
-        .ok_or("memory")?;
+        .expect(&rt, "memory");
+    assert!(rt; ppm.as_slice() == THREE_BLACK);
+    let non = non_text_of(rt.alloc(), &document.picture).ok();
+    let non = non.expect(&rt, "memory");
     let want = "width 2\nheight 2\nrows\n2\n1\ncolumns\n2\n1\ngoal \"1110\"\n";
-    assert_eq!(rt; non.as_slice(), want.as_bytes());
-    Ok(())
+    assert!(rt; non.as_slice() == want.as_bytes());
 }
 
 #[test]
@@ -60,6 +62,6 @@ fn a_refusal_has_its_line(rt: HostRuntime) {
         (Refusal::Memory, "refused: Memory\n"),
     ];
     for (refusal, want) in cases {
-        assert_eq!(rt; refusal.line(), want.as_bytes());
+        assert!(rt; refusal.line() == want.as_bytes(), "{want}");
     }
 }
