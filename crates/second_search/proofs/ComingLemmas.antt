@@ -16,9 +16,9 @@ use Rattle.second_search.specs.declared.cell.Cell.{Cell}
 use Rattle.second_search.specs.declared.coming.Coming.{Coming}
 use Rattle.second_search.specs.declared.coming.Coming.TheVariants.{Dies, Ends, Splits}
 use Rattle.second_search.specs.Branching.{branches}
-use Rattle.second_search.specs.Looking.{Shows}
+use Rattle.second_search.specs.Looking.{IsFirstUnsettled, Shows}
 use Rattle.second_search.specs.Parts.{IsBefore}
-use Rattle.second_search.specs.Searching.{Comes, ComesClosed, CostsAreUnique, IsFirstUnsettled, Searches, SettlesTo, none_waits, is_dead, is_known, is_other, is_split}
+use Rattle.second_search.specs.Searching.{Comes, ComesClosed, CostsAreUnique, Searches, SettlesTo, none_waits, is_dead, is_known, is_other, is_split}
 use Rattle.second_search.proofs.GridLemmas.{same_inside}
 
 -- ---- what facts come to is one

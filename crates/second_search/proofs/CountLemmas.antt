@@ -11,10 +11,12 @@ use Rattle.second_search.specs.declared.coming.Coming.TheVariants.{Dies, Ends, S
 use Rattle.second_search.specs.declared.counting.Ending.TheVariants as ending
 use Rattle.second_search.specs.declared.counting.Step.{Step}
 use Rattle.second_search.specs.declared.counting.Step.TheVariants as step
-use Rattle.second_search.specs.Branching.{Search, branches, search_of}
+use Rattle.second_search.specs.Branching.{AreSameAbove, Search, branches, search_of}
+use Rattle.second_search.specs.Looking.{AreRowsSettled}
 use Rattle.second_search.specs.Searching.{Allows, Comes, CountsSome, EndsAs, Searches, SplitsPast, none_waits, is_dead, is_known, is_other, is_split, once_more, past_dead, past_known, past_split, raised}
 use Rattle.second_search.specs.Stepping.{Compares, IsOneLess, Spends, Steps}
 use Rattle.second_search.proofs.ComingLemmas.{leads}
+use Rattle.second_search.proofs.LookLemmas.{rows_same}
 use Rattle.second_search.proofs.WeightLemmas.{branches_lighter, load, load_append, load_more, weight, weight_within}
 use Rattle.std.proofs.Math.Pow.{pow_mono, pow_pos}
 use Rattle.picture.specs.Rows.{row_at}
@@ -204,6 +206,16 @@ counted_other clues known first picture allowance start s t left rest count more
 pub counted_halted : LeastIsUnique → (clues : Clues) (known first : List (List ℕ)) (allowance : Option ℕ) (start : ℕ) (s t : Search) (left rest : Option ℕ) (count more : ℕ) → Counting clues known first allowance start (s.at_hand ∷ s.behind) left count → Steps clues known s t left rest count more step.Halted → (n : ℕ) × ((more ≡ raised start n) × EndsAs clues known first allowance ending.BrokenOff n)
 counted_halted unique clues known first allowance start s t left rest count more c h =
     (c.made, (h.1.1 ∙ c.counted, ends_broken_off unique clues known first s.at_hand h.0.0 h.0.1.0 s.behind c.made allowance left c.going h.0.1.1 h.1.0 c.is_left))
+
+-- ---- what a split leaves
+
+-- the rows that were settled are the same in the facts that are split
+pub split_same : (clues : Clues) (facts first settled : List (List ℕ)) (coming : Coming) (cell : Cell) (rows : ℕ) → first ≡ facts → coming ≡ Splits settled cell → Comes clues first coming → AreRowsSettled facts rows → AreSameAbove facts settled rows
+split_same clues facts first settled coming cell rows e f c above =
+    let P : List (List ℕ) → Type 0 = λ x. Comes clues x coming in
+    let Q : Coming → Type 0 = λ x. Comes clues facts x in
+    let h : Comes clues facts (Splits settled cell) = subst Q f (subst P e c) in
+    rows_same clues facts settled rows h.0.are_facts h.0.least.holds h.0.fits above
 
 -- ---- what waits weighs less
 

@@ -17,13 +17,14 @@ use Rattle.propagate.specs.FillingLaws.{fills_fewer}
 use Rattle.propagate.specs.Filling.{Fills}
 use Rattle.second_search.specs.declared.cell.Cell.{Cell}
 use Rattle.second_search.specs.declared.looking.Look.{Look}
-use Rattle.second_search.specs.declared.looking.Look.TheVariants.{Nothing, Found}
-use Rattle.second_search.specs.Branching.{FillsSome, Search, branches, colours_of, held, places, search_of}
-use Rattle.second_search.specs.Looking.{FindsFilling, Looks, Narrows}
+use Rattle.second_search.specs.declared.looking.Look.TheVariants.{Nothing, Found, Split}
+use Rattle.second_search.specs.Branching.{AreSameAbove, FillsSome, Search, branches, colours_of, held, places, search_of}
+use Rattle.second_search.specs.Looking.{AreRowsSettled, FindsFilling, Looks, Narrows}
 use Rattle.second_search.specs.Other.{AreSound, FindsFirst, FindsOther, HasClues, Solves}
 use Rattle.line_settle.specs.GridLaws.{shape_refl, shape_sym, shape_trans, at_with_cell, off_with_cell, shape_with_cell}
 use Rattle.picture.specs.BitLaws.{bit_below, bit_is_set, power_has, set_bit}
-use Rattle.second_search.proofs.KeepLemmas.{EachQuiet, each_branch}
+use Rattle.second_search.proofs.KeepLemmas.{EachQuiet, above_first, each_branch}
+use Rattle.second_search.proofs.LookLemmas.{rows_same}
 use Rattle.second_search.proofs.WeightLemmas.{branches_lighter, load, load_append, no_load, load_more, weight, weight_within}
 
 -- ---- a cell held to each of its colours
@@ -205,13 +206,14 @@ pub split_looked_at : (clues : Clues) (known settled : List (List ℕ)) (cell : 
 split_looked_at clues known settled cell s t u h et eu =
     let is = h.are_facts in
     let front = branches settled cell.row cell.col (cell_at settled cell.row cell.col) in
-    let rect = is.rectangular cell.row h.splits.in_rows in
-    let inside = h.splits.in_columns in
+    let at = h.splits.is in
+    let rect = is.rectangular cell.row at.in_rows in
+    let inside = at.in_columns in
     let wide : cell.col < length (row_at settled cell.row) = omega arith in
-    let same : (picture : List (List ℕ)) → Fills clues settled picture ↔ FillsSome clues front picture = λ picture. split_fills clues settled picture cell.row cell.col is h.splits.in_rows h.splits.in_columns in
+    let same : (picture : List (List ℕ)) → Fills clues settled picture ↔ FillsSome clues front picture = λ picture. split_fills clues settled picture cell.row cell.col is at.in_rows at.in_columns in
     let less = weight_within s.at_hand settled h.within in
     let most = pow_mono {i = 5 * weight settled} {j = 5 * weight s.at_hand} (omega arith) in
-    let light = branches_lighter settled cell.row cell.col h.splits.in_rows wide h.splits.unsettled in
+    let light = branches_lighter settled cell.row cell.col at.in_rows wide at.unsettled in
     record {
       front = front;
       behind = ap (λ (x : Search). x.behind) eu ∙ ap (λ (x : Search). branches x.at_hand cell.row cell.col (cell_at x.at_hand cell.row cell.col) ++ x.behind) et;
@@ -222,8 +224,14 @@ split_looked_at clues known settled cell s t u h et eu =
       quiet = λ first shape q.
           let P : Search → Type 0 = λ x. EachQuiet clues first x.behind x.cells in
           let Q : Search → Type 0 = λ x. EachQuiet clues first (branches x.at_hand cell.row cell.col (cell_at x.at_hand cell.row cell.col) ++ x.behind) (places cell.row cell.col (cell_at x.at_hand cell.row cell.col) ++ x.cells) in
-          subst P (sym eu) (subst Q (sym et) (each_branch clues first settled cell.row cell.col (cell_at settled cell.row cell.col) s.behind s.cells (shape_trans shape h.within.same_shape) h.closed h.fits h.splits.in_rows h.splits.in_columns q));
+          subst P (sym eu) (subst Q (sym et) (each_branch clues first settled cell.row cell.col (cell_at settled cell.row cell.col) s.behind s.cells (shape_trans shape h.within.same_shape) h.closed h.fits at.in_rows at.in_columns (above_first settled cell h.splits) q));
     }
+
+-- the rows that were settled are the same in the facts that were split
+pub find_same : (clues : Clues) (known facts settled : List (List ℕ)) (s : Search) (look : Look) (cell : Cell) (rows : ℕ) → facts ≡ s.at_hand → look ≡ Split settled cell → Looks clues known facts look → AreRowsSettled s.at_hand rows → AreSameAbove s.at_hand settled rows
+find_same clues known facts settled s look cell rows e f h above =
+    let n = seen clues known facts s look (Split settled cell) e f h in
+    rows_same clues s.at_hand settled rows n.are_facts n.within n.fits above
 
 alike_both : (first facts : List (List ℕ)) (xs ys : List (List (List ℕ))) → SameShape first facts → AreAlike facts xs → AreAlike first ys → AreAlike first (xs ++ ys)
 alike_both first facts [] ys s a b = b

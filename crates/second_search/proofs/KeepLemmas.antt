@@ -23,6 +23,7 @@ use Rattle.propagate.specs.LineNames.{AreLinesOf}
 use Rattle.second_search.specs.declared.cell.Cell.{Cell}
 use Rattle.second_search.specs.declared.counting.Step.TheVariants as step
 use Rattle.second_search.specs.Branching.{GoesOn, Search, branches, colours_of, held, place, places, search_of}
+use Rattle.second_search.specs.Looking.{AreRowsSettled, IsFirstUnsettled}
 use Rattle.second_search.specs.Searching.{KeepsOutside, NamesLinesOf}
 use Rattle.second_search.specs.Stepping.{Steps}
 use Rattle.second_search.specs.Through.{NamesBoth, across, down}
@@ -91,11 +92,12 @@ quiet_outside law clues cells picture facts lines is e k n line has not =
 
 -- ---- a cell held in closed facts
 
--- facts in which a cell lies, and each line but the two through it is quiet
+-- facts in which a cell lies, each line but the two through it is quiet, and each row above it settled
 pub record IsQuietBut (clues : Clues) (facts : List (List ℕ)) (cell : Cell) : Type 0 where
   pub in_rows : cell.row < length facts
   pub in_columns : cell.col < width_of facts
   pub quiet : (lines : Lines) → NamesBoth lines cell.row cell.col → QuietOutside clues facts lines
+  pub above : AreRowsSettled facts cell.row
 
 off_cell : (line : LineId) (lines : Lines) (row col i : ℕ) → NamesBoth lines row col → (HasName lines line → ⊥) → (row_on line.axis line.at i ≡ row) × (col_on line.axis line.at i ≡ col) → ⊥
 off_cell line lines row col i both not e = by line.axis not e
@@ -113,8 +115,8 @@ same_line_off facts row col x lines line both not =
     ∙ (off_with_cell facts row col x (row_on line.axis line.at j) (col_on line.axis line.at j) (off_cell line lines row col j both not)
     ∙ sym (cell_on facts line j)))
 
-quiet_held : (clues : Clues) (settled : List (List ℕ)) (row col x : ℕ) → IsClosed clues settled → EachFits clues settled → row < length settled → col < width_of settled → IsQuietBut clues (with_cell settled row col x) (place row col)
-quiet_held clues settled row col x closed fits h l =
+quiet_held : (clues : Clues) (settled : List (List ℕ)) (row col x : ℕ) → IsClosed clues settled → EachFits clues settled → row < length settled → col < width_of settled → AreRowsSettled settled row → IsQuietBut clues (with_cell settled row col x) (place row col)
+quiet_held clues settled row col x closed fits h l above =
     let held_to = with_cell settled row col x in
     let shape = shape_with_cell settled row col x in
     let tall = shape.rows in
@@ -126,6 +128,10 @@ quiet_held clues settled row col x closed fits h l =
           let there = same_has_line held_to settled line (shape_sym shape) has in
           let P : List ℕ → Type 0 = λ left. IsQuietLine (clue_at clues line) left in
           subst P (sym (same_line_off settled row col x lines line both not)) (record { closed = closed line there; fits = fits line there });
+      above = λ r c m w.
+          let at = above r c m (omega arith) in
+          let P : ℕ → Type 0 = λ y. IsOnly y at.0 in
+          (at.0, subst P (sym (off_with_cell settled row col x r c (λ e. absurd (let p = e.0 in omega arith)))) at.1);
     }
 
 -- Each of some facts has the shape of the first ones, and is quiet but for the lines through its cell.
@@ -134,29 +140,34 @@ EachQuiet clues first [] cells = Unit {0}
 EachQuiet clues first (facts ∷ others) [] = ⊥
 EachQuiet clues first (facts ∷ others) (cell ∷ cells) = (SameShape first facts × IsQuietBut clues facts cell) × EachQuiet clues first others cells
 
-each_held : (clues : Clues) (first settled : List (List ℕ)) (row col : ℕ) (others : List (List (List ℕ))) (cells : List Cell) → SameShape first settled → IsClosed clues settled → EachFits clues settled → row < length settled → col < width_of settled → EachQuiet clues first others cells → (ks : List ℕ) → EachQuiet clues first (held settled row col ks ++ others) (map (λ (k : ℕ). place row col) ks ++ cells)
-each_held clues first settled row col others cells s c f h l o [] = o
-each_held clues first settled row col others cells s c f h l o (k ∷ ks) = (
-  (shape_trans s (shape_with_cell settled row col (2 ^ k)), quiet_held clues settled row col (2 ^ k) c f h l),
-  each_held clues first settled row col others cells s c f h l o ks,
+each_held : (clues : Clues) (first settled : List (List ℕ)) (row col : ℕ) (others : List (List (List ℕ))) (cells : List Cell) → SameShape first settled → IsClosed clues settled → EachFits clues settled → row < length settled → col < width_of settled → AreRowsSettled settled row → EachQuiet clues first others cells → (ks : List ℕ) → EachQuiet clues first (held settled row col ks ++ others) (map (λ (k : ℕ). place row col) ks ++ cells)
+each_held clues first settled row col others cells s c f h l a o [] = o
+each_held clues first settled row col others cells s c f h l a o (k ∷ ks) = (
+  (shape_trans s (shape_with_cell settled row col (2 ^ k)), quiet_held clues settled row col (2 ^ k) c f h l a),
+  each_held clues first settled row col others cells s c f h l a o ks,
 )
 
 -- the branches of a cell of closed facts
-pub each_branch : (clues : Clues) (first settled : List (List ℕ)) (row col mask : ℕ) (others : List (List (List ℕ))) (cells : List Cell) → SameShape first settled → IsClosed clues settled → EachFits clues settled → row < length settled → col < width_of settled → EachQuiet clues first others cells → EachQuiet clues first (branches settled row col mask ++ others) (places row col mask ++ cells)
-each_branch clues first settled row col mask others cells s c f h l o = each_held clues first settled row col others cells s c f h l o (colours_of mask)
+pub each_branch : (clues : Clues) (first settled : List (List ℕ)) (row col mask : ℕ) (others : List (List (List ℕ))) (cells : List Cell) → SameShape first settled → IsClosed clues settled → EachFits clues settled → row < length settled → col < width_of settled → AreRowsSettled settled row → EachQuiet clues first others cells → EachQuiet clues first (branches settled row col mask ++ others) (places row col mask ++ cells)
+each_branch clues first settled row col mask others cells s c f h l a o = each_held clues first settled row col others cells s c f h l a o (colours_of mask)
+
+pub above_first : (facts : List (List ℕ)) (cell : Cell) → IsFirstUnsettled facts cell → AreRowsSettled facts cell.row
+above_first facts cell f = λ r c l w. f.before r c w (inl l)
 
 -- ---- on to the next facts
 
--- the lines of a set are those of the facts, which have the first ones' shape, and each other line is quiet
-pub record IsReady (clues : Clues) (first facts : List (List ℕ)) (lines : Lines) : Type 0 where
+-- the lines of a set are those of the facts, which have the first ones' shape, each other line is quiet, and each row above one
+-- settled
+pub record IsReady (clues : Clues) (first facts : List (List ℕ)) (lines : Lines) (top : ℕ) : Type 0 where
   pub same_shape : SameShape first facts
   pub are_lines : AreLinesOf facts lines
   pub quiet : QuietOutside clues facts lines
+  pub above : AreRowsSettled facts top
 
-pub ready_first : (clues : Clues) (first : List (List ℕ)) (lines : Lines) (s : Search) → s ≡ search_of first [] [] → AreLinesOf first lines → QuietOutside clues first lines → IsReady clues first s.at_hand lines × EachQuiet clues first s.behind s.cells
+pub ready_first : (clues : Clues) (first : List (List ℕ)) (lines : Lines) (s : Search) → s ≡ search_of first [] [] → AreLinesOf first lines → QuietOutside clues first lines → IsReady clues first s.at_hand lines 0 × EachQuiet clues first s.behind s.cells
 ready_first clues first lines s e of quiet =
-    let P : Search → Type 0 = λ x. IsReady clues first x.at_hand lines × EachQuiet clues first x.behind x.cells in
-    subst P (sym e) (record { same_shape = shape_refl first; are_lines = of; quiet = quiet }, tt)
+    let P : Search → Type 0 = λ x. IsReady clues first x.at_hand lines 0 × EachQuiet clues first x.behind x.cells in
+    subst P (sym e) (record { same_shape = shape_refl first; are_lines = of; quiet = quiet; above = λ r c l w. absurd (omega arith) }, tt)
 
 pub quiet_at : (clues : Clues) (first : List (List ℕ)) (s t : Search) (cell : Cell) → EachQuiet clues first s.behind s.cells → GoesOn s t (Some cell) → (SameShape first t.at_hand × IsQuietBut clues t.at_hand cell) × EachQuiet clues first t.behind t.cells
 quiet_at clues first s t cell q on =
@@ -164,8 +175,8 @@ quiet_at clues first s t cell q on =
     let R : List Cell → Type 0 = λ x. EachQuiet clues first (t.at_hand ∷ t.behind) x in
     subst R on.1 (subst P on.0 q)
 
-pub ready_at : (clues : Clues) (first facts : List (List ℕ)) (cell : Cell) (lines : Lines) → SameShape first facts → IsQuietBut clues facts cell → AreLinesOf facts lines → NamesBoth lines cell.row cell.col → IsReady clues first facts lines
-ready_at clues first facts cell lines s q of both = record { same_shape = s; are_lines = of; quiet = q.quiet lines both }
+pub ready_at : (clues : Clues) (first facts : List (List ℕ)) (cell : Cell) (lines : Lines) → SameShape first facts → IsQuietBut clues facts cell → AreLinesOf facts lines → NamesBoth lines cell.row cell.col → IsReady clues first facts lines cell.row
+ready_at clues first facts cell lines s q of both = record { same_shape = s; are_lines = of; quiet = q.quiet lines both; above = q.above }
 
 -- where a look passed, nothing changed
 pub quiet_passes : (clues : Clues) (known first : List (List ℕ)) (s t : Search) (left rest : Option ℕ) (count more : ℕ) → EachQuiet clues first s.behind s.cells → Steps clues known s t left rest count more step.Passed → EachQuiet clues first t.behind t.cells
@@ -180,4 +191,4 @@ quiet_splits clues known first s t left rest count more shape q h =
     let at = h.0.comes.1.is in
     let cell = h.0.cell in
     let P : Search → Type 0 = λ x. EachQuiet clues first x.behind x.cells in
-    subst P (sym h.0.new_is) (each_branch clues first h.0.settled cell.row cell.col (cell_at h.0.settled cell.row cell.col) s.behind s.cells (shape_trans shape to.least.holds.same_shape) to.least.closed to.fits at.in_rows at.in_columns q)
+    subst P (sym h.0.new_is) (each_branch clues first h.0.settled cell.row cell.col (cell_at h.0.settled cell.row cell.col) s.behind s.cells (shape_trans shape to.least.holds.same_shape) to.least.closed to.fits at.in_rows at.in_columns (above_first h.0.settled cell h.0.comes.1) q)

@@ -1,19 +1,24 @@
 -- Settled facts and the picture that they show.
-use Rattle.std.proofs.Common.{◌≡◌, ℕ, ◌+◌, ◌<◌, ◌↔◌, List, [], length, replicate, refl, sym, ap, subst, ◌∙◌, arith, inl, inr, Result, Ok, Err}
-use Rattle.std.specs.Prelude.{IfOk}
+use Rattle.std.proofs.Common.{◌≡◌, ℕ, ◌+◌, ◌<◌, ◌↔◌, List, [], length, get_or, replicate, refl, sym, ap, subst, ◌∙◌, arith, inl, inr, Result, Ok, Err}
+use Rattle.std.specs.Prelude.{IfOk, IsBitSet}
 use Rattle.std.proofs.lemmas.Bool.{cases_eq, cases_lt}
 use Rattle.std.proofs.lemmas.List.{get_or_past, get_or-replicate, length-replicate}
 use Rattle.picture.specs.Rows.{width_of, row_at, cell_at, with_cell}
 use Rattle.clues.specs.ClueBook.{Clues, clues_of}
 use Rattle.line_settle.specs.Masks.{IsOnly}
 use Rattle.line_settle.specs.FactSets.{IsFacts, IsWithin, SameShape}
+use Rattle.line_settle.specs.declared.line_engine.Outcome.{Outcome}
+use Rattle.line_settle.specs.declared.line_engine.Outcome.TheVariants.{Narrowed}
+use Rattle.propagate.specs.Closing.{Closes, EachFits}
 use Rattle.propagate.specs.Filling.{Fills}
 use Rattle.second_search.specs.declared.looking.Look.{Look}
 use Rattle.second_search.specs.declared.looking.Look.TheVariants.{Nothing, Found, Split}
-use Rattle.second_search.specs.Looking.{Looks, Shows, ShowsRow}
+use Rattle.second_search.specs.Branching.{AreSameAbove}
+use Rattle.second_search.specs.Looking.{AreRowsSettled, Looks, Shows, ShowsRow}
+use Rattle.second_search.specs.Through.{across}
 use Rattle.line_settle.specs.GridLaws.{shape_sym, shape_trans, at_with_cell, off_with_cell, shape_with_cell}
-use Rattle.picture.specs.BitLaws.{bit_below}
-use Rattle.second_search.proofs.GridLemmas.{same_inside}
+use Rattle.picture.specs.BitLaws.{bit_below, fewer_le, no_bit}
+use Rattle.second_search.proofs.GridLemmas.{cell_outside, same_inside}
 
 pub only_small : (facts : List (List ℕ)) (row col k : ℕ) → IsFacts facts → IsOnly (cell_at facts row col) k → k < 16
 only_small facts row col k is h = bit_below (cell_at facts row col) 16 k (is.masks row col) ((h k).1 refl)
@@ -108,6 +113,55 @@ found_shown clues facts picture known is s e n = (shown_fills clues facts pictur
 pub if_ok : {T E : Type 0} (r : Result T E) (P Q : T → Type 0) → ((x : T) → P x → Q x) → IfOk r P → IfOk r Q
 if_ok (Ok x) P Q f h = f x h
 if_ok (Err e) P Q f h = h
+
+-- a cell with just one colour left keeps it where facts exclude more and some list fits its row
+stays_only : (clues : Clues) (facts settled : List (List ℕ)) (row col k : ℕ) → IsWithin facts settled → EachFits clues settled → IsOnly (cell_at facts row col) k → IsOnly (cell_at settled row col) k
+stays_only clues facts settled row col k w fits only = elim (cases_lt col (length (row_at settled row))) [
+  | inr p ↦ absurd (
+      let wide = w.same_shape.each row in
+      let P : ℕ → Type 0 = λ x. IsBitSet x k in
+      no_bit k (subst P (get_or_past (row_at facts row) col 0 (omega arith)) ((only k).1 refl)))
+  | inl l ↦ elim (cases_lt row (length settled)) [
+    | inr p ↦ absurd (let none : length (row_at settled row) ≡ 0 = ap length (get_or_past settled row [] p) in omega arith)
+    | inl h ↦
+        let list = fits (across row) h in
+        let there = list.1.keeps col l in
+        let e = (only (get_or list.0 col 0)).0 (w.leaves row col (get_or list.0 col 0) there) in
+        let P : ℕ → Type 0 = λ x. IsBitSet (cell_at settled row col) x in
+        λ j. ((λ s. (only j).0 (w.leaves row col j s)), (λ f. subst P (e ∙ sym f) there))
+  ]
+]
+
+-- rows that are settled stay so where facts are closed and some list fits each line
+pub rows_stay : (clues : Clues) (facts first settled : List (List ℕ)) (outcome : Outcome) (rows : ℕ) → first ≡ facts → Closes clues first settled outcome → outcome ≡ Narrowed → AreRowsSettled facts rows → AreRowsSettled settled rows
+rows_stay clues facts first settled outcome rows same c e h r col l w =
+    let P : List (List ℕ) → Type 0 = λ x. IsWithin x settled in
+    let within : IsWithin facts settled = subst P same c.holds in
+    let wide : width_of facts ≡ width_of settled = within.same_shape.each 0 in
+    let at = h r col l (omega arith) in
+    (at.0, stays_only clues facts settled r col at.0 within (c.fits e) at.1)
+
+same_only : (a b k : ℕ) → IsOnly a k → IsOnly b k → a ≡ b
+same_only a b k p q =
+    let l = fewer_le a b (λ j s. (q j).1 ((p j).0 s)) in
+    let m = fewer_le b a (λ j s. (p j).1 ((q j).0 s)) in
+    omega arith
+
+-- and are the same
+pub rows_same : (clues : Clues) (facts settled : List (List ℕ)) (rows : ℕ) → IsFacts settled → IsWithin facts settled → EachFits clues settled → AreRowsSettled facts rows → AreSameAbove facts settled rows
+rows_same clues facts settled rows is w fits h r col l =
+    let wide : width_of facts ≡ width_of settled = w.same_shape.each 0 in
+    elim (cases_lt col (width_of facts)) [
+      | inl m ↦ let at = h r col l m in same_only (cell_at facts r col) (cell_at settled r col) at.0 at.1 (stays_only clues facts settled r col at.0 w fits at.1)
+      | inr p ↦
+          let rect : (i : ℕ) → i < length facts → length (row_at facts i) ≡ width_of facts = λ i m.
+          let rows = w.same_shape.rows in
+          let each = w.same_shape.each i in
+          let e = is.rectangular i (omega arith) in
+          omega arith in
+          cell_outside facts (width_of facts) rect r col (λ _ m. absurd (omega arith))
+          ∙ sym (cell_outside settled (width_of settled) is.rectangular r col (λ _ m. absurd (omega arith)))
+    ]
 
 -- what is seen of the facts that closing leaves is seen of those handed in
 pub looks_back : (clues : Clues) (known facts settled : List (List ℕ)) → IsWithin facts settled → ((picture : List (List ℕ)) → Fills clues facts picture ↔ Fills clues settled picture) → (look : Look) → Looks clues known settled look → Looks clues known facts look

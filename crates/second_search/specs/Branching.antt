@@ -76,6 +76,10 @@ pub record IsRowTaken (old settled new : List (List ℕ)) (row : ℕ) : Type 0 w
   pub here : (col : ℕ) → cell_at new row col ≡ cell_at settled row col
   pub elsewhere : (r col : ℕ) → (r ≡ row → ⊥) → cell_at new r col ≡ cell_at old r col
 
+-- the first rows are those of other facts
+abbrev pub AreSameAbove : List (List ℕ) → List (List ℕ) → ℕ → Type 0
+AreSameAbove facts settled rows = (row col : ℕ) → row < rows → cell_at facts row col ≡ cell_at settled row col
+
 -- the search goes on to the next facts that wait, in which this cell is held, or none do
 abbrev pub GoesOn : Search → Search → Option Cell → Type 0
 GoesOn old new (Some cell) = (old.behind ≡ new.at_hand ∷ new.behind) × (old.cells ≡ cell ∷ new.cells)

@@ -10,6 +10,7 @@ use Rattle.propagate.specs.Filling.{Fills}
 use Rattle.second_search.specs.declared.cell.Cell.{Cell}
 use Rattle.second_search.specs.declared.looking.Look.{Look}
 use Rattle.second_search.specs.declared.looking.Look.TheVariants.{Nothing, Found, Split}
+use Rattle.second_search.specs.Parts.{IsBefore}
 
 -- a cell in which not just one colour is left
 pub record IsUnsettled (facts : List (List ℕ)) (cell : Cell) : Type 0 where
@@ -20,6 +21,16 @@ pub record IsUnsettled (facts : List (List ℕ)) (cell : Cell) : Type 0 where
 -- in each cell just one colour is left
 abbrev pub AreSettled : List (List ℕ) → Type 0
 AreSettled facts = (row col : ℕ) → row < length facts → col < width_of facts → (k : ℕ) × IsOnly (cell_at facts row col) k
+
+-- the same of the cells in the first rows
+abbrev pub AreRowsSettled : List (List ℕ) → ℕ → Type 0
+AreRowsSettled facts rows = (row col : ℕ) → row < rows → col < width_of facts → (k : ℕ) × IsOnly (cell_at facts row col) k
+
+-- The first cell in row order in which not just one colour is left. Where some list fits each line no cell is left without a
+-- colour, so this is the first open cell.
+pub record IsFirstUnsettled (facts : List (List ℕ)) (cell : Cell) : Type 0 where
+  pub is : IsUnsettled facts cell
+  pub before : (r c : ℕ) → c < width_of facts → IsBefore r c cell.row cell.col → (k : ℕ) × IsOnly (cell_at facts r c) k
 
 -- a picture that has in each cell the only colour left there
 pub record Shows (facts picture : List (List ℕ)) : Type 0 where
@@ -33,14 +44,14 @@ pub record ShowsRow (facts old new : List (List ℕ)) (row : ℕ) : Type 0 where
   pub only : (col : ℕ) → col < width_of facts → IsOnly (cell_at facts row col) (cell_at new row col)
   pub elsewhere : (r col : ℕ) → (r ≡ row → ⊥) → cell_at new r col ≡ cell_at old r col
 
--- closed facts that exclude more, with a cell that is not settled, which the same pictures fill; some list fits each line
+-- closed facts that exclude more, with a first cell that is not settled, which the same pictures fill; some list fits each line
 pub record Narrows (clues : Clues) (facts settled : List (List ℕ)) (cell : Cell) : Type 0 where
   pub are_facts : IsFacts settled
   pub within : IsWithin facts settled
   pub closed : IsClosed clues settled
   pub fits : EachFits clues settled
   pub fills : (picture : List (List ℕ)) → Fills clues facts picture ↔ Fills clues settled picture
-  pub splits : IsUnsettled settled cell
+  pub splits : IsFirstUnsettled settled cell
 
 -- No picture fills the facts but the known one; or another one does; or they narrow to facts with a cell to split.
 abbrev pub Looks : Clues → List (List ℕ) → List (List ℕ) → Look → Type 0

@@ -17,20 +17,14 @@ use Rattle.second_search.specs.declared.coming.Coming.TheVariants.{Dies, Ends, S
 use Rattle.second_search.specs.declared.counting.Ending.{Ending}
 use Rattle.second_search.specs.declared.counting.Ending.TheVariants.{Nothing, Found, BrokenOff}
 use Rattle.second_search.specs.Branching.{branches}
-use Rattle.second_search.specs.Looking.{IsUnsettled, Shows}
-use Rattle.second_search.specs.Parts.{IsBefore, picked}
+use Rattle.second_search.specs.Looking.{IsFirstUnsettled, Shows}
+use Rattle.second_search.specs.Parts.{picked}
 
 -- the least closed facts over others, where some list fits each line under them
 pub record SettlesTo (clues : Clues) (facts settled : List (List ℕ)) : Type 0 where
   pub are_facts : IsFacts settled
   pub least : IsLeast clues facts settled
   pub fits : EachFits clues settled
-
--- The first cell in row order in which not just one colour is left. Where some list fits each line no cell is left without a
--- colour, so this is the first open cell.
-pub record IsFirstUnsettled (facts : List (List ℕ)) (cell : Cell) : Type 0 where
-  pub is : IsUnsettled facts cell
-  pub before : (r c : ℕ) → c < width_of facts → IsBefore r c cell.row cell.col → (k : ℕ) × IsOnly (cell_at facts r c) k
 
 -- What facts come to when they are closed: no list fits some line; or each cell has one colour left, and these make a
 -- picture; or there is a first open cell.

@@ -6,7 +6,7 @@ ghost use Rattle.line_settle.specs.Counting.{Counts};
 ghost use Rattle.line_settle.specs.FactSets.{IsFacts};
 ghost use Rattle.propagate.specs.Closing.{AreClosable, EachFits, QuietOutside};
 ghost use Rattle.propagate.specs.LineNames.{AreLinesOf};
-ghost use Rattle.second_search.specs.Looking.{Shows};
+ghost use Rattle.second_search.specs.Looking.{AreRowsSettled, Shows};
 ghost use Rattle.second_search.specs.Searching.{Comes, ComesClosed, CountsSome};
 
 use crate::cell::Cell;
@@ -25,19 +25,22 @@ pub(crate) enum Coming {
     Splits(Facts, Cell),
 }
 
-// Closes facts and looks at what they leave. A line is named, and each line that is not named has to be quiet.
+// Closes facts and looks at what they leave. A line is named, and each line that is not named has to be quiet; each row above
+// one has to be settled.
 pub(crate) fn come_to<E: LineEngine>(
     alloc: Global,
     engine: &mut E,
     book: &ClueBook,
     facts: &Facts,
     lines: &LineSet,
+    top: u8,
     meter: &mut Meter,
 ) -> Result<Coming, AllocError>
     requires closable { AreClosable book.now (E.longest engine.old) facts.now }
     requires lines { AreLinesOf facts.now lines.now }
     requires quiet { QuietOutside book.now facts.now lines.now }
     requires some { 0 < name_count lines.now }
+    requires above { AreRowsSettled facts.now top }
     ensures comes { IfOk result (Comes book.now facts.now) }
     ensures counts { (evaluations : ℕ) × Counts evaluations 0 meter.old meter.new (E.calls engine.old) (E.calls engine.new) }
     ensures evaluates { OnOk result (CountsSome meter.old meter.new (E.calls engine.old) (E.calls engine.new)) }
@@ -50,16 +53,17 @@ pub(crate) fn come_to<E: LineEngine>(
     let mut agenda = InOrder::make();
     match close_facts(engine, &mut agenda, &mut settled, book, lines, meter) {
         Outcome::Dead => Ok(Coming::Dies),
-        Outcome::Narrowed => split_or_end(alloc, settled),
+        Outcome::Narrowed => split_or_end(alloc, settled, top),
     }
 }
 
-// The first open cell of closed facts, or the picture that they leave.
-fn split_or_end(alloc: Global, settled: Facts) -> Result<Coming, AllocError>
+// The first open cell of closed facts, or the picture that they leave. Each row above one has to be settled.
+fn split_or_end(alloc: Global, settled: Facts, top: u8) -> Result<Coming, AllocError>
+    requires { AreRowsSettled settled top }
     ensures { IfOk result (ComesClosed settled) }
 {
     let _ = settled.height();
-    match first_unsettled(&settled) {
+    match first_unsettled(&settled, top) {
         Some(cell) => Ok(Coming::Splits(settled, cell)),
         None => Ok(Coming::Ends(shown_picture(alloc, &settled)?)),
     }

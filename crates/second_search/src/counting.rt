@@ -5,6 +5,7 @@ ghost use Rattle.picture.specs.LineSet.{name_count};
 ghost use Rattle.line_settle.specs.Counting.{Counts};
 ghost use Rattle.propagate.specs.Closing.{AreClosable, QuietOutside};
 ghost use Rattle.propagate.specs.LineNames.{AreLinesOf};
+ghost use Rattle.second_search.specs.Looking.{AreRowsSettled};
 ghost use Rattle.second_search.specs.Searching.{CountsSome, EndsAs, raised};
 ghost use Rattle.second_search.specs.Stepping.{Compares, Spends, Steps};
 
@@ -36,8 +37,8 @@ pub(crate) enum Step {
 }
 
 // Searches facts for another picture than a known one. A line is named, and each line that is not has to be quiet; after a
-// split the two lines of the split cell alone need not be, since closed facts were split. Of the splits at most `allowance`
-// are made, where there is one.
+// split the two lines of the split cell alone need not be, since closed facts were split, and the rows above that cell are
+// settled. Of the splits at most `allowance` are made, where there is one.
 pub(crate) fn search_counted<E: LineEngine>(
     alloc: Global,
     engine: &mut E,
@@ -67,6 +68,7 @@ pub(crate) fn search_counted<E: LineEngine>(
     let mut pending = Pending::start(alloc, facts);
     let mut left = allowance;
     let mut dirty = lines;
+    let mut top = 0;
     loop {
         match look_once(
             alloc,
@@ -74,6 +76,7 @@ pub(crate) fn search_counted<E: LineEngine>(
             book,
             known,
             &dirty,
+            top,
             &mut pending,
             &mut left,
             meter,
@@ -85,7 +88,10 @@ pub(crate) fn search_counted<E: LineEngine>(
             Step::Split => {}
         }
         match pending.advance()? {
-            Some(cell) => dirty = lines_at(pending.at_hand(), cell),
+            Some(cell) => {
+                dirty = lines_at(pending.at_hand(), cell);
+                top = cell.row;
+            }
             None => return Ok(Ending::Nothing),
         }
     }
@@ -98,6 +104,7 @@ fn look_once<E: LineEngine>(
     book: &ClueBook,
     known: &Picture,
     lines: &LineSet,
+    top: u8,
     pending: &mut Pending,
     left: &mut Option<u32>,
     meter: &mut Meter,
@@ -107,6 +114,7 @@ fn look_once<E: LineEngine>(
     requires lines { AreLinesOf pending.old.at_hand lines.now }
     requires quiet { QuietOutside book.now pending.old.at_hand lines.now }
     requires some { 0 < name_count lines.now }
+    requires above { AreRowsSettled pending.old.at_hand top }
     ensures steps { IfOk result (Steps book.now known.now pending.old pending.new left.old left.new splits.old splits.new) }
     ensures counts { (evaluations : ℕ) × Counts evaluations 0 meter.old meter.new (E.calls engine.old) (E.calls engine.new) }
     ensures evaluates { OnOk result (CountsSome meter.old meter.new (E.calls engine.old) (E.calls engine.new)) }
@@ -114,14 +122,14 @@ fn look_once<E: LineEngine>(
     ensures same_longest { E.longest engine.new ≡ E.longest engine.old }
 {
     let _splits = *splits;
-    match come_to(alloc, engine, book, pending.at_hand(), lines, meter)? {
+    match come_to(alloc, engine, book, pending.at_hand(), lines, top, meter)? {
         Coming::Dies => Ok(Step::Passed),
         Coming::Ends(picture) => Ok(compare(picture, known)),
         Coming::Splits(settled, cell) => {
             if !spend(left, splits) {
                 return Ok(Step::Halted);
             }
-            pending.narrow(&settled)?;
+            pending.narrow(&settled, top)?;
             pending.split(cell)?;
             Ok(Step::Split)
         }

@@ -76,7 +76,7 @@ pub fn find_other<E: LineEngine>(
 }
 
 // A picture that fills facts and is not the known one. There is none exactly where the answer is None. After a split only the
-// two lines of the split cell are handed over, since closed facts were split.
+// two lines of the split cell are handed over, since closed facts were split, and the rows above that cell are settled.
 fn find_filling<E: LineEngine>(
     alloc: Global,
     engine: &mut E,
@@ -89,19 +89,23 @@ fn find_filling<E: LineEngine>(
     ensures same_longest { E.longest engine.new ≡ E.longest engine.old }
 {
     let mut dirty = all_lines(&facts);
+    let mut top = 0;
     let mut pending = Pending::start(alloc, facts);
     loop {
-        let look = look_at(alloc, engine, book, known, pending.at_hand(), &dirty)?;
+        let look = look_at(alloc, engine, book, known, pending.at_hand(), &dirty, top)?;
         match look {
             Look::Nothing => {}
             Look::Found(picture) => return Ok(Some(picture)),
             Look::Split(settled, cell) => {
-                pending.narrow(&settled)?;
+                pending.narrow(&settled, top)?;
                 pending.split(cell)?;
             }
         }
         match pending.advance()? {
-            Some(cell) => dirty = lines_at(pending.at_hand(), cell),
+            Some(cell) => {
+                dirty = lines_at(pending.at_hand(), cell);
+                top = cell.row;
+            }
             None => return Ok(None),
         }
     }

@@ -6,8 +6,7 @@ ghost use Rattle.line_settle.specs.Masks.{IsOnly};
 ghost use Rattle.line_settle.specs.FactSets.{IsClosed, SameShape};
 ghost use Rattle.propagate.specs.Closing.{AreClosable, EachFits, QuietOutside};
 ghost use Rattle.propagate.specs.LineNames.{AreLinesOf};
-ghost use Rattle.second_search.specs.Looking.{AreSettled, Looks, Shows, ShowsRow};
-ghost use Rattle.second_search.specs.Searching.{IsFirstUnsettled};
+ghost use Rattle.second_search.specs.Looking.{AreRowsSettled, AreSettled, IsFirstUnsettled, Looks, Shows, ShowsRow};
 
 use crate::cell::Cell;
 use clues::ClueBook;
@@ -26,7 +25,7 @@ pub(crate) enum Look {
     Split(Facts, Cell),
 }
 
-// Closes facts and looks at what they leave. Each line that is not named has to be quiet.
+// Closes facts and looks at what they leave. Each line that is not named has to be quiet, and each row above one settled.
 pub(crate) fn look_at<E: LineEngine>(
     alloc: Global,
     engine: &mut E,
@@ -34,10 +33,12 @@ pub(crate) fn look_at<E: LineEngine>(
     known: &Picture,
     facts: &Facts,
     lines: &LineSet,
+    top: u8,
 ) -> Result<Look, AllocError>
     requires closable { AreClosable book.now (E.longest engine.old) facts.now }
     requires lines { AreLinesOf facts.now lines.now }
     requires quiet { QuietOutside book.now facts.now lines.now }
+    requires above { AreRowsSettled facts.now top }
     ensures looks { IfOk result (Looks book.now known.now facts.now) }
     ensures same_longest { E.longest engine.new ≡ E.longest engine.old }
 {
@@ -50,7 +51,7 @@ pub(crate) fn look_at<E: LineEngine>(
     };
     match close_facts(engine, &mut agenda, &mut settled, book, lines, &mut meter) {
         Outcome::Dead => Ok(Look::Nothing),
-        Outcome::Narrowed => look_closer(alloc, book, known, settled),
+        Outcome::Narrowed => look_closer(alloc, book, known, settled, top),
     }
 }
 
@@ -60,13 +61,15 @@ fn look_closer(
     book: &ClueBook,
     known: &Picture,
     settled: Facts,
+    top: u8,
 ) -> Result<Look, AllocError>
     requires closed { IsClosed book.now settled }
     requires fits { EachFits book.now settled }
+    requires above { AreRowsSettled settled top }
     ensures { IfOk result (Looks book.now known.now settled) }
 {
     let _ = settled.height();
-    match first_unsettled(&settled) {
+    match first_unsettled(&settled, top) {
         Some(cell) => Ok(Look::Split(settled, cell)),
         None => look_at_shown(alloc, book, known, &settled),
     }
@@ -93,11 +96,12 @@ fn look_at_shown(
     Ok(Look::Found(picture))
 }
 
-// The first cell in row order in which not just one colour is left.
-pub(crate) fn first_unsettled(facts: &Facts) -> Option<Cell>
+// The first cell in row order in which not just one colour is left, where there is none above a row.
+pub(crate) fn first_unsettled(facts: &Facts, top: u8) -> Option<Cell>
+    requires { AreRowsSettled facts.now top }
     ensures { MatchOption result (AreSettled facts.now) (IsFirstUnsettled facts.now) }
 {
-    for row in 0..facts.height() {
+    for row in top..facts.height() {
         match unsettled_in_row(facts, row) {
             Some(col) => return Some(Cell { row, col }),
             None => {}

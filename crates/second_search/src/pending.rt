@@ -3,7 +3,7 @@
 ghost use Rattle.std.specs.Prelude.{◌≡◌, ℕ, ◌<◌, [], ◌∷◌, ◌++◌, length, reverse, IfOk, OnOk, IfSome};
 ghost use Rattle.picture.specs.Rows.{width_of, cell_at, with_cell};
 ghost use Rattle.line_settle.specs.FactSets.{SameShape};
-ghost use Rattle.second_search.specs.Branching.{branches, place, places, search_of, AreInside, GoesOn, IsInside, IsRowTaken, PutsBack};
+ghost use Rattle.second_search.specs.Branching.{branches, place, places, search_of, AreInside, AreSameAbove, GoesOn, IsInside, IsRowTaken, PutsBack};
 
 use crate::cell::Cell;
 use crate::note::{CellMask, Note};
@@ -50,12 +50,13 @@ impl Pending {
         &self.facts
     }
 
-    // Narrows the facts at hand to others of their shape, and notes each cell that changes.
-    pub(crate) fn narrow(&mut self, settled: &Facts) -> Result<(), AllocError>
-        requires { SameShape self.old.at_hand settled.now }
+    // Narrows the facts at hand to others of their shape, which are the same above a row, and notes each cell that changes.
+    pub(crate) fn narrow(&mut self, settled: &Facts, top: u8) -> Result<(), AllocError>
+        requires same_shape { SameShape self.old.at_hand settled.now }
+        requires above { AreSameAbove self.old.at_hand settled.now top }
         ensures { OnOk result (self.new ≡ search_of settled.now self.old.behind self.old.cells) }
     {
-        for row in 0..settled.height() {
+        for row in top..settled.height() {
             self.narrow_row(settled, row)?;
         }
         Ok(())

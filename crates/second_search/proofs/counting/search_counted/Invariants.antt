@@ -9,7 +9,7 @@ use Rattle.second_search.proofs.counting.search_counted.Given as goal
 abbrev pub invariant-loop-pending : goal.invariant-loop-pending
 invariant-loop-pending g l = record {
   counting : Counting l.book l.known l.fn.facts l.fn.allowance l.fn.splits (l.pending.at_hand ∷ l.pending.behind) l.left l.splits;
-  ready : IsReady l.book l.fn.facts l.pending.at_hand l.dirty;
+  ready : IsReady l.book l.fn.facts l.pending.at_hand l.dirty l.top;
   some : 0 < name_count l.dirty;
   behind : EachQuiet l.book l.fn.facts l.pending.behind l.pending.cells;
   counts : (evaluations : ℕ) × Counts evaluations 0 l.fn.meter l.meter (g.E.LineEngine.calls l.fn.engine) (g.E.LineEngine.calls l.engine);

@@ -3,8 +3,9 @@ use Rattle.picture.specs.Rows.{width_of}
 use Rattle.propagate.specs.LineNames.{AreLinesOf}
 use Rattle.second_search.specs.declared.cell.Cell.{Cell}
 use Rattle.second_search.specs.Branching.{GoesOn}
+use Rattle.second_search.specs.Looking.{AreRowsSettled}
 use Rattle.second_search.specs.declared.looking.Look.TheVariants.{Nothing, Split}
-use Rattle.second_search.proofs.FindLemmas.{IsLookedAt, finding_goes_on, finding_starts, less_waits, none_waits, nothing_looked_at, seen, split_looked_at}
+use Rattle.second_search.proofs.FindLemmas.{IsLookedAt, find_same, finding_goes_on, finding_starts, less_waits, none_waits, nothing_looked_at, seen, split_looked_at}
 use Rattle.second_search.proofs.KeepLemmas.{quiet_at, ready_at, ready_first}
 use Rattle.second_search.proofs.finding.find_filling.Goals as goal
 use Rattle.second_search.proofs.finding.find_filling.Goals.{in-Nothing, in-Split+in_ok-narrow-in-Split+in_ok-split-in-Split}
@@ -19,6 +20,14 @@ loop-pending-init g c =
       behind = start.1;
       same_longest = refl;
     }
+
+pub look_at-requires-clause-above : goal.look_at-requires-clause-above
+look_at-requires-clause-above g c =
+    let P : List (List ℕ) → Type 0 = λ x. AreRowsSettled x c.loop-pending.top in
+    subst P (sym c.at_hand.ensures) c.loop-pending.invariant.ready.above
+
+pub narrow-requires-clause-above : goal.narrow-requires-clause-above
+narrow-requires-clause-above g c = find_same c.args.book.now c.args.known.now c.at_hand.result.now c.in-Split.settled c.loop-pending.pending c.in_ok-look.look c.in-Split.cell c.loop-pending.top c.at_hand.ensures c.in-Split.is c.in_ok-look.ensures.looks c.loop-pending.invariant.ready.above
 
 pub lines_at-dirty-requires-clause-in_rows : goal.lines_at-dirty-requires-clause-in_rows
 lines_at-dirty-requires-clause-in_rows g c =

@@ -1,9 +1,12 @@
-use Rattle.std.proofs.Common.{List, ℕ, ◌↔◌, subst}
+use Rattle.std.proofs.Common.{List, ℕ, ◌↔◌, refl, subst}
 use Rattle.line_settle.specs.FactSets.{IsWithin}
 use Rattle.propagate.specs.Filling.{Fills}
 use Rattle.second_search.specs.Looking.{Looks}
-use Rattle.second_search.proofs.LookLemmas.{if_ok, looks_back}
+use Rattle.second_search.proofs.LookLemmas.{if_ok, looks_back, rows_stay}
 use Rattle.second_search.proofs.looking.look_at.Goals as goal
+
+pub look_closer-requires-clause-above : goal.look_closer-requires-clause-above
+look_closer-requires-clause-above g c = rows_stay c.args.book.now c.args.facts.now c.in_ok-settled.settled c.close_facts.new.facts _ c.args.top c.in_ok-settled.ensures c.in-Narrowed.ensures.closes refl c.requires.above
 
 pub returns-in-Narrowed-clause-looks : goal.returns-in-Narrowed-clause-looks
 returns-in-Narrowed-clause-looks g c =

@@ -1,6 +1,6 @@
-use Rattle.std.proofs.Common.{◌≡◌, ℕ, ◌<◌}
-use Rattle.picture.specs.Rows.{cell_at}
+use Rattle.std.proofs.Common.{◌≡◌}
 use Rattle.line_settle.specs.FactSets.{SameShape}
+use Rattle.second_search.specs.Branching.{AreSameAbove}
 use Rattle.second_search.proofs.pending.Pending.narrow.Given as goal
 
 abbrev pub invariant-loop-row : goal.invariant-loop-row
@@ -8,5 +8,5 @@ invariant-loop-row l = record {
   same_shape : SameShape l.self.at_hand l.settled;
   behind : l.self.behind ≡ l.fn.self.behind;
   cells : l.self.cells ≡ l.fn.self.cells;
-  above : (r c : ℕ) → r < l.row → cell_at l.self.at_hand r c ≡ cell_at l.settled r c;
+  above : AreSameAbove l.self.at_hand l.settled l.row;
 }
