@@ -12,7 +12,6 @@ from itertools import chain, islice, repeat
 
 MEBIBYTE = 1 << 20
 MOST_BYTES = 16 * MEBIBYTE  # the longest input that the program takes
-SESSION_BYTES = 10_000_000
 COUNTED = (1 << 16, 1 << 17, 1 << 18)  # sizes at which instructions are counted
 MOST_OVER = 64 * MEBIBYTE
 PIECE = 1 << 14
@@ -70,13 +69,13 @@ PUZZLE = lines('width 1', 'height 1', 'rows', '1', 'columns', '1')
 class Kind:
     """A kind of text: how it begins, what is said again and again, and how it ends; and the words that hand it in."""
 
-    def __init__(self, words, head, body, tail=b'', beside=b'', most=MOST_BYTES):
+    def __init__(self, words, head, body, tail=b'', beside=b'', is_kept=True):
         self.words = words
         self.head = head
         self.said = body if callable(body) else lambda: repeat(body * max(1, PIECE // len(body)))
         self.tail = tail
         self.beside = beside
-        self.most = most
+        self.is_kept = is_kept  # whether the program keeps the text, so that its memory is told beyond it
 
     def write(self, path, size):
         """Writes a text of at most so many bytes, in pieces, so that this process stays small."""
@@ -117,7 +116,7 @@ def non(head, body, tail=b''):
 
 def session(body, head=b''):
     """The input of a session on a picture of one cell."""
-    return Kind(('work', 'beside'), head, body, beside=PIXEL, most=SESSION_BYTES)
+    return Kind(('work', 'beside'), head, body, beside=PIXEL, is_kept=False)
 
 
 KINDS = {
@@ -209,11 +208,11 @@ def is_linear(small, large, slack, factor):
 
 def row_of(machine, name, kind):
     """Measures one kind; its line of the table, and whether all is within bounds."""
-    few, _, fast, *_ = machine.measure(kind, kind.most // 4)
-    many, peak, seconds, status, signal, said = machine.measure(kind, kind.most)
-    text = many if kind.most == MOST_BYTES else 0  # a session keeps no text
-    over = max(0, peak - text)
+    few, low, fast, *_ = machine.measure(kind, MOST_BYTES // 4)
+    many, peak, seconds, status, signal, said = machine.measure(kind, MOST_BYTES)
+    over = max(0, peak - many if kind.is_kept else peak)
     good = over < MOST_OVER and not signal and is_linear(fast / few, seconds / many, 0.1 / many, 2)
+    good = good and (kind.is_kept or peak < low + MEBIBYTE)
     counted = ''
     if shutil.which('valgrind'):
         one, two, four = (machine.instructions(kind, size) for size in COUNTED)

@@ -1,0 +1,169 @@
+"""The driver of refuse_streams.sh: runs of the program in which a read or a write fails, or a stream has no end.
+
+Usage: refuse_streams.py PROGRAM
+"""
+import os
+import resource
+import select
+import subprocess
+import sys
+import tempfile
+import time
+import tty
+from pathlib import Path
+
+EXAMPLES = Path(__file__).resolve().parent.parent / 'examples'
+PATIENCE = 60  # seconds after which a run counts as one that does not end
+MOST_MEMORY = 256 << 20  # of a run on an input without end: it keeps 16 MiB of it at the most
+READ = (3, b'nonobench: read failed\n')
+WRITE = (3, b'nonobench: write failed\n')
+THREE = b'P3\n2 2\n255\n0 0 0\n0 0 0\n0 0 0\n255 255 255\n'
+REPORT = (b'size 2 2\ncolours 2 maxval 255\n. 255 255 255\na 0 0 0\npicture\naa\na.\nclues\nr 1: 2a\nr 2: 1a\nc 1: 2a\nc 2: 1a\n'
+          b'map\naa\na.\nopen 0\nverdict unique\nhistory 0 1\n')
+# The lines of a session over three black cells of four, and what is said to each.
+LINES = ((b'verdict\n', b'unique\n'), (b'paint 1 1 .\n', b'ok\n'), (b'map\r\n', b'??\n??\n'), (b' \n', b''),
+         (b'verdict\n', b'ambiguous\na.\n.a\n'), (b'undo\n', b'ok\n'), (b'undo\n', b'refused: UndoEmpty\n'),
+         (b'report\n', REPORT))
+CLUES = b'r 1: 2a\nr 2: 1a\nc 1: 2a\nc 2: 1a\n'
+
+
+class Wrong(Exception):
+    """A run that is not as it must be."""
+
+
+def must(is_so, told):
+    """Stops where something is not as it must be."""
+    if not is_so:
+        raise Wrong(told)
+
+
+class Streams:
+    """Runs the program in a folder with streams that fail."""
+
+    def __init__(self, program, folder):
+        self.program = program
+        self.folder = folder
+        self.file('three.ppm', THREE)
+
+    def file(self, name, text):
+        """A file with a text; its path."""
+        path = os.path.join(self.folder, name)
+        with open(path, 'wb') as file:
+            file.write(text)
+        return path
+
+    def run(self, words, limit=None, **streams):
+        """The status, what was said on standard error, and what was written where that is a pipe."""
+        def limited():
+            if limit:
+                resource.setrlimit(*limit)
+        # Without `restore_signals` a write past the limit fails, and does not end the program.
+        ended = subprocess.run([self.program, *words], cwd=self.folder, timeout=PATIENCE, check=False, restore_signals=False,
+                               preexec_fn=limited, **{'stderr': subprocess.PIPE, **streams})
+        return (ended.returncode, ended.stderr), ended.stdout
+
+    def on_line(self, words, given):
+        """Runs on a terminal that hangs up behind the bytes that are given."""
+        far, near = os.openpty()
+        tty.setraw(near)
+        os.write(near, given)
+        os.close(near)
+        try:
+            return self.run(words, stdin=far, stdout=subprocess.PIPE)
+        finally:
+            os.close(far)
+
+    def with_room(self, words, room, source):
+        """Runs with room for so many bytes of output; how it ended, and the bytes."""
+        path = os.path.join(self.folder, 'out')
+        with open(source, 'rb') as given, open(path, 'wb') as file:
+            ended, _ = self.run(words, (resource.RLIMIT_FSIZE, (room, room)), stdin=given, stdout=file)
+        return ended, Path(path).read_bytes()
+
+
+def reads(streams):
+    """Fails the read behind each byte of the session's input, and of the picture on standard input; how many."""
+    given = b''.join(line for line, _ in LINES)
+    for count in range(len(given) + 1):
+        answered = LINES[:given[:count].count(b'\n')]
+        ended = streams.on_line(['work', 'three.ppm'], given[:count])
+        must(ended == (READ, b''.join(answer for _, answer in answered)), f'a read that fails behind {count} bytes: {ended}')
+    for count in range(len(THREE) + 1):
+        ended = streams.on_line([], THREE[:count])
+        must(ended == (READ, b''), f'a read of a picture that fails behind {count} bytes: {ended}')
+    return len(given) + len(THREE) + 2
+
+
+def writes(streams):
+    """Fails the write of each byte that a session, the clues, a check and help write; how many."""
+    failed = 0
+    lines = streams.file('lines', b''.join(line for line, _ in LINES))
+    answers = b''.join(answer for _, answer in LINES)
+    diagonal = str(EXAMPLES / 'diagonal')
+    (_, said), version = streams.run(['--version'], stdin=subprocess.DEVNULL, stdout=subprocess.PIPE)
+    must(said == b'', f'the version says {said}')
+    runs = ((['work', 'three.ppm'], lines, answers), ([], streams.file('three.ppm', THREE), CLUES),
+            (['check', diagonal + '.ppm', diagonal + '.cert'], os.devnull, b'certificate accepted\n'),
+            (['--version'], os.devnull, version))
+    for words, source, wanted in runs:
+        for room in range(len(wanted)):
+            ended = streams.with_room(words, room, source)
+            must(ended == (WRITE, wanted[:room]), f'{words} with room for {room} bytes: {ended}')
+        ended = streams.with_room(words, len(wanted), source)
+        must(ended == ((0, b''), wanted), f'{words} with room for all: {ended}')
+        failed += len(wanted)
+    return failed
+
+
+def endless(streams):
+    """Inputs without an end, each within bounded memory: three of them are too long, and a session ends at a failed write."""
+    memory = (resource.RLIMIT_AS, (MOST_MEMORY, MOST_MEMORY))
+    long = (1, b'nonobench: input too long\n')
+    with open('/dev/zero', 'rb') as zeros:
+        for words in ([], ['work', '/dev/zero'], ['check', 'three.ppm', '/dev/zero']):
+            ended = streams.run(words, memory, stdin=zeros, stdout=subprocess.PIPE)
+            must(ended == (long, b''), f'{words} on zeros without end: {ended}')
+    with subprocess.Popen(['yes', 'undo'], stdout=subprocess.PIPE) as source, open('/dev/full', 'wb') as full:
+        ended = streams.run(['work', 'three.ppm'], memory, stdin=source.stdout, stdout=full)
+        source.stdout.close()
+        source.kill()
+    must(ended[0] == WRITE, f'lines without end and no room: {ended}')
+    return 4
+
+
+def dialogue(streams):
+    """Says each line when the one before was answered."""
+    with subprocess.Popen([streams.program, 'work', 'three.ppm'], cwd=streams.folder, stdin=subprocess.PIPE,
+                          stdout=subprocess.PIPE) as process:
+        for line, answer in LINES:
+            os.write(process.stdin.fileno(), line)
+            got = b''
+            until = time.monotonic() + PATIENCE
+            while len(got) < len(answer) and select.select([process.stdout], [], [], until - time.monotonic())[0]:
+                got += os.read(process.stdout.fileno(), 4096) or b'.' * len(answer)
+            if got != answer:
+                process.kill()
+            must(got == answer, f'{line} is answered by {got}')
+        process.stdin.close()
+        must(process.wait(PATIENCE) == 0, 'a session of which each line was answered')
+    return len(LINES)
+
+
+def main(program):
+    """All of it, and how many of each."""
+    began = time.monotonic()
+    with tempfile.TemporaryDirectory() as folder:
+        streams = Streams(program, folder)
+        try:
+            failed = reads(streams), writes(streams)
+            others = endless(streams), dialogue(streams)
+        except (Wrong, subprocess.TimeoutExpired) as wrong:
+            print(wrong, file=sys.stderr)
+            return 1
+    print('%d reads and %d writes failed in turn; %d inputs without an end; %d lines of a dialogue; %.0f seconds' % (
+        *failed, *others, time.monotonic() - began))
+    return 0
+
+
+if __name__ == '__main__':
+    sys.exit(main(*sys.argv[1:]))
