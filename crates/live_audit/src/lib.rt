@@ -5,8 +5,6 @@ mod bench;
 mod certifying;
 pub mod laws;
 mod making;
-#[cfg(test)]
-mod tests;
 mod verdict;
 mod why;
 mod work;

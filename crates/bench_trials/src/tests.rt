@@ -1,13 +1,14 @@
 ghost use Rattle.std.specs.Prelude.{◌<◌, ◌≤◌};
 
-use crate::Bench;
 use clues::ClueBook;
 use edits::{Edit, EditFault};
 use justify::{Book, Premise, Step};
 use line_settle::{Facts, LineEngine, MaskEngine, PlainEngine};
+use live_audit::Bench;
 use picture::{Axis, CellSet, Document, LineId, Palette, Picture, Rgb};
 use propagate::{Agenda, InOrder, NewestFirst};
 use std::alloc::{AllocError, Global};
+use std::fmt::Debug;
 use std::process::Abort;
 
 mod certificates;
@@ -35,6 +36,16 @@ pub enum Call {
     Make(Edit),
     Undo,
     Redo,
+}
+
+// Stops where a value is not the one that is wanted. A comparison here is proved once, and not in each test.
+fn equal<T: PartialEq + Debug + Drop>(rt: &impl Abort, what: &str, got: T, want: T) {
+    assert_eq!(rt; got, want, "{what}");
+}
+
+// Stops where something is not so.
+fn holds(rt: &impl Abort, what: &str, is_so: bool) {
+    assert!(rt; is_so, "{what}");
 }
 
 // A blank picture, with the background alone in its palette.

@@ -1,8 +1,8 @@
 //! What a caller sees of a bench, and whether two of them show the same.
 
 use super::*;
-use crate::Work;
 use clues::Clue;
+use live_audit::Work;
 
 // A copy of all that a bench shows.
 #[derive(Drop)]
@@ -45,27 +45,28 @@ pub fn is_as_before<E: LineEngine + Drop, A: Agenda + Drop>(
     same_clues(rt, &before.clues, bench.clues());
     same_book(rt, &before.book, bench.book());
     same_facts(rt, before.book.facts(), bench.map());
-    assert_eq!(rt; bench.past_len(), before.past);
-    assert_eq!(rt; bench.future_len(), before.future);
-    assert!(rt; bench.work() == before.work);
+    equal(rt, "the past", bench.past_len(), before.past);
+    equal(rt, "the future", bench.future_len(), before.future);
+    equal(rt, "work", bench.work(), before.work);
 }
 
 pub fn same_document(rt: &impl Abort, one: &Document, other: &Document) {
     assert!(rt; one.picture.same(&other.picture));
-    assert_eq!(rt; one.palette.len(), other.palette.len());
+    equal(rt, "colours", one.palette.len(), other.palette.len());
     for k in 0..one.palette.len() {
         assert!(rt; k < other.palette.len());
-        assert!(rt; one.palette.rgb(k) == other.palette.rgb(k));
+        equal(rt, "a colour", one.palette.rgb(k), other.palette.rgb(k));
     }
     same_givens(rt, one, other);
 }
 
 fn same_givens(rt: &impl Abort, one: &Document, other: &Document) {
-    assert_eq!(rt; one.givens.len(), other.givens.len());
+    equal(rt, "givens", one.givens.len(), other.givens.len());
     for row in 0..one.picture.height() {
         for col in 0..one.picture.width() {
             assert!(rt; row < 120 && col < 120);
-            assert_eq!(rt; one.givens.has(row, col), other.givens.has(row, col));
+            let (given, wanted) = (one.givens.has(row, col), other.givens.has(row, col));
+            equal(rt, "a given", given, wanted);
         }
     }
 }
@@ -92,15 +93,20 @@ pub fn same_clues(rt: &impl Abort, one: &ClueBook, other: &ClueBook) {
 }
 
 pub fn same_step(rt: &impl Abort, one: &Step, other: &Step) {
-    assert!(rt; one.line == other.line);
-    assert_eq!(rt; one.premises.as_slice(), other.premises.as_slice());
-    assert_eq!(rt; one.drawn.as_slice(), other.drawn.as_slice());
+    equal(rt, "a line", one.line, other.line);
+    equal(
+        rt,
+        "premises",
+        one.premises.as_slice(),
+        other.premises.as_slice(),
+    );
+    equal(rt, "drawn", one.drawn.as_slice(), other.drawn.as_slice());
 }
 
 // Stops where two books have another base, other steps or other facts.
 pub fn same_book(rt: &impl Abort, one: &Book, other: &Book) {
     same_facts(rt, one.base(), other.base());
-    assert_eq!(rt; one.steps().len(), other.steps().len());
+    equal(rt, "steps", one.steps().len(), other.steps().len());
     for (one, other) in one.steps().iter().zip(other.steps()) {
         same_step(rt, one, other);
     }
@@ -112,7 +118,7 @@ pub fn same_facts(rt: &impl Abort, one: &Facts, other: &Facts) {
     assert!(rt; one.height() == other.height() && one.width() == other.width());
     for row in 0..one.height() {
         for col in 0..one.width() {
-            assert_eq!(rt; one.left(row, col), other.left(row, col));
+            equal(rt, "colours left", one.left(row, col), other.left(row, col));
         }
     }
 }
@@ -127,14 +133,15 @@ pub fn shows<E: LineEngine + Drop, A: Agenda + Drop>(
     let picture = &bench.document().picture;
     let (height, width) = (picture.height(), picture.width());
     assert!(rt; bench.map().height() == height && bench.map().width() == width);
-    assert_eq!(rt; cells.len(), usize::from(height) * usize::from(width));
+    let count = usize::from(height) * usize::from(width);
+    equal(rt, "cells", cells.len(), count);
     let mut at = 0u8;
     for (cell, mask) in cells.iter().zip(left) {
         let (row, col) = (at / width.max(1), at % width.max(1));
         assert!(rt; row < height && col < width);
-        assert_eq!(rt; picture.cell(row, col), *cell);
-        assert_eq!(rt; bench.map().left(row, col), *mask);
+        equal(rt, "a cell", picture.cell(row, col), *cell);
+        equal(rt, "colours left", bench.map().left(row, col), *mask);
         at = at.saturating_add(1);
     }
-    assert_eq!(rt; left.len(), cells.len());
+    equal(rt, "masks", left.len(), cells.len());
 }

@@ -2,9 +2,9 @@
 
 use super::shown::{clue_at, same_book, shows};
 use super::*;
-use crate::Why;
 use clues::Block;
 use justify::Reason;
+use live_audit::Why;
 
 // A call and the fault that refuses it, if it is refused.
 type Ask = (Call, Option<EditFault>);
@@ -54,7 +54,7 @@ fn asks<E: LineEngine + Drop, A: Agenda + Drop>(
     calls: &[Ask],
 ) {
     for (call, fault) in calls {
-        assert_eq!(rt; answer(bench, *call), *fault);
+        equal(rt, "an answer", answer(bench, *call), *fault);
     }
 }
 
@@ -229,6 +229,35 @@ fn as_many_edits_are_undone_as_the_depth(rt: HostRuntime) {
     let again = [REDO, no(Call::Redo, EditFault::RedoEmpty)];
     let calls = [calls[0], calls[1], calls[2], calls[3], again[0], again[1]];
     goes(&rt, rt.alloc(), start, &[1, 0], &calls, &[0, 1], &[1, 2]);
+}
+
+// Makes two calls in turn, so many in all.
+fn takes_turns(
+    rt: &impl Abort,
+    bench: &mut Bench<MaskEngine, InOrder>,
+    calls: u16,
+    turns: [Call; 2],
+) {
+    for turn in 0..calls {
+        let [first, second] = turns;
+        let call = if turn % 2 == 0 { first } else { second };
+        holds(rt, "a turn", answer(bench, call).is_none());
+    }
+}
+
+// A cell is painted black and white in turn, 1,001 times: the first paint, to black, is too long ago to be undone.
+#[test]
+fn a_thousand_edits_are_undone(rt: HostRuntime) {
+    let document = drawn(&rt, rt.alloc(), 1, 1, &[0]);
+    let mut bench = mask_bench(&rt, rt.alloc(), document);
+    let turns = [paint(0, 0, 1), paint(0, 0, 0)];
+    takes_turns(&rt, &mut bench, 1001, turns);
+    shows(&rt, &bench, &[1], &[2]);
+    equal(&rt, "the past", bench.past_len(), 1000);
+    takes_turns(&rt, &mut bench, 1000, [Call::Undo, Call::Undo]);
+    asks(&rt, &mut bench, &[no(Call::Undo, EditFault::UndoEmpty)]);
+    shows(&rt, &bench, &[1], &[2]);
+    equal(&rt, "the future", bench.future_len(), 1000);
 }
 
 const fn grey(sample: u16) -> Rgb {
@@ -433,13 +462,13 @@ fn why_at<E: LineEngine + Drop, A: Agenda + Drop>(
 }
 
 // Compares a reason that is a line with nothing given, or another one with background excluded at one place.
-fn argues(rt: &impl Abort, why: Why, alone: Option<LineId>, given: &[(LineId, u8)]) {
+fn argues(rt: &impl Abort, why: Why, alone: &[LineId], given: &[(LineId, u8)]) {
     let Why::By(Reason { line, premises, .. }) = why else {
         assert!(rt; false);
         return;
     };
     match premises.as_slice() {
-        [] => assert!(rt; alone == Some(line)),
+        [] => assert!(rt; alone.contains(&line)),
         [one] => assert!(rt; given.contains(&(line, one.at)) && one.colours & 1 == 1),
         _ => assert!(rt; false),
     }
@@ -453,7 +482,7 @@ fn a_colour_is_possible_given_or_drawn(rt: HostRuntime) {
     argues(
         &rt,
         why_at(&rt, &bench, 0, 1, 1),
-        Some(column(1)),
+        &[column(1)],
         &[(row(0), 0)],
     );
     let document = drawn(&rt, rt.alloc(), 2, 2, &[1, 0, 0, 1]);
@@ -464,17 +493,46 @@ fn a_colour_is_possible_given_or_drawn(rt: HostRuntime) {
     argues(
         &rt,
         why_at(&rt, &bench, 0, 1, 1),
-        None,
+        &[],
         &[(row(0), 0), (column(1), 1)],
     );
     asks(&rt, &mut bench, &[make(dot(0, 0, 0))]);
     assert!(rt; matches!(why_at(&rt, &bench, 0, 0, 1), Why::Given));
 }
 
+// A bench with sixteen colours in its palette, and a row of the colours 15 and 2.
+fn sixteen(rt: &impl Abort, alloc: Global) -> Bench<MaskEngine, InOrder> {
+    let document = blank(alloc, 1, 2).expect(rt, "memory");
+    let mut bench = mask_bench(rt, alloc, document);
+    for sample in 0..15 {
+        assert!(rt; answer(&mut bench, add(grey(sample))).is_none());
+    }
+    let full = no(add(grey(15)), EditFault::PaletteFull);
+    let calls = [full, make(dot(0, 0, 15)), make(dot(0, 1, 2))];
+    asks(rt, &mut bench, &calls);
+    bench
+}
+
+// Each cell is settled by its column alone, and by the row alone, which has no room for another place of its blocks.
+#[test]
+fn sixteen_colours_have_their_reasons(rt: HostRuntime) {
+    let mut bench = sixteen(&rt, rt.alloc());
+    shows(&rt, &bench, &[15, 2], &[1 << 15, 1 << 2]);
+    let (left, right) = ([row(0), column(0)], [row(0), column(1)]);
+    assert!(rt; matches!(why_at(&rt, &bench, 0, 0, 15), Why::Possible));
+    assert!(rt; matches!(why_at(&rt, &bench, 0, 1, 2), Why::Possible));
+    argues(&rt, why_at(&rt, &bench, 0, 0, 2), &left, &[]);
+    argues(&rt, why_at(&rt, &bench, 0, 1, 15), &right, &[]);
+    asks(&rt, &mut bench, &[make(PIN)]);
+    assert!(rt; matches!(why_at(&rt, &bench, 0, 0, 15), Why::Possible));
+    assert!(rt; matches!(why_at(&rt, &bench, 0, 0, 2), Why::Given));
+    argues(&rt, why_at(&rt, &bench, 0, 1, 15), &right, &[]);
+}
+
 // Compares the clue of a line.
 fn has_clue(rt: &impl Abort, clues: &ClueBook, line: LineId, want: &[(u8, u8)]) {
     let blocks = clue_at(rt, clues, line.axis, line.at).blocks();
-    assert_eq!(rt; blocks.len(), want.len());
+    equal(rt, "blocks", blocks.len(), want.len());
     for (block, (len, colour)) in blocks.iter().zip(want) {
         assert!(rt;
             *block
@@ -508,6 +566,6 @@ fn clues_are_those_of_the_picture_after_an_edit(rt: HostRuntime) {
 
 #[test]
 fn the_law_does_nothing() {
-    crate::laws::lists_stay_audited();
-    crate::laws::others_are_coloured();
+    live_audit::laws::lists_stay_audited();
+    live_audit::laws::others_are_coloured();
 }

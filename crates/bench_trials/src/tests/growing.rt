@@ -4,7 +4,7 @@
 use super::shown::{Shown, clue_at, copy_of, is_as_before, shows};
 use super::verdicts::{is_other, took};
 use super::*;
-use crate::{Verdict, Why};
+use live_audit::{Verdict, Why};
 
 // Whether a growth may be refused, or none is.
 #[derive(Clone, Copy, PartialEq, Eq)]
@@ -86,13 +86,14 @@ fn is_in<E: LineEngine + Drop, A: Agenda + Drop>(
     state: &State,
 ) {
     shows(rt, bench, &state.cells, &state.left);
-    assert_eq!(rt; bench.document().palette.len(), state.colours);
-    assert_eq!(rt; bench.document().givens.len(), 0);
-    assert_eq!(rt; blocks_of(rt, bench.clues()), state.blocks);
-    assert_eq!(rt; bench.book().steps().len(), state.steps);
-    assert_eq!(rt; bench.work().edit.evaluations, state.evaluations);
-    assert_eq!(rt; bench.past_len(), state.past);
-    assert_eq!(rt; bench.future_len(), state.future);
+    equal(rt, "colours", bench.document().palette.len(), state.colours);
+    equal(rt, "givens", bench.document().givens.len(), 0);
+    equal(rt, "blocks", blocks_of(rt, bench.clues()), state.blocks);
+    equal(rt, "steps", bench.book().steps().len(), state.steps);
+    let evaluations = bench.work().edit.evaluations;
+    equal(rt, "evaluations", evaluations, state.evaluations);
+    equal(rt, "the past", bench.past_len(), state.past);
+    equal(rt, "the future", bench.future_len(), state.future);
 }
 
 // Makes a stroke. Where a growth is refused nothing has changed, and it is made again.
@@ -276,9 +277,9 @@ fn certifies<E: LineEngine + Drop, A: Agenda + Drop>(
         }
     };
     is_as_before(rt, &before, bench);
-    assert_eq!(rt; cert.is_some(), is_there);
+    equal(rt, "a certificate", cert.is_some(), is_there);
     if let Some(cert) = cert {
-        assert_eq!(rt; cert.givens_len(), 1);
+        equal(rt, "givens", cert.givens_len(), 1);
     }
 }
 

@@ -199,7 +199,7 @@ fn strikes<E: LineEngine + Drop, A: Agenda + Drop>(
     let calls = bench.calls();
     if answer(bench, call).is_some() {
         is_as_before(rt, &before, bench);
-        assert_eq!(rt; bench.calls(), calls);
+        equal(rt, "calls", bench.calls(), calls);
         tally.refused = tally.refused.saturating_add(1);
         return;
     }
@@ -208,9 +208,10 @@ fn strikes<E: LineEngine + Drop, A: Agenda + Drop>(
     let kept = goes_on(rt, moves, &before, bench);
     tally.kept = tally.kept.saturating_add(kept);
     let evaluations = bench.work().edit.evaluations;
-    assert_eq!(rt; bench.calls(), calls.saturating_add(evaluations));
-    assert_eq!(rt; bench.past_len(), history.past.len());
-    assert_eq!(rt; bench.future_len(), history.future.len());
+    let wanted = calls.saturating_add(evaluations);
+    equal(rt, "calls", bench.calls(), wanted);
+    equal(rt, "the past", bench.past_len(), history.past.len());
+    equal(rt, "the future", bench.future_len(), history.future.len());
     is_fresh(rt, alloc, bench);
     is_standing(rt, alloc, bench.book(), bench.clues());
 }
@@ -247,7 +248,7 @@ fn walks<A: Agenda + Drop>(
         strikes(rt, alloc, &mut bench, call, &mut history, tally);
         let _ = answer(&mut other, call);
         same_book(rt, bench.book(), other.book());
-        assert_eq!(rt; bench.calls(), other.calls());
+        equal(rt, "calls", bench.calls(), other.calls());
     }
 }
 

@@ -1,7 +1,7 @@
 -- A blank picture has the background alone, and there is no given.
 use Rattle.std.proofs.Common.{◌≡◌, ℕ, zero, suc, get_or, replicate, refl, arith}
 use Rattle.picture.specs.Rows.{cell_at}
-use Rattle.live_audit.proofs.tests.blank.Goals as goal
+use Rattle.bench_trials.proofs.tests.blank.Goals as goal
 
 zeros : (n k : ℕ) → get_or {A = ℕ} (replicate n 0) k 0 ≡ 0
 zeros zero k = refl

@@ -1,7 +1,8 @@
 //! Verdicts, worked by hand and against a listing of all pictures, and the allowance of splits.
 
+use super::shown::shows;
 use super::*;
-use crate::Verdict;
+use live_audit::Verdict;
 
 // Stops where a verdict is not that there is no other picture.
 pub fn is_unique<E: LineEngine + Drop, A: Agenda + Drop>(rt: &impl Abort, bench: &mut Bench<E, A>) {
@@ -30,7 +31,7 @@ pub fn is_undecided<E: LineEngine + Drop, A: Agenda + Drop>(
     allowed: u32,
 ) {
     match bench.verdict().expect(rt, "memory") {
-        Verdict::Undecided { splits } => assert_eq!(rt; splits, allowed),
+        Verdict::Undecided { splits } => equal(rt, "splits", splits, allowed),
         _ => assert!(rt; false),
     }
 }
@@ -38,10 +39,11 @@ pub fn is_undecided<E: LineEngine + Drop, A: Agenda + Drop>(
 pub fn has_cells(rt: &impl Abort, picture: &Picture, cells: &[u8]) {
     let (height, width) = (usize::from(picture.height()), usize::from(picture.width()));
     assert!(rt; width > 0);
-    assert_eq!(rt; cells.len(), height.wrapping_mul(width));
+    equal(rt, "cells", cells.len(), height.wrapping_mul(width));
     for (i, cell) in cells.iter().enumerate() {
         assert!(rt; i / width < height);
-        assert_eq!(rt; picture.cell((i / width) as u8, (i % width) as u8), *cell);
+        let shown = picture.cell((i / width) as u8, (i % width) as u8);
+        equal(rt, "a cell", shown, *cell);
     }
 }
 
@@ -52,8 +54,8 @@ pub fn took<E: LineEngine + Drop, A: Agenda + Drop>(
     parts: u32,
     splits: u32,
 ) {
-    assert_eq!(rt; bench.work().parts, parts);
-    assert_eq!(rt; bench.work().splits, splits);
+    equal(rt, "parts", bench.work().parts, parts);
+    equal(rt, "splits", bench.work().splits, splits);
 }
 
 // Stops where asking for the verdict calls the engine.
@@ -64,8 +66,9 @@ pub fn searches_nothing<E: LineEngine + Drop, A: Agenda + Drop>(
     let calls = bench.calls();
     let _ = bench.verdict().expect(rt, "memory");
     took(rt, bench, 0, 0);
-    assert_eq!(rt; bench.work().search.evaluations, 0);
-    assert_eq!(rt; bench.calls(), calls);
+    let evaluations = bench.work().search.evaluations;
+    equal(rt, "evaluations", evaluations, 0);
+    equal(rt, "calls", bench.calls(), calls);
 }
 
 pub fn makes<E: LineEngine + Drop, A: Agenda + Drop>(
@@ -122,7 +125,8 @@ fn a_paint_makes_a_picture_ambiguous_and_back(rt: HostRuntime) {
     is_unique(&rt, &mut bench);
     makes(&rt, &mut bench, Call::Redo);
     is_other(&rt, &mut bench, &[1, 0, 0, 1]);
-    assert_eq!(rt; answer(&mut bench, Call::Redo), Some(EditFault::RedoEmpty));
+    let fault = answer(&mut bench, Call::Redo);
+    equal(&rt, "a redo", fault, Some(EditFault::RedoEmpty));
     searches_nothing(&rt, &mut bench);
     is_other(&rt, &mut bench, &[1, 0, 0, 1]);
 }
@@ -186,6 +190,22 @@ fn a_kept_filling_needs_no_allowance(rt: HostRuntime) {
     let other = [0, 1, 0, 0, 1, 0, 0, 0, 0, 0, 2, 0, 0, 0, 2, 2];
     is_other(&rt, &mut bench, &other);
     took(&rt, &bench, 0, 0);
+}
+
+// Each column is settled by its one cell.
+#[test]
+fn a_row_of_the_largest_width_is_judged(rt: HostRuntime) {
+    let document = drawn(&rt, rt.alloc(), 1, 120, &[]);
+    let mut bench = mask_bench(&rt, rt.alloc(), document);
+    is_unique(&rt, &mut bench);
+    let (mut cells, mut left) = ([0; 120], [1; 120]);
+    shows(&rt, &bench, &cells, &left);
+    makes(&rt, &mut bench, paint(0, 119, 2));
+    (cells[119], left[119]) = (2, 4);
+    shows(&rt, &bench, &cells, &left);
+    is_unique(&rt, &mut bench);
+    makes(&rt, &mut bench, Call::Undo);
+    is_unique(&rt, &mut bench);
 }
 
 // The runs of three cells, as digits in base 4.

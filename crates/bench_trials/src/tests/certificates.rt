@@ -9,7 +9,8 @@ use certificate::{Cert, check_cert, write_cert};
 fn is_accepted(rt: &impl Abort, alloc: Global, picture: &Picture, cert: &Cert) {
     let mut engine = PlainEngine::make(alloc, 120).expect(rt, "memory");
     assert!(rt; picture.width() <= engine.longest() && picture.height() <= engine.longest());
-    assert_eq!(rt; check_cert(alloc, &mut engine, picture, cert), Ok(()));
+    let checked = check_cert(alloc, &mut engine, picture, cert);
+    equal(rt, "the check", checked, Ok(()));
 }
 
 // Asks for a certificate, after which all that was shown is as before. One is accepted for the picture with ordered colours.
@@ -46,11 +47,10 @@ fn has_one<E: LineEngine + Drop, A: Agenda + Drop>(
     front: &[u8],
 ) {
     let cert = certified(rt, alloc, bench).expect(rt, "a certificate");
-    assert_eq!(rt; cert.givens_len(), givens);
+    equal(rt, "givens", cert.givens_len(), givens);
     let mut text = Vec::new(alloc);
     assert!(rt; write_cert(&cert, &mut text).is_ok());
-    assert!(rt; front.len() <= text.len());
-    assert_eq!(rt; &text[..front.len()], front);
+    holds(rt, "the front", text.as_slice().starts_with(front));
 }
 
 const CORNER: Edit = Edit::Pin { row: 0, col: 0 };
