@@ -14,6 +14,7 @@ mod carried;
 mod flooded;
 mod growing;
 mod judged;
+mod large;
 mod listing;
 mod plain;
 mod watched;
