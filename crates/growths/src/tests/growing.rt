@@ -163,17 +163,12 @@ fn started(alloc: Global, file: &[u8]) -> Option<Led<MaskEngine, InOrder>> {
 }
 
 // The same, if need be at the second time.
-fn begun(
-    rt: &impl Abort,
-    alloc: Global,
-    memory: Memory,
-    file: &[u8],
-) -> Result<Led<MaskEngine, InOrder>, Fail> {
+fn begun(rt: &impl Abort, alloc: Global, memory: Memory, file: &[u8]) -> Led<MaskEngine, InOrder> {
     if let Some(led) = started(alloc, file) {
-        return Ok(led);
+        return led;
     }
     assert!(rt; memory == Memory::Refused);
-    Ok(started(alloc, file).ok_or("a bench")?)
+    started(alloc, file).expect(rt, "a bench")
 }
 
 // Makes two benches for a picture, and leads them through a script.
@@ -183,23 +178,25 @@ fn goes_through(
     memory: Memory,
     file: &[u8],
     script: &[(&str, Said)],
-) -> Result<(), Fail> {
-    let mut first = begun(rt, alloc, memory, file)?;
-    let mut second = begun(rt, alloc, memory, file)?;
+) {
+    let mut first = begun(rt, alloc, memory, file);
+    let mut second = begun(rt, alloc, memory, file);
     leads(rt, alloc, memory, &mut first, &mut second, script);
-    Ok(())
+}
+
+// Goes through all scripts.
+fn goes_through_all(rt: &impl Abort, alloc: Global, memory: Memory) {
+    goes_through(rt, alloc, memory, SQUARE, &DAY);
+    goes_through(rt, alloc, memory, DIAGONALS, &PARTS);
+    goes_through(rt, alloc, memory, DIAGONALS, &REPORTED);
 }
 
 #[test]
-fn a_refused_growth_changes_nothing(rt: HostRuntime) -> Result<(), Fail> {
-    goes_through(&rt, rt.alloc(), Memory::Refused, SQUARE, &DAY)?;
-    goes_through(&rt, rt.alloc(), Memory::Refused, DIAGONALS, &PARTS)?;
-    goes_through(&rt, rt.alloc(), Memory::Refused, DIAGONALS, &REPORTED)
+fn a_refused_growth_changes_nothing(rt: HostRuntime) {
+    goes_through_all(&rt, rt.alloc(), Memory::Refused);
 }
 
 #[test]
-fn ample_memory_is_enough(rt: HostRuntime) -> Result<(), Fail> {
-    goes_through(&rt, rt.alloc(), Memory::Ample, SQUARE, &DAY)?;
-    goes_through(&rt, rt.alloc(), Memory::Ample, DIAGONALS, &PARTS)?;
-    goes_through(&rt, rt.alloc(), Memory::Ample, DIAGONALS, &REPORTED)
+fn ample_memory_is_enough(rt: HostRuntime) {
+    goes_through_all(&rt, rt.alloc(), Memory::Ample);
 }

@@ -12,27 +12,28 @@ pub fn same_audit<E: LineEngine + Drop, A: Agenda + Drop>(
     same_clues(rt, one.clues(), other.clues());
     same_book(rt, one.book(), other.book());
     same_facts(rt, one.map(), other.map());
-    assert_eq!(rt; one.past_len(), other.past_len());
-    assert_eq!(rt; one.future_len(), other.future_len());
-    assert!(rt; one.work() == other.work());
+    equal(rt, "the past", one.past_len(), other.past_len());
+    equal(rt, "the future", one.future_len(), other.future_len());
+    equal(rt, "work", one.work(), other.work());
 }
 
 fn same_document(rt: &impl Abort, one: &Document, other: &Document) {
     assert!(rt; one.picture.same(&other.picture));
-    assert_eq!(rt; one.palette.len(), other.palette.len());
+    equal(rt, "colours", one.palette.len(), other.palette.len());
     for k in 0..one.palette.len() {
         assert!(rt; k < other.palette.len());
-        assert!(rt; one.palette.rgb(k) == other.palette.rgb(k));
+        equal(rt, "a colour", one.palette.rgb(k), other.palette.rgb(k));
     }
     same_givens(rt, one, other);
 }
 
 fn same_givens(rt: &impl Abort, one: &Document, other: &Document) {
-    assert_eq!(rt; one.givens.len(), other.givens.len());
+    equal(rt, "givens", one.givens.len(), other.givens.len());
     for row in 0..one.picture.height() {
         for col in 0..one.picture.width() {
             assert!(rt; row < 120 && col < 120);
-            assert_eq!(rt; one.givens.has(row, col), other.givens.has(row, col));
+            let (given, wanted) = (one.givens.has(row, col), other.givens.has(row, col));
+            equal(rt, "a given", given, wanted);
         }
     }
 }
@@ -59,15 +60,20 @@ fn same_clues(rt: &impl Abort, one: &ClueBook, other: &ClueBook) {
 }
 
 fn same_step(rt: &impl Abort, one: &Step, other: &Step) {
-    assert!(rt; one.line == other.line);
-    assert_eq!(rt; one.premises.as_slice(), other.premises.as_slice());
-    assert_eq!(rt; one.drawn.as_slice(), other.drawn.as_slice());
+    equal(rt, "a line", one.line, other.line);
+    equal(
+        rt,
+        "premises",
+        one.premises.as_slice(),
+        other.premises.as_slice(),
+    );
+    equal(rt, "drawn", one.drawn.as_slice(), other.drawn.as_slice());
 }
 
 // Stops where two books have another base, other steps or other facts.
 fn same_book(rt: &impl Abort, one: &Book, other: &Book) {
     same_facts(rt, one.base(), other.base());
-    assert_eq!(rt; one.steps().len(), other.steps().len());
+    equal(rt, "steps", one.steps().len(), other.steps().len());
     for (one, other) in one.steps().iter().zip(other.steps()) {
         same_step(rt, one, other);
     }
@@ -79,7 +85,7 @@ fn same_facts(rt: &impl Abort, one: &Facts, other: &Facts) {
     assert!(rt; one.height() == other.height() && one.width() == other.width());
     for row in 0..one.height() {
         for col in 0..one.width() {
-            assert_eq!(rt; one.left(row, col), other.left(row, col));
+            equal(rt, "colours left", one.left(row, col), other.left(row, col));
         }
     }
 }

@@ -1,5 +1,5 @@
 -- A blank picture has the background alone, and there is no given.
-use Rattle.std.proofs.Common.{◌≡◌, ℕ, zero, suc, get_or, replicate, refl, arith}
+use Rattle.std.proofs.Common.{◌≡◌, ℕ, zero, suc, get_or, replicate, refl}
 use Rattle.picture.specs.Rows.{cell_at}
 use Rattle.bench_trials.proofs.tests.blank.Goals as goal
 
