@@ -67,15 +67,23 @@ PUZZLE = lines('width 1', 'height 1', 'rows', '1', 'columns', '1')
 
 
 class Kind:
-    """A kind of text: how it begins, what is said again and again, and how it ends; and the words that hand it in."""
+    """A kind of text: how it begins, what is said again and again, and how it ends; the words that hand it in, and the fault
+    that it has, as a pattern, or None where it is taken."""
 
-    def __init__(self, words, head, body, tail=b'', beside=b'', is_kept=True):
+    def __init__(self, words, head, body, tail=b'', beside=b'', is_kept=True, fault=None):
         self.words = words
         self.head = head
         self.said = body if callable(body) else lambda: repeat(body * max(1, PIECE // len(body)))
         self.tail = tail
         self.beside = beside
+        self.fault = fault
         self.is_kept = is_kept  # whether the program keeps the text, so that its memory is told beyond it
+
+    def is_answer(self, status, said):
+        """Whether a run on the text ends as it must."""
+        if self.fault is None:
+            return (status, said) == (0, '')
+        return status == 1 and re.fullmatch('nonobench: ' + self.fault, said) is not None
 
     def write(self, path, size):
         """Writes a text of at most so many bytes, in pieces, so that this process stays small."""
@@ -99,19 +107,19 @@ class Kind:
             room -= len(piece)
 
 
-def ppm(head, body, tail=b''):
+def ppm(head, body, tail=b'', fault=None):
     """A P3 text on standard input."""
-    return Kind((), head, body, tail)
+    return Kind((), head, body, tail, fault=fault and 'ppm ' + fault)
 
 
-def cert(body, beside=NOISE, version=1):
-    """A certificate for a picture."""
-    return Kind(('check', 'beside', 'text'), lines(f'nonocert {version}'), body, beside=beside)
+def cert(body, fault, beside=NOISE, version=1):
+    """A certificate for a picture, which it does not prove."""
+    return Kind(('check', 'beside', 'text'), lines(f'nonocert {version}'), body, beside=beside, fault='certificate ' + fault)
 
 
-def non(head, body, tail=b''):
+def non(head, body, tail=b'', fault=None):
     """A .non text that a session opens."""
-    return Kind(('work', 'text', '--format', 'non'), head, body, tail)
+    return Kind(('work', 'text', '--format', 'non'), head, body, tail, fault=fault and 'non ' + fault)
 
 
 def session(body, head=b''):
@@ -119,33 +127,37 @@ def session(body, head=b''):
     return Kind(('work', 'beside'), head, body, beside=PIXEL, is_kept=False)
 
 
+ENDED = r'Ended at line \d+'
 KINDS = {
     'P3: comments': ppm(b'P3\n', b'# a comment of some sixty bytes, with the line end that closes it\n', b'\n1 1\n255\n0 0 0\n'),
     'P3: one comment': ppm(b'P3#', b'x', b'\n1 1\n255\n0 0 0\n'),
     'P3: empty comments': ppm(b'P3\n', b'#\n', b'\n1 1\n255\n0 0 0\n'),
     'P3: white space': ppm(b'P3', b' \n', b'1 1\n255\n0 0 0\n'),
     'P3: leading zeros': ppm(b'P3\n', b'0', b'1 1\n255\n0 0 0\n'),
-    'P3: one long number': ppm(b'P3\n', b'9'),
-    'P3: one long token': ppm(b'P3\n', b'x'),
-    'P3: samples without end': ppm(b'P3\n120 120\n255\n', b'000000000000000000000000000000000000000000007\n'),
-    'P3: tokens behind the picture': ppm(PIXEL, b'7 '),
-    'certificate: nested splits': cert(splits),
-    'certificate: splits with one colour left': cert(lambda: behind_blank('split 1 1'), BLANK),
-    'certificate: line r 1': cert(b'line r 1\n'),
-    'certificate: line r 2': cert(b'line r 2\n'),
-    'certificate: lines behind the end': cert(lambda: behind_blank('done'), BLANK),
-    'certificate: givens': cert(givens, version=2),
-    'certificate: one long line': cert(b'0'),
-    'certificate: blank lines': cert(b'\n'),
+    'P3: one long number': ppm(b'P3\n', b'9', fault='TooLarge at byte 3'),
+    'P3: one long token': ppm(b'P3\n', b'x', fault='BadNumber at byte 3'),
+    # Behind fifteen bytes stand three samples a cell, of 46 bytes each.
+    'P3: samples without end': ppm(b'P3\n120 120\n255\n', b'000000000000000000000000000000000000000000007\n',
+                                   fault=f'TrailingToken at byte {15 + 120 * 120 * 3 * 46}'),
+    'P3: tokens behind the picture': ppm(PIXEL, b'7 ', fault='TrailingToken at byte 17'),
+    'certificate: nested splits': cert(splits, ENDED),
+    'certificate: splits with one colour left': cert(lambda: behind_blank('split 1 1'), ENDED, BLANK),
+    'certificate: line r 1': cert(b'line r 1\n', ENDED),
+    'certificate: line r 2': cert(b'line r 2\n', ENDED),
+    # The tree is whole with the first `done`, which stands below the twenty lines that settle the picture.
+    'certificate: lines behind the end': cert(lambda: behind_blank('done'), 'Trailing at line 23', BLANK),
+    'certificate: givens': cert(givens, 'Place at line 2', version=2),
+    'certificate: one long line': cert(b'0', 'BadLine at line 2'),
+    'certificate: blank lines': cert(b'\n', 'BadLine at line 2'),
     '.non: a million keyword lines': non(PUZZLE, b'title\n'),
-    '.non: a million sections': non(PUZZLE, b'rows\n'),
-    '.non: a million lines of a section': non(PUZZLE, b'1\n'),
+    '.non: a million sections': non(PUZZLE, b'rows\n', fault='Repeated'),
+    '.non: a million lines of a section': non(PUZZLE, b'1\n', fault='BadCount'),
     '.non: blank lines of a section': non(PUZZLE, b'\n'),
     '.non: comments': non(PUZZLE, b'#\n'),
-    '.non: a clue of a million numbers': non(lines('width 1', 'height 1', 'columns', '1', 'rows'), b'1,'),
+    '.non: a clue of a million numbers': non(lines('width 1', 'height 1', 'columns', '1', 'rows'), b'1,', fault='BadClue'),
     '.non: a clue of zeros': non(lines('width 1', 'height 1', 'columns', '1', 'rows'), b'0', b'1\n'),
-    '.non: a long goal': non(PUZZLE + b'goal "', b'1', b'"\n'),
-    '.non: a long width': non(b'width ', b'0', b'1\n'),
+    '.non: a long goal': non(PUZZLE + b'goal "', b'1', b'"\n', fault='BadGoal'),
+    '.non: a long width': non(b'width ', b'0', b'1\n', fault='MissingSize'),
     'session: a line without end': session(b'x'),
     'session: blank lines': session(b'\n'),
     'session: lines of blanks': session(b' ' * 200 + b'\n'),
@@ -207,11 +219,12 @@ def is_linear(small, large, slack, factor):
 
 
 def row_of(machine, name, kind):
-    """Measures one kind; its line of the table, and whether all is within bounds."""
+    """Measures one kind; its line of the table, and whether the answer is right and all is within bounds."""
     few, low, fast, *_ = machine.measure(kind, MOST_BYTES // 4)
     many, peak, seconds, status, signal, said = machine.measure(kind, MOST_BYTES)
     over = max(0, peak - many if kind.is_kept else peak)
-    good = over < MOST_OVER and not signal and is_linear(fast / few, seconds / many, 0.1 / many, 2)
+    is_right = not signal and kind.is_answer(status, said)
+    good = over < MOST_OVER and is_linear(fast / few, seconds / many, 0.1 / many, 2)
     good = good and (kind.is_kept or peak < low + MEBIBYTE)
     counted = ''
     if shutil.which('valgrind'):
@@ -221,7 +234,8 @@ def row_of(machine, name, kind):
         good = good and is_linear(first, second, 1, 1.1)
     answer = said or f'status {status}' if not signal else f'SIGNAL {signal}'
     line = f'{name:<42} {many:>9} {counted:>8} {seconds:>8.2f} {over / MEBIBYTE:>8.1f}  {answer}'
-    return line + ('' if good else '   OUT OF BOUNDS'), good
+    mark = '' if good else '   OUT OF BOUNDS'
+    return line + (mark if is_right else '   WRONG'), good and is_right
 
 
 def slope(small, large):
@@ -249,7 +263,7 @@ def main(program, folder, *wanted):
         line, good = row_of(machine, name, kind)
         print(line, flush=True)
         bad += not good
-    print(f'{len(kinds)} kinds, {bad} out of bounds')
+    print(f'{len(kinds)} kinds, {bad} wrong or out of bounds')
     return 1 if bad else 0
 
 

@@ -4,7 +4,8 @@
 # each the instructions a byte (by callgrind, on texts of 64 to 256 KiB; none where valgrind is missing), the seconds, and the
 # peak of memory beyond the text (a session keeps no text; where /usr/bin/time is missing, what lies below some 15 MiB is that
 # of the script that measures).
-# The status is 1 where the cost of a byte grows with the text, or the memory reaches 64 MiB.
+# The status is 1 where a text is answered otherwise than it must be, the cost of a byte grows with the text, or the memory
+# reaches 64 MiB.
 # Usage: bench/hostile.sh [KIND ..]   (words of the names of kinds; PROGRAM names another program than the proved one)
 set -euo pipefail
 here=$(cd "$(dirname "$0")" && pwd)

@@ -1,6 +1,7 @@
 #!/usr/bin/env bash
 # What a session costs on a picture of 60 by 60 cells: instructions a command for `paint` and `undo`, for `report` and for
-# blank lines; and time and memory of ten million bytes of blank lines and of one line without an end, against one million.
+# blank lines; time and memory of fills that change all cells of a picture of 120 by 120, with histories of 1, 100 and 1,000
+# edits; and time and memory of ten million bytes of blank lines and of one line without an end, against one million.
 # Usage: bench/session.sh [PAIRS]   (so many pairs of `paint` and `undo`, 1,000 where none is given; 100,000 lines are
 # timed without counting, since counting takes some fifty times as long)
 set -euo pipefail
@@ -35,6 +36,16 @@ each "report" 20
 repeated "" 100000 >"$work/input"
 each "blank lines" 100000
 
+# Fills that each change all cells of the largest picture, with the shortest history, the usual one and the longest.
+{
+    printf 'P3 120 120 1'
+    yes ' 0 0 0' | head -n 14400
+} >"$work/black"
+awk 'BEGIN { for (i = 0; i < 3000; i++) print "fill 1 1 120 120", i % 2 ? "a" : "." }' >"$work/input"
+for depth in 1 100 1000; do
+    /usr/bin/time -f "3,000 fills with a history of $depth: %e s, %M KiB" \
+        "$program" work "$work/black" --history "$depth" <"$work/input" >/dev/null
+done
 strokes 50000 >"$work/input"
 /usr/bin/time -f '100,000 lines of paint and undo: %e s, %M KiB' "$program" work "$picture" <"$work/input" >/dev/null
 for bytes in 1000000 10000000; do
