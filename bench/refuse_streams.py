@@ -81,8 +81,21 @@ class Streams:
         return ended, Path(path).read_bytes()
 
 
+def has_terminals():
+    """Whether this machine gives terminals out."""
+    try:
+        for end in os.openpty():
+            os.close(end)
+    except OSError:
+        return False
+    return True
+
+
 def reads(streams):
     """Fails the read behind each byte of the session's input, and of the picture on standard input; how many."""
+    if not has_terminals():
+        print('reads: left out, since this machine gives no terminal out')
+        return 0
     given = b''.join(line for line, _ in LINES)
     for count in range(len(given) + 1):
         answered = LINES[:given[:count].count(b'\n')]
