@@ -6,7 +6,7 @@
 # Usage: bench/refuse.sh [crate ..]   (all such crates)
 set -euo pipefail
 root=$(cd "$(dirname "$0")/.." && pwd)
-[ $# -gt 0 ] || set -- edits justify retract propagate second_search certificate bench_trials growths nonobench
+[ $# -gt 0 ] || set -- edits justify retract propagate second_search certificate bench_trials growths nonobench page
 work=$(mktemp -d)
 trap 'rm -rf "$work"' EXIT
 source "$root/bench/refusing.sh"
