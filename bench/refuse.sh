@@ -1,9 +1,9 @@
 #!/usr/bin/env bash
-# Refuses each growth of memory in turn, in each crate whose tests call again after a refusal. Until no growth is left to
-# refuse, that test must pass each time: each refused call answers by memory and leaves what it was lent as it was. The tests
-# are built as `rt test` builds them, and malloc and realloc are refused from outside, by a library that is loaded before the
-# C library. It takes seconds, once the tests are built and proved.
-# Usage: bench/refuse.sh [crate ..]   (all such crates)
+# Refuses each growth of memory in turn, in the test of each crate that calls again after a refusal. Until no growth is left
+# to refuse, that test must pass each time: each refused call answers by memory and leaves what it was lent as it was. The
+# tests are built as `rt test` builds them, and malloc and realloc are refused from outside, by a library that is loaded
+# before the C library. It takes seconds, once the tests are built and proved.
+# Usage: bench/refuse.sh [crate ..]   (all that have such a test)
 set -euo pipefail
 root=$(cd "$(dirname "$0")/.." && pwd)
 [ $# -gt 0 ] || set -- edits justify retract propagate second_search certificate bench_trials growths nonobench page
@@ -12,12 +12,24 @@ trap 'rm -rf "$work"' EXIT
 source "$root/bench/refusing.sh"
 make_refusing "$work"
 
-# Refuses the growths of one crate's test, one a run.
+# The crate in which the test of a crate stands, and its module there: itself, or a crate of tests alone.
+place_of() {
+    case $1 in
+        justify) echo line_trials "tests::$1::growing" ;;
+        retract | propagate) echo book_trials "tests::$1::growing" ;;
+        second_search) echo search_trials tests::growing ;;
+        *) echo "$1" tests::growing ;;
+    esac
+}
+
+# Refuses the growths of the test of one crate, one a run.
 refuse_all() {
-    local crate=$1 tests=$root/crates/$1/out/$1_tests n
-    [ -x "$tests" ] || (cd "$root/crates/$crate" && rt test >/dev/null)
+    local crate=$1 home module tests n
+    read -r home module < <(place_of "$crate")
+    tests=$root/crates/$home/out/${home}_tests
+    [ -x "$tests" ] || (cd "$root/crates/$home" && rt test >/dev/null)
     for n in $(seq 1 10000); do
-        REFUSED=$n LD_PRELOAD=$work/refuse.so "$tests" tests::growing::a_refused_growth_changes_nothing >"$work/out" 2>&1 || {
+        REFUSED=$n LD_PRELOAD=$work/refuse.so "$tests" "$module::a_refused_growth_changes_nothing" >"$work/out" 2>&1 || {
             echo "$crate, growth $n: the test that calls again fails" >&2
             return 1
         }

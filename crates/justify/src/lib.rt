@@ -11,8 +11,6 @@ mod premise;
 mod reason;
 mod standing;
 mod step;
-#[cfg(test)]
-mod tests;
 
 pub use book::Book;
 pub use fault::StepFault;

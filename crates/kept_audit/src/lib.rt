@@ -4,7 +4,5 @@
 
 mod audit;
 pub mod laws;
-#[cfg(test)]
-mod tests;
 
 pub use audit::{Audit, audit_again, audit_anew};

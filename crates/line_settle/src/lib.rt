@@ -28,6 +28,3 @@ pub use mask_engine::MaskEngine;
 pub use meter::Meter;
 pub use plain_engine::PlainEngine;
 pub use sweep::leave_out;
-
-#[cfg(test)]
-mod tests;

@@ -22,6 +22,3 @@ pub use line_names::all_lines;
 pub use newest_first::NewestFirst;
 pub use schedule::run_schedule;
 pub use settling::settle_afresh;
-
-#[cfg(test)]
-mod tests;

@@ -5,7 +5,5 @@ mod dirty;
 mod keeping;
 mod sizes;
 mod standing;
-#[cfg(test)]
-mod tests;
 
 pub use keeping::{Kept, keep};

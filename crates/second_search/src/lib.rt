@@ -23,6 +23,3 @@ pub use finding::{find_first, find_other};
 pub use keeper::{Answer, Judged, Keeper, KeptPart, Verdict};
 pub use parts::Parts;
 pub use scene::Scene;
-
-#[cfg(test)]
-mod tests;
