@@ -14,14 +14,20 @@ mod site;
 mod tests;
 mod words;
 
+ghost use Rattle.std.specs.Prelude.{◌<◌, ◌≤◌};
+
 use crate::desk::Desk;
 use crate::exchange::serve_peers;
 use crate::fault::PageFault;
 use crate::input::read_all;
 use crate::open::open_bench;
 use crate::site::{NAMES, PageFile, Site};
-use crate::words::read_words;
+use crate::words::{Asked, read_words};
 use bytes::Bytes;
+use edits::MAX_DEPTH;
+use line_settle::MaskEngine;
+use live_audit::Bench;
+use propagate::InOrder;
 use std::hash::RandomState;
 use std::process::ExitCode;
 use std::random::RandomSource;
@@ -47,28 +53,67 @@ fn say(rt: &(impl Eprint + Print), fault: &PageFault) {
     };
 }
 
-// Opens what the words name, and answers peers until the input ends.
+// Reads the words, and answers peers until the input ends.
 fn run(
     rt: &(impl AllocGlobal + Env + Files + Input + Print + RandomSource),
 ) -> Result<(), PageFault> {
     let alloc = rt.alloc();
-    let args = env::args(rt).map_err(|error| unread_words(&error))?;
-    let words: Vec<String> = args.skip(1).collect(alloc)?;
+    let words = given_words(rt)?;
     let words: Vec<&str> = words.iter().map(|word| word.as_str()).collect(alloc)?;
     let asked = read_words(alloc, &words)?;
-    let file = read_file(rt, asked.file)?;
-    let bench = open_bench(alloc, &file, asked.background, asked.history)?;
-    let files = read_page(rt, asked.page)?;
-    let site = Site::make(alloc, asked.address, files)?;
-    let mut desk = Desk { alloc, site, bench };
+    answer(rt, &asked)
+}
+
+// The words behind the program's own name.
+fn given_words(rt: &(impl AllocGlobal + Env)) -> Result<Vec<String>, PageFault> {
+    let args = env::args(rt).map_err(|error| unread_words(&error))?;
+    Ok(args.skip(1).collect(rt.alloc())?)
+}
+
+// Answers peers over what the words name, until the input ends.
+fn answer(
+    rt: &(impl AllocGlobal + Files + Input + Print + RandomSource),
+    asked: &Asked<'_>,
+) -> Result<(), PageFault>
+    requires { (0 < asked.now.history) × (asked.now.history ≤ MAX_DEPTH) }
+{
     let keys = RandomState::new(rt).map_err(|_| PageFault::Read)?;
+    let mut desk = open_desk(rt, asked)?;
     serve_peers(
-        alloc,
+        rt.alloc(),
         keys,
         &mut rt.reader(),
         &mut io::writer(rt),
         &mut desk,
     )
+}
+
+// Opens what the words name. Each step stands in a function of its own, since a long one is long to prove about.
+fn open_desk(rt: &(impl AllocGlobal + Files), asked: &Asked<'_>) -> Result<Desk, PageFault>
+    requires { (0 < asked.now.history) × (asked.now.history ≤ MAX_DEPTH) }
+{
+    let bench = open_picture(rt, asked)?;
+    let site = open_site(rt, asked)?;
+    Ok(Desk {
+        alloc: rt.alloc(),
+        site,
+        bench,
+    })
+}
+
+fn open_picture(
+    rt: &(impl AllocGlobal + Files),
+    asked: &Asked<'_>,
+) -> Result<Bench<MaskEngine, InOrder>, PageFault>
+    requires { (0 < asked.now.history) × (asked.now.history ≤ MAX_DEPTH) }
+{
+    let file = read_file(rt, asked.file)?;
+    open_bench(rt.alloc(), &file, asked.background, asked.history)
+}
+
+fn open_site(rt: &(impl AllocGlobal + Files), asked: &Asked<'_>) -> Result<Site, PageFault> {
+    let files = read_page(rt, asked.page)?;
+    Ok(Site::make(rt.alloc(), asked.address, files)?)
 }
 
 // Why the words could not be read: memory ran out, or one is not UTF-8.
