@@ -194,6 +194,16 @@ test('strokes that wait go in one request, and undo takes back a stroke', async 
     assert.equal(seen.at(-1).verdict.word, 'unique');
 });
 
+test('undos and redos that wait for an answer take back whole strokes', async () => {
+    const stands = (...history) => settled.replace('history 0 1', `history ${history.join(' ')}`);
+    const { bench, posted } = served(stands(0, 0), `ok\nok\n${stands(2, 0)}`, `ok\nok\nok\n${stands(5, 0)}`, `ok\nok\nok\n${stands(2, 3)}`, `ok\nok\n${stands(0, 5)}`, `ok\nok\n${stands(2, 3)}`);
+    await bench.stroke([]);
+    await bench.stroke(['paint 1 1 a', 'paint 1 2 a']);
+    await Promise.all([bench.stroke(['paint 1 1 .', 'paint 1 2 .', 'paint 2 1 .']), bench.undo(), bench.undo(), bench.redo()]);
+    assert.deepEqual(posted.slice(3).map((body) => body.split('allow')[0]), ['undo\nundo\nundo\n', 'undo\nundo\n', 'redo\nredo\n']);
+    assert.deepEqual(bench.undone, { past: [2], future: [3] });
+});
+
 test('an undecided verdict is searched on to the allowance, and further where it is raised', async () => {
     const open = settled.replace('unique\n', 'undecided\n').replace(/unique\n$/, 'undecided 100\n');
     const { bench, posted } = served(open, 'ok\nundecided 1000\n', 'ok\nundecided 10000\n', 'ok\nambiguous\n.a\naa\n');
