@@ -196,12 +196,21 @@ test('strokes that wait go in one request, and undo takes back a stroke', async 
 
 test('undos and redos that wait for an answer take back whole strokes', async () => {
     const stands = (...history) => settled.replace('history 0 1', `history ${history.join(' ')}`);
-    const { bench, posted } = served(stands(0, 0), `ok\nok\n${stands(2, 0)}`, `ok\nok\nok\n${stands(5, 0)}`, `ok\nok\nok\n${stands(2, 3)}`, `ok\nok\n${stands(0, 5)}`, `ok\nok\n${stands(2, 3)}`);
+    const { bench, posted } = served(stands(0, 0), `ok\nok\nok\n${stands(3, 0)}`, `ok\nok\n${stands(5, 0)}`, `ok\nok\n${stands(3, 2)}`, `ok\nok\nok\n${stands(0, 5)}`, `ok\nok\nok\n${stands(3, 2)}`);
+    await bench.stroke([]);
+    await bench.stroke(['paint 1 1 a', 'paint 1 2 a', 'paint 2 1 a']);
+    await Promise.all([bench.stroke(['paint 1 1 .', 'paint 1 2 .']), bench.undo(), bench.undo(), bench.redo()]);
+    assert.deepEqual(posted.slice(3).map((body) => body.split('allow')[0]), ['undo\nundo\n', 'undo\nundo\nundo\n', 'redo\nredo\nredo\n']);
+    assert.deepEqual(bench.undone, { past: [3], future: [2] });
+});
+
+test('a history that is full loses its oldest commands', async () => {
+    const stands = (past) => settled.replace('history 0 1', `history ${past} 0`);
+    const { bench } = served(stands(0), `ok\nok\n${stands(2)}`, `ok\n${stands(2)}`);
     await bench.stroke([]);
     await bench.stroke(['paint 1 1 a', 'paint 1 2 a']);
-    await Promise.all([bench.stroke(['paint 1 1 .', 'paint 1 2 .', 'paint 2 1 .']), bench.undo(), bench.undo(), bench.redo()]);
-    assert.deepEqual(posted.slice(3).map((body) => body.split('allow')[0]), ['undo\nundo\nundo\n', 'undo\nundo\n', 'redo\nredo\n']);
-    assert.deepEqual(bench.undone, { past: [2], future: [3] });
+    await bench.stroke(['paint 2 1 a']);
+    assert.deepEqual(bench.undone, { past: [1, 1], future: [] });
 });
 
 test('an undecided verdict is searched on to the allowance, and further where it is raised', async () => {
