@@ -226,6 +226,23 @@ test('an undecided verdict is searched on to the allowance, and further where it
     assert.deepEqual(bench.state.verdict.other, ['.a', 'aa']);
 });
 
+test('a search without a bound is for one picture', async () => {
+    const open = settled.replace('unique\n', 'undecided\n').replace(/unique\n$/, 'undecided 100\n');
+    const steps = [1000, 10000, 99999].map((splits) => `ok\nundecided ${splits}\n`);
+    const { bench, posted } = served(open, ...steps, 'ok\nunique\n', `ok\n${open}`, ...steps);
+    const rest = async () => { while (bench.running) await new Promise((go) => setTimeout(go, 1)); };
+    bench.allow(99999);
+    await bench.stroke([]);
+    await rest();
+    bench.allow(bench.more());
+    await rest();
+    assert.equal(posted.at(-1), 'allow off\nverdict\n');
+    await bench.stroke(['paint 1 1 .']);
+    await rest();
+    assert.equal(posted.at(-1), 'allow 99999\nverdict\n');
+    assert.equal(bench.state.verdict.word, 'undecided');
+});
+
 test('a failed request loses what waits, and says so', async () => {
     const { bench, seen } = served();
     await assert.rejects(bench.stroke(['paint 1 1 a']), /500/);

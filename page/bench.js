@@ -173,6 +173,8 @@ export class Bench {
     const [{ way }] = items; // an undo or a redo stands alone
     if (way !== 'new') items[0].lines = Array(this.undone[way === 'undo' ? 'past' : 'future'].at(-1) ?? 1).fill(way);
     const asked = items.flatMap((item) => item.lines);
+    // A search without a bound holds up all else, so it is for the picture alone for which it was asked.
+    if (asked.length) this.allowance = Math.min(this.allowance, MOST_SPLITS);
     const lines = [...asked, 'allow 0', 'report', `allow ${FIRST_SPLITS}`, 'verdict'];
     const answers = answersTo(lines, await post(lines), this.state);
     const [report, , verdict] = answers.slice(-3);

@@ -506,7 +506,11 @@ $('other').addEventListener('click', () => {
   showAudit(bench.state);
   showCell();
 });
-$('raise').addEventListener('click', () => bench.allow(bench.more()));
+$('raise').addEventListener('click', () => {
+  const splits = bench.more();
+  if (splits === Infinity && !confirm('This search may never end, and nothing else is answered meanwhile: only ending page/serve stops it, and what is not saved is lost. Search?')) return;
+  bench.allow(splits);
+});
 $('lower').addEventListener('click', () => { bench.allow(SPLITS); showAudit(bench.state); });
 $('report-box').addEventListener('toggle', () => { $('report').textContent = bench.state ? reportText(bench.state) : ''; });
 
