@@ -194,6 +194,25 @@ test('strokes that wait go in one request, and undo takes back a stroke', async 
     assert.equal(seen.at(-1).verdict.word, 'unique');
 });
 
+test('undos and redos that wait for an answer take back whole strokes', async () => {
+    const stands = (...history) => settled.replace('history 0 1', `history ${history.join(' ')}`);
+    const { bench, posted } = served(stands(0, 0), `ok\nok\nok\n${stands(3, 0)}`, `ok\nok\n${stands(5, 0)}`, `ok\nok\n${stands(3, 2)}`, `ok\nok\nok\n${stands(0, 5)}`, `ok\nok\nok\n${stands(3, 2)}`);
+    await bench.stroke([]);
+    await bench.stroke(['paint 1 1 a', 'paint 1 2 a', 'paint 2 1 a']);
+    await Promise.all([bench.stroke(['paint 1 1 .', 'paint 1 2 .']), bench.undo(), bench.undo(), bench.redo()]);
+    assert.deepEqual(posted.slice(3).map((body) => body.split('allow')[0]), ['undo\nundo\n', 'undo\nundo\nundo\n', 'redo\nredo\nredo\n']);
+    assert.deepEqual(bench.undone, { past: [3], future: [2] });
+});
+
+test('a history that is full loses its oldest commands', async () => {
+    const stands = (past) => settled.replace('history 0 1', `history ${past} 0`);
+    const { bench } = served(stands(0), `ok\nok\n${stands(2)}`, `ok\n${stands(2)}`);
+    await bench.stroke([]);
+    await bench.stroke(['paint 1 1 a', 'paint 1 2 a']);
+    await bench.stroke(['paint 2 1 a']);
+    assert.deepEqual(bench.undone, { past: [1, 1], future: [] });
+});
+
 test('an undecided verdict is searched on to the allowance, and further where it is raised', async () => {
     const open = settled.replace('unique\n', 'undecided\n').replace(/unique\n$/, 'undecided 100\n');
     const { bench, posted } = served(open, 'ok\nundecided 1000\n', 'ok\nundecided 10000\n', 'ok\nambiguous\n.a\naa\n');
@@ -205,6 +224,23 @@ test('an undecided verdict is searched on to the allowance, and further where it
     while (bench.running) await new Promise((go) => setTimeout(go, 1));
     assert.equal(posted.at(-1), 'allow 30000\nverdict\n');
     assert.deepEqual(bench.state.verdict.other, ['.a', 'aa']);
+});
+
+test('a search without a bound is for one picture', async () => {
+    const open = settled.replace('unique\n', 'undecided\n').replace(/unique\n$/, 'undecided 100\n');
+    const steps = [1000, 10000, 99999].map((splits) => `ok\nundecided ${splits}\n`);
+    const { bench, posted } = served(open, ...steps, 'ok\nunique\n', `ok\n${open}`, ...steps);
+    const rest = async () => { while (bench.running) await new Promise((go) => setTimeout(go, 1)); };
+    bench.allow(99999);
+    await bench.stroke([]);
+    await rest();
+    bench.allow(bench.more());
+    await rest();
+    assert.equal(posted.at(-1), 'allow off\nverdict\n');
+    await bench.stroke(['paint 1 1 .']);
+    await rest();
+    assert.equal(posted.at(-1), 'allow 99999\nverdict\n');
+    assert.equal(bench.state.verdict.word, 'undecided');
 });
 
 test('a failed request loses what waits, and says so', async () => {

@@ -49,6 +49,40 @@ for (let row = 1; row <= Number(grid.getAttribute('aria-rowcount')); row++) for 
 }
 return found;'''
 
+# The cell that has the focus in turn, and where it lies on the canvas.
+CELL = '''
+const canvas = document.querySelector('canvas'), pen = canvas.getContext('2d'), paper = canvas.getBoundingClientRect(), scale = canvas.width / canvas.clientWidth;
+const cell = [...document.querySelectorAll('.cell')].find((one) => !one.parentElement.hidden), at = cell.getBoundingClientRect(), side = parseFloat(cell.style.width);
+const here = [cell.parentElement.getAttribute('aria-rowindex'), cell.getAttribute('aria-colindex')].map(Number), grid = document.getElementById('grid');
+const [rows, columns] = ['aria-rowcount', 'aria-colcount'].map((name) => Number(grid.getAttribute(name)));
+const left = (col) => at.left - paper.left + (col - here[1]) * side, top = (row) => at.top - paper.top + (row - here[0]) * side;
+const points = (x, y, wide, high) => pen.getImageData(Math.round(x * scale), Math.round(y * scale), Math.max(1, Math.round(wide * scale)), Math.max(1, Math.round(high * scale))).data;
+'''
+# The letters of the clues that are drawn, by the colours along a line through their blocks, above the numbers. None for small cells.
+CLUES = CELL + '''
+if (side < 40) return null;
+const shown = arguments[0], found = {};
+const letters = (data) => {
+    const met = [];
+    for (let i = 0, before = null; i < data.length; i += 4) {
+        const letter = data[i + 3] === 255 ? shown[data.slice(i, i + 3).join(' ')] ?? null : null;
+        if (letter !== null && letter !== before) met.push(letter);
+        before = letter;
+    }
+    return met.join('');
+};
+for (let row = 1; row <= rows; row++) found['r ' + row] = letters(points(0, top(row) + side / 2 - 9, left(1) - 5, 0));
+for (let col = 1; col <= columns; col++) found['c ' + col] = letters(points(left(col) + side / 2 - 15, 0, 0, top(1) - 5));
+return found;'''
+# What is drawn along two edges of each cell.
+EDGES = CELL + '''
+const found = {};
+for (let row = 1; row <= rows; row++) for (let col = 1; col <= columns; col++) {
+    const [x, y] = [left(col), top(row)];
+    found[row + ' ' + col] = [points(x + 2, y + side / 2 - 5, 0, 10), points(x + side / 2 - 5, y + 2, 10, 0)].map((data) => data.join(' '));
+}
+return found;'''
+
 
 class Failure(Exception):
     """Something is not as it must be."""
@@ -226,6 +260,7 @@ return {word: document.getElementById('audit').dataset.word, open: text('open'),
         equal(texts['history'], '{} back, {} forth'.format(*report.history), f'{what}: the history')
         equal(texts['palette'], LETTERS[:len(report.colours)], f'{what}: the palette')
         self.check_points(report, what)
+        self.check_clues(report, what)
         return report
 
     # A settled cell shows its colour alone, an open one is hatched; where the other picture differs its colour is in the
@@ -244,6 +279,12 @@ return {word: document.getElementById('audit').dataset.word, open: text('open'),
             other = report.other and report.other[row - 1][col - 1]
             if other and other != letter and len(corners[place]) == 1:
                 equal(corners[place], [shown[other]], f'{what}: the corner of {place}')
+
+    def check_clues(self, report, what):
+        shown = {' '.join(str(int(sample * 255 / report.maxval + 0.5)) for sample in triple): letter for letter, triple in report.colours.items() if letter != '.'}
+        drawn = self.script(CLUES, shown)
+        if drawn is not None:
+            equal(drawn, {line: ''.join(block[-1] for block in clue.split() if block != '0') for line, clue in report.clues.items()}, f'{what}: the clues that are drawn')
 
     def walk(self, report, what):
         """Goes over all cells by keys and compares each label."""
@@ -293,6 +334,7 @@ def test_mouse(page, folder):
     equal(page.id('changed').text, 'r 1; c 1', 'the clues that changed')
     page.drag((8, 1), (8, 4))
     equal(page.last(), ['fill 8 1 8 4 a'], 'a drag along a row')
+    equal(page.id('changed').text, 'r 8; c 1–4', 'the clues that a drag along a row changed')
     page.drag((4, 3), (6, 3), (6, 5), button=MouseButton.RIGHT)
     equal(page.last(), ['fill 4 3 6 3 .', 'fill 6 4 6 5 .'], 'a drag round a corner by the right button')
     page.check('after three drags')
@@ -383,6 +425,9 @@ def test_ambiguous(page, folder):
     """An ambiguous picture is made unique by a pin; the other picture; why; certificates."""
     page.open(ROOT / 'examples' / 'given.ppm')
     equal(page.id('audit').get_attribute('data-word'), 'ambiguous', 'the verdict')
+    page.click('#report-box summary')
+    equal([line for line in page.id('report').text.split('\n') if line.startswith('verdict')], ['verdict ambiguous'], 'the verdict in the report')
+    page.click('#report-box summary')
     must('4 cells' in page.id('verdict-why').text, 'how many cells differ')
     page.click('[data-save=certify]')
     must(page.bubble().startswith('ambiguous'), 'no certificate')
@@ -395,7 +440,7 @@ def test_ambiguous(page, folder):
     page.tool('why')
     page.colour('.')
     page.drag((1, 1))
-    must(page.id('reason').text.startswith('.: possible'), f'a reason: {page.id("reason").text!r}')
+    must(page.id('reason').text.startswith('background: possible'), f'a reason: {page.id("reason").text!r}')
     page.tool('pin')
     page.drag((1, 1))
     report = page.check('after the pin')
@@ -404,12 +449,27 @@ def test_ambiguous(page, folder):
     page.tool('why')
     page.colour('.')
     page.drag((1, 1))
-    must(page.id('reason').text.startswith('.: given'), f'a given: {page.id("reason").text!r}')
+    must(page.id('reason').text.startswith('background: given'), f'a given: {page.id("reason").text!r}')
     page.colour('a')
     page.drag((1, 2))
     said = session(page.file, ['pin 1 1\n', 'why 1 2 a\n']).splitlines()[1].split()
     line = {'r': 'row', 'c': 'column'}[said[1]] + ' ' + said[2]
     must(page.id('reason').text == f'a: not here, by {line}' + (', where cell 1 is a.' if len(said) > 3 else ' alone.'), f'a reason: {page.id("reason").text!r}')
+    page.open(ROOT / 'examples' / 'apple.ppm')
+    page.script('document.querySelector(".cell[tabindex=\'0\']").focus()')
+    page.press('x')
+    equal(page.id('other').text, 'Back to your picture', 'the other picture by a key')
+    page.press('x')
+    page.tool('pin')
+    page.drag((1, 4))
+    page.tool('why')
+    page.colour('.')
+    before = page.script(EDGES)
+    page.drag((1, 5))
+    said = session(page.file, ['pin 1 4\n', 'why 1 5 .\n']).splitlines()[1].split()
+    equal(said[:2], ['by', 'r'], 'a reason by a row')
+    marked = {place for place, edges in page.script(EDGES).items() if all(now != old for now, old in zip(edges, before[place]))}
+    equal(marked, {f'{said[2]} {premise.split("=")[0]}' for premise in said[4:]}, 'the premises that are marked')
     page.shot(folder / 'why.png')
 
 

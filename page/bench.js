@@ -103,12 +103,13 @@ export class Bench {
     return this.put({ lines: [line], asks: true });
   }
 
+  /** Takes back the last stroke. How many commands it took is known once all before it is answered: `sendStrokes`. */
   undo() {
-    return this.stroke(Array(this.undone.past.at(-1) ?? 1).fill('undo'), 'undo');
+    return this.put({ lines: ['undo'], way: 'undo', cells: null, asks: false });
   }
 
   redo() {
-    return this.stroke(Array(this.undone.future.at(-1) ?? 1).fill('redo'), 'redo');
+    return this.put({ lines: ['redo'], way: 'redo', cells: null, asks: false });
   }
 
   /** Lets the verdict on the present picture take more splits, or as many as before. */
@@ -169,7 +170,11 @@ export class Bench {
       if (item.asks || (items.length && (bytes > MOST_BYTES || item.way !== 'new' || items.at(-1).way !== 'new'))) break;
       items.push(item);
     }
+    const [{ way }] = items; // an undo or a redo stands alone
+    if (way !== 'new') items[0].lines = Array(this.undone[way === 'undo' ? 'past' : 'future'].at(-1) ?? 1).fill(way);
     const asked = items.flatMap((item) => item.lines);
+    // A search without a bound holds up all else, so it is for the picture alone for which it was asked.
+    if (asked.length) this.allowance = Math.min(this.allowance, MOST_SPLITS);
     const lines = [...asked, 'allow 0', 'report', `allow ${FIRST_SPLITS}`, 'verdict'];
     const answers = answersTo(lines, await post(lines), this.state);
     const [report, , verdict] = answers.slice(-3);

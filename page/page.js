@@ -127,6 +127,9 @@ const namesOf = (letter, set) => {
   return spans.map(([from, to]) => `${letter} ${from === to ? from : `${from}–${to}`}`).join(', ');
 };
 
+// The report was asked for under an allowance of no splits: the verdict is the one that was searched for behind it.
+const reportText = ({ text, verdict }) => text.replace(/^verdict [a-z]+$/m, `verdict ${verdict.word}`);
+
 function showAudit(state) {
   const { verdict, picture } = state;
   const searching = bench.running && bench.isUndecided();
@@ -153,7 +156,7 @@ function showAudit(state) {
   $('history').textContent = `${state.past} back, ${state.future} forth`;
   $('undo').disabled = !state.past;
   $('redo').disabled = !state.future;
-  if ($('report-box').open) $('report').textContent = state.text;
+  if ($('report-box').open) $('report').textContent = reportText(state);
   const line = `${title.slice(2)}. ${many(state.open, 'open cell')}. Changed clues: ${$('changed').textContent}.`;
   if (!searching && $('said').textContent !== line) quiet(line);
 }
@@ -171,10 +174,11 @@ function nameOf(triple, maxval) {
   const names = [[14, 'red'], [42, light < 0.42 ? 'brown' : 'orange'], [68, 'yellow'], [165, 'green'], [200, 'cyan'], [258, 'blue'], [292, 'purple'], [344, 'pink'], [361, 'red']];
   return (light > 0.75 ? 'light ' : light < 0.28 ? 'dark ' : '') + names.find(([most]) => hue < most)[1];
 }
+const wordOf = (letter) => (letter === '.' ? 'background' : letter);
 const colourText = (letter) => {
   const { colours, maxval } = bench.state;
   const triple = colours[LETTERS.indexOf(letter)];
-  return `${letter === '.' ? 'background' : letter}, ${nameOf(triple, maxval)}`;
+  return `${wordOf(letter)}, ${nameOf(triple, maxval)}`;
 };
 function dress(element, letter) {
   const { colours, maxval } = bench.state;
@@ -303,11 +307,11 @@ async function why(row, col, letter) {
   sheet.redrawAll();
 }
 function reasonText(answer, letter) {
-  if (answer.word === 'possible') return `${letter}: possible. By lines alone it is left in this cell.`;
-  if (answer.word === 'given') return `${letter}: given. The cell is pinned, and has its own colour alone.`;
+  if (answer.word === 'possible') return `${wordOf(letter)}: possible. By lines alone it is left in this cell.`;
+  if (answer.word === 'given') return `${wordOf(letter)}: given. The cell is pinned, and has its own colour alone.`;
   const line = `${answer.axis === 'r' ? 'row' : 'column'} ${answer.at}`;
-  const from = answer.premises.map((premise) => `cell ${premise.at} is ${[...premise.letters].join(' or ')}`).join(', ');
-  return `${letter}: not here, by ${line}${from ? `, where ${from}` : ' alone'}.`;
+  const from = answer.premises.map((premise) => `cell ${premise.at} is ${[...premise.letters].map(wordOf).join(' or ')}`).join(', ');
+  return `${wordOf(letter)}: not here, by ${line}${from ? `, where ${from}` : ' alone'}.`;
 }
 
 // ---- tools on the sheet
@@ -502,9 +506,13 @@ $('other').addEventListener('click', () => {
   showAudit(bench.state);
   showCell();
 });
-$('raise').addEventListener('click', () => bench.allow(bench.more()));
+$('raise').addEventListener('click', () => {
+  const splits = bench.more();
+  if (splits === Infinity && !confirm('This search may never end, and nothing else is answered meanwhile: only ending page/serve stops it, and what is not saved is lost. Search?')) return;
+  bench.allow(splits);
+});
 $('lower').addEventListener('click', () => { bench.allow(SPLITS); showAudit(bench.state); });
-$('report-box').addEventListener('toggle', () => { $('report').textContent = bench.state?.text ?? ''; });
+$('report-box').addEventListener('toggle', () => { $('report').textContent = bench.state ? reportText(bench.state) : ''; });
 
 for (const word of ['row', 'column']) {
   $(`${word}-tools`).addEventListener('click', (event) => {
