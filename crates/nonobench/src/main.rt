@@ -12,13 +12,17 @@ mod tests;
 mod words;
 mod work;
 
+ghost use Rattle.nonobench.specs.Words.{IsLawfulTask};
+ghost use Rattle.nonobench.specs.Work.{IsLawful};
+
 use crate::check::run_check;
 use crate::fault::ProgramFault;
 use crate::input::read_input;
+use crate::options::Options;
 use crate::run::run_clues;
 use crate::words::{Task, read_words};
 use crate::work::run_work;
-use picture::send;
+use picture::{Rgb, send};
 use std::process::ExitCode;
 use std::rt::{Env, Files};
 use std::{env, fs, io};
@@ -44,32 +48,72 @@ fn say(rt: &impl Eprint, fault: &ProgramFault) {
 // Does what the words ask for.
 fn answer(rt: &(impl AllocGlobal + Env + Files + Input + Print)) -> Result<(), ProgramFault> {
     let alloc = rt.alloc();
-    let args = env::args(rt).map_err(|error| unread_words(&error))?;
-    let words: Vec<String> = args.skip(1).collect(alloc)?;
+    let words = given_words(rt)?;
     let words: Vec<&str> = words.iter().map(|word| word.as_str()).collect(alloc)?;
-    match read_words(alloc, &words)? {
-        Task::Clues => {
-            let bytes = read_input(alloc, &mut rt.reader())?;
-            run_clues(alloc, &bytes, None, &mut io::writer(rt))
-        }
-        Task::Work { file, options } => {
-            let file = read_file(rt, file)?;
-            run_work(alloc, &file, options, &mut rt.reader(), &mut io::writer(rt))
-        }
+    let task = read_words(alloc, &words)?;
+    perform(rt, task)
+}
+
+// The words behind the program's own name.
+fn given_words(rt: &(impl AllocGlobal + Env)) -> Result<Vec<String>, ProgramFault> {
+    let args = env::args(rt).map_err(|error| unread_words(&error))?;
+    Ok(args.skip(1).collect(rt.alloc())?)
+}
+
+// Each task stands in a function of its own, since a long one is long to prove about.
+fn perform(
+    rt: &(impl AllocGlobal + Files + Input + Print),
+    task: Task<'_>,
+) -> Result<(), ProgramFault>
+    requires { IsLawfulTask task }
+{
+    match task {
+        Task::Clues => print_clues(rt),
+        Task::Work { file, options } => work_on(rt, file, options),
         Task::Check {
             file,
             cert,
             background,
-        } => {
-            let file = read_file(rt, file)?;
-            let cert = read_file(rt, cert)?;
-            run_check(alloc, &file, &cert, background, &mut io::writer(rt))
-        }
-        Task::Help(text) => {
-            send(text.as_bytes(), &mut io::writer(rt))?;
-            Ok(())
-        }
+        } => look_at(rt, file, cert, background),
+        Task::Help(text) => Ok(send(text.as_bytes(), &mut io::writer(rt))?),
     }
+}
+
+// The clues of the picture on standard input.
+fn print_clues(rt: &(impl AllocGlobal + Input + Print)) -> Result<(), ProgramFault> {
+    let alloc = rt.alloc();
+    let bytes = read_input(alloc, &mut rt.reader())?;
+    run_clues(alloc, &bytes, None, &mut io::writer(rt))
+}
+
+// A session on a file.
+fn work_on(
+    rt: &(impl AllocGlobal + Files + Input + Print),
+    path: &str,
+    options: Options,
+) -> Result<(), ProgramFault>
+    requires { IsLawful options }
+{
+    let file = read_file(rt, path)?;
+    run_work(
+        rt.alloc(),
+        &file,
+        options,
+        &mut rt.reader(),
+        &mut io::writer(rt),
+    )
+}
+
+// The check of a picture's certificate.
+fn look_at(
+    rt: &(impl AllocGlobal + Files + Print),
+    path: &str,
+    cert: &str,
+    background: Option<Rgb>,
+) -> Result<(), ProgramFault> {
+    let file = read_file(rt, path)?;
+    let cert = read_file(rt, cert)?;
+    run_check(rt.alloc(), &file, &cert, background, &mut io::writer(rt))
 }
 
 // Why the words could not be read: memory ran out, or one is not UTF-8.

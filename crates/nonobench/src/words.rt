@@ -129,8 +129,14 @@ fn untaken<'a>(alloc: Global, error: &Error) -> Result<Task<'a>, ProgramFault>
     }
 }
 
-// The words that are taken.
+// The words that are taken. Each stands in a function of its own, since the parser's values are long to prove about.
 fn command<'a>(alloc: Global) -> Result<Command<'a>, AllocError> {
+    named(alloc)?
+        .subcommand(work_command(alloc)?)?
+        .subcommand(check_command(alloc)?)
+}
+
+fn named<'a>(alloc: Global) -> Result<Command<'a>, AllocError> {
     let command = Command::new(alloc, "nonobench")
         .about(
             "Multicolour nonograms. Without words: the clues of the P3 picture on standard input.",
@@ -138,58 +144,70 @@ fn command<'a>(alloc: Global) -> Result<Command<'a>, AllocError> {
         .version("0.1.0")
         .bin_name("nonobench")?
         .no_binary_name(true)
-        .subcommand_required(true)
-        .subcommand(work_command(alloc)?)?
-        .subcommand(check_command(alloc)?)?;
+        .subcommand_required(true);
     Ok(command)
 }
 
 // The words of a session.
 fn work_command<'a>(alloc: Global) -> Result<Command<'a>, AllocError> {
-    let file = Arg::new(alloc, "file")
-        .value_name("FILE")
-        .required(true)
-        .help("The picture, as a P3 text, or the puzzle, as a .non text");
-    let format = Arg::new(alloc, "format")
-        .long("format")
-        .value_name("FORMAT")
-        .value_parser(FORMATS.as_slice())
-        .default_value("ppm")
-        .help("The format of FILE");
-    let history = Arg::new(alloc, "history")
-        .long("history")
-        .value_name("N")
-        .value_parser(value_parser!(u16).range(1..=1000))
-        .default_value("100")
-        .help("How many edits can be undone, 1 to 1000");
     Command::new(alloc, "work")
         .about("Opens a picture or a puzzle, and answers each line of standard input")
         .after_help("Example: echo verdict | nonobench work heart.ppm")
-        .arg(file)?
-        .arg(format)?
+        .arg(opened(alloc))?
+        .arg(format(alloc))?
         .arg(background(alloc))?
-        .arg(history)
+        .arg(history(alloc))
 }
 
 // The words of the check.
 fn check_command<'a>(alloc: Global) -> Result<Command<'a>, AllocError> {
-    let file = Arg::new(alloc, "file")
-        .value_name("FILE")
-        .required(true)
-        .help("The picture, as a P3 text");
-    let cert = Arg::new(alloc, "cert")
-        .value_name("CERT")
-        .required(true)
-        .help("Its certificate");
     Command::new(alloc, "check")
         .about("Checks a certificate: whether the picture is the only one with its clues")
         .after_help("Example: nonobench check heart.ppm heart.cert")
-        .arg(file)?
-        .arg(cert)?
+        .arg(picture(alloc))?
+        .arg(cert(alloc))?
         .arg(background(alloc))
 }
 
-// The word for the colour of the background.
+fn opened<'a>(alloc: Global) -> Arg<'a> {
+    Arg::new(alloc, "file")
+        .value_name("FILE")
+        .required(true)
+        .help("The picture, as a P3 text, or the puzzle, as a .non text")
+}
+
+fn format<'a>(alloc: Global) -> Arg<'a> {
+    Arg::new(alloc, "format")
+        .long("format")
+        .value_name("FORMAT")
+        .value_parser(FORMATS.as_slice())
+        .default_value("ppm")
+        .help("The format of FILE")
+}
+
+fn history<'a>(alloc: Global) -> Arg<'a> {
+    Arg::new(alloc, "history")
+        .long("history")
+        .value_name("N")
+        .value_parser(value_parser!(u16).range(1..=1000))
+        .default_value("100")
+        .help("How many edits can be undone, 1 to 1000")
+}
+
+fn picture<'a>(alloc: Global) -> Arg<'a> {
+    Arg::new(alloc, "file")
+        .value_name("FILE")
+        .required(true)
+        .help("The picture, as a P3 text")
+}
+
+fn cert<'a>(alloc: Global) -> Arg<'a> {
+    Arg::new(alloc, "cert")
+        .value_name("CERT")
+        .required(true)
+        .help("Its certificate")
+}
+
 fn background<'a>(alloc: Global) -> Arg<'a> {
     Arg::new(alloc, "background")
         .long("background")
