@@ -2,7 +2,7 @@
 use Rattle.std.proofs.Common.{length, ap, ◌∙◌, arith}
 use Rattle.picture.specs.declared.line_id.Axis.TheVariants.{Across}
 use Rattle.picture.specs.Rows.{lines_swapped, width_of}
-use Rattle.clues.proofs.tests.an_exchange_touches_the_lines_that_cross.Goals as goal
+use Rattle.clue_trials.proofs.tests.clues.an_exchange_touches_the_lines_that_cross.Goals as goal
 
 pub swap_lines-requires-clause-second : goal.swap_lines-requires-clause-second
 swap_lines-requires-clause-second g c = rw (c.in_ok-new.ensures ∙ c.in_ok-old.ensures) (omega arith)

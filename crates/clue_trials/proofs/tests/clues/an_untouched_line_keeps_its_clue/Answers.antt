@@ -7,7 +7,7 @@ use Rattle.picture.specs.Rows.{with_cell, lines_along}
 use Rattle.clues.specs.ClueBook.{clues_of}
 use Rattle.clues.specs.Change.{CanRefresh, image_of, line_at, lines_after, still}
 use Rattle.clues.specs.BookLaws.{has_clue-clues_of}
-use Rattle.clues.proofs.tests.an_untouched_line_keeps_its_clue.Goals as goal
+use Rattle.clue_trials.proofs.tests.clues.an_untouched_line_keeps_its_clue.Goals as goal
 
 one_line : (colour : ℕ) (axis : Axis) → lines_along axis ((colour ∷ []) ∷ []) ≡ lines_after axis (still 1 1)
 one_line colour Across = refl
@@ -32,4 +32,12 @@ refresh-requires g c =
     let old : c.set.new.self ≡ (1 ∷ []) ∷ [] = c.set.ensures ∙ ap (λ (p : List (List ℕ)). with_cell p 0 0 1) c.in_ok-old.ensures in
     let new : c.in_ok-new.new ≡ (0 ∷ []) ∷ [] = c.in_ok-new.ensures in
     let can = rw (← c.cells-change.ensures.moves) at (can_refresh c.cells-change.result.marked) in
+    rw (c.in_ok-book.ensures, old, new) can
+
+pub refresh-requires-2 : goal.refresh-requires-2
+refresh-requires-2 g c =
+    let old : c.set.new.self ≡ (1 ∷ []) ∷ [] = c.set.ensures ∙ ap (λ (p : List (List ℕ)). with_cell p 0 0 1) c.in_ok-old.ensures in
+    let new : c.in_ok-new.new ≡ (0 ∷ []) ∷ [] = c.in_ok-new.ensures in
+    let moves = c.touch.ensures.moves ∙ c.cells-change.ensures.moves in
+    let can = rw (← moves) at (can_refresh c.touch.new.self.marked) in
     rw (c.in_ok-book.ensures, old, new) can

@@ -2,7 +2,7 @@
 use Rattle.std.proofs.Common.{ℕ, List, length, ap, ◌∙◌, arith}
 use Rattle.picture.specs.declared.line_id.Axis.TheVariants.{Across, Down}
 use Rattle.picture.specs.Rows.{with_cell, width_of}
-use Rattle.clues.proofs.tests.a_paint_touches_its_row_and_its_column.Goals as goal
+use Rattle.clue_trials.proofs.tests.clues.a_paint_touches_its_row_and_its_column.Goals as goal
 
 pub set-requires-clause-in_columns : goal.set-requires-clause-in_columns
 set-requires-clause-in_columns g c = rw (c.in_ok-new.ensures ∙ c.in_ok-old.ensures) (omega arith)

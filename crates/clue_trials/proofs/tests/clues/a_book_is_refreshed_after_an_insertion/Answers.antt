@@ -1,7 +1,7 @@
 -- The new picture is the old one with a row of background above.
 use Rattle.std.proofs.Common.{◌≡◌, ℕ, List, [], ◌∷◌, length, refl, sym, ap, ◌∙◌}
 use Rattle.picture.specs.Rows.{with_cell, width_of, line_inserted}
-use Rattle.clues.proofs.tests.a_book_is_refreshed_after_an_insertion.Goals as goal
+use Rattle.clue_trials.proofs.tests.clues.a_book_is_refreshed_after_an_insertion.Goals as goal
 
 pub refresh-requires : goal.refresh-requires
 refresh-requires g c =

@@ -1,4 +1,5 @@
-use crate::*;
+use super::{equal, holds};
+use non_text::{NonPuzzle, NonWriteFault, read_non, write_non};
 use picture::{Axis, LineId, Picture};
 use std::alloc::Global;
 use std::io;
@@ -46,12 +47,12 @@ fn carriage_returns_bytes_and_blank_lines_are_taken(rt: HostRuntime) -> Result<(
     let text =
         b"copyright \"\xa9\"\r\nwidth 2\r\nheight 2\r\nrows\r\n1\r\n\r\ncolumns\r\n1\r\n0\r\n";
     let puzzle = read_non(rt.alloc(), text).map_err(|fault| fault.name())?;
-    assert!(rt; puzzle.goal.is_none());
-    assert_eq!(rt; puzzle.clues.height(), 2);
-    assert_eq!(rt; puzzle.clues.width(), 2);
+    holds(&rt, "no goal", puzzle.goal.is_none());
+    equal(&rt, "rows", puzzle.clues.height(), 2);
+    equal(&rt, "columns", puzzle.clues.width(), 2);
     for axis in [Axis::Across, Axis::Down] {
-        assert_eq!(rt; length_of(&puzzle, axis, 0), 1);
-        assert_eq!(rt; length_of(&puzzle, axis, 1), 0);
+        equal(&rt, "a first line", length_of(&puzzle, axis, 0), 1);
+        equal(&rt, "a second line", length_of(&puzzle, axis, 1), 0);
     }
     Ok(())
 }
@@ -99,7 +100,7 @@ fn the_first_fault_is_answered(rt: HostRuntime) {
         ),
     ];
     for (text, fault) in texts {
-        assert_eq!(rt; answer(rt.alloc(), text.as_bytes()), fault, "{text}");
+        equal(&rt, text, answer(rt.alloc(), text.as_bytes()), fault);
     }
 }
 
@@ -127,7 +128,7 @@ fn puzzles_are_read(rt: HostRuntime) {
         ),
     ];
     for (text, read) in texts {
-        assert_eq!(rt; answer(rt.alloc(), text.as_bytes()), read, "{text}");
+        equal(&rt, text, answer(rt.alloc(), text.as_bytes()), read);
     }
 }
 
@@ -138,11 +139,11 @@ fn a_picture_is_written_and_read_again(rt: HostRuntime) -> Result<(), Fail> {
     let mut text = Vec::with_capacity(rt.alloc(), 64)?;
     write_non(rt.alloc(), &picture, &mut text)?;
     let written = b"width 2\nheight 2\nrows\n2\n1\ncolumns\n2\n1\ngoal \"1110\"\n";
-    assert_eq!(rt; text.as_slice(), written.as_slice());
+    equal(&rt, "a text", text.as_slice(), written.as_slice());
     let puzzle = read_non(rt.alloc(), &text).map_err(|fault| fault.name())?;
     let goal = puzzle.goal.ok_or("the text has a goal")?;
-    assert!(rt; goal.same(&picture));
-    assert!(rt; puzzle.clues.has_clues(&picture));
+    holds(&rt, "the picture", goal.same(&picture));
+    holds(&rt, "its clues", puzzle.clues.has_clues(&picture));
     Ok(())
 }
 
@@ -153,8 +154,8 @@ fn a_third_colour_is_refused(rt: HostRuntime) -> Result<(), Fail> {
     picture.set(1, 1, 2);
     let mut text = Vec::new(rt.alloc());
     let result = write_non(rt.alloc(), &picture, &mut text);
-    assert_eq!(rt; result, Err(NonWriteFault::TwoColoursOnly));
-    assert!(rt; text.is_empty());
+    equal(&rt, "a fault", result, Err(NonWriteFault::TwoColoursOnly));
+    holds(&rt, "nothing written", text.is_empty());
     Ok(())
 }
 
@@ -189,11 +190,12 @@ fn a_failed_write_leaves_a_front(rt: HostRuntime) -> Result<(), Fail> {
         };
         let result = write_non(rt.alloc(), &picture, &mut writer);
         if room < text.len() {
-            assert_eq!(rt; result, Err(NonWriteFault::Write));
+            equal(&rt, "a fault", result, Err(NonWriteFault::Write));
         } else {
-            assert_eq!(rt; result, Ok(()));
+            equal(&rt, "all written", result, Ok(()));
         }
-        assert_eq!(rt; writer.taken.as_slice(), &text[..room.min(text.len())]);
+        let front = &text[..room.min(text.len())];
+        equal(&rt, "a front", writer.taken.as_slice(), front);
     }
     Ok(())
 }
