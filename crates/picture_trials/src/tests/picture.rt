@@ -3,7 +3,11 @@ ghost use Rattle.picture.specs.Rows.{width_of, lines_along};
 ghost use Rattle.picture.specs.CellSet.{IsCellSet, HasCell, PutsCell, TakesOutCell};
 ghost use Rattle.picture.specs.LineSet.{HasName};
 
-use super::*;
+use super::{equal, holds};
+use picture::{
+    Axis, CellSet, Document, LineId, LineSet, MAX_COLOURS, MAX_SIDE, Palette, PaletteFault,
+    Picture, Rgb, WriteFault, laws, send,
+};
 use std::alloc::{AllocError, Global};
 use std::io::{self, Write};
 use std::test::Fail;
@@ -23,15 +27,15 @@ const BLUE: Rgb = Rgb { r: 0, g: 0, b: 255 };
 #[test]
 fn a_palette_numbers_its_colours(rt: HostRuntime) -> Result<(), Fail> {
     let mut palette = Palette::start(rt.alloc(), 255, WHITE)?;
-    assert_eq!(rt; palette.add(BLACK), Ok(1));
-    assert_eq!(rt; palette.add(RED), Ok(2));
+    equal(&rt, "black", palette.add(BLACK), Ok(1));
+    equal(&rt, "red", palette.add(RED), Ok(2));
     let copy = palette.copy()?;
-    assert_eq!(rt; copy.maxval(), 255);
-    assert_eq!(rt; copy.len(), 3);
-    assert!(rt; !copy.is_empty());
-    assert_eq!(rt; copy.number_of(RED), Some(2));
-    assert_eq!(rt; copy.number_of(BLUE), None);
-    assert_eq!(rt; copy.rgb(0), WHITE);
+    equal(&rt, "maxval", copy.maxval(), 255);
+    assert!(rt; copy.len() == 3);
+    holds(&rt, "colours", !copy.is_empty());
+    equal(&rt, "red's number", copy.number_of(RED), Some(2));
+    equal(&rt, "no blue", copy.number_of(BLUE), None);
+    equal(&rt, "background", copy.rgb(0), WHITE);
     Ok(())
 }
 
@@ -42,8 +46,8 @@ fn a_number_gets_another_colour(rt: HostRuntime) -> Result<(), Fail> {
     if palette.len() == 2 {
         palette.set(1, RED)?;
         palette.set(1, RED)?;
-        assert_eq!(rt; palette.number_of(RED), Some(1));
-        assert_eq!(rt; palette.number_of(BLACK), None);
+        equal(&rt, "red's number", palette.number_of(RED), Some(1));
+        equal(&rt, "no black", palette.number_of(BLACK), None);
     }
     Ok(())
 }
@@ -52,12 +56,12 @@ fn a_number_gets_another_colour(rt: HostRuntime) -> Result<(), Fail> {
 fn a_colour_stands_at_another_number(rt: HostRuntime) -> Result<(), Fail> {
     let mut palette = Palette::start(rt.alloc(), 255, WHITE)?;
     palette.add(BLACK)?;
-    assert_eq!(rt; palette.len(), 2);
-    assert!(rt; palette.stands_elsewhere(0, BLACK));
-    assert!(rt; !palette.stands_elsewhere(1, BLACK));
-    assert!(rt; palette.stands_elsewhere(1, WHITE));
-    assert!(rt; !palette.stands_elsewhere(0, WHITE));
-    assert!(rt; !palette.stands_elsewhere(1, RED));
+    assert!(rt; palette.len() == 2);
+    holds(&rt, "black for 0", palette.stands_elsewhere(0, BLACK));
+    holds(&rt, "black for 1", !palette.stands_elsewhere(1, BLACK));
+    holds(&rt, "white for 1", palette.stands_elsewhere(1, WHITE));
+    holds(&rt, "white for 0", !palette.stands_elsewhere(0, WHITE));
+    holds(&rt, "red for 1", !palette.stands_elsewhere(1, RED));
     Ok(())
 }
 
@@ -68,7 +72,7 @@ fn the_last_colour_goes(rt: HostRuntime) -> Result<(), Fail> {
     if palette.len() > 1 {
         palette.pop_last();
     }
-    assert_eq!(rt; palette.len(), 1);
+    equal(&rt, "colours", palette.len(), 1);
     Ok(())
 }
 
@@ -76,13 +80,13 @@ fn the_last_colour_goes(rt: HostRuntime) -> Result<(), Fail> {
 fn a_picture_is_painted(rt: HostRuntime) -> Result<(), Fail> {
     let mut picture = Picture::blank(rt.alloc(), 2, 3)?;
     picture.set(0, 1, 7);
-    assert_eq!(rt; picture.height(), 2);
-    assert_eq!(rt; picture.width(), 3);
-    assert_eq!(rt; picture.cell(0, 1), 7);
+    assert!(rt; picture.height() == 2 && picture.width() == 3);
+    equal(&rt, "a cell", picture.cell(0, 1), 7);
     let copy = picture.copy()?;
     picture.set(0, 0, 1);
-    assert!(rt; !copy.same(&picture));
-    assert!(rt; copy.same(&drawn(rt.alloc(), 2, 3, &[0, 7, 0, 0, 0, 0])?));
+    holds(&rt, "another cell", !copy.same(&picture));
+    let wanted = drawn(rt.alloc(), 2, 3, &[0, 7, 0, 0, 0, 0])?;
+    holds(&rt, "the copy", copy.same(&wanted));
     Ok(())
 }
 
@@ -93,34 +97,34 @@ fn a_line_is_read_from_both_ends(rt: HostRuntime) -> Result<(), Fail> {
         axis: Axis::Down,
         at: 0,
     });
-    assert_eq!(rt; line.len(), 3);
-    assert!(rt; !line.is_empty());
-    assert_eq!(rt; line.get(2), 6);
+    assert!(rt; line.len() == 3);
+    holds(&rt, "cells", !line.is_empty());
+    equal(&rt, "the third", line.get(2), 6);
     let mut cells = line.iter();
-    assert_eq!(rt; cells.next_back(), Some(6));
-    assert_eq!(rt; cells.next(), Some(5));
-    assert_eq!(rt; cells.next(), Some(0));
-    assert_eq!(rt; cells.next(), None);
+    equal(&rt, "the last", cells.next_back(), Some(6));
+    equal(&rt, "the first", cells.next(), Some(5));
+    equal(&rt, "the second", cells.next(), Some(0));
+    equal(&rt, "no more", cells.next(), None);
     Ok(())
 }
 
 #[test]
 fn a_set_of_cells_keeps_what_was_put(rt: HostRuntime) {
     let mut cells = CellSet::empty();
-    assert!(rt; cells.is_empty());
+    holds(&rt, "no cell", cells.is_empty());
     for (row, col) in [(0, 0), (119, 119), (0, 119), (0, 0)] {
         cells.put(row, col);
     }
     cells.take_out(0, 119);
-    assert_eq!(rt; cells.len(), 2);
-    assert!(rt; cells.has(119, 119));
-    assert!(rt; !cells.has(0, 119));
+    equal(&rt, "cells", cells.len(), 2);
+    holds(&rt, "the last cell", cells.has(119, 119));
+    holds(&rt, "what was taken out", !cells.has(0, 119));
 }
 
 #[test]
 fn a_set_of_lines_keeps_what_was_put(rt: HostRuntime) {
     let mut lines = LineSet::empty();
-    assert!(rt; lines.is_empty());
+    holds(&rt, "no line", lines.is_empty());
     for (axis, at) in [
         (Axis::Across, 0),
         (Axis::Across, 119),
@@ -133,26 +137,26 @@ fn a_set_of_lines_keeps_what_was_put(rt: HostRuntime) {
         axis: Axis::Across,
         at: 0,
     });
-    assert_eq!(rt; lines.len(), 2);
+    equal(&rt, "lines", lines.len(), 2);
     for (axis, at, has) in [
         (Axis::Across, 119, true),
         (Axis::Down, 0, true),
         (Axis::Across, 0, false),
     ] {
-        assert_eq!(rt; lines.has(LineId { axis, at }), has);
+        equal(&rt, "a line", lines.has(LineId { axis, at }), has);
     }
 }
 
 #[test]
 fn a_mask_names_lines_along_an_axis(rt: HostRuntime) {
     let lines = LineSet::along(Axis::Down, 0x80_0000_0000_0000_0000_0000_0000_0001);
-    assert_eq!(rt; lines.len(), 2);
+    equal(&rt, "lines", lines.len(), 2);
     for (axis, at, has) in [
         (Axis::Down, 0, true),
         (Axis::Down, 119, true),
         (Axis::Across, 0, false),
     ] {
-        assert_eq!(rt; lines.has(LineId { axis, at }), has);
+        equal(&rt, "a line", lines.has(LineId { axis, at }), has);
     }
 }
 
@@ -182,12 +186,12 @@ impl Write for Small {
 fn all_bytes_are_sent_or_a_front_of_them(rt: HostRuntime) -> Result<(), Fail> {
     let mut text = Vec::new(rt.alloc());
     send(b"abcde", &mut text)?;
-    assert_eq!(rt; text.as_slice(), b"abcde".as_slice());
+    equal(&rt, "a text", text.as_slice(), b"abcde".as_slice());
     let mut all = Small { taken: 0, limit: 5 };
-    assert_eq!(rt; send(b"abcde", &mut all), Ok(()));
+    equal(&rt, "all sent", send(b"abcde", &mut all), Ok(()));
     let mut part = Small { taken: 0, limit: 3 };
-    assert_eq!(rt; send(b"abcde", &mut part), Err(WriteFault));
-    assert_eq!(rt; part.taken, 3);
+    equal(&rt, "a fault", send(b"abcde", &mut part), Err(WriteFault));
+    equal(&rt, "a front", part.taken, 3);
     Ok(())
 }
 
@@ -250,11 +254,14 @@ fn exchange(picture: &mut Picture, axis: Axis, i: u8, j: u8) {
 fn lines_are_inserted_deleted_and_exchanged(rt: HostRuntime) -> Result<(), Fail> {
     let mut picture = drawn(rt.alloc(), 2, 2, &[1, 3, 4, 2])?;
     insert(&mut picture, Axis::Down, 1)?;
-    assert!(rt; picture.same(&drawn(rt.alloc(), 2, 3, &[1, 0, 3, 4, 0, 2])?));
+    let wanted = drawn(rt.alloc(), 2, 3, &[1, 0, 3, 4, 0, 2])?;
+    holds(&rt, "a column inserted", picture.same(&wanted));
     exchange(&mut picture, Axis::Down, 2, 0);
-    assert!(rt; picture.same(&drawn(rt.alloc(), 2, 3, &[3, 0, 1, 2, 0, 4])?));
+    let wanted = drawn(rt.alloc(), 2, 3, &[3, 0, 1, 2, 0, 4])?;
+    holds(&rt, "columns exchanged", picture.same(&wanted));
     delete(&mut picture, Axis::Across, 0);
-    assert!(rt; picture.same(&drawn(rt.alloc(), 1, 3, &[2, 0, 4])?));
+    let wanted = drawn(rt.alloc(), 1, 3, &[2, 0, 4])?;
+    holds(&rt, "a row deleted", picture.same(&wanted));
     Ok(())
 }
 
@@ -274,9 +281,10 @@ fn with_a_given(alloc: Global) -> Result<Document, PaletteFault> {
 #[test]
 fn a_document_is_copied(rt: HostRuntime) -> Result<(), Fail> {
     let copy = with_a_given(rt.alloc())?.copy()?;
-    assert_eq!(rt; copy.palette.number_of(BLACK), Some(1));
-    assert!(rt; copy.picture.same(&drawn(rt.alloc(), 1, 2, &[1, 0])?));
-    assert!(rt; copy.givens.has(0, 0));
+    equal(&rt, "black", copy.palette.number_of(BLACK), Some(1));
+    let wanted = drawn(rt.alloc(), 1, 2, &[1, 0])?;
+    holds(&rt, "the picture", copy.picture.same(&wanted));
+    holds(&rt, "the given", copy.givens.has(0, 0));
     Ok(())
 }
 
@@ -316,10 +324,12 @@ fn sixteen_colours_are_ordered(rt: HostRuntime) -> Result<(), Fail> {
     let picture = drawn(rt.alloc(), 4, 4, &cells)?;
     let document = of_sixteen(greys(rt.alloc())?, picture).ok_or("fewer colours")?;
     let ordered = document.ordered()?;
-    assert_eq!(rt; ordered.palette.len(), 16);
-    assert_eq!(rt; ordered.palette.number_of(grey(1)), Some(15));
+    equal(&rt, "colours", ordered.palette.len(), 16);
+    let number = ordered.palette.number_of(grey(1));
+    equal(&rt, "the last colour", number, Some(15));
     let cells = [1, 2, 3, 4, 5, 6, 7, 8, 9, 10, 11, 12, 13, 14, 15, 0];
-    assert!(rt; ordered.picture.same(&drawn(rt.alloc(), 4, 4, &cells)?));
+    let wanted = drawn(rt.alloc(), 4, 4, &cells)?;
+    holds(&rt, "the picture", ordered.picture.same(&wanted));
     Ok(())
 }
 
@@ -398,7 +408,7 @@ fn names_come_in_turn(rt: HostRuntime) {
         more.put(LineId { axis, at: 5 });
     }
     lines.put_all(&more);
-    assert_eq!(rt; lines.len(), 4);
+    equal(&rt, "lines", lines.len(), 4);
     for (axis, from, first) in [
         (Axis::Across, 0, Some(5)),
         (Axis::Across, 6, Some(119)),
@@ -406,14 +416,14 @@ fn names_come_in_turn(rt: HostRuntime) {
         (Axis::Down, 8, None),
         (Axis::Across, 120, None),
     ] {
-        assert_eq!(rt; lines.first_from(axis, from), first);
+        equal(&rt, "a first line", lines.first_from(axis, from), first);
     }
 }
 
 // Rows are crossed by columns, and columns by rows.
 #[test]
 fn a_line_is_crossed_along_the_other_axis(rt: HostRuntime) {
-    assert_eq!(rt; Axis::Across.crossing(), Axis::Down);
+    equal(&rt, "columns", Axis::Across.crossing(), Axis::Down);
     let column = LineId {
         axis: Axis::Down,
         at: 7,
@@ -422,6 +432,6 @@ fn a_line_is_crossed_along_the_other_axis(rt: HostRuntime) {
         axis: Axis::Across,
         at: 3,
     };
-    assert_eq!(rt; column.crossing(3), row);
-    assert_eq!(rt; row.crossing(7), column);
+    equal(&rt, "a row", column.crossing(3), row);
+    equal(&rt, "a column", row.crossing(7), column);
 }

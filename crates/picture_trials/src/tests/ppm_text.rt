@@ -1,5 +1,6 @@
-use super::*;
+use super::{equal, holds};
 use picture::Rgb;
+use ppm_text::{PpmFault, read_ppm, write_ppm};
 use std::alloc::{AllocError, Global};
 use std::io;
 use std::io::Write;
@@ -41,7 +42,7 @@ fn is_black_pixel(alloc: Global, text: &[u8]) -> bool {
 
 #[test]
 fn comments_and_white_space_are_taken(rt: HostRuntime) {
-    assert!(rt; is_black_pixel(rt.alloc(), &EDITED));
+    holds(&rt, "edited", is_black_pixel(rt.alloc(), &EDITED));
     let texts = [
         "P3#\n1 1 255 0 0 0",
         "P3\r1\x0b1\x0c255\t0 0#\r0\n",
@@ -52,7 +53,7 @@ fn comments_and_white_space_are_taken(rt: HostRuntime) {
         "P3\x0b1\x091\x0c255\x090000\x0b00#\n000",
     ];
     for text in texts {
-        assert!(rt; is_black_pixel(rt.alloc(), text.as_bytes()), "{text}");
+        holds(&rt, text, is_black_pixel(rt.alloc(), text.as_bytes()));
     }
 }
 
@@ -64,10 +65,11 @@ fn each_front_of_a_text_is_refused(rt: HostRuntime) {
         } else {
             PpmFault::Truncated(len)
         };
-        assert_eq!(rt;
+        equal(
+            &rt,
+            "a front",
             fault_of(rt.alloc(), &EDITED[..len]),
             Some(fault),
-            "the first {len} bytes"
         );
     }
 }
@@ -96,10 +98,11 @@ fn the_first_fault_is_answered(rt: HostRuntime) {
         ("P3\n1 1\n255\n00255 0 999 ", PpmFault::SampleOver(19)),
     ];
     for (text, fault) in faults {
-        assert_eq!(rt;
+        equal(
+            &rt,
+            text,
             fault_of(rt.alloc(), text.as_bytes()),
             Some(fault),
-            "{text}"
         );
     }
 }
@@ -119,15 +122,14 @@ fn row_of(alloc: Global, shades: &[u8]) -> Result<String, AllocError> {
 fn sixteen_colours_are_the_most(rt: HostRuntime) -> Result<(), Fail> {
     let all = [0, 1, 2, 3, 4, 5, 6, 7, 8, 9, 10, 11, 12, 13, 14, 15, 16];
     let text = row_of(rt.alloc(), &all)?;
-    assert_eq!(rt;
-        fault_of(rt.alloc(), text.as_bytes()),
-        Some(PpmFault::TooManyColours(116))
-    );
+    let fault = fault_of(rt.alloc(), text.as_bytes());
+    let wanted = PpmFault::TooManyColours(116);
+    equal(&rt, "a seventeenth colour", fault, Some(wanted));
     let without_15 = [0, 1, 2, 3, 4, 5, 6, 7, 8, 9, 10, 11, 12, 13, 14, 16];
     let text = row_of(rt.alloc(), &without_15)?;
     let document = read_ppm(rt.alloc(), text.as_bytes(), None)?;
-    assert_eq!(rt; document.palette.len(), 16);
-    assert_eq!(rt; document.picture.width(), 16);
+    equal(&rt, "colours", document.palette.len(), 16);
+    equal(&rt, "cells", document.picture.width(), 16);
     Ok(())
 }
 
@@ -135,19 +137,19 @@ fn sixteen_colours_are_the_most(rt: HostRuntime) -> Result<(), Fail> {
 fn samples_of_one_to_five_digits(rt: HostRuntime) -> Result<(), Fail> {
     let text = b"P3 2 1 65535 7 80 901 2345 65535 00012\n";
     let document = read_ppm(rt.alloc(), text, None)?;
-    assert_eq!(rt; document.palette.len(), 3);
+    assert!(rt; document.palette.len() == 3);
     let first = Rgb {
         r: 7,
         g: 80,
         b: 901,
     };
-    assert_eq!(rt; document.palette.rgb(1), first);
+    equal(&rt, "the first", document.palette.rgb(1), first);
     let second = Rgb {
         r: 2345,
         g: 65535,
         b: 12,
     };
-    assert_eq!(rt; document.palette.rgb(2), second);
+    equal(&rt, "the second", document.palette.rgb(2), second);
     Ok(())
 }
 
@@ -155,13 +157,13 @@ fn samples_of_one_to_five_digits(rt: HostRuntime) -> Result<(), Fail> {
 fn a_background_is_handed_in(rt: HostRuntime) -> Result<(), Fail> {
     let text = b"P3 2 1 9 0 0 0 9 9 9";
     let document = read_ppm(rt.alloc(), text, Some(BLACK))?;
-    assert_eq!(rt; document.palette.len(), 2);
-    assert_eq!(rt; document.palette.rgb(0), BLACK);
-    assert_eq!(rt; document.picture.width(), 2);
-    assert_eq!(rt; document.picture.cell(0, 0), 0);
-    assert_eq!(rt; document.picture.cell(0, 1), 1);
+    assert!(rt; document.palette.len() == 2);
+    equal(&rt, "background", document.palette.rgb(0), BLACK);
+    assert!(rt; document.picture.width() == 2);
+    equal(&rt, "the first", document.picture.cell(0, 0), 0);
+    equal(&rt, "the second", document.picture.cell(0, 1), 1);
     let over = read_ppm(rt.alloc(), text, Some(WHITE)).err();
-    assert_eq!(rt; over, Some(PpmFault::SampleOver(7)));
+    equal(&rt, "a fault", over, Some(PpmFault::SampleOver(7)));
     Ok(())
 }
 
@@ -170,13 +172,14 @@ fn colours_are_numbered_row_by_row(rt: HostRuntime) -> Result<(), Fail> {
     // Read by columns, the other colour would come first.
     let text = b"P3 2 2 9  9 9 9  8 0 0  0 0 8  9 9 9";
     let document = read_ppm(rt.alloc(), text, None)?;
-    assert_eq!(rt; document.palette.len(), 3);
-    assert_eq!(rt; document.palette.rgb(1), Rgb { r: 8, g: 0, b: 0 });
-    assert_eq!(rt; document.palette.rgb(2), Rgb { r: 0, g: 0, b: 8 });
-    assert_eq!(rt; document.picture.height(), 2);
-    assert_eq!(rt; document.picture.width(), 2);
-    assert_eq!(rt; document.picture.cell(0, 1), 1);
-    assert_eq!(rt; document.picture.cell(1, 0), 2);
+    assert!(rt; document.palette.len() == 3);
+    let first = Rgb { r: 8, g: 0, b: 0 };
+    equal(&rt, "the first", document.palette.rgb(1), first);
+    let second = Rgb { r: 0, g: 0, b: 8 };
+    equal(&rt, "the second", document.palette.rgb(2), second);
+    assert!(rt; document.picture.height() == 2 && document.picture.width() == 2);
+    equal(&rt, "beside", document.picture.cell(0, 1), 1);
+    equal(&rt, "below", document.picture.cell(1, 0), 2);
     Ok(())
 }
 
@@ -186,7 +189,7 @@ fn a_text_is_written_and_read(rt: HostRuntime) -> Result<(), Fail> {
     let document = read_ppm(rt.alloc(), text, None)?;
     let mut written = Vec::new(rt.alloc());
     write_ppm(&document, &mut written)?;
-    assert_eq!(rt; written.as_slice(), text.as_slice());
+    equal(&rt, "a text", written.as_slice(), text.as_slice());
     Ok(())
 }
 
@@ -220,8 +223,9 @@ fn a_failed_write_leaves_a_front(rt: HostRuntime) -> Result<(), Fail> {
             taken: Vec::new(rt.alloc()),
         };
         let result = write_ppm(&document, &mut writer);
-        assert_eq!(rt; result.is_ok(), text.len() <= room);
-        assert_eq!(rt; writer.taken.as_slice(), &text[..room.min(text.len())]);
+        equal(&rt, "all written", result.is_ok(), text.len() <= room);
+        let front = &text[..room.min(text.len())];
+        equal(&rt, "a front", writer.taken.as_slice(), front);
     }
     Ok(())
 }
@@ -240,9 +244,9 @@ fn names_and_places(rt: HostRuntime) {
         (PpmFault::TrailingToken(1), "TrailingToken"),
     ];
     for (fault, name) in faults {
-        assert_eq!(rt; fault.name(), name);
-        assert_eq!(rt; fault.place(), Some(1));
+        equal(&rt, "a name", fault.name(), name);
+        equal(&rt, "a place", fault.place(), Some(1));
     }
-    assert_eq!(rt; PpmFault::Memory.name(), "Memory");
-    assert_eq!(rt; PpmFault::Memory.place(), None);
+    equal(&rt, "memory's name", PpmFault::Memory.name(), "Memory");
+    equal(&rt, "no place", PpmFault::Memory.place(), None);
 }

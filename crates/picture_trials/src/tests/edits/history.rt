@@ -5,8 +5,8 @@ ghost use Rattle.edits.specs.Fault.{edit_fault};
 ghost use Rattle.edits.specs.History.{after_edit, or_memory, redo_fault, redone, undo_fault, undone};
 
 use super::*;
-use crate::{Prepared, Studio};
 use clues::{ClueBook, laws};
+use edits::{Prepared, Studio};
 
 // A studio with such a document.
 fn studio_of(
@@ -320,7 +320,8 @@ fn a_colour_goes_and_comes_with_the_history(rt: HostRuntime) {
         &[1, 0, 0, 2],
         (1, 1),
     );
-    assert_eq!(&rt; studio.document().palette.number_of(blue), Some(3));
+    let number = studio.document().palette.number_of(blue);
+    equal(&rt, "a colour", number, Some(3));
 }
 
 #[test]
@@ -329,7 +330,8 @@ fn sixteen_colours_are_the_most(rt: HostRuntime) {
     let document = blank(alloc, 1, 1).expect(&rt, "memory");
     let mut studio = Studio::start(alloc, document, 15).expect(&rt, "memory");
     for k in 0..15 {
-        assert_eq!(&rt; fault_of(alloc, &mut studio, colour_in(grey(k))), None);
+        let fault = fault_of(alloc, &mut studio, colour_in(grey(k)));
+        equal(&rt, "no fault", fault, None);
     }
     refuses(
         &rt,
@@ -467,10 +469,16 @@ fn the_last_entry_has_the_painted_cell(rt: HostRuntime) {
     let alloc = rt.alloc();
     let cells = [1, 0, 0, 0, 0, 1, 0, 0, 0, 0, 2, 0, 0, 0, 0, 2];
     let mut studio = studio_of(&rt, alloc, 4, 4, &cells, 100);
-    assert!(&rt; studio.last_entry().is_none());
-    assert_eq!(&rt; fault_of(alloc, &mut studio, painted(3, 2, 2)), None);
+    holds(&rt, "no entry", studio.last_entry().is_none());
+    let fault = fault_of(alloc, &mut studio, painted(3, 2, 2));
+    equal(&rt, "no fault", fault, None);
     match studio.last_entry() {
-        Some(entry) => assert_eq!(&rt; entry.cells.as_slice(), [(3, 2, 0)].as_slice()),
+        Some(entry) => equal(
+            &rt,
+            "its cells",
+            entry.cells.as_slice(),
+            [(3, 2, 0)].as_slice(),
+        ),
         None => panic!(&rt; "there is an edit to undo"),
     }
 }
@@ -492,7 +500,7 @@ fn pins_are_undone(rt: HostRuntime) {
     refuses(&rt, alloc, &mut studio, unpinned(1, 1), EditFault::NoChange);
     let calls = [unpinned(0, 0), Call::Undo];
     goes(&rt, alloc, &mut studio, &calls, &[1, 0, 0, 1], (1, 1));
-    assert!(&rt; studio.document().givens.has(0, 0));
+    holds(&rt, "the pin", studio.document().givens.has(0, 0));
     goes(
         &rt,
         alloc,
@@ -501,7 +509,7 @@ fn pins_are_undone(rt: HostRuntime) {
         &[1, 0, 0, 1],
         (0, 2),
     );
-    assert!(&rt; !studio.document().givens.has(0, 0));
+    holds(&rt, "no pin", !studio.document().givens.has(0, 0));
 }
 
 // The clues of the picture after what was prepared, from those of the present one. The contract shows that what is

@@ -1,6 +1,6 @@
 use Rattle.std.proofs.Common.{◌∙◌}
 use Rattle.picture.specs.declared.line_id.Axis.TheVariants.{Across, Down}
-use Rattle.edits.proofs.tests.listing.see_lines.Goals as goal
+use Rattle.picture_trials.proofs.tests.edits.listing.see_lines.Goals as goal
 
 pub see_along-requires : goal.see_along-requires
 see_along-requires g c = c.height-height.ensures.value ∙ c.requires Across

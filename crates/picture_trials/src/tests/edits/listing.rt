@@ -6,9 +6,8 @@ ghost use Rattle.clues.specs.Change.{IsChangeOf, lines_after};
 ghost use Rattle.picture.specs.Rows.{lines_along};
 
 use super::*;
-use crate::places::place_on;
-use crate::{Prepared, Studio};
 use clues::Change;
+use edits::{Prepared, Studio};
 
 // A cell's colour, and whether it is given.
 #[derive(Clone, Copy, Debug, PartialEq, Eq)]
@@ -221,12 +220,20 @@ fn expected_fault(document: &Document, edit: Edit) -> Option<EditFault> {
     }
 }
 
+// The row and the column of a place along a line.
+fn place_on(line: LineId, k: u8) -> (u8, u8) {
+    match line.axis {
+        Axis::Across => (line.at, k),
+        Axis::Down => (k, line.at),
+    }
+}
+
 // Whether a line of the new picture has other cells than the old line that it is.
 fn has_other_cells(old: &Document, new: &Document, from: LineId, to: LineId) -> bool {
     for k in 0..4 {
-        let (row, col) = place_on(from.axis, from.at, k);
+        let (row, col) = place_on(from, k);
         let before = colour_at(&old.picture, row, col);
-        let (row, col) = place_on(to.axis, to.at, k);
+        let (row, col) = place_on(to, k);
         if before != colour_at(&new.picture, row, col) {
             return true;
         }

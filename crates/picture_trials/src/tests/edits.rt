@@ -1,6 +1,7 @@
 ghost use Rattle.std.specs.Prelude.{◌<◌, ◌≤◌};
 
-use crate::{Edit, EditFault, Entry};
+use super::{equal, holds};
+use edits::{Edit, EditFault, Entry};
 use picture::{Axis, CellSet, Document, LineId, Palette, Picture, Rgb};
 use std::alloc::{AllocError, Global};
 use std::process::Abort;
@@ -138,11 +139,12 @@ fn a_given_moves_with_its_line(rt: HostRuntime) {
     let document = drawn(&rt, rt.alloc(), 1, 2, &[0, 1]);
     let edits = [pin(0, 1), Edit::InsertLine { line: row(0) }];
     let document = all_made(&rt, rt.alloc(), document, &edits);
-    assert!(&rt; document.givens.has(1, 1) && !document.givens.has(0, 1));
-    assert_eq!(&rt; document.picture.height(), 2);
+    holds(&rt, "the given", document.givens.has(1, 1));
+    holds(&rt, "its old place", !document.givens.has(0, 1));
+    equal(&rt, "rows", document.picture.height(), 2);
 }
 
 #[test]
 fn faults_are_named(rt: HostRuntime) {
-    assert_eq!(&rt; EditFault::PaletteFull.name(), "PaletteFull");
+    equal(&rt, "a name", EditFault::PaletteFull.name(), "PaletteFull");
 }

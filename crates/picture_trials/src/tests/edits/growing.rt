@@ -3,7 +3,7 @@
 
 use super::history::{Call, fault_of, shows};
 use super::*;
-use crate::Studio;
+use edits::Studio;
 
 // Whether a growth may be refused, or none is.
 #[derive(Clone, Copy, PartialEq, Eq)]
