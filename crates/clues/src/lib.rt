@@ -9,8 +9,6 @@ mod counting;
 pub mod laws;
 mod matching;
 mod places;
-#[cfg(test)]
-mod tests;
 
 pub use block::Block;
 pub use change::Change;

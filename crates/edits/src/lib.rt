@@ -23,6 +23,3 @@ pub use entry::Entry;
 pub use fault::EditFault;
 pub use prepared::Prepared;
 pub use studio::{MAX_DEPTH, Studio};
-
-#[cfg(test)]
-mod tests;

@@ -11,8 +11,6 @@ mod non_puzzle;
 mod reading;
 mod section;
 mod seen;
-#[cfg(test)]
-mod tests;
 mod text;
 mod writing;
 

@@ -23,6 +23,3 @@ pub use palette::{Palette, PaletteFault};
 pub use picture::{MAX_COLOURS, MAX_SIDE, Picture};
 pub use rgb::Rgb;
 pub use writing::{WriteFault, send};
-
-#[cfg(test)]
-mod tests;

@@ -13,6 +13,3 @@ pub use fault::PpmFault;
 pub use laws::{round_trip, round_trip_of};
 pub use reader::read_ppm;
 pub use writer::write_ppm;
-
-#[cfg(test)]
-mod tests;
