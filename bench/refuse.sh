@@ -2,7 +2,8 @@
 # Refuses each growth of memory in turn, in each crate whose tests call again after a refusal. Until no growth is left to
 # refuse, that test must pass each time: each refused call answers by memory and leaves what it was lent as it was. The tests
 # are built as `rt test` builds them, and malloc and realloc are refused from outside, by a library that is loaded before the
-# C library. It takes seconds, once the tests are built and proved.
+# C library. It takes seconds, once the tests are built and proved. A crate that stands in `seen` must say that line at least
+# once: so what only a refused growth leads to is not just let pass where it comes.
 # Usage: bench/refuse.sh [crate ..]   (all such crates)
 set -euo pipefail
 root=$(cd "$(dirname "$0")/.." && pwd)
@@ -12,16 +13,23 @@ trap 'rm -rf "$work"' EXIT
 source "$root/bench/refusing.sh"
 make_refusing "$work"
 
+declare -A seen=([page]='answered by 503')
+
 # Refuses the growths of one crate's test, one a run.
 refuse_all() {
-    local crate=$1 tests=$root/crates/$1/out/$1_tests n
+    local crate=$1 tests=$root/crates/$1/out/$1_tests n unseen=${seen[$1]:-}
     [ -x "$tests" ] || (cd "$root/crates/$crate" && rt test >/dev/null)
     for n in $(seq 1 10000); do
         REFUSED=$n LD_PRELOAD=$work/refuse.so "$tests" tests::growing::a_refused_growth_changes_nothing >"$work/out" 2>&1 || {
             echo "$crate, growth $n: the test that calls again fails" >&2
             return 1
         }
+        [ -z "$unseen" ] || ! grep -qx "$unseen" "$work/out" || unseen=
         grep -qx refused "$work/out" || {
+            [ -z "$unseen" ] || {
+                echo "$crate: no refused growth led to the line '$unseen'" >&2
+                return 1
+            }
             echo "$crate: each of $((n - 1)) growths refused in turn changes nothing; then none is refused"
             return
         }
