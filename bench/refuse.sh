@@ -2,7 +2,8 @@
 # Refuses each growth of memory in turn, in the test of each crate that calls again after a refusal. Until no growth is left
 # to refuse, that test must pass each time: each refused call answers by memory and leaves what it was lent as it was. The
 # tests are built as `rt test` builds them, and malloc and realloc are refused from outside, by a library that is loaded
-# before the C library. It takes seconds, once the tests are built and proved.
+# before the C library. It takes seconds, once the tests are built and proved. A crate that stands in `seen` must say that line
+# at least once: so what only a refused growth leads to is not just let pass where it comes.
 # Usage: bench/refuse.sh [crate ..]   (all that have such a test)
 set -euo pipefail
 root=$(cd "$(dirname "$0")/.." && pwd)
@@ -23,9 +24,11 @@ place_of() {
     esac
 }
 
+declare -A seen=([page]='answered by 503')
+
 # Refuses the growths of the test of one crate, one a run.
 refuse_all() {
-    local crate=$1 home module tests n
+    local crate=$1 home module tests n unseen=${seen[$1]:-}
     read -r home module < <(place_of "$crate")
     tests=$root/crates/$home/out/${home}_tests
     [ -x "$tests" ] || (cd "$root/crates/$home" && rt test >/dev/null)
@@ -34,7 +37,12 @@ refuse_all() {
             echo "$crate, growth $n: the test that calls again fails" >&2
             return 1
         }
+        [ -z "$unseen" ] || ! grep -qx "$unseen" "$work/out" || unseen=
         grep -qx refused "$work/out" || {
+            [ -z "$unseen" ] || {
+                echo "$crate: no refused growth led to the line '$unseen'" >&2
+                return 1
+            }
             echo "$crate: each of $((n - 1)) growths refused in turn changes nothing; then none is refused"
             return
         }

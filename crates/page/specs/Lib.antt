@@ -1,3 +1,5 @@
 pub mod Answer
 pub mod Desk
+pub mod Frame
+pub mod Peers
 pub mod Request

@@ -1,11 +1,14 @@
-//! What one peer sends, answered.
+//! What peers send, answered.
 
-ghost use Rattle.page.specs.Desk.{Exchanges, HasServed};
+ghost use Rattle.std.specs.Prelude.{◌≡◌, ◌↔◌, IsTrue};
+ghost use Rattle.http_server.specs.Connection.{history};
+ghost use Rattle.page.specs.Desk.{Exchanges, IsWhole, may_end};
+ghost use Rattle.page.specs.Peers.{ServesPeers};
 
 use crate::desk::Desk;
 use crate::fault::PageFault;
 use crate::input::{next_frame, send_frame};
-use http_server::{Config, Connection, serve};
+use http_server::{Config, Connection, Reason, Refusal, State, serve};
 use std::alloc::Global;
 use std::hash::RandomState;
 use std::io::{Read, Write};
@@ -13,22 +16,52 @@ use std::io::{Read, Write};
 // How long a body is at the most, to be read at all. One that is longer gets 413 for what its head announces.
 const MOST_OF_BODY: usize = 131_072;
 
-/// All that goes back to a peer that sent these bytes, over a connection of its own. Where memory is wanting for the
-/// connection, a front of it.
-pub fn answer_peer(alloc: Global, keys: RandomState, asked: &[u8], desk: &mut Desk) -> Vec<u8>
-    ensures { Exchanges asked.now desk.old result.items desk.new }
+/// What goes back to a peer.
+#[derive(Drop)]
+pub struct Reply {
+    pub bytes: Vec<u8>,
+    /// Whether the connection came to its end. Where it did not, memory was wanting for it, and the bytes are those that it
+    /// had sent by then.
+    pub is_whole: bool,
+}
+
+/// What goes back to a peer that sent these bytes, over a connection of its own.
+pub fn answer_peer(alloc: Global, keys: RandomState, asked: &[u8], desk: &mut Desk) -> Reply
+    ensures { Exchanges asked.now desk.old result desk.new }
 {
     let mut config = Config::default();
     config.max_body_len = MOST_OF_BODY;
     let mut connection = Connection::new(alloc, keys, config);
     let mut reader = asked;
-    let mut said = Vec::new(alloc);
-    let _broken_off = serve(&mut connection, desk, &mut reader, &mut said);
-    said
+    let mut bytes = Vec::new(alloc);
+    // Its error says no more than where the connection stands.
+    let _broken_off = serve(&mut connection, desk, &mut reader, &mut bytes);
+    Reply {
+        bytes,
+        is_whole: came_to_its_end(&connection, reader),
+    }
 }
 
-#[tactic(auto, using(crate::proofs::RunLemmas::served_none))]
-/// Answers peers one after another, until the input ends.
+// Whether a connection that received all but these bytes came to its end.
+fn came_to_its_end(connection: &Connection, unread: &[u8]) -> bool
+    ensures { IsTrue result ↔ IsWhole (history connection.now) unread.now }
+{
+    connection.is_done() && may_end(connection.state(), unread)
+}
+
+// Whether it may end so. `serve` does not say that an input which ended was read to its end, so this looks.
+fn may_end(state: State, unread: &[u8]) -> bool
+    ensures { result ≡ may_end state unread.now }
+{
+    match state {
+        State::Aborted => false,
+        State::Closing(Reason::EndOfInput | Reason::Refused(Refusal::Truncated)) =>
+            unread.is_empty(),
+        _ => true,
+    }
+}
+
+/// Answers peers one after another, until the input ends. What goes back to one is sent before the next one's bytes are read.
 pub fn serve_peers<R: Read, W: Write>(
     alloc: Global,
     keys: RandomState,
@@ -36,15 +69,15 @@ pub fn serve_peers<R: Read, W: Write>(
     writer: &mut W,
     desk: &mut Desk,
 ) -> Result<(), PageFault>
-    ensures { HasServed desk.old desk.new }
+    ensures { ServesPeers (R.remaining reader.old) (R.remaining reader.new) (W.contents writer.old) (W.contents writer.new) desk.old desk.new result }
 {
     // A loop is proved to end, so this one counts its turns.
     for _ in 0..u64::MAX {
         let Some(asked) = next_frame(alloc, reader)? else {
             return Ok(());
         };
-        let said = answer_peer(alloc, keys, &asked, desk);
-        send_frame(&said, writer)?;
+        let reply = answer_peer(alloc, keys, &asked, desk);
+        send_frame(&reply.bytes, writer)?;
     }
-    Ok(())
+    Err(PageFault::Read)
 }

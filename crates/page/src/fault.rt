@@ -1,5 +1,9 @@
 //! Why the program ends before it is ended.
 
+ghost use Rattle.std.specs.Prelude.{◌≡◌};
+ghost use Rattle.page.specs.declared.fault.PageFault.TheVariants.{Memory as Short, Write as Unwritten};
+
+use picture::WriteFault;
 use ppm_text::PpmFault;
 use std::alloc::{AllocError, AllocFailed};
 use std::fmt;
@@ -59,14 +63,26 @@ impl fmt::Display for PageFault {
 }
 
 impl From<AllocError> for PageFault {
+    ghost from_gives = { λ _ e. e ≡ Short };
+
     fn from(_refused: AllocError) -> PageFault {
         PageFault::Memory
     }
 }
 
 impl<T: Drop> From<AllocFailed<T>> for PageFault {
+    ghost from_gives = { λ _ e. e ≡ Short };
+
     fn from(_refused: AllocFailed<T>) -> PageFault {
         PageFault::Memory
+    }
+}
+
+impl From<WriteFault> for PageFault {
+    ghost from_gives = { λ _ e. e ≡ Unwritten };
+
+    fn from(_fault: WriteFault) -> PageFault {
+        PageFault::Write
     }
 }
 

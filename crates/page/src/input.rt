@@ -1,5 +1,11 @@
 //! Bytes read and written.
 
+ghost use Rattle.std.specs.Prelude.{◌≡◌, ◌<◌, ◌^◌, ◌∷◌, [], IfErr, IfOk, MatchOption, OnErr, OnOk, length};
+ghost use Rattle.std.specs.Int.{to_be_bytes, w32};
+ghost use Rattle.std.specs.Io.KnownBytes.{Appends, Consumes};
+ghost use Rattle.picture.specs.Writing.{AppendsFront};
+ghost use Rattle.page.specs.Frame.{Ends, IsUntaken, Takes, frame};
+
 use crate::fault::PageFault;
 use picture::send;
 use std::alloc::Global;
@@ -23,28 +29,80 @@ pub fn read_all<R: Read + Drop>(alloc: Global, reader: R) -> Result<Vec<u8>, Pag
 }
 
 /// What the next peer sent: its length in four bytes, the highest first, and then that many. None at the end.
-pub fn next_frame<R: Read>(alloc: Global, reader: &mut R) -> Result<Option<Vec<u8>>, PageFault> {
-    let mut first = [0; 1];
-    if reader.read(&mut first).map_err(|_| PageFault::Read)? == 0 {
+pub fn next_frame<R: Read>(alloc: Global, reader: &mut R) -> Result<Option<Vec<u8>>, PageFault>
+    ensures ok { IfOk result (λ found. MatchOption found (Ends (R.remaining reader.old) (R.remaining reader.new))
+        (λ bytes. Takes (R.remaining reader.old) (R.remaining reader.new) bytes.items)) }
+    ensures err { IfErr result (IsUntaken (R.remaining reader.old) (R.remaining reader.new)) }
+{
+    let Some(count) = next_count(reader)? else {
         return Ok(None);
-    }
-    let mut rest = [0; 3];
-    reader.read_exact(&mut rest).map_err(|_| PageFault::Read)?;
-    let count = u32::from_be_bytes([first[0], rest[0], rest[1], rest[2]]);
+    };
     if count > MOST_OF_PEER {
         return Err(PageFault::TooLong);
     }
     let mut bytes = vec![in alloc; 0; count as usize]?;
-    reader.read_exact(&mut bytes).map_err(|_| PageFault::Read)?;
+    fill(&mut bytes, reader)?;
     Ok(Some(bytes))
 }
 
-/// Writes what goes back, in the same form.
-pub fn send_frame<W: Write>(bytes: &[u8], writer: &mut W) -> Result<(), PageFault> {
+// How long the next frame says that it is. None at the end.
+fn next_count<R: Read>(reader: &mut R) -> Result<Option<u32>, PageFault>
+    ensures ok { IfOk result (λ found. MatchOption found (Ends (R.remaining reader.old) (R.remaining reader.new))
+        (λ count. Consumes (R.remaining reader.old) (R.remaining reader.new) (to_be_bytes w32 count))) }
+    ensures err { IfErr result (λ why. why ≡ PageFault.Read) }
+{
+    let Some(first) = next_byte(reader)? else {
+        return Ok(None);
+    };
+    let mut rest = [0; 3];
+    fill(&mut rest, reader)?;
+    Ok(Some(count_of([first, rest[0], rest[1], rest[2]])))
+}
+
+// The number that these bytes are, the highest first.
+fn count_of(bytes: [u8; 4]) -> u32
+    ensures { to_be_bytes w32 result ≡ bytes }
+{
+    u32::from_be_bytes(bytes)
+}
+
+// The next byte. None at the end.
+fn next_byte<R: Read>(reader: &mut R) -> Result<Option<u8>, PageFault>
+    ensures ok { IfOk result (λ found. MatchOption found (Ends (R.remaining reader.old) (R.remaining reader.new))
+        (λ byte. Consumes (R.remaining reader.old) (R.remaining reader.new) (byte ∷ []))) }
+    ensures err { IfErr result (λ why. why ≡ PageFault.Read) }
+{
+    let mut room = [0; 1];
+    match reader.read(&mut room) {
+        Ok(0) => Ok(None),
+        Ok(_) => Ok(Some(room[0])),
+        Err(_) => Err(PageFault::Read),
+    }
+}
+
+// Reads as many bytes as there is room for.
+fn fill<R: Read>(room: &mut [u8], reader: &mut R) -> Result<(), PageFault>
+    ensures ok { OnOk result (Consumes (R.remaining reader.old) (R.remaining reader.new) room.new) }
+    ensures err { IfErr result (λ why. why ≡ PageFault.Read) }
+{
+    match reader.read_exact(room) {
+        Ok(()) => Ok(()),
+        Err(_) => Err(PageFault::Read),
+    }
+}
+
+/// Writes what goes back, in the same form. After a fault a front of that went out.
+pub fn send_frame<W: Write>(bytes: &[u8], writer: &mut W) -> Result<(), PageFault>
+    ensures ok { OnOk result (Appends (W.contents writer.old) (W.contents writer.new) (frame bytes.now)) }
+    ensures fits { OnOk result (length bytes.now < 2 ^ 32) }
+    ensures front { OnErr result (AppendsFront (W.contents writer.old) (W.contents writer.new) (frame bytes.now)) }
+    ensures err { IfErr result (λ why. why ≡ PageFault.Write) }
+{
     if bytes.len() > u32::MAX as usize {
         return Err(PageFault::Write);
     }
     let count = (bytes.len() as u32).to_be_bytes();
-    send(count.as_slice(), writer).map_err(|_| PageFault::Write)?;
-    send(bytes, writer).map_err(|_| PageFault::Write)
+    send(count.as_slice(), writer)?;
+    send(bytes, writer)?;
+    Ok(())
 }

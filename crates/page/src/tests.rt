@@ -55,9 +55,20 @@ fn reply(rt: &HostRuntime, asked: &str) -> Result<String, Fail> {
     reply_of(rt, &mut desk, asked.as_bytes())
 }
 
+// The same on this desk. With ample memory each is whole.
 fn reply_of(rt: &HostRuntime, desk: &mut Desk, asked: &[u8]) -> Result<String, Fail> {
-    let said = answer_peer(rt.alloc(), RandomState::new(rt)?, asked, desk);
-    Ok(String::from_utf8(said)?)
+    let (text, is_whole) = reply_or_front(rt, desk, asked)?;
+    if is_whole {
+        Ok(text)
+    } else {
+        Err("a whole reply".into())
+    }
+}
+
+// What goes back to a peer, and whether it is whole.
+fn reply_or_front(rt: &HostRuntime, desk: &mut Desk, asked: &[u8]) -> Result<(String, bool), Fail> {
+    let reply = answer_peer(rt.alloc(), RandomState::new(rt)?, asked, desk);
+    Ok((String::from_utf8(reply.bytes)?, reply.is_whole))
 }
 
 // A text so many times over.

@@ -1,8 +1,9 @@
 //! Each growth of memory may be refused. Where the check runs these tests none is, and `bench/refuse.sh` runs the first of
 //! them again and again with another one refused each time.
 //!
-//! Requests are put to one desk. Where a growth is refused the answer says so in its text, or is 503, or is broken off; the
-//! bench is as before the lines or as behind them, which a report shows, and the request is answered when it is put again.
+//! Requests are put to one desk. Where a growth is refused the answer says so in its text, or is 503, or is broken off, and
+//! only then it is not whole; the bench is as before the lines or as behind them, which a report shows, and the request is
+//! answered when it is put again. An answer 503 is told by a line `answered by 503`, which `bench/refuse.sh` looks for.
 
 use super::*;
 
@@ -100,7 +101,7 @@ fn wanted(rt: &HostRuntime, stroke: &Stroke) -> Result<String, Fail> {
 // Where the bench stands, if need be by a second report.
 fn stand(rt: &HostRuntime, desk: &mut Desk) -> Result<usize, Fail> {
     for _ in 0..2 {
-        let got = reply_of(rt, desk, REPORT.as_bytes())?;
+        let (got, _) = reply_or_front(rt, desk, REPORT.as_bytes())?;
         if let Some(place) = STANDS.iter().position(|end| got.as_str().ends_with(*end)) {
             return Ok(place);
         }
@@ -108,36 +109,51 @@ fn stand(rt: &HostRuntime, desk: &mut Desk) -> Result<usize, Fail> {
     Err("a report".into())
 }
 
-// Whether an answer is one that a refused growth leads to, where the bench stands then.
-fn is_known(got: &str, wanted: &str, stroke: &Stroke, place: usize) -> bool {
+// What a refused growth leads to.
+#[derive(Clone, Copy, PartialEq, Eq)]
+enum Effect {
+    BrokenOff,
+    Unavailable,
+    Told,
+}
+
+// Which of these an answer is, where the bench stands then.
+fn effect_of(got: &str, wanted: &str, stroke: &Stroke, place: usize) -> Option<Effect> {
     let is_between = place == stroke.before || place == stroke.after;
     if wanted.starts_with(got) {
-        return is_between;
+        return is_between.then_some(Effect::BrokenOff);
     }
-    match got.split_once("\r\n\r\n") {
-        Some((head, "")) => is_between && head.starts_with("HTTP/1.1 503 Service Unavailable\r\n"),
-        Some((head, body)) => head.starts_with("HTTP/1.1 200 OK\r\n")
-            && stroke
-                .told
-                .iter()
-                .any(|told| told.0 == body && told.1 == place),
-        None => false,
+    let (head, body) = got.split_once("\r\n\r\n")?;
+    if body.is_empty() {
+        let is_503 = head.starts_with("HTTP/1.1 503 Service Unavailable\r\n");
+        return (is_between && is_503).then_some(Effect::Unavailable);
     }
+    let is_told = stroke
+        .told
+        .iter()
+        .any(|told| told.0 == body && told.1 == place);
+    (is_told && head.starts_with("HTTP/1.1 200 OK\r\n")).then_some(Effect::Told)
 }
 
 // Puts a request to the desk, and again where a refused growth left the bench as it was. Whether all was answered well.
 fn puts(rt: &HostRuntime, desk: &mut Desk, stroke: &Stroke, memory: Memory) -> Result<bool, Fail> {
     let wanted = wanted(rt, stroke)?;
-    let got = reply_of(rt, desk, stroke.asked.as_bytes())?;
+    let (got, is_whole) = reply_or_front(rt, desk, stroke.asked.as_bytes())?;
     let place = stand(rt, desk)?;
     if got == wanted {
-        return Ok(place == stroke.after);
+        return Ok(is_whole && place == stroke.after);
     }
     if memory == Memory::Ample {
         return Ok(false);
     }
+    let Some(effect) = effect_of(got.as_str(), wanted.as_str(), stroke, place) else {
+        return Ok(false);
+    };
+    if effect == Effect::Unavailable {
+        println!(rt; "answered by 503")?;
+    }
     Ok(
-        is_known(got.as_str(), wanted.as_str(), stroke, place)
+        is_whole == (effect != Effect::BrokenOff)
             && puts_again(rt, desk, stroke, wanted.as_str(), place)?,
     )
 }

@@ -1,16 +1,26 @@
-use Rattle.page.proofs.RunLemmas.{served_one}
+use Rattle.std.proofs.Common.{ℕ, ◌<◌, ◌^◌, ◌∙◌, List, length, subst, sym}
+use Rattle.std.proofs.lemmas.Result.{err_from_is_err_and}
+use Rattle.std.specs.Io.KnownBytes.{Appends}
+use Rattle.picture.specs.Writing.{AppendsFront}
+use Rattle.page.specs.Frame.{Takes, frame}
+use Rattle.page.proofs.PeerLemmas.{breaks_off, served_more}
 use Rattle.page.proofs.exchange.serve_peers.Goals as goal
 
--- src/exchange.rt:42:9
 pub returns-in_err-send_frame : goal.returns-in_err-send_frame
 returns-in_err-send_frame g c =
-    served_one c.args.desk.now c.loop.desk c.answer_peer-said.new.desk c.deref.result.now c.answer_peer-said.result.items
-    c.answer_peer-said.ensures c.loop.invariant.served
+    let p = err_from_is_err_and c.from_residual-in_err-send_frame.result c.from_residual-in_err-send_frame.ensures.1 in
+    let P : List ℕ → Type 0 = λ xs. Takes (g.R.Read.remaining c.loop.reader) (g.R.Read.remaining c.next_frame.new.reader) xs in
+    let took = subst P (sym c.deref.ensures.value) (rw c.in-Some.is at c.in_ok-asked.ensures.ok) in
+    let Q : List ℕ → Type 0 = λ xs. AppendsFront (g.W.Write.contents c.loop.writer) (g.W.Write.contents c.send_frame.new.writer) (frame xs) in
+    let wrote = subst Q c.deref-in-loop.ensures.value c.in_err-send_frame.ensures.front in
+    rw p.1 (rw (p.2 ∙ c.in_err-send_frame.ensures.err) (breaks_off _ _ _ _ _ _ _ c.loop.desk _ c.deref.result.now c.answer_peer-reply.result c.loop.invariant c.answer_peer-reply.ensures took wrote))
 
--- src/exchange.rt:37:5
 pub loop-preserved : goal.loop-preserved
-loop-preserved g c = record {
-  served =
-      served_one c.args.desk.now c.loop.desk c.answer_peer-said.new.desk c.deref.result.now c.answer_peer-said.result.items
-      c.answer_peer-said.ensures c.loop.invariant.served;
-}
+loop-preserved g c =
+    let P : List ℕ → Type 0 = λ xs. Takes (g.R.Read.remaining c.loop.reader) (g.R.Read.remaining c.next_frame.new.reader) xs in
+    let took = subst P (sym c.deref.ensures.value) (rw c.in-Some.is at c.in_ok-asked.ensures.ok) in
+    let Q : List ℕ → Type 0 = λ xs. Appends (g.W.Write.contents c.loop.writer) (g.W.Write.contents c.send_frame.new.writer) (frame xs) in
+    let wrote = subst Q c.deref-in-loop.ensures.value c.in_ok-send_frame.ensures.ok in
+    let F : List ℕ → Type 0 = λ xs. length xs < 2 ^ 32 in
+    let fits = subst F c.deref-in-loop.ensures.value c.in_ok-send_frame.ensures.fits in
+    served_more _ _ _ _ _ _ _ c.loop.desk _ c.deref.result.now c.answer_peer-reply.result c.loop.invariant (took.0, fits) c.answer_peer-reply.ensures took.1 wrote
