@@ -16,9 +16,9 @@ make_refusing "$work"
 # The crate in which the test of a crate stands, and its module there: itself, or a crate of tests alone.
 place_of() {
     case $1 in
-        edits) echo picture_trials "tests::$1::growing" ;;
-        justify) echo line_trials "tests::$1::growing" ;;
-        retract | propagate) echo book_trials "tests::$1::growing" ;;
+        edits) echo picture_trials "tests::of_$1::growing" ;;
+        justify) echo line_trials "tests::of_$1::growing" ;;
+        retract | propagate) echo book_trials "tests::of_$1::growing" ;;
         second_search) echo search_trials tests::growing ;;
         *) echo "$1" tests::growing ;;
     esac

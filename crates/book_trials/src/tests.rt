@@ -3,10 +3,10 @@
 use std::fmt::Debug;
 use std::process::Abort;
 
-mod kept_audit;
 mod memory;
-mod propagate;
-mod retract;
+mod of_kept_audit;
+mod of_propagate;
+mod of_retract;
 mod steps;
 
 // Stops where a value is not the one that is wanted. A comparison here is proved once, and not in each test.

@@ -3,8 +3,8 @@
 use std::fmt::Debug;
 use std::process::Abort;
 
-mod clues;
-mod non_text;
+mod of_clues;
+mod of_non_text;
 
 // Stops where a value is not the one that is wanted. A comparison here is proved once, and not in each test.
 fn equal<T: PartialEq + Debug + Drop>(rt: &impl Abort, what: &str, got: T, want: T) {

@@ -3,9 +3,9 @@
 use std::fmt::Debug;
 use std::process::Abort;
 
-mod justify;
-mod line_settle;
 mod lines;
+mod of_justify;
+mod of_line_settle;
 
 // Stops where a value is not the one that is wanted. A comparison here is proved once, and not in each test.
 fn equal<T: PartialEq + Debug + Drop>(rt: &impl Abort, what: &str, got: T, want: T) {

@@ -3,9 +3,9 @@
 use std::fmt::Debug;
 use std::process::Abort;
 
-mod edits;
-mod picture;
-mod ppm_text;
+mod of_edits;
+mod of_picture;
+mod of_ppm_text;
 
 // Stops where a value is not the one that is wanted. A comparison here is proved once, and not in each test.
 fn equal<T: PartialEq + Debug + Drop>(rt: &impl Abort, what: &str, got: T, want: T) {
