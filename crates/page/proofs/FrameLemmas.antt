@@ -31,3 +31,7 @@ first_front a b x y h =
 
 pub second_front : (a b c : Option (List ℕ)) (x y : List ℕ) → Appends a b x → AppendsFront b c y → AppendsFront a c (x ++ y)
 second_front a b c x y first h = (length x + h.0, subst (λ (z : List ℕ). Appends a c z) (sym (take-append-add x y h.0)) (Appends-trans a b c x (take h.0 y) first h.1))
+
+-- room that is as long as what was read into it
+pub filled : (n : ℕ) (xs ys : List ℕ) → length xs ≡ n → take n (xs ++ ys) ≡ xs
+filled n xs ys all = take-append-le n xs ys (omega (arith, all)) ∙ take_all n xs (omega (arith, all))

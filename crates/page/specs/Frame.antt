@@ -17,10 +17,9 @@ Ends had have = Consumes had have [] × IsAtEnd have
 abbrev pub Takes : Option (List ℕ) → Option (List ℕ) → List ℕ → Type 0
 Takes had have bytes = (length bytes ≤ 262144) × Consumes had have (frame bytes)
 
--- Why a frame was not taken: it says that it is longer than that, or memory was wanting for so many bytes, and these are not
--- read; or a read failed, or the input ended within the frame.
+-- Why a frame was not taken: it says that it is longer than that, and then its bytes are not read; or a read failed, or the
+-- input ended within the frame.
 abbrev pub IsUntaken : Option (List ℕ) → Option (List ℕ) → PageFault → Type 0
 IsUntaken had have fault.TooLong = (count : ℕ) × ((262144 < count) × (count < 2 ^ 32) × Consumes had have (to_be_bytes w32 count))
-IsUntaken had have fault.Memory = (count : ℕ) × ((count ≤ 262144) × Consumes had have (to_be_bytes w32 count))
 IsUntaken had have fault.Read = Unit {0}
 IsUntaken had have why = ⊥

@@ -50,9 +50,10 @@ pub record BreaksOff (had have held holds : Option (List ℕ)) (old new : Desk) 
   pub read : Takes unread have asked
   pub wrote : AppendsFront written holds (frame reply.bytes.items)
 
--- All that was read is the frames of peers, and each has what goes back to it. Or a write failed; or a frame was not taken, and
--- all before it have what goes back to them.
+-- All that was read is the frames of peers, and each has what goes back to it. Or memory was wanting before the first of them;
+-- or a write failed; or a frame was not taken, and all before it have what goes back to them.
 abbrev pub ServesPeers : Option (List ℕ) → Option (List ℕ) → Option (List ℕ) → Option (List ℕ) → Desk → Desk → Result (Unit {0}) PageFault → Type 0
 ServesPeers had have held holds old new (Ok done) = Served had have held holds old new × IsAtEnd have
+ServesPeers had have held holds old new (Err fault.Memory) = (have ≡ had) × ((holds ≡ held) × (new ≡ old))
 ServesPeers had have held holds old new (Err fault.Write) = BreaksOff had have held holds old new
 ServesPeers had have held holds old new (Err why) = (unread : Option (List ℕ)) × (Served had unread held holds old new × IsUntaken unread have why)

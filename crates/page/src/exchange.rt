@@ -7,7 +7,7 @@ ghost use Rattle.page.specs.Peers.{ServesPeers};
 
 use crate::desk::Desk;
 use crate::fault::PageFault;
-use crate::input::{next_frame, send_frame};
+use crate::input::{make_room, next_frame, send_frame};
 use http_server::{Config, Connection, Reason, Refusal, State, serve};
 use std::alloc::Global;
 use std::hash::RandomState;
@@ -71,12 +71,13 @@ pub fn serve_peers<R: Read, W: Write>(
 ) -> Result<(), PageFault>
     ensures { ServesPeers (R.remaining reader.old) (R.remaining reader.new) (W.contents writer.old) (W.contents writer.new) desk.old desk.new result }
 {
+    let mut room = make_room(alloc)?;
     // A loop is proved to end, so this one counts its turns.
     for _ in 0..u64::MAX {
-        let Some(asked) = next_frame(alloc, reader)? else {
+        let Some(count) = next_frame(&mut room, reader)? else {
             return Ok(());
         };
-        let reply = answer_peer(alloc, keys, &asked, desk);
+        let reply = answer_peer(alloc, keys, &room[..count], desk);
         send_frame(&reply.bytes, writer)?;
     }
     Err(PageFault::Read)

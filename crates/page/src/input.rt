@@ -1,6 +1,6 @@
 //! Bytes read and written.
 
-ghost use Rattle.std.specs.Prelude.{◌≡◌, ◌<◌, ◌^◌, ◌∷◌, [], IfErr, IfOk, MatchOption, OnErr, OnOk, length};
+ghost use Rattle.std.specs.Prelude.{◌≡◌, ◌<◌, ◌^◌, ◌∷◌, [], IfErr, IfOk, MatchOption, OnErr, OnOk, length, take, ◌≤◌};
 ghost use Rattle.std.specs.Int.{to_be_bytes, w32};
 ghost use Rattle.std.specs.Io.KnownBytes.{Appends, Consumes};
 ghost use Rattle.picture.specs.Writing.{AppendsFront};
@@ -8,14 +8,14 @@ ghost use Rattle.page.specs.Frame.{Ends, IsUntaken, Takes, frame};
 
 use crate::fault::PageFault;
 use picture::send;
-use std::alloc::Global;
+use std::alloc::{AllocError, Global};
 use std::io::{Read, Write};
 
 // How many bytes a file has at the most.
 const MOST_OF_FILE: u64 = 16_777_216;
 
 // How many bytes a peer sends at the most.
-const MOST_OF_PEER: u32 = 262_144;
+const MOST_OF_PEER: usize = 262_144;
 
 /// All bytes of a file.
 pub fn read_all<R: Read + Drop>(alloc: Global, reader: R) -> Result<Vec<u8>, PageFault> {
@@ -28,21 +28,31 @@ pub fn read_all<R: Read + Drop>(alloc: Global, reader: R) -> Result<Vec<u8>, Pag
     Ok(bytes)
 }
 
-/// What the next peer sent: its length in four bytes, the highest first, and then that many. None at the end.
-pub fn next_frame<R: Read>(alloc: Global, reader: &mut R) -> Result<Option<Vec<u8>>, PageFault>
+/// Room for what a peer sends. It is made once, so that no peer finds memory wanting for it.
+pub fn make_room(alloc: Global) -> Result<Vec<u8>, AllocError>
+    ensures { IfOk result (λ room. length room.items ≡ 262144) }
+{
+    vec![in alloc; 0; MOST_OF_PEER]
+}
+
+/// Reads what the next peer sent to the front of the room: its length in four bytes, the highest first, and then that many.
+/// How many these are, or None at the end.
+pub fn next_frame<R: Read>(room: &mut [u8], reader: &mut R) -> Result<Option<usize>, PageFault>
+    requires { length room.old ≡ 262144 }
+    ensures room { length room.new ≡ 262144 }
     ensures ok { IfOk result (λ found. MatchOption found (Ends (R.remaining reader.old) (R.remaining reader.new))
-        (λ bytes. Takes (R.remaining reader.old) (R.remaining reader.new) bytes.items)) }
+        (λ count. (count ≤ 262144) × Takes (R.remaining reader.old) (R.remaining reader.new) (take count room.new))) }
     ensures err { IfErr result (IsUntaken (R.remaining reader.old) (R.remaining reader.new)) }
 {
     let Some(count) = next_count(reader)? else {
         return Ok(None);
     };
-    if count > MOST_OF_PEER {
+    let count = count as usize;
+    if count > room.len() {
         return Err(PageFault::TooLong);
     }
-    let mut bytes = vec![in alloc; 0; count as usize]?;
-    fill(&mut bytes, reader)?;
-    Ok(Some(bytes))
+    fill(&mut room[..count], reader)?;
+    Ok(Some(count))
 }
 
 // How long the next frame says that it is. None at the end.
