@@ -575,6 +575,18 @@ fetch('{say}', {{method: 'POST', body: 'undo', headers: {{'Content-Type': 'text/
     page.browser.get_log('browser')
 
 
+def by_curl(page, lines):
+    """Milliseconds for lines that are answered, the median of seven."""
+    named = ['curl', '-s', '-o', '/dev/null', '-w', '%{http_code} %{time_total}', '-H', 'X-Nonobench: say', '-H', 'Content-Type: text/plain']
+    times = []
+    for _ in range(7):
+        done = subprocess.run([*named, '--data-binary', lines, page.url + 'say'], stdout=subprocess.PIPE, text=True)
+        status, seconds = done.stdout.split()
+        equal(status, '200', 'the status by curl')
+        times.append(float(seconds) * 1000)
+    return sorted(times)[3]
+
+
 def test_speed(page, folder):
     """Milliseconds from a stroke to the new picture."""
     for side in (20, 60, 120):
@@ -594,9 +606,7 @@ send('pointerdown'); send('pointerup'); look();''', x, y))
         report = page.check(f'{side} by {side}')
         equal(report.rows, side, 'the size')
         lines = f'paint {side // 4 + 1} {side // 4 + 1} {"ab"[report.picture[side // 4][side // 4] == "a"]}\nallow 0\nreport\nallow 100\nverdict\n'
-        done = subprocess.run(['curl', '-s', '-o', '/dev/null', '-w', '%{time_total}', '-H', 'X-Nonobench: say', '-H', 'Content-Type: text/plain', '--data-binary', lines, page.url + 'say'],
-                              stdout=subprocess.PIPE, text=True)
-        print(f'{side} by {side}: {float(done.stdout) * 1000:.0f} ms for the same lines by curl')
+        print(f'{side} by {side}: {by_curl(page, lines):.1f} ms for the same lines by curl')
         redraw = page.script('''const from = performance.now(); let n = 0; const stage = document.getElementById('stage');
 return new Promise((done) => { const next = () => { n++; stage.dispatchEvent(new Event('scroll')); if (n < 20) requestAnimationFrame(next); else done((performance.now() - from) / n); }; next(); });''')
         print(f'{side} by {side}: {redraw:.0f} ms a frame while it is drawn again and again')

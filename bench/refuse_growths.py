@@ -10,6 +10,7 @@ from pathlib import Path
 EXAMPLES = Path(__file__).resolve().parent.parent / 'examples'
 MARK = b'refused\n'  # what the library says on standard error
 MEMORY = b'nonobench: memory\n'
+PAGE = EXAMPLES.parent / 'crates' / 'page' / 'out' / 'page'
 WANTED = b'refused: Memory\n'
 LONG = b'x' * 201  # a line whose answer ends each answer of a dialogue
 END = b'refused: LongLine\n'
@@ -73,17 +74,18 @@ def without_mark(said):
 class Run:
     """A run that answers once, and ends."""
 
-    def __init__(self, program, words, text=b''):
+    def __init__(self, program, words, text=b'', memory=MEMORY):
         self.program = program
         self.words = words
         self.text = text
+        self.memory = memory
         self.ample, _ = program.run(0, words, text)
 
     def refuse(self, number):
         """Refuses one growth: the run must end by memory and write nothing, or be as with ample memory. Whether a growth was
         refused, and whether that was answered."""
         ended, was_refused = self.program.run(number, self.words, self.text)
-        if ended == (1, b'', MEMORY) and was_refused:
+        if ended == (1, b'', self.memory) and was_refused:
             return True, True
         if ended != self.ample:
             raise Wrong(f'it ends with status {ended[0]}, writes {ended[1][:80]!r} and says {ended[2][:80]!r}')
@@ -241,6 +243,9 @@ def runs(program, folder):
         yield name, Run(program, words)
     for name, words, lines in sessions(folder):
         yield name, Session(program, words, lines)
+    if PAGE.exists():
+        words = [str(EXAMPLES / 'diagonal.ppm'), '--address', '127.0.0.1:7', '--page', str(EXAMPLES.parent / 'page')]
+        yield 'page before its first peer', Run(Program(str(PAGE), program.library), words, memory=b'nonobench_page: memory\n')
 
 
 def main(program, library, folder, *wanted):

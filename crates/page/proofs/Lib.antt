@@ -1,3 +1,4 @@
 pub mod FrameLemmas
 pub mod PeerLemmas
+pub mod ReadLemmas
 pub mod RunLemmas

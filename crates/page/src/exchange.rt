@@ -62,6 +62,7 @@ fn may_end(state: State, unread: &[u8]) -> bool
 }
 
 /// Answers peers one after another, until the input ends. What goes back to one is sent before the next one's bytes are read.
+/// Where memory is wanting before the first of them nothing is read.
 pub fn serve_peers<R: Read, W: Write>(
     alloc: Global,
     keys: RandomState,

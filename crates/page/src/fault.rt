@@ -1,7 +1,8 @@
 //! Why the program ends before it is ended.
 
-ghost use Rattle.std.specs.Prelude.{◌≡◌};
+ghost use Rattle.std.specs.Prelude.{◌≡◌, Some};
 ghost use Rattle.page.specs.declared.fault.PageFault.TheVariants.{Memory as Short, Write as Unwritten};
+ghost use Rattle.page.specs.Faults.{fault_of, fault_text, status_of};
 
 use picture::WriteFault;
 use ppm_text::PpmFault;
@@ -33,7 +34,9 @@ pub enum PageFault {
 
 impl PageFault {
     /// The status with which the program ends, as that of `nonobench`.
-    pub fn status(&self) -> u8 {
+    pub fn status(&self) -> u8
+        ensures { result ≡ status_of self.now }
+    {
         match self {
             PageFault::Help(_) => 0,
             PageFault::Ppm(_) | PageFault::TooLong | PageFault::Memory => 1,
@@ -44,6 +47,8 @@ impl PageFault {
 }
 
 impl fmt::Display for PageFault {
+    ghost output = { λ fault. Some (fault_text fault) };
+
     fn fmt<W: fmt::Write>(&self, f: &mut fmt::Formatter<W>) -> fmt::Result {
         match self {
             PageFault::Help(text) => f.write_str(text.as_str()),
@@ -87,6 +92,8 @@ impl From<WriteFault> for PageFault {
 }
 
 impl From<PpmFault> for PageFault {
+    ghost from_gives = { λ fault e. e ≡ fault_of fault };
+
     fn from(fault: PpmFault) -> PageFault {
         match fault {
             PpmFault::Memory => PageFault::Memory,

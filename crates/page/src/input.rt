@@ -1,15 +1,16 @@
 //! Bytes read and written.
 
-ghost use Rattle.std.specs.Prelude.{◌≡◌, ◌<◌, ◌^◌, ◌∷◌, [], IfErr, IfOk, MatchOption, OnErr, OnOk, length, take, ◌≤◌};
+ghost use Rattle.std.specs.Prelude.{◌≡◌, ◌≢◌, ◌⊎◌, ◌<◌, ◌^◌, ◌∷◌, ◌++◌, [], IfErr, IfOk, IfSome, MatchOption, OnErr, OnOk, length, take, ◌≤◌};
 ghost use Rattle.std.specs.Int.{to_be_bytes, w32};
 ghost use Rattle.std.specs.Io.KnownBytes.{Appends, Consumes};
+ghost use Rattle.std.specs.IoError.{error_kind};
 ghost use Rattle.picture.specs.Writing.{AppendsFront};
 ghost use Rattle.page.specs.Frame.{Ends, IsUntaken, Takes, frame};
 
 use crate::fault::PageFault;
 use picture::send;
 use std::alloc::{AllocError, Global};
-use std::io::{Read, Write};
+use std::io::{self, ErrorKind, Read, Write};
 
 // How many bytes a file has at the most.
 const MOST_OF_FILE: u64 = 16_777_216;
@@ -17,15 +18,42 @@ const MOST_OF_FILE: u64 = 16_777_216;
 // How many bytes a peer sends at the most.
 const MOST_OF_PEER: usize = 262_144;
 
-/// All bytes of a file.
-pub fn read_all<R: Read + Drop>(alloc: Global, reader: R) -> Result<Vec<u8>, PageFault> {
+/// All bytes of a file. It is too long where it has more than 16,777,216 bytes.
+pub fn read_all<R: Read + Drop>(alloc: Global, reader: R) -> Result<Vec<u8>, PageFault>
+    ensures all { IfOk result (λ bytes. IfSome (R.remaining reader) (λ file. bytes.items ≡ file)) }
+    ensures fits { IfOk result (λ bytes. length bytes.items ≤ 16777216) }
+    ensures long { result ≡ Err PageFault.TooLong → IfSome (R.remaining reader) (λ file. 16777216 < length file) }
+    ensures only { IfErr result (λ why. (why ≡ PageFault.TooLong) ⊎ ((why ≡ PageFault.Read) ⊎ (why ≡ PageFault.Memory))) }
+{
     let mut bytes = Vec::new(alloc);
     let mut reader = reader.take(MOST_OF_FILE + 1);
-    reader.read_to_end(&mut bytes).map_err(|_| PageFault::Read)?;
+    read_rest(&mut bytes, &mut reader)?;
     if bytes.len() as u64 > MOST_OF_FILE {
         return Err(PageFault::TooLong);
     }
     Ok(bytes)
+}
+
+// Reads all that is left, behind what there is.
+fn read_rest<R: Read>(bytes: &mut Vec<u8>, reader: &mut R) -> Result<(), PageFault>
+    ensures ok { OnOk result (IfSome (R.remaining reader.old) (λ rest. bytes.new.items ≡ bytes.old.items ++ rest)) }
+    ensures err { IfErr result (λ why. (why ≡ PageFault.Read) ⊎ (why ≡ PageFault.Memory)) }
+{
+    match reader.read_to_end(bytes) {
+        Ok(_) => Ok(()),
+        Err(error) => Err(why_unread(&error)),
+    }
+}
+
+// Why a file was not read: memory ran out, or a read failed.
+fn why_unread(error: &io::Error) -> PageFault
+    ensures memory { error_kind error.now ≡ ErrorKind.OutOfMemory → result ≡ PageFault.Memory }
+    ensures other { error_kind error.now ≢ ErrorKind.OutOfMemory → result ≡ PageFault.Read }
+{
+    match error.kind() {
+        ErrorKind::OutOfMemory => PageFault::Memory,
+        _ => PageFault::Read,
+    }
 }
 
 /// Room for what a peer sends. It is made once, so that no peer finds memory wanting for it.
@@ -48,6 +76,7 @@ pub fn next_frame<R: Read>(room: &mut [u8], reader: &mut R) -> Result<Option<usi
         return Ok(None);
     };
     let count = count as usize;
+    // The room has as many as a peer sends at the most.
     if count > room.len() {
         return Err(PageFault::TooLong);
     }

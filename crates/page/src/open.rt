@@ -1,8 +1,9 @@
 //! A picture opened on a bench.
 
-ghost use Rattle.std.specs.Prelude.{◌<◌, ◌≤◌, IfOk};
+ghost use Rattle.std.specs.Prelude.{◌<◌, ◌≤◌, IfErr, IfOk};
 ghost use Rattle.live_audit.specs.Bench.{IsAudited};
 ghost use Rattle.page.specs.Desk.{BeginsWith};
+ghost use Rattle.page.specs.Faults.{IsUnopened};
 
 use crate::fault::PageFault;
 use edits::MAX_DEPTH;
@@ -23,6 +24,7 @@ pub fn open_bench(
     requires { (0 < depth) × (depth ≤ MAX_DEPTH) }
     ensures begins { IfOk result (BeginsWith file.now background depth) }
     ensures audited { IfOk result IsAudited }
+    ensures err { IfErr result (IsUnopened file.now background) }
 {
     let document = read_ppm(alloc, file, background)?;
     let engine = MaskEngine::make(alloc, MAX_SIDE)?;

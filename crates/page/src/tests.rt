@@ -150,13 +150,16 @@ fn frame(alloc: Global, bytes: &[u8]) -> Result<Vec<u8>, Fail> {
     Ok(text)
 }
 
-// What goes back to peers on a desk of its own, and whether all of them were served.
-fn serve<R: Read>(rt: &HostRuntime, reader: &mut R) -> Result<(Vec<u8>, bool), Fail> {
+// What goes back to peers on a desk of its own, and the status with which the program ends after them.
+fn serve<R: Read>(rt: &HostRuntime, reader: &mut R) -> Result<(Vec<u8>, u8), Fail> {
     let alloc = rt.alloc();
     let mut desk = desk(alloc)?;
     let mut output = Vec::new(alloc);
-    let ended = serve_peers(alloc, RandomState::new(rt)?, reader, &mut output, &mut desk);
-    Ok((output, ended.is_ok()))
+    let status = match serve_peers(alloc, RandomState::new(rt)?, reader, &mut output, &mut desk) {
+        Ok(()) => 0,
+        Err(fault) => fault.status(),
+    };
+    Ok((output, status))
 }
 
 // Two peers and what goes back to them.
@@ -175,18 +178,19 @@ fn two_peers(alloc: Global) -> Result<(Vec<u8>, Vec<u8>), Fail> {
 fn peers_are_answered_in_order_in_pieces_of_one_byte(rt: HostRuntime) -> Result<(), Fail> {
     let (input, wanted) = two_peers(rt.alloc())?;
     let mut reader = hostile::OneByte { bytes: &input };
-    let (output, is_served) = serve(&rt, &mut reader)?;
-    assert!(rt; is_served);
+    let (output, status) = serve(&rt, &mut reader)?;
+    assert_eq!(rt; status, 0);
     assert!(rt; output == wanted);
     Ok(())
 }
 
 #[test]
 fn a_frame_cut_off_or_too_long_ends_the_program(rt: HostRuntime) -> Result<(), Fail> {
-    for input in ["\0\0", "\0\0\0\x02a", "\0\x04\0\x01"] {
+    for (input, wanted) in [("\0\0", 3), ("\0\0\0\x02a", 3), ("\0\x04\0\x01", 1)] {
         let mut reader = input.as_bytes();
-        let (output, is_served) = serve(&rt, &mut reader)?;
-        assert!(rt; !is_served && output.is_empty());
+        let (output, status) = serve(&rt, &mut reader)?;
+        assert_eq!(rt; status, wanted);
+        assert!(rt; output.is_empty());
     }
     Ok(())
 }
