@@ -1,4 +1,4 @@
 # Sourced by the scripts that measure with the driver: `program` is the proved driver, which is built first where it is not there
 # (that takes some minutes). `root` is the top of the repository.
-program=$root/crates/bench_driver/out/bench_driver
-[ -x "$program" ] || (cd "$root/crates/bench_driver" && rt run -- line mask 120 15 open 3 >/dev/null)
+program=$root/crates/tables/out/tables
+[ -x "$program" ] || (cd "$root/crates/tables" && rt run -- line mask 120 15 open 3 >/dev/null)

@@ -8,6 +8,7 @@ import os
 import pathlib
 import random
 import shlex
+import statistics
 import subprocess
 import sys
 import tempfile
@@ -584,7 +585,7 @@ def by_curl(page, lines):
         status, seconds = done.stdout.split()
         equal(status, '200', 'the status by curl')
         times.append(float(seconds) * 1000)
-    return sorted(times)[3]
+    return statistics.median(times)
 
 
 def test_speed(page, folder):
@@ -602,7 +603,7 @@ view.setPointerCapture = () => {};
 const from = performance.now(), stage = document.getElementById('stage');
 const look = () => stage.getAttribute('aria-busy') === 'false' ? requestAnimationFrame(() => done(performance.now() - from)) : setTimeout(look, 0);
 send('pointerdown'); send('pointerup'); look();''', x, y))
-        print(f'{side} by {side}: {sorted(times)[len(times) // 2]:.0f} ms from a stroke to the new picture (median of {len(times)})')
+        print(f'{side} by {side}: {statistics.median(times):.0f} ms from a stroke to the new picture (median of {len(times)})')
         report = page.check(f'{side} by {side}')
         equal(report.rows, side, 'the size')
         lines = f'paint {side // 4 + 1} {side // 4 + 1} {"ab"[report.picture[side // 4][side // 4] == "a"]}\nallow 0\nreport\nallow 100\nverdict\n'

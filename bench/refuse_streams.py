@@ -2,6 +2,7 @@
 
 Usage: refuse_streams.py PROGRAM
 """
+import fcntl
 import os
 import resource
 import select
@@ -14,6 +15,7 @@ from pathlib import Path
 
 EXAMPLES = Path(__file__).resolve().parent.parent / 'examples'
 PATIENCE = 60  # seconds after which a run counts as one that does not end
+MOST_READS = 1_048_576  # of a session
 MOST_MEMORY = 256 << 20  # of a run on an input without end: it keeps 16 MiB of it at the most
 READ = (3, b'nonobench: read failed\n')
 WRITE = (3, b'nonobench: write failed\n')
@@ -81,6 +83,23 @@ class Streams:
         return ended, Path(path).read_bytes()
 
 
+    def in_pieces(self, words, pieces):
+        """Runs where each read gives one of the pieces: a pipe of packets keeps them apart. How it ended, and what it wrote."""
+        given, source = os.pipe2(os.O_DIRECT)
+        fcntl.fcntl(source, fcntl.F_SETPIPE_SZ, 1 << 20)
+        with subprocess.Popen([self.program, *words], cwd=self.folder, stdin=given, stdout=subprocess.PIPE,
+                              stderr=subprocess.PIPE) as process:
+            os.close(given)
+            try:
+                for piece in pieces:
+                    os.write(source, piece)
+            except BrokenPipeError:
+                pass
+            os.close(source)
+            wrote, said = process.communicate(timeout=PATIENCE)
+        return (process.returncode, said), wrote
+
+
 def has_terminals():
     """Whether this machine gives terminals out."""
     try:
@@ -144,6 +163,24 @@ def endless(streams):
     return 4
 
 
+def pieces(streams):
+    """Gives the lines of the session in pieces of several sizes, and without the last line feed; and single bytes, up to the
+    number of reads that a session may make and beyond it. How many runs."""
+    given = b''.join(line for line, _ in LINES)
+    wanted = b''.join(answer for _, answer in LINES)
+    for size in (1, 2, 3, 7, 64):
+        for text in (given, given[:-1]):
+            ended = streams.in_pieces(['work', 'three.ppm'], (text[at:at + size] for at in range(0, len(text), size)))
+            must(ended == ((0, b''), wanted), f'a session in pieces of {size} bytes: {ended}')
+    for byte in (b'\n', b'a'):
+        ended = streams.in_pieces(['work', 'three.ppm'], (byte for _ in range(MOST_READS + 1)))
+        must(ended == (READ, b''), f'{byte} in more reads than a session may make: {ended}')
+    # One byte less leaves a read that tells that the input ends, and so does the line, which is too long.
+    ended = streams.in_pieces(['work', 'three.ppm'], (b' ' for _ in range(MOST_READS - 1)))
+    must(ended == ((0, b''), b'refused: LongLine\n'), f'as many reads as a session may make: {ended}')
+    return 13
+
+
 def dialogue(streams):
     """Says each line when the one before was answered."""
     with subprocess.Popen([streams.program, 'work', 'three.ppm'], cwd=streams.folder, stdin=subprocess.PIPE,
@@ -169,11 +206,12 @@ def main(program):
         streams = Streams(program, folder)
         try:
             failed = reads(streams), writes(streams)
-            others = endless(streams), dialogue(streams)
+            others = pieces(streams), endless(streams), dialogue(streams)
         except (Wrong, subprocess.TimeoutExpired) as wrong:
             print(wrong, file=sys.stderr)
             return 1
-    print('%d reads and %d writes failed in turn; %d inputs without an end; %d lines of a dialogue; %.0f seconds' % (
+    print('%d reads and %d writes failed in turn; %d inputs in pieces; %d inputs without an end; %d lines of a dialogue; '
+          '%.0f seconds' % (
         *failed, *others, time.monotonic() - began))
     return 0
 

@@ -2,7 +2,7 @@
 
 strokes.py draw FOLDER SIDE STROKES    writes pictures NAME.ppm with sessions NAME.txt, without a stroke that is refused
 strokes.py head                        writes the head of the table
-strokes.py tell NAME COUNTS ONE OTHER  writes a line of the table: COUNTS are the lines of `bench_driver keep count`, ONE is
+strokes.py tell NAME COUNTS ONE OTHER  writes a line of the table: COUNTS are the lines of `tables keep count`, ONE is
                                        a folder with a profile of each stroke, prof.1 and on, and OTHER one in which the
                                        profiles have the start of a fresh bench too, made behind the stroke before
 """
@@ -120,7 +120,7 @@ def taken(whole, *starts):
 def divided(path):
     """The instructions of a stroke, and what they go to. Each named function is called by the one above it alone."""
     whole = profile(path)
-    stroke = taken(whole, "bench_driver::keep::striking::strike")
+    stroke = taken(whole, "tables::keep::striking::strike")
     advance = taken(whole, "live_audit::bench::Bench::advance")
     closing = taken(whole, "propagate::closing_book::close")
     parts = Counter()
@@ -143,7 +143,7 @@ def tell(name, counts, strokes, fresh):
     counts = [line.split() for line in open(counts)][1:]
     before, kept, _, evaluations, anew = (sum(int(line[i]) for line in counts) for i in range(1, 6))
     profiles = [divided(strokes / f"prof.{i + 2}") for i in range(len(counts))]
-    starts = [taken(profile(fresh / f"prof.{i + 3}"), "bench_driver::keep::striking::begin") for i in range(len(counts) - 1)]
+    starts = [taken(profile(fresh / f"prof.{i + 3}"), "tables::keep::striking::begin") for i in range(len(counts) - 1)]
     each = [(line[0], stroke, start) for line, (stroke, _), start in zip(counts, profiles, starts)]
     paints = [stroke / start for edit, stroke, start in each if edit == "paint"]
     total = sum(stroke for stroke, _ in profiles)

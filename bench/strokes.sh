@@ -15,7 +15,7 @@ trap 'rm -rf "$work"' EXIT
 # profiles FOLDER PICTURE SESSION EVERY: a profile of each stroke, with the fresh start behind each so many of them
 profiles() {
     mkdir -p "$1"
-    valgrind --tool=callgrind --callgrind-out-file="$1/prof" --compress-strings=no '--dump-after=bench_driver::keep::striking::strike*' \
+    valgrind --tool=callgrind --callgrind-out-file="$1/prof" --compress-strings=no '--dump-after=tables::keep::striking::strike*' \
         "$program" keep strike "$2" "$4" <"$3" >/dev/null 2>&1
 }
 # a line of the table for a picture and a session

@@ -1,3 +1,5 @@
+//! A certificate as a value: its version, its givens and its lines.
+
 ghost use Rattle.std.specs.Prelude.{◌≡◌, ◌<◌, ◌+◌, length};
 ghost use Rattle.certificate.specs.Cert.{certificate, IsCert};
 

@@ -1,3 +1,5 @@
+//! What can be wrong with a certificate, with names and line numbers.
+
 ghost use Rattle.std.specs.Prelude.{◌≡◌};
 ghost use Rattle.certificate.specs.Faults.{name_of, place_of};
 ghost use Rattle.certificate.specs.declared.fault.CertFault.TheVariants.{Memory};

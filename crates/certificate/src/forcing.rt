@@ -1,3 +1,5 @@
+//! Line solving on the facts of a branch: each change is noted, so that it can be taken back.
+
 ghost use Rattle.std.specs.Prelude.{◌≡◌, ◌<◌, ◌≤◌, ◌↔◌, length, reverse, slice_index, IfErr, OnOk, IsTrue};
 ghost use Rattle.picture.specs.Rows.{HasLine, line_of, width_of, with_cell};
 ghost use Rattle.line_settle.specs.declared.line_engine.Outcome.{Outcome};

@@ -25,6 +25,3 @@ pub use line::{CellNumber, CertLine, LineNumber};
 pub use making::make_cert;
 pub use reading::read_cert;
 pub use writing::write_cert;
-
-#[cfg(test)]
-mod tests;

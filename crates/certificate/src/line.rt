@@ -1,3 +1,5 @@
+//! The lines of a certificate, and the numbers in them, as they are written.
+
 use picture::Axis;
 
 /// A row or a column as a certificate names it: by its number as written, counted from 1. Whether a picture has it is not

@@ -1,3 +1,5 @@
+//! The trail of a walk over a tree: what to go back to after a branch, and the branches not yet begun.
+
 ghost use Rattle.std.specs.Prelude.{◌≡◌, ℕ, ◌-◌, ◌^◌, ◌<◌, ◌∷◌, true, ◌++◌, length, reverse, IfOk, IfErr, OnOk};
 ghost use Rattle.picture.specs.Rows.{width_of, cell_at, with_cell};
 ghost use Rattle.line_settle.specs.FactSets.{IsFacts, SameShape};

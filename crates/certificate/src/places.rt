@@ -1,3 +1,5 @@
+//! From the numbers in a certificate to the lines and cells of a picture.
+
 ghost use Rattle.std.specs.Prelude.{◌≡◌, ◌-◌, MatchOption};
 ghost use Rattle.picture.specs.Picture.{IsPicture};
 ghost use Rattle.picture.specs.Rows.{lines_along};

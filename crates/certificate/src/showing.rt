@@ -1,3 +1,5 @@
+//! Whether facts leave the colours of the picture alone, as `done` claims.
+
 ghost use Rattle.std.specs.Prelude.{◌≡◌, ℕ, ◌<◌, ◌↔◌, length, IsBitSet, IsTrue};
 ghost use Rattle.picture.specs.Rows.{cell_at};
 ghost use Rattle.line_settle.specs.FactSets.{Leaves, SameShape};

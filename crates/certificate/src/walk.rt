@@ -1,3 +1,5 @@
+//! One step of the checker: what a line of the certificate does to the branch at hand.
+
 ghost use Rattle.std.specs.Prelude.{◌≡◌, ℕ, ◌+◌, ◌<◌, ◌≤◌, ◌^◌, ◌∷◌, [], length, reverse, Option};
 ghost use Rattle.certificate.specs.declared.line.CertLine.TheVariants as line;
 ghost use Rattle.certificate.specs.FirstFault.{AnswersFirst, FirstFault};

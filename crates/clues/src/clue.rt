@@ -1,3 +1,5 @@
+//! The clue of one line: a list of blocks.
+
 ghost use Rattle.std.specs.Prelude.{◌≡◌, ◌↔◌, IfOk, IsTrue};
 ghost use Rattle.clues.specs.Clue.{IsClue};
 

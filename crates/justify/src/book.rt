@@ -1,3 +1,5 @@
+//! The book: a list of derivation steps over a base, and the facts that they leave.
+
 ghost use Rattle.std.specs.Prelude.{◌≡◌, ℕ, ◌<◌, [], length, IfOk, OnOk, OnErr};
 ghost use Rattle.picture.specs.Rows.{line_of, HasLine};
 ghost use Rattle.line_settle.specs.FactSets.{ExcludesAt, row_on, col_on};

@@ -1,3 +1,5 @@
+//! Why a line gave no step.
+
 ghost use Rattle.std.specs.Prelude.{◌≡◌};
 
 use std::alloc::AllocError;

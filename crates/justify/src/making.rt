@@ -1,3 +1,5 @@
+//! Making the next step: all that a line newly forces, from premises none of which can be left out.
+
 ghost use Rattle.std.specs.Prelude.{◌≡◌, ◌≤◌, length};
 ghost use Rattle.picture.specs.Rows.{line_of, HasLine};
 ghost use Rattle.line_settle.specs.Counting.{Counts};

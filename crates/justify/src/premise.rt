@@ -1,3 +1,5 @@
+//! Premises: colours excluded in cells of one line.
+
 ghost use Rattle.std.specs.Prelude.{◌≡◌, ◌≤◌, ◌↔◌, length, IfOk, IsTrue};
 ghost use Rattle.justify.specs.Premises.{ArePremises, Gathers};
 

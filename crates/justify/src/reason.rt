@@ -1,3 +1,5 @@
+//! The reason for one exclusion: its step, with the premises that this exclusion alone needs.
+
 ghost use Rattle.std.specs.Prelude.{◌≡◌, ℕ, ◌<◌, ◌≤◌, length, IfOk};
 ghost use Rattle.picture.specs.Rows.{width_of};
 ghost use Rattle.line_settle.specs.FactSets.{Leaves};

@@ -1,3 +1,5 @@
+//! Checking a whole book: whether it is a derivation from given clues.
+
 ghost use Rattle.std.specs.Prelude.{◌≡◌, ℕ, ◌<◌, ◌≤◌, ◌↔◌, length, IsTrue};
 ghost use Rattle.picture.specs.Rows.{line_of, width_of, HasLine};
 ghost use Rattle.justify.specs.Premises.{Mentions};

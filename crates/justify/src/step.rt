@@ -1,3 +1,5 @@
+//! A derivation step: a line, its premises, and what it excludes.
+
 ghost use Rattle.std.specs.Prelude.{◌≡◌, ◌<◌, ◌↔◌, ℕ, IfOk, IsTrue};
 ghost use Rattle.line_settle.specs.FactSets.{IsOn, row_on, col_on};
 ghost use Rattle.justify.specs.Steps.{Draws};

@@ -1,3 +1,5 @@
+//! The audit of a picture (clues and closed book), made anew or kept over a change.
+
 ghost use Rattle.std.specs.Prelude.{◌≡◌, ◌≤◌, ℕ, List, length, IfOk, IfErr};
 ghost use Rattle.picture.specs.Rows.{width_of};
 ghost use Rattle.clues.specs.Change.{IsChangeOf};

@@ -1,3 +1,5 @@
+//! Facts along one line: its length, and the colours left in its cells.
+
 ghost use Rattle.std.specs.Prelude.{◌≡◌, ◌<◌, ◌≤◌, length, slice_index};
 ghost use Rattle.picture.specs.Rows.{line_of, HasLine};
 ghost use Rattle.line_settle.specs.FactSets.{IsFacts};

@@ -1,3 +1,5 @@
+//! The base of a document: facts that hold each given to its colour.
+
 ghost use Rattle.std.specs.Prelude.{◌≡◌, ℕ, ◌<◌, ◌↔◌, length, IfOk, IsBitSet};
 ghost use Rattle.picture.specs.Rows.{width_of};
 ghost use Rattle.line_settle.specs.FactSets.{IsBase, IsOpen, MakesBaseRow, SameShape};

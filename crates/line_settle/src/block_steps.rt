@@ -1,3 +1,5 @@
+//! Laying one block of a clue on sets of positions, for the mask engine.
+
 ghost use Rattle.std.specs.Prelude.{◌≡◌, ℕ, ◌+◌, ◌<◌, ◌&&◌, true, false, length};
 ghost use Rattle.clues.specs.Clue.{IsClue};
 ghost use Rattle.line_settle.specs.Positions.{has};

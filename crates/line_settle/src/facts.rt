@@ -1,3 +1,5 @@
+//! Facts: the candidates of each cell, as a mask of the colours left.
+
 ghost use Rattle.std.specs.Prelude.{◌≡◌, ℕ, ◌<◌, ◌≤◌, ◌↔◌, List, length, IfOk, IsTrue, MatchOption, false};
 ghost use Rattle.picture.specs.Rows.{rows_of, width_of, row_at, cell_at, line_of, with_cell, HasLine};
 ghost use Rattle.line_settle.specs.Masks.{IsOnly};

@@ -1,3 +1,5 @@
+//! Forcing: one evaluation of a line, written back to the facts.
+
 ghost use Rattle.std.specs.Prelude.{◌≡◌, ℕ, ◌≤◌, ◌↔◌, length, slice_index, take};
 ghost use Rattle.picture.specs.declared.line_id.LineId.{LineId};
 ghost use Rattle.picture.specs.LineSet.{HasName};

@@ -1,3 +1,5 @@
+//! The trait of line engines: what comparing a line with its clue must answer.
+
 ghost use Rattle.std.specs.Prelude.{◌≡◌, ℕ, ◌≤◌, length};
 ghost use Rattle.line_settle.specs.Counting.{counted};
 ghost use Rattle.line_settle.specs.Narrowing.{Narrows};

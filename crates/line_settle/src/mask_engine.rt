@@ -1,3 +1,5 @@
+//! The mask engine: line solving on sets of positions, a set being the bits of one number.
+
 ghost use Rattle.std.specs.Prelude.{◌≡◌, ◌+◌, ◌≤◌, IfOk, vec_len};
 ghost use Rattle.line_settle.specs.Engine.{Engine, MaskRoom, engine};
 

@@ -1,3 +1,5 @@
+//! One line compared with its clue by sets of positions, for the mask engine.
+
 ghost use Rattle.std.specs.Prelude.{◌≡◌, ℕ, ◌+◌, ◌<◌, ◌≤◌, ◌++◌, ◌==◌, ◌↔◌, true, false, IsTrue, length, slice_index, drop, replicate};
 ghost use Rattle.clues.specs.Clue.{IsClue};
 ghost use Rattle.line_settle.specs.Narrowing.{Narrows};

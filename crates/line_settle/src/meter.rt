@@ -1,3 +1,5 @@
+//! The count of work that calls report.
+
 /// How much work was done: evaluations of lines, and trials that look for premises that a step can do without. Each
 /// count stays at the largest `u64` once it is there.
 #[derive(Clone, Copy, Debug, PartialEq, Eq)]

@@ -1,3 +1,5 @@
+//! The pattern of a clue: its blocks spelled cell by cell, the states of line solving.
+
 ghost use Rattle.std.specs.Prelude.{◌≡◌, ℕ, ◌+◌, ◌<◌, ◌≤◌, ◌++◌, ◌==◌, length, take, replicate, MatchOption};
 ghost use Rattle.clues.specs.Clue.{IsClue};
 ghost use Rattle.line_settle.specs.Spelling.{gap, pattern_of, waits, allows};

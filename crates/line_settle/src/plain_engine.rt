@@ -1,3 +1,5 @@
+//! The plain engine: line solving on tables of truths, to compare the mask engine with.
+
 ghost use Rattle.std.specs.Prelude.{◌≡◌, ◌+◌, ◌*◌, IfOk, vec_len};
 ghost use Rattle.line_settle.specs.Engine.{Engine, EngineRoom, engine};
 

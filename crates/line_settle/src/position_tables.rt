@@ -1,3 +1,5 @@
+//! The passes of the mask engine over all blocks: from the back, and from the front.
+
 ghost use Rattle.std.specs.Prelude.{◌≡◌, ℕ, ◌<◌, ◌≤◌, ◌&&◌, ◌||◌, ◌==◌, true, length, replicate, slice_index};
 ghost use Rattle.std.specs.List.{All};
 ghost use Rattle.clues.specs.Clue.{IsClue};

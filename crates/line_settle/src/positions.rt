@@ -1,3 +1,5 @@
+//! Sets of positions on a line as bits, and moving them over background.
+
 ghost use Rattle.std.specs.Prelude.{◌≡◌, ℕ, ◌+◌, ◌*◌, ◌/◌, ◌<◌, ◌≤◌, ◌&&◌, ◌||◌, ◌==◌, Bool, length, slice_index};
 ghost use Rattle.line_settle.specs.Crossing.{differs};
 ghost use Rattle.line_settle.specs.Spelling.{allows};

@@ -1,3 +1,5 @@
+//! Leaving premises out by one sweep: which cells a line needs to force what it draws.
+
 ghost use Rattle.std.specs.Prelude.{◌≡◌, ℕ, ◌<◌, ◌≤◌, ◌↔◌, ◌⊎◌, true, List, Bool, IsTrue, length, slice_index, bit_and};
 ghost use Rattle.line_settle.specs.LeavingOut.{ForcesAll, LeavesOut};
 ghost use Rattle.line_settle.specs.Spelling.{finishes, finish_step, reach_step};

@@ -1,3 +1,5 @@
+//! The passes of the plain engine: which states are reached, and which finish.
+
 ghost use Rattle.std.specs.Prelude.{◌≡◌, ℕ, ◌+◌, ◌*◌, ◌<◌, ◌≤◌, ◌≢◌, ◌&&◌, ◌==◌, Bool, length, slice_index, drop};
 ghost use Rattle.std.specs.List.{All};
 ghost use Rattle.line_settle.specs.Spelling.{

@@ -1,3 +1,5 @@
+//! A two-colour puzzle as a .non text gives it: clues, and a goal where there is one.
+
 use clues::ClueBook;
 use picture::Picture;
 

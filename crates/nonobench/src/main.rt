@@ -7,8 +7,6 @@ mod input;
 mod open;
 mod options;
 mod run;
-#[cfg(test)]
-mod tests;
 mod words;
 mod work;
 

@@ -10,8 +10,6 @@ mod open;
 mod refusal;
 mod request;
 mod site;
-#[cfg(test)]
-mod tests;
 mod words;
 
 ghost use Rattle.std.specs.Prelude.{◌<◌, ◌≤◌};

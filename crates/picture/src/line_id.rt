@@ -1,3 +1,5 @@
+//! Rows and columns by name: an axis and a place.
+
 ghost use Rattle.std.specs.Prelude.{◌≡◌};
 ghost use Rattle.picture.specs.Crossing.{crossing, crossing_at};
 

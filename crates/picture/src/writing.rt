@@ -1,3 +1,5 @@
+//! Writing all bytes to a writer, or a front of them.
+
 ghost use Rattle.std.specs.Prelude.{◌<◌, ◌≤◌, length, take, IfOk, OnOk, OnErr};
 ghost use Rattle.std.specs.Io.KnownBytes.{Appends, Keeps};
 ghost use Rattle.picture.specs.Writing.{AppendsFront};

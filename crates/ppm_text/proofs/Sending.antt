@@ -4,11 +4,11 @@ use Rattle.std.proofs.lemmas.Bool.{cases_lt}
 use Rattle.std.proofs.lemmas.List.{take-append-le, take_all, take_more, take-append-drop, append-nil}
 use Rattle.std.proofs.lemmas.Result.{on_err_weaker}
 use Rattle.std.proofs.Math.Seq.{take-append_seam, take-append-add}
-use Rattle.std.specs.Prelude.{Result, OnErr, codes}
+use Rattle.std.specs.Prelude.{Result, Ok, Err, OnErr, OnOk, codes}
 use Rattle.std.specs.List.{flat_map}
 use Rattle.std.proofs.lemmas.List.Concat.{flat_map-append}
 use Rattle.picture.specs.declared.rgb.Rgb.{Rgb}
-use Rattle.ppm_text.specs.Text.{cell_text, row_text, rows_text, header_text}
+use Rattle.ppm_text.specs.Text.{cell_text, header_text, number_text, row_text, rows_text, sizes_text}
 use Rattle.std.proofs.KnownBytes.{Appends-trans, Appends-nil}
 use Rattle.std.specs.Io.KnownBytes.{Appends}
 use Rattle.picture.specs.Writing.{AppendsFront}
@@ -33,6 +33,30 @@ pub last_front : {T E : Type 0} (r : Result T E) (a b c : Option (List ℕ)) (x 
 last_front r a b c x y first h = on_err_weaker r (second_front a b c x y first) h
 
 pub ruleset sending = (both_sent, first_front, second_front, middle_front, last_front)
+
+-- the sizes, in three writes
+pub sizes_sent : (a b c d : Option (List ℕ)) (width height maxval : ℕ) → Appends a b (number_text width 32) → Appends b c (number_text height 10) → Appends c d (number_text maxval 10) → Appends a d (sizes_text width height maxval)
+sizes_sent a b c d width height maxval first second third = both_sent a b d (number_text width 32) (number_text height 10 ++ number_text maxval 10) first (both_sent b c d (number_text height 10) (number_text maxval 10) second third)
+
+pub width_cut : (a b : Option (List ℕ)) (width height maxval : ℕ) → AppendsFront a b (number_text width 32) → AppendsFront a b (sizes_text width height maxval)
+width_cut a b width height maxval h = first_front a b (number_text width 32) (number_text height 10 ++ number_text maxval 10) h
+
+pub height_cut : {T E : Type 0} (r : Result T E) (a b c : Option (List ℕ)) (w h width height maxval : ℕ) → w ≡ width → h ≡ height → Appends a b (number_text w 32) → AppendsFront b c (number_text h 10) → OnErr r (AppendsFront a c (sizes_text width height maxval))
+height_cut (Ok x) a b c w h width height maxval e f first now = tt
+height_cut (Err fault) a b c w h width height maxval e f first now =
+    let P : ℕ → Type 0 = λ n. Appends a b (number_text n 32) in
+    let Q : ℕ → Type 0 = λ n. AppendsFront b c (number_text n 10) in
+    middle_front a b c (number_text width 32) (number_text height 10) (number_text maxval 10) (subst P e first) (subst Q f now)
+
+pub maxval_cut : {T E : Type 0} (r : Result T E) (a b c d : Option (List ℕ)) (width height maxval : ℕ) → Appends a b (number_text width 32) → Appends b c (number_text height 10) → OnErr r (AppendsFront c d (number_text maxval 10)) → OnErr r (AppendsFront a d (sizes_text width height maxval))
+maxval_cut r a b c d width height maxval first second h =
+    last_front r a b d (number_text width 32) (number_text height 10 ++ number_text maxval 10) first (last_front r b c d (number_text height 10) (number_text maxval 10) second h)
+
+pub sizes_sent_ok : {T E : Type 0} (r : Result T E) (a b c d : Option (List ℕ)) (width height maxval : ℕ) → Appends a b (number_text width 32) → Appends b c (number_text height 10) → OnOk r (Appends c d (number_text maxval 10)) → OnOk r (Appends a d (sizes_text width height maxval))
+sizes_sent_ok (Ok x) a b c d width height maxval first second third = sizes_sent a b c d width height maxval first second third
+sizes_sent_ok (Err e) a b c d width height maxval first second third = tt
+
+pub ruleset sizes = (sizes_sent_ok, width_cut, maxval_cut)
 
 -- one piece more of a text in pieces
 pieces_more : {X : Type 0} (piece : X → List ℕ) (xs : List X) (i : ℕ) (d : X) → i < length xs → flat_map piece (take (i + 1) xs) ≡ flat_map piece (take i xs) ++ piece (get_or xs i d)

@@ -1,3 +1,5 @@
+//! What can be wrong with a P3 text, with names and byte offsets.
+
 ghost use Rattle.std.specs.Prelude.{◌≡◌};
 ghost use Rattle.ppm_text.specs.Faults.{name_of, place_of};
 ghost use Rattle.ppm_text.specs.declared.fault.PpmFault.TheVariants.{Memory};

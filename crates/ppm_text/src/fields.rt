@@ -1,3 +1,5 @@
+//! The fields of a P3 text: sizes, samples and triples, each with its check.
+
 ghost use Rattle.std.specs.Prelude.{◌≡◌, ◌<◌, ◌≤◌, IfOk, IsTrue};
 ghost use Rattle.picture.specs.Palette.{fits};
 ghost use Rattle.picture.specs.Reading.{Reads};

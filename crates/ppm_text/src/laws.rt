@@ -1,3 +1,5 @@
+//! The law of the round trip: a written picture is read back in ordered form.
+
 ghost use Rattle.std.specs.Prelude.{◌≡◌};
 ghost use Rattle.picture.specs.CellSet.{no_cells};
 ghost use Rattle.picture.specs.Content.{content_of};

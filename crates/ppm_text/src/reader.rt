@@ -1,4 +1,6 @@
-ghost use Rattle.std.specs.Prelude.{◌≡◌, ℕ, ◌*◌, ◌<◌, ◌≤◌, length, slice_index, IfErr, OnOk};
+//! Reading a P3 text as a document.
+
+ghost use Rattle.std.specs.Prelude.{◌≡◌, ℕ, ◌*◌, ◌<◌, ◌≤◌, length, slice_index, IfErr, IfOk, OnOk};
 ghost use Rattle.std.specs.Result.{result_err};
 ghost use Rattle.picture.specs.CellSet.{no_cells};
 ghost use Rattle.picture.specs.Rows.{rows_of};
@@ -121,7 +123,44 @@ fn document_of(palette: Palette, height: u8, width: u8, cells: Vec<u8>) -> Docum
     }
 }
 
-#[tactic(auto, using(crate::proofs::Cells::read_cells), unfolding(crate::specs::Ppm::ppm_of, crate::specs::Ppm::header_of))]
+// What stands before the cells, and the scanner behind it.
+struct Head<'a> {
+    scanner: Scanner<'a>,
+    width: u8,
+    height: u8,
+    palette: Palette,
+}
+
+#[tactic(auto, unfolding(crate::specs::Ppm::header_of))]
+// Reads what stands before the cells.
+fn read_head<'a>(
+    alloc: Global,
+    bytes: &'a [u8],
+    background: Option<Rgb>,
+) -> Result<Head<'a>, PpmFault>
+    ensures read { Gives Memory (λ h. record {
+      width = h.width;
+      height = h.height;
+      colours = h.palette;
+      rest = h.scanner;
+    }) result (header_of bytes.now background) }
+    ensures fault { IfErr (header_of bytes.now background) (λ fault. result ≡ Err fault) }
+    ensures wide { IfOk result (λ h. (0 < h.width) × (h.width ≤ MAX_SIDE)) }
+    ensures tall { IfOk result (λ h. (0 < h.height) × (h.height ≤ MAX_SIDE)) }
+{
+    let mut scanner = Scanner::start(bytes)?;
+    let width = read_side(&mut scanner)?;
+    let height = read_side(&mut scanner)?;
+    let palette = read_palette(alloc, &mut scanner, background)?;
+    Ok(Head {
+        scanner,
+        width,
+        height,
+        palette,
+    })
+}
+
+#[tactic(auto, using(crate::proofs::Cells::read_cells), unfolding(crate::specs::Ppm::ppm_of))]
 /// Reads a plain PPM text (P3) whole: the magic, the width and the height from 1 to 120, the maxval
 /// from 1 to 65535, and the samples of each cell in row order, each a decimal number of any length.
 ///
@@ -138,10 +177,12 @@ pub fn read_ppm(alloc: Global, bytes: &[u8], background: Option<Rgb>) -> Result<
     ensures read { Gives Memory content_of result (ppm_of bytes.now background) }
     ensures header { IfErr (header_of bytes.now background) (λ fault. result ≡ Err fault) }
 {
-    let mut scanner = Scanner::start(bytes)?;
-    let width = read_side(&mut scanner)?;
-    let height = read_side(&mut scanner)?;
-    let mut palette = read_palette(alloc, &mut scanner, background)?;
+    let Head {
+        mut scanner,
+        width,
+        height,
+        mut palette,
+    } = read_head(alloc, bytes, background)?;
     let count = usize::from(height) * usize::from(width);
     let cells = read_cells(alloc, &mut scanner, &mut palette, count)?;
     if let Some(place) = scanner.next_place() {

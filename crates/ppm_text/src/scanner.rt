@@ -1,3 +1,5 @@
+//! The tokens of a P3 text: numbers with their places, past white space and comments.
+
 ghost use Rattle.std.specs.Prelude.{◌≡◌, ◌≢◌, ℕ, ◌+◌, ◌∷◌, ◌<◌, ◌≤◌, length, slice_index, drop, is_some, true, false, IfNone, IfSome, IfOk};
 ghost use Rattle.picture.specs.Reading.{Reads};
 ghost use Rattle.ppm_text.specs.Tokens.{is_gap, is_line_end, tokens_from, tokens_at, without_comments, magic_of, next_place};

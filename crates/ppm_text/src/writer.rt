@@ -1,3 +1,5 @@
+//! Writing a document as a P3 text.
+
 ghost use Rattle.std.specs.Prelude.{◌≡◌, ◌<◌, length, OnOk, OnErr};
 ghost use Rattle.std.specs.Io.KnownBytes.{Appends};
 ghost use Rattle.picture.specs.Content.{content_of};
@@ -69,7 +71,7 @@ fn send_row<W: Write>(document: &Document, row: u8, writer: &mut W) -> Result<()
     Ok(())
 }
 
-#[tactic(auto, using(crate::proofs::Sending::sending))]
+#[tactic(auto, using(crate::proofs::Sending::sizes))]
 // Writes the sizes and the maxval.
 fn send_sizes<W: Write>(
     width: u8,

@@ -1,3 +1,5 @@
+//! The trait of agendas: worklists of lines that wait to be evaluated.
+
 ghost use Rattle.std.specs.Prelude.{◌≡◌, ◌<◌};
 ghost use Rattle.picture.specs.LineSet.{Lines, PutsName, PutsNames, no_names};
 ghost use Rattle.propagate.specs.Agenda.{Takes};

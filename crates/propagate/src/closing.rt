@@ -1,3 +1,5 @@
+//! Propagating facts to the fixpoint of all lines.
+
 ghost use Rattle.std.specs.Prelude.{◌≡◌};
 ghost use Rattle.picture.specs.Rows.{line_of, HasLine};
 ghost use Rattle.clues.specs.ClueBook.{clue_at};

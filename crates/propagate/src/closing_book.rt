@@ -1,3 +1,5 @@
+//! Propagating a book to the fixpoint of all lines, a step for each line that draws something.
+
 ghost use Rattle.std.specs.Prelude.{◌≡◌, IfOk};
 ghost use Rattle.justify.specs.Book.{AreTrimmed, IsDerivation};
 ghost use Rattle.propagate.specs.Closing.{AreClosable, QuietOutside};

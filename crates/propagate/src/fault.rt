@@ -1,3 +1,5 @@
+//! Why lines could not be propagated to a fixpoint.
+
 ghost use Rattle.std.specs.Prelude.{◌≡◌};
 
 use justify::StepFault;

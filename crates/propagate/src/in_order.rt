@@ -1,3 +1,5 @@
+//! The worklist that goes round: rows, then columns, by number.
+
 ghost use Rattle.std.specs.Prelude.{◌≡◌, ◌<◌, ◌≤◌, MatchOption};
 ghost use Rattle.picture.specs.LineSet.{PutsName, PutsNames, no_names};
 ghost use Rattle.propagate.specs.Agenda.{Takes};

@@ -1,3 +1,5 @@
+//! The names of all lines of some facts, as a worklist begins with.
+
 ghost use Rattle.std.specs.Prelude.{◌≡◌, ◌+◌, ◌<◌, ◌≤◌, length};
 ghost use Rattle.picture.specs.LineSet.{HasName, name_count};
 ghost use Rattle.picture.specs.Rows.{width_of};

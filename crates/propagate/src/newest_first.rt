@@ -1,3 +1,5 @@
+//! The worklist that takes the newest line first.
+
 ghost use Rattle.std.specs.Prelude.{◌≡◌, ◌<◌, []};
 ghost use Rattle.picture.specs.LineSet.{PutsName, no_names};
 ghost use Rattle.propagate.specs.Agenda.{Takes};

@@ -1,3 +1,5 @@
+//! Running a given list of lines over a book, one evaluation each.
+
 ghost use Rattle.std.specs.Prelude.{◌≡◌, IfOk};
 ghost use Rattle.std.specs.List.{All};
 ghost use Rattle.picture.specs.Rows.{HasLine};

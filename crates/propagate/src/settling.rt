@@ -1,3 +1,5 @@
+//! Settling clues from a base: the least closed facts.
+
 ghost use Rattle.std.specs.Prelude.{◌≡◌, ◌≤◌};
 ghost use Rattle.line_settle.specs.Counting.{Counts};
 ghost use Rattle.line_settle.specs.FactSets.{IsFacts};

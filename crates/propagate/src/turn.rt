@@ -1,3 +1,5 @@
+//! The turn of one line: its step is made and put into the book.
+
 ghost use Rattle.std.specs.Prelude.{◌≡◌, ◌↔◌, ◌<◌, ◌≤◌, ℕ, length, IfOk, OnOk};
 ghost use Rattle.picture.specs.LineSet.{HasName, name_count};
 ghost use Rattle.picture.specs.Rows.{line_of, HasLine};

@@ -1,3 +1,5 @@
+//! An entry of the trail: a cell with the mask that it had, or with the colours still to try.
+
 // A cell with a mask of colours.
 #[derive(Clone, Copy)]
 pub(crate) struct CellMask {

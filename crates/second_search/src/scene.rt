@@ -1,3 +1,5 @@
+//! What a search for another picture is given: clues, givens, facts, and the picture itself.
+
 use clues::ClueBook;
 use line_settle::Facts;
 use picture::{CellSet, Picture};

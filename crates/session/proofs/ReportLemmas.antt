@@ -44,8 +44,6 @@ pub row_same : (d : Design) (i j : ℕ) → (cell_at d.marks i j == 1) ≡ false
 unfolding row_givens
 row_same d i j is = flat_more (λ n. cond (cell_at d.marks i n == 1) (given_line i n) []) j ∙ ap (λ t. row_givens d i j ++ cond t (given_line i j) []) is ∙ append-nil (row_givens d i j)
 
-pub ruleset ranges = (colours_none, colours_more, givens_none, givens_more, row_none, row_more, row_same, append_assoc, append-nil)
-
 -- ---- marks
 
 -- the mark of a cell is that of the set

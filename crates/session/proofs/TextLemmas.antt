@@ -44,5 +44,3 @@ lines_text-more letter clues i lt =
 
 pub lines_text-all : (letter : ℕ) (clues : List (List Block)) (i : ℕ) → length clues ≤ i → lines_text letter 1 (take i clues) ≡ lines_text letter 1 clues
 lines_text-all letter clues i le = ap (lines_text letter 1) (take_all i clues le)
-
-pub ruleset lines = (lines_text-nil, lines_text-more, lines_text-all, append-nil, append_assoc)

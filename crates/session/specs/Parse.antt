@@ -56,23 +56,27 @@ rgb_at words = do
   b ← sample_at g.1
   Ok (rgb r.0 g.0 b.0)
 
+-- a cell's row and column, and the words behind them
+unfoldable pub cell_at : List (List ℕ) → Result ((ℕ × ℕ) × List (List ℕ)) CommandFault
+cell_at words = do
+  row ← place_at words
+  col ← place_at row.1
+  Ok ((row.0, col.0), col.1)
+
 -- ---- the commands that have values
 
 unfoldable pub paint_at : List (List ℕ) → Result Command CommandFault
 paint_at words = do
-  row ← place_at words
-  col ← place_at row.1
-  colour ← colour_at col.1
-  Ok (command.Edit (edit.Paint row.0 col.0 colour.0))
+  cell ← cell_at words
+  colour ← colour_at cell.1
+  Ok (command.Edit (edit.Paint cell.0.0 cell.0.1 colour.0))
 
 unfoldable pub fill_at : List (List ℕ) → Result Command CommandFault
 fill_at words = do
-  top ← place_at words
-  left ← place_at top.1
-  bottom ← place_at left.1
-  right ← place_at bottom.1
-  colour ← colour_at right.1
-  Ok (command.Edit (edit.Fill top.0 left.0 bottom.0 right.0 colour.0))
+  first ← cell_at words
+  last ← cell_at first.1
+  colour ← colour_at last.1
+  Ok (command.Edit (edit.Fill first.0.0 first.0.1 last.0.0 last.0.1 colour.0))
 
 unfoldable pub recolour_at : List (List ℕ) → Result Command CommandFault
 recolour_at words = do
@@ -107,29 +111,21 @@ set_colour_at words = do
   triple ← rgb_at colour.1
   Ok (command.Edit (edit.SetColour colour.0 triple))
 
--- a cell's row and column
-unfoldable pub cell_at : List (List ℕ) → Result (ℕ × ℕ) CommandFault
-cell_at words = do
-  row ← place_at words
-  col ← place_at row.1
-  Ok (row.0, col.0)
-
 unfoldable pub pin_at : List (List ℕ) → Result Command CommandFault
 pin_at words = do
   cell ← cell_at words
-  Ok (command.Edit (edit.Pin cell.0 cell.1))
+  Ok (command.Edit (edit.Pin cell.0.0 cell.0.1))
 
 unfoldable pub unpin_at : List (List ℕ) → Result Command CommandFault
 unpin_at words = do
   cell ← cell_at words
-  Ok (command.Edit (edit.Unpin cell.0 cell.1))
+  Ok (command.Edit (edit.Unpin cell.0.0 cell.0.1))
 
 unfoldable pub why_at : List (List ℕ) → Result Command CommandFault
 why_at words = do
-  row ← place_at words
-  col ← place_at row.1
-  colour ← colour_at col.1
-  Ok (command.Why row.0 col.0 colour.0)
+  cell ← cell_at words
+  colour ← colour_at cell.1
+  Ok (command.Why cell.0.0 cell.0.1 colour.0)
 
 unfoldable pub allow_at : List (List ℕ) → Result Command CommandFault
 allow_at words = do

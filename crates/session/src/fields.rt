@@ -79,14 +79,14 @@ pub(crate) fn read_rgb(rest: &[u8]) -> Result<Rgb, CommandFault>
     Ok(Rgb { r, g, b })
 }
 
-// A row and a column.
+// A row and a column, and what stands behind them.
 #[tactic(auto, unfolding(crate::specs::Parse::cell_at))]
-pub(crate) fn read_cell(rest: &[u8]) -> Result<(u8, u8), CommandFault>
-    ensures { Reads (λ cell. cell) result (cell_at (words_of rest.now)) }
+pub(crate) fn read_cell(rest: &[u8]) -> Result<((u8, u8), &[u8]), CommandFault>
+    ensures { Reads field_seen result (cell_at (words_of rest.now)) }
 {
     let (row, rest) = read_place(rest)?;
-    let (col, _) = read_place(rest)?;
-    Ok((row, col))
+    let (col, rest) = read_place(rest)?;
+    Ok(((row, col), rest))
 }
 
 // `off`, or how many splits are allowed.

@@ -27,6 +27,3 @@ pub use numbers::sample_in;
 pub use parse::{MOST_BYTES, parse_command};
 pub use request::Request;
 pub use session::{SessionFault, run_session};
-
-#[cfg(test)]
-mod tests;

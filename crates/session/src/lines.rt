@@ -8,11 +8,9 @@ use crate::draft::Draft;
 use crate::request::Request;
 use std::io::Read;
 use std::marker::Model;
-use thiserror::Error;
 
 // A read failed, or one more than 1,048,576 was wanted.
-#[derive(Clone, Copy, Debug, PartialEq, Eq, Error)]
-#[error("read failed")]
+#[derive(Clone, Copy)]
 pub(crate) struct ReadFault;
 
 // How many reads a session makes at the most.

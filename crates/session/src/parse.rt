@@ -21,8 +21,7 @@ fn read_paint(rest: &[u8]) -> Result<Command, CommandFault>
     ensures value { Reads (λ c. c) result (paint_at (words_of rest.now)) }
     ensures bounded { IfOk result IsBounded }
 {
-    let (row, rest) = read_place(rest)?;
-    let (col, rest) = read_place(rest)?;
+    let ((row, col), rest) = read_cell(rest)?;
     let (colour, _) = read_colour(rest)?;
     Ok(Command::Edit(Edit::Paint { row, col, colour }))
 }
@@ -32,10 +31,8 @@ fn read_fill(rest: &[u8]) -> Result<Command, CommandFault>
     ensures value { Reads (λ c. c) result (fill_at (words_of rest.now)) }
     ensures bounded { IfOk result IsBounded }
 {
-    let (top, rest) = read_place(rest)?;
-    let (left, rest) = read_place(rest)?;
-    let (bottom, rest) = read_place(rest)?;
-    let (right, rest) = read_place(rest)?;
+    let ((top, left), rest) = read_cell(rest)?;
+    let ((bottom, right), rest) = read_cell(rest)?;
     let (colour, _) = read_colour(rest)?;
     Ok(Command::Edit(Edit::Fill {
         top,
@@ -114,7 +111,7 @@ fn read_pin(rest: &[u8]) -> Result<Command, CommandFault>
     ensures value { Reads (λ c. c) result (pin_at (words_of rest.now)) }
     ensures bounded { IfOk result IsBounded }
 {
-    let (row, col) = read_cell(rest)?;
+    let ((row, col), _) = read_cell(rest)?;
     Ok(Command::Edit(Edit::Pin { row, col }))
 }
 
@@ -123,7 +120,7 @@ fn read_unpin(rest: &[u8]) -> Result<Command, CommandFault>
     ensures value { Reads (λ c. c) result (unpin_at (words_of rest.now)) }
     ensures bounded { IfOk result IsBounded }
 {
-    let (row, col) = read_cell(rest)?;
+    let ((row, col), _) = read_cell(rest)?;
     Ok(Command::Edit(Edit::Unpin { row, col }))
 }
 
@@ -132,8 +129,7 @@ fn read_why(rest: &[u8]) -> Result<Command, CommandFault>
     ensures value { Reads (λ c. c) result (why_at (words_of rest.now)) }
     ensures bounded { IfOk result IsBounded }
 {
-    let (row, rest) = read_place(rest)?;
-    let (col, rest) = read_place(rest)?;
+    let ((row, col), rest) = read_cell(rest)?;
     let (colour, _) = read_colour(rest)?;
     Ok(Command::Why { row, col, colour })
 }

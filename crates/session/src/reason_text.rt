@@ -53,7 +53,6 @@ fn push_premise(text: &mut Vec<u8>, premise: Premise) -> Result<(), AllocError>
     push_left(text, premise.colours)
 }
 
-#[tactic(auto, using(crate::proofs::ShownLemmas::letters))]
 // The letters of the colours that are not excluded.
 fn push_left(text: &mut Vec<u8>, excluded: u16) -> Result<(), AllocError>
     ensures { OnOk result (text.new.items ≡ text.old.items ++ letters_left excluded) }

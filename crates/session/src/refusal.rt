@@ -7,7 +7,7 @@ use crate::fault::CommandFault;
 use edits::EditFault;
 
 // Why a line of a session is refused.
-#[derive(Clone, Copy, Debug, PartialEq, Eq)]
+#[derive(Clone, Copy)]
 pub(crate) enum Refusal {
     // It is no command.
     Line(CommandFault),

@@ -84,7 +84,6 @@ fn push_colours(text: &mut Vec<u8>, palette: &Palette) -> Result<(), AllocError>
     push_triples(text, palette)
 }
 
-#[tactic(auto, using(crate::proofs::ReportLemmas::ranges))]
 fn push_triples(text: &mut Vec<u8>, palette: &Palette) -> Result<(), AllocError>
     ensures { OnOk result (text.new.items ≡ text.old.items ++ colour_lines palette.now.triples (length palette.now.triples)) }
 {
@@ -107,7 +106,6 @@ fn push_colour(text: &mut Vec<u8>, number: u8, rgb: Rgb) -> Result<(), AllocErro
     push_last(text, usize::from(rgb.b))
 }
 
-#[tactic(auto, using(crate::proofs::ReportLemmas::ranges))]
 // A line for each given, in row order.
 fn push_givens(text: &mut Vec<u8>, document: &Document) -> Result<(), AllocError>
     ensures { OnOk result (text.new.items ≡ text.old.items ++ givens_text (design_of document.now)) }
@@ -118,7 +116,6 @@ fn push_givens(text: &mut Vec<u8>, document: &Document) -> Result<(), AllocError
     Ok(())
 }
 
-#[tactic(auto, using(crate::proofs::ReportLemmas::ranges))]
 fn push_row_givens(text: &mut Vec<u8>, document: &Document, row: u8) -> Result<(), AllocError>
     requires { row < length document.now.picture }
     ensures { OnOk result (text.new.items ≡ text.old.items ++ row_givens (design_of document.now) row (width_of document.now.picture)) }

@@ -39,7 +39,6 @@ pub(crate) fn has_colour(mask: u16, colour: u8) -> bool
     (mask >> colour) & 1 == 1
 }
 
-#[tactic(auto, using(crate::proofs::ShownLemmas::rows))]
 // The rows of a picture.
 pub(crate) fn push_picture(text: &mut Vec<u8>, picture: &Picture) -> Result<(), AllocError>
     ensures items { OnOk result (text.new.items ≡ text.old.items ++ picture_text picture.now) }
@@ -51,7 +50,6 @@ pub(crate) fn push_picture(text: &mut Vec<u8>, picture: &Picture) -> Result<(), 
     Ok(())
 }
 
-#[tactic(auto, using(crate::proofs::ShownLemmas::rows))]
 // A row of a picture.
 fn push_row(text: &mut Vec<u8>, picture: &Picture, row: u8) -> Result<(), AllocError>
     requires { row < length picture.now }
@@ -65,7 +63,6 @@ fn push_row(text: &mut Vec<u8>, picture: &Picture, row: u8) -> Result<(), AllocE
     Ok(())
 }
 
-#[tactic(auto, using(crate::proofs::ShownLemmas::rows))]
 // The rows of a map.
 pub(crate) fn push_map(text: &mut Vec<u8>, facts: &Facts) -> Result<(), AllocError>
     ensures { OnOk result (text.new.items ≡ text.old.items ++ map_text facts.now) }
@@ -76,7 +73,6 @@ pub(crate) fn push_map(text: &mut Vec<u8>, facts: &Facts) -> Result<(), AllocErr
     Ok(())
 }
 
-#[tactic(auto, using(crate::proofs::ShownLemmas::rows))]
 // A row of a map.
 fn push_masks(text: &mut Vec<u8>, facts: &Facts, row: u8) -> Result<(), AllocError>
     requires { row < length facts.now }

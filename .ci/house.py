@@ -1,0 +1,161 @@
+#!/usr/bin/env python3
+"""Counts what makes the house hard to live in, and prints a line for each: names repeated, long heads, dead definitions.
+
+Usage: .ci/house.py [-v]: with -v each place is printed too. Crates of tests and the table program count for nothing here.
+"""
+
+import pathlib
+import re
+import subprocess
+import sys
+
+ROOT = pathlib.Path(__file__).resolve().parent.parent
+OTHERS = {'tables', 'refused'}
+WIDE = 100
+MOST_PARAMETERS = 6
+
+
+def sources(part, ending):
+    """The files of the product crates below a part of each, with their texts."""
+    for crate in sorted((ROOT / 'crates').iterdir()):
+        if crate.is_dir() and crate.name not in OTHERS:
+            for file in sorted((crate / part).rglob('*' + ending)):
+                if 'out' not in file.relative_to(crate).parts:
+                    yield file, file.read_text(encoding='utf-8')
+
+
+def place(file, line):
+    """A line of a file as a reader looks it up."""
+    return f'{file.relative_to(ROOT)}:{line}'
+
+
+def wide_clauses():
+    """Clauses of more than a hundred columns."""
+    for file, text in sources('src', '.rt'):
+        for number, line in enumerate(text.split('\n'), 1):
+            if re.match(r'\s*(requires|ensures)\b', line) and len(line) > WIDE:
+                yield place(file, number)
+
+
+def heads(text):
+    """The name, the parameters and the first line of each function of a source text."""
+    for found in re.finditer(r'\bfn (\w+)', text):
+        depth, begin, at = 0, None, found.end()
+        while at < len(text):
+            if text[at] == '(':
+                depth += 1
+                begin = at + 1 if begin is None else begin
+            elif text[at] == ')':
+                depth -= 1
+                if depth == 0 and begin is not None:
+                    yield found[1], text[begin:at], text.count('\n', 0, found.start()) + 1
+                    break
+            elif text[at] in '{;' and depth == 0:
+                break
+            at += 1
+
+
+def parameters(inside):
+    """The parameters between the brackets of a function's head."""
+    depth, found = 0, ['']
+    for letter in inside:
+        depth += letter in '(<[{'
+        depth -= letter in ')>]}'
+        if letter == ',' and depth == 0:
+            found.append('')
+        else:
+            found[-1] += letter
+    return [it.strip() for it in found if it.strip()]
+
+
+def long_heads():
+    """Functions of more than six parameters."""
+    for file, text in sources('src', '.rt'):
+        for name, inside, number in heads(text):
+            if len(parameters(inside)) > MOST_PARAMETERS:
+                yield f'{place(file, number)} {name}'
+
+
+def carried_counters():
+    """Functions that carry a counter by `&mut`: a meter, or a number of evaluations, splits or parts."""
+    for file, text in sources('src', '.rt'):
+        for name, inside, number in heads(text):
+            if any(re.fullmatch(r'\w+: &mut (Meter|u32|u64)', it) for it in parameters(inside)):
+                yield f'{place(file, number)} {name}'
+
+
+def headless_files():
+    """Source files without a first line of their own."""
+    for file, text in sources('src', '.rt'):
+        if not text.startswith('//!'):
+            yield place(file, 1)
+
+
+def code_lines(crate=None):
+    """Lines of source without clauses, comments, ghost imports, attributes and blank lines."""
+    for file, text in sources('src', '.rt'):
+        if crate is None or file.relative_to(ROOT).parts[1] == crate:
+            for number, line in enumerate(text.split('\n'), 1):
+                if line.strip() and not re.match(r'\s*(//|requires\b|ensures\b|ghost\b|#!?\[)', line):
+                    yield place(file, number)
+
+
+def proof_lines():
+    """Lines of specs, lemmas and answers that are not blank."""
+    for part in ('specs', 'proofs'):
+        for file, text in sources(part, '.antt'):
+            for number, line in enumerate(text.split('\n'), 1):
+                if line.strip():
+                    yield place(file, number)
+
+
+def unnamed_definitions():
+    """Definitions and lemmas whose name stands nowhere else, where nothing but the prover's own search can find them."""
+    texts = [text for part in ('specs', 'proofs') for _, text in sources(part, '.antt')] + [text for _, text in sources('src', '.rt')]
+    words = {}
+    for text in texts:
+        for word in re.findall(r"[^\s(){},.;:λ]+", text):
+            words[word] = words.get(word, 0) + 1
+    for part in ('specs', 'proofs'):
+        for file, text in sources(part, '.antt'):
+            for found in re.finditer(r'(?m)^(?:(?:abbrev|unfoldable|opaque|pub)\s+)*([A-Za-z_][\w-]*)\s*:\s', text):
+                name = found[1]
+                heads_of = len(re.findall(rf'(?m)^{re.escape(name)}\b', text))
+                if words.get(name, 0) <= max(heads_of, 1) + (1 if re.search(rf'(?m)^(?:\w+\s+)+{re.escape(name)}\s*:', text) else 0) and 'Answers' not in file.name and 'Invariants' not in file.name:
+                    yield f'{place(file, text.count(chr(10), 0, found.start()) + 1)} {name}'
+
+
+def shared_places():
+    """Pairs of places that share six lines or more, where the command `duplicates` is there to find them."""
+    try:
+        said = subprocess.run(['duplicates', '--most', '200', '--seconds', '120'], cwd=ROOT / 'crates', capture_output=True, text=True, timeout=180).stdout
+    except (OSError, subprocess.TimeoutExpired):
+        return
+    for line in said.split('\n'):
+        if re.match(r'D\d+ ', line) and re.search(r'\.rt:', line):
+            yield line
+
+
+COUNTS = (
+    ('clauses above 100 columns', wide_clauses),
+    ('functions above 6 parameters', long_heads),
+    ('functions that carry a counter by &mut', carried_counters),
+    ('pairs of places that share six lines, in .rt', shared_places),
+    ('source files without a first line', headless_files),
+    ('definitions and lemmas that nothing names', unnamed_definitions),
+    ('code lines', code_lines),
+    ('code lines of session', lambda: code_lines('session')),
+    ('lines of specs, lemmas and answers', proof_lines),
+)
+
+
+def main():
+    for what, count in COUNTS:
+        found = list(count())
+        print(f'{len(found):7} {what}')
+        if '-v' in sys.argv[1:] and len(found) < 400:
+            print(''.join(f'          {it}\n' for it in found), end='')
+
+
+if __name__ == '__main__':
+    main()

@@ -1,0 +1,87 @@
+//! Tables of calls and answers.
+//!
+//! Each line of standard input names a call, with its arguments as words behind it, cut at spaces. A blank line, a comment
+//! (`#`) and what is expected (`=`) are passed over. The first word says which module answers, and that prints the answer. A
+//! line that no module can read, or that breaks what a call asks for, is told by `cannot read:` and the line.
+
+mod agendas;
+mod benches;
+mod books;
+mod certs;
+mod clueing;
+mod entries;
+mod lines;
+mod listing;
+mod measures;
+mod plain;
+mod puzzles;
+mod reasons;
+mod said;
+mod searches;
+mod texts;
+
+use anyhow::{Result, bail};
+use benches::Benches;
+
+/// Answers the lines of standard input one after the other.
+pub fn tell_table(rt: &(impl AllocGlobal + Input + Print)) -> Result<()> {
+    let mut benches = Benches::none();
+    for line in rt.lines(rt.alloc()) {
+        tell_line(rt, &mut benches, line?.as_str())?;
+    }
+    Ok(())
+}
+
+// Answers a line, unless it is blank, a comment or an expectation.
+fn tell_line(rt: &(impl AllocGlobal + Print), benches: &mut Benches, line: &str) -> Result<()> {
+    let words: Vec<&str> = line
+        .split(' ')
+        .filter(|word| !word.is_empty())
+        .collect(rt.alloc())?;
+    let Some(first) = words.first() else {
+        return Ok(());
+    };
+    if first.starts_with('#') || first.starts_with('=') {
+        return Ok(());
+    }
+    if answer(rt, benches, first, &words).is_err() {
+        println!(rt; "cannot read: {line}")?;
+    }
+    Ok(())
+}
+
+// Calls the module of the first word.
+fn answer(
+    rt: &(impl AllocGlobal + Print),
+    benches: &mut Benches,
+    first: &str,
+    words: &[&str],
+) -> Result<()> {
+    match first {
+        "ppm" | "ppm-on" | "ppm-text" | "ordered" | "non" | "non-text" => texts::tell(rt, words),
+        "cert" | "check" | "make" => certs::tell(rt, words),
+        "clues" | "refresh" => clueing::tell(rt, words),
+        "draw" | "stands-for" | "drew" => reasons::tell(rt, words),
+        "steps" | "random-steps" => reasons::tell_of_many(rt, words),
+        "narrow" | "engine" | "leave-out" | "force" => lines::tell(rt, words),
+        "engines" | "random" | "leaving-out" | "random-leaving-out" => {
+            lines::tell_of_many(rt, words)
+        }
+        "open"
+        | "say"
+        | "times"
+        | "left"
+        | "shown"
+        | "work"
+        | "verdict"
+        | "certificate"
+        | "shown-steps" => { benches.tell(rt, words) }
+        "agenda" => agendas::tell(rt, words),
+        "edit" => entries::tell(rt, words),
+        "go-on" => books::tell(rt, words),
+        "listing" | "paints" => listing::tell(rt, words),
+        "measure" => measures::tell(rt, words),
+        "settle" | "first" | "other" | "parts" | "judge" | "cost" => searches::tell(rt, words),
+        _ => bail!("no such call"),
+    }
+}

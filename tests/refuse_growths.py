@@ -1,0 +1,384 @@
+"""The driver of refuse_growths.sh: runs of the program in which each growth of memory is refused in turn.
+
+Usage: refuse_growths.py PROGRAM LIBRARY FOLDER [WORD ..]
+"""
+import subprocess
+import sys
+import time
+from pathlib import Path
+
+EXAMPLES = Path(__file__).resolve().parent.parent / 'examples'
+MARK = b'refused\n'  # what the library says on standard error
+MEMORY = b'nonobench: memory\n'
+PAGE = EXAMPLES.parent / 'crates' / 'page' / 'out' / 'page'
+WANTED = b'refused: Memory\n'
+LONG = b'x' * 201  # a line whose answer ends each answer of a dialogue
+END = b'refused: LongLine\n'
+HOST = b'127.0.0.1:7'
+LOOKS = (b'clues', b'map', b'write ppm')  # what is asked behind a refusal: these change nothing
+MOST = 100_000
+
+# Each kind of edit on the picture of examples/diagonal.ppm, and what is asked after it.
+DAY = b'''colour add 0 0 255
+paint 1 2 c
+pin 1 1
+recolour c a
+unpin 1 1
+fill 1 1 2 2 b
+undo
+insert column 1
+swap column 1 2
+delete row 2
+undo
+undo
+redo
+allow 1
+verdict
+certify
+why 1 1 b
+write ppm
+write non
+colour set c 0 0 254
+report
+'''.splitlines()
+
+
+def posted(lines, host=HOST):
+    """A request with lines for the bench of the page's program."""
+    return (b'POST /say HTTP/1.1\r\nHost: %s\r\nContent-Type: text/plain\r\nX-Nonobench: say\r\nContent-Length: %d\r\n\r\n%s'
+            % (host, len(lines), lines))
+
+
+REPORT = posted(b'report\n')
+
+# Requests on the picture of PEERS_PICTURE, and the bodies that tell of a refused growth in the middle: with 0 where the bench is
+# then as before the request, and with 1 where it is as behind it.
+PEERS = (
+    (posted(b'pin 1 1\nverdict\n'), {b'refused: Memory\nambiguous\n.a\na.\n': 0, b'ok\nrefused: Memory\n': 1}),
+    (posted(b'undo\n', b'elsewhere'), {}),
+    (posted(b'undo'), {b'refused: Memory\n': 0}),
+    (b'GET / HTTP/1.1\r\nHost: %s\r\n\r\n' % HOST, {}),
+)
+
+# Two rows, black and white, white and black: another picture has these clues.
+PEERS_PICTURE = b'P3 2 2 255 0 0 0 255 255 255 255 255 255 0 0 0\n'
+
+
+class Wrong(Exception):
+    """A run that is not as it must be."""
+
+
+class Program:
+    """The program with a library that refuses a growth."""
+
+    def __init__(self, program, library):
+        self.program = program
+        self.library = library
+
+    def open(self, number, words):
+        """Begins a run in which one growth is refused, or none where the number is 0."""
+        return subprocess.Popen([self.program, *words], stdin=subprocess.PIPE, stdout=subprocess.PIPE,
+                                stderr=subprocess.PIPE, env={'LD_PRELOAD': self.library, 'REFUSED': str(number)})
+
+    def run(self, number, words, text=b''):
+        """The status, what was written and what was said but for the library's mark; and whether a growth was refused."""
+        with self.open(number, words) as process:
+            wrote, said = process.communicate(text)
+        said, was_refused = without_mark(said)
+        return (process.returncode, wrote, said), was_refused
+
+
+def without_mark(said):
+    """What the program said itself, and whether a growth was refused."""
+    return said.replace(MARK, b'', 1), MARK in said
+
+
+class Run:
+    """A run that answers once, and ends."""
+
+    lacks = None  # what should have been seen of it, and was not
+
+    def __init__(self, program, words, text=b''):
+        self.program = program
+        self.words = words
+        self.text = text
+        self.ample, _ = program.run(0, words, text)
+
+    def refuse(self, number):
+        """Refuses one growth: the run must end by memory and write nothing, or be as with ample memory. Whether a growth was
+        refused, and whether that was answered."""
+        ended, was_refused = self.program.run(number, self.words, self.text)
+        if ended == (1, b'', MEMORY) and was_refused:
+            return True, True
+        if ended != self.ample:
+            raise Wrong(f'it ends with status {ended[0]}, writes {ended[1][:80]!r} and says {ended[2][:80]!r}')
+        return was_refused, False
+
+
+class Dialogue:
+    """A session that is answered line by line."""
+
+    def __init__(self, process):
+        self.process = process
+        self.refusals = 0
+
+    def ask(self, line):
+        """What is answered to a line; None where the program has ended."""
+        try:
+            self.process.stdin.write(line + b'\n' + LONG + b'\n')
+            self.process.stdin.flush()
+        except BrokenPipeError:
+            return None
+        answer = b''
+        for said in iter(self.process.stdout.readline, b''):
+            if said == END:
+                self.refusals += answer == WANTED
+                return answer
+            answer += said
+        if answer:
+            raise Wrong(f'it ends in the middle of an answer: {answer[:80]!r}')
+        return None
+
+    def look(self):
+        """What is shown of the bench without a search. A look that is refused is repeated."""
+        answers = [self.ask(line) for line in LOOKS]
+        return [self.ask(line) if answer == WANTED else answer for line, answer in zip(LOOKS, answers)]
+
+    def end(self):
+        """The status and what was said, and whether a growth was refused."""
+        return ended(self.process)
+
+
+class Session:
+    """A session in which a growth is refused."""
+
+    lacks = None
+
+    def __init__(self, program, words, lines):
+        self.program = program
+        self.words = words
+        self.lines = lines
+        with program.open(0, words) as process:
+            dialogue = Dialogue(process)
+            self.shown = [dialogue.look()]
+            self.answers = []
+            for line in lines:
+                self.answers.append(dialogue.ask(line))
+                self.shown.append(dialogue.look())
+            if dialogue.end() != ((0, b'', b''), False) or dialogue.refusals or None in self.answers:
+                raise Wrong('with ample memory it does not end as it must')
+
+    def refuse(self, number):
+        """Refuses one growth: its line is answered by memory alone, all that is shown is as before, and the line is answered
+        when it is said again, as are all behind it. Before the first line the program must end by memory. Whether a growth
+        was refused, and whether that was answered."""
+        with self.program.open(number, self.words) as process:
+            dialogue = Dialogue(process)
+            is_open = all(self.says(dialogue, at) for at in range(len(self.lines)))
+            if is_open:
+                self.shows(dialogue, len(self.lines))
+            ended, was_refused = dialogue.end()
+        if ended != ((0, b'', b'') if is_open else (1, b'', MEMORY)) or dialogue.refusals > was_refused:
+            raise Wrong(f'it ends with status {ended[0]} after {dialogue.refusals} refusals and says {ended[2][:80]!r}')
+        return was_refused, dialogue.refusals > 0 or not is_open
+
+    def says(self, dialogue, at):
+        """Says a line, and again where it is refused; whether the program still answers, which it may not before the first."""
+        line = self.lines[at]
+        got = dialogue.ask(line)
+        if got == WANTED:
+            self.shows(dialogue, at)
+            got = dialogue.ask(line)
+        if got != self.answers[at] and (got is not None or at > 0):
+            raise Wrong(f'{line!r} is answered by {got!r}')
+        return got is not None
+
+    def shows(self, dialogue, at):
+        """Stops where another thing is shown than in front of a line with ample memory."""
+        if dialogue.look() != self.shown[at]:
+            raise Wrong(f'in front of line {at + 1} another thing is shown')
+
+
+class Peers:
+    """The page's program, which answers some peers one after another."""
+
+    def __init__(self, program, words):
+        self.program = program
+        self.words = words
+        self.lacks = 'no refused growth is answered by 503'
+        with program.open(0, words) as process:
+            self.places = [exchange(process, REPORT)]
+            self.answers = []
+            for request, _ in PEERS:
+                self.answers.append(exchange(process, request))
+                self.places.append(exchange(process, REPORT))
+            if ended(process) != ((0, b'', b''), False) or None in self.answers + self.places:
+                raise Wrong('with ample memory it does not end as it must')
+
+    def refuse(self, number):
+        """Refuses one growth: its request is answered by 503, by the line of its command or not to the end, the bench is as
+        before the request or as behind it, and the request is answered when it is put again, as are all behind it. Before the
+        first one the program must end by memory. Whether a growth was refused, and whether that was seen."""
+        with self.program.open(number, self.words) as process:
+            told = []
+            while None not in told and len(told) < len(PEERS):
+                told.append(self.puts(process, len(told)))
+            is_open = None not in told
+            if is_open and self.stand(process) != self.places[-1]:
+                raise Wrong('the bench ends otherwise')
+            (status, rest, said), was_refused = ended(process)
+        if (status, rest, said) != ((0, b'', b'') if is_open else (1, b'', b'nonobench_page: memory\n')):
+            raise Wrong(f'it ends with status {status} and says {said[:80]!r}')
+        was_seen = any(told) or not is_open
+        if was_seen and not was_refused:
+            raise Wrong('a request is refused though no growth was')
+        return was_refused, was_seen
+
+    def stand(self, process):
+        """A report, a second one where a growth for it was refused."""
+        got = exchange(process, REPORT)
+        return got if got in self.places else exchange(process, REPORT)
+
+    def puts(self, process, at):
+        """Puts a request, and again where the bench is then as before it. Whether a refusal was seen; None where the program
+        has ended before the first request."""
+        request, told = PEERS[at]
+        got = exchange(process, request)
+        if got == self.answers[at]:
+            return False
+        if got is None and at == 0:
+            return None
+        report = self.stand(process)
+        if got is None or report not in self.allowed(at, got, told):
+            raise Wrong(f'request {at + 1} is answered by {got!r} and leads to {report!r}')
+        if report == self.places[at] and exchange(process, request) != self.answers[at]:
+            raise Wrong(f'request {at + 1} is not answered when it is put again')
+        return True
+
+    def allowed(self, at, got, told):
+        """The reports that may follow this answer, which is not the right one."""
+        between = self.places[at:at + 2]
+        head, _, body = got.partition(b'\r\n\r\n')
+        if self.answers[at].startswith(got):
+            return between
+        if head.startswith(b'HTTP/1.1 503 Service Unavailable\r\n') and not body:
+            self.lacks = None
+            return between
+        return [between[told[body]]] if head.startswith(b'HTTP/1.1 200 OK\r\n') and body in told else []
+
+
+def exchange(process, request):
+    """What goes back to a peer; None where the program has ended."""
+    try:
+        process.stdin.write(len(request).to_bytes(4, 'big') + request)
+        process.stdin.flush()
+    except BrokenPipeError:
+        return None
+    length = process.stdout.read(4)
+    return process.stdout.read(int.from_bytes(length, 'big')) if len(length) == 4 else None
+
+
+def ended(process):
+    """The status, what was written behind all that was read and what was said; and whether a growth was refused."""
+    try:
+        process.stdin.close()
+    except BrokenPipeError:
+        pass
+    rest = process.stdout.read()
+    said, was_refused = without_mark(process.stderr.read())
+    return (process.wait(), rest, said), was_refused
+
+
+def in_turn(name, run):
+    """Refuses the first growth, the second and so on, until none is refused; how many were, and how many of these were not
+    answered since all went on as with ample memory."""
+    refused = idle = 0
+    for number in range(1, MOST):
+        try:
+            was_refused, was_answered = run.refuse(number)
+        except Wrong as wrong:
+            raise Wrong(f'{name}, growth {number}: {wrong}') from None
+        if not was_refused:
+            if run.lacks:
+                raise Wrong(f'{name}: {run.lacks}')
+            return refused, idle
+        refused += 1
+        idle += not was_answered
+    raise Wrong(f'{name}: more than {MOST} growths')
+
+
+def background_of(path):
+    """The words that name the background of an example's picture."""
+    background = path.with_suffix('.background')
+    return ['--background', background.read_text().strip()] if background.exists() else []
+
+
+def opened(name):
+    """The words that open the file of an example's session."""
+    words = ['work', str(EXAMPLES / f'{name}.ppm')]
+    if not (EXAMPLES / f'{name}.ppm').exists():
+        words = ['work', str(EXAMPLES / f'{name}.non'), '--format', 'non']
+    return words + background_of(EXAMPLES / name)
+
+
+def sessions(folder):
+    """Sessions: names, words and lines. The last one is on a puzzle without a goal."""
+    for path in sorted(EXAMPLES.glob('*.session')):
+        yield f'session {path.stem}', opened(path.stem), path.read_bytes().splitlines()
+    yield 'session of a day', ['work', str(EXAMPLES / 'diagonal.ppm'), '--history', '20'], DAY
+    puzzle = folder / 'puzzle'
+    text = (EXAMPLES / 'key.non').read_bytes().splitlines(keepends=True)
+    puzzle.write_bytes(b''.join(line for line in text if not line.startswith(b'goal')))
+    yield 'session without a goal', ['work', str(puzzle), '--format', 'non'], [b'write non', b'verdict']
+
+
+def checks(program, folder):
+    """Checks of certificates that a session gives: names and words."""
+    yield 'check given', ['check', str(EXAMPLES / 'given.ppm'), str(EXAMPLES / 'given.cert')]
+    for path in sorted(EXAMPLES.glob('*.ppm')):
+        words = background_of(path)
+        (_, cert, _), _ = program.run(0, ['work', str(path), *words], b'certify\n')
+        if cert.startswith(b'nonocert'):
+            kept = folder / path.stem
+            kept.write_bytes(cert)
+            yield f'check {path.stem}', ['check', str(path), str(kept), *words]
+
+
+def runs(program, folder):
+    """All runs: names, and what refuses a growth of each."""
+    for path in sorted(EXAMPLES.glob('*.ppm')):
+        yield f'clues {path.stem}', Run(program, [], path.read_bytes())
+    for words in ('--help', 'work --help', '--version', 'check', 'work F --history 0', 'work F --background 1', 'jump'):
+        yield f'words {words}', Run(program, words.split())
+    for name, words in checks(program, folder):
+        yield name, Run(program, words)
+    for name, words, lines in sessions(folder):
+        yield name, Session(program, words, lines)
+    if PAGE.exists():
+        picture = folder / 'peers.ppm'
+        picture.write_bytes(PEERS_PICTURE)
+        words = [str(picture), '--address', HOST.decode(), '--page', str(EXAMPLES.parent / 'page')]
+        yield 'page', Peers(Program(str(PAGE), program.library), words)
+
+
+def main(program, library, folder, *wanted):
+    """Refuses each growth of all runs, or of those whose names hold a word that was asked for."""
+    began = time.monotonic()
+    all_refused = all_idle = 0
+    try:
+        for name, run in runs(Program(program, library), Path(folder)):
+            if wanted and not any(word in name for word in wanted):
+                continue
+            refused, idle = in_turn(name, run)
+            print(f'{name}: {refused} growths refused' + f', {idle} of them without a trace' * (idle > 0), flush=True)
+            all_refused += refused
+            all_idle += idle
+    except Wrong as wrong:
+        print(wrong, file=sys.stderr)
+        return 1
+    print(f'{all_refused} growths refused, {all_idle} of them without a trace, in {time.monotonic() - began:.0f} seconds')
+    return 0
+
+
+if __name__ == '__main__':
+    sys.exit(main(*sys.argv[1:]))
