@@ -84,6 +84,14 @@ def carried_counters():
                 yield f'{place(file, number)} {name}'
 
 
+def other_pictures():
+    """Files that define what another picture is: one that differs from a known picture, or that none does."""
+    for file, text in sources('specs', '.antt'):
+        found = re.search(r'(?m)differs : other ≡|→ other ≡ \w+$', text)
+        if found:
+            yield place(file, text.count('\n', 0, found.start()) + 1)
+
+
 def headless_files():
     """Source files without a first line of their own."""
     for file, text in sources('src', '.rt'):
@@ -137,6 +145,7 @@ def shared_places():
 
 
 COUNTS = (
+    ('definitions of another picture', other_pictures),
     ('clauses above 100 columns', wide_clauses),
     ('functions above 6 parameters', long_heads),
     ('functions that carry a counter by &mut', carried_counters),

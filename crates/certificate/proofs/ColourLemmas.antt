@@ -8,7 +8,7 @@ use Rattle.std.proofs.lemmas.Nat.Bits.{bit_at-lt, bit_at-zero, bit_at-trailing_z
 use Rattle.picture.specs.BitLaws.{bit_is_set, set_bit, power_has}
 use Rattle.line_settle.specs.MaskLaws.{shifted, without_bit, lowest_below}
 use Rattle.line_settle.specs.Masks.{IsOnly}
-use Rattle.certificate.specs.Puzzle.{colours_of}
+use Rattle.line_settle.specs.Branches.{colours_of}
 
 -- the colours of a mask among n numbers from k on
 abbrev among : ℕ → ℕ → ℕ → List ℕ

@@ -1,18 +1,21 @@
 -- What is made: a certificate, or there is another picture.
-use Rattle.std.proofs.Common.{◌≡◌, ℕ, ◌+◌, ◌<◌, ◌↔◌, List, [], ◌∷◌, None, Some, Ok, length, sym, ap, subst, ◌∙◌, arith, ◌-◌, inl, inr}
+use Rattle.std.proofs.Common.{◌≡◌, ℕ, ◌+◌, ◌<◌, ◌↔◌, List, [], ◌∷◌, None, Some, Ok, length, sym, ap, subst, ◌∙◌, arith, ◌-◌}
 use Rattle.picture.specs.CellSet.{HasCell}
 use Rattle.picture.specs.Document.{AreInside}
 use Rattle.picture.specs.Picture.{IsPicture}
 use Rattle.picture.specs.Rows.{width_of, cell_at}
+use Rattle.clues.specs.ClueBook.{clues_of}
 use Rattle.clues.specs.Laws.{BooksAreTheirClues, CluesAreOfLines}
+use Rattle.clues.specs.Solution.{IsOther}
+use Rattle.clues.specs.SolutionLaws.{solves_fewer}
 use Rattle.line_settle.specs.FactSets.{IsFacts, Leaves, SameShape, nothing_excluded}
 use Rattle.picture.specs.BitLaws.{bit_below}
 use Rattle.certificate.specs.declared.line.CellNumber.{CellNumber}
 use Rattle.certificate.specs.declared.line.CertLine.{CertLine}
 use Rattle.certificate.specs.Cert.{Certificate}
 use Rattle.certificate.specs.FirstFault.{CertFirstFault, FirstFaultBehind}
-use Rattle.certificate.specs.Making.{EachExcludes, HasNoFault, IsAmong, IsMade, IsOtherPicture, Makes, NamesGivens, WritesTree, numbered}
-use Rattle.certificate.specs.Puzzle.{KeepsGivens, IsUnique, HasCellNumbers, base_of, blank_for, with_givens}
+use Rattle.certificate.specs.Making.{EachExcludes, HasNoFault, IsMade, Makes, NamesGivens, WritesTree}
+use Rattle.certificate.specs.Puzzle.{IsNamed, IsUnique, base_of, blank_for, with_givens}
 use Rattle.certificate.specs.Walk.{GivesBase}
 use Rattle.certificate.proofs.BaseLemmas.{given_left}
 use Rattle.certificate.proofs.Exactness.{none_is_proof}
@@ -28,41 +31,29 @@ none_made clues books picture start givens cells is inside names shape are e w =
     let s = other_is_shown clues books picture facts is same few w.1.1 in (
       s.other,
       record {
-        is_picture = s.is_picture;
-        same_shape = s.same_shape;
-        same_clues = s.same_clues;
-        keeps_givens = λ row col has.
-            let i = inside row col has in
-            let r = s.same_shape.rows in
-            let c = s.same_shape.each row in
-            let q = is.rectangular row i.0 in
-            let l : Leaves start row col (cell_at s.other row col) = within.leaves row col (cell_at s.other row col) (s.leaves row col (let h = i.0 in omega arith) (let h = i.1 in omega arith)) in
-            let P : List (List ℕ) → Type 0 = λ f. Leaves f row col (cell_at s.other row col) in
-            given_left picture (blank_for picture) cells row col (cell_at s.other row col) ((names.named row col).0 has) (subst P e l);
+        solves = record {
+          is_picture = s.is_picture;
+          rows = sym s.same_shape.rows;
+          columns = λ row. sym (s.same_shape.each row);
+          has_clues = s.same_clues;
+          keeps_givens = λ row col has.
+              let i = inside row col has in
+              let r = s.same_shape.rows in
+              let c = s.same_shape.each row in
+              let q = is.rectangular row i.0 in
+              let l : Leaves start row col (cell_at s.other row col) = within.leaves row col (cell_at s.other row col) (s.leaves row col (let h = i.0 in omega arith) (let h = i.1 in omega arith)) in
+              let P : List (List ℕ) → Type 0 = λ f. Leaves f row col (cell_at s.other row col) in
+              given_left picture (blank_for picture) cells row col (cell_at s.other row col) ((names.named row col).0 has) (subst P e l);
+        };
         differs = s.differs;
       },
     )
 
 -- ---- no other picture
 
-kept : (picture other : List (List ℕ)) (givens : List ℕ) (cells : List CellNumber) → HasCellNumbers picture cells → ((r c : ℕ) → IsAmong (numbered r c) cells → HasCell givens r c) → ((row col : ℕ) → HasCell givens row col → cell_at other row col ≡ cell_at picture row col) → KeepsGivens picture cells other
-kept picture other givens [] has named keeps = tt
-kept picture other givens (cell ∷ cells) has named keeps =
-    let a : cell.row - 1 + 1 ≡ cell.row = (let p = has.0.0 in omega arith) in
-    let b : cell.col - 1 + 1 ≡ cell.col = (let p = has.0.2 in omega arith) in
-    let e : numbered (cell.row - 1) (cell.col - 1) ≡ cell =
-    ap (λ (x : ℕ). let it : CellNumber = record { row = x; col = cell.col - 1 + 1 } in it) a ∙ ap (λ (y : ℕ). let it : CellNumber = record { row = cell.row; col = y } in it) b in
-    (keeps (cell.row - 1) (cell.col - 1) (named (cell.row - 1) (cell.col - 1) (inl e)), kept picture other givens cells has.1 (λ r c m. named r c (inr m)) keeps)
-
-unique_has_no_other : (picture : List (List ℕ)) (givens : List ℕ) (cells : List CellNumber) → NamesGivens picture givens cells → IsUnique picture cells → (other : List (List ℕ)) → IsOtherPicture picture givens other → ⊥
+unique_has_no_other : (picture : List (List ℕ)) (givens : List ℕ) (cells : List CellNumber) → NamesGivens picture givens cells → IsUnique picture cells → (other : List (List ℕ)) → IsOther (clues_of picture) (HasCell givens) picture other → ⊥
 unique_has_no_other picture givens cells names unique other o =
-    o.differs (unique other (record {
-      is_picture = o.is_picture;
-      rows = sym o.same_shape.rows;
-      columns = sym (o.same_shape.each 0);
-      same_clues = o.same_clues;
-      keeps_givens = kept picture other givens cells names.inside (λ r c m. (names.named r c).1 m) o.keeps_givens;
-    }))
+    o.differs (unique other (solves_fewer (clues_of picture) (HasCell givens) (IsNamed cells) picture other (λ row col named. (names.named row col).1 named) o.solves))
 
 pub some_made : (picture start : List (List ℕ)) (givens : List ℕ) (cells : List CellNumber) (lines : List CertLine) (cert : Certificate) → IsPicture picture → NamesGivens picture givens cells → GivesBase picture (blank_for picture) cells (Ok tt) start → start ≡ with_givens picture cells (blank_for picture) → HasNoFault picture (start ∷ []) lines → EachExcludes picture (start ∷ []) lines → cert.givens ≡ cells → cert.lines ≡ lines → (cert.version ≡ 1) ↔ (cells ≡ []) → IsMade picture givens cert
 some_made picture start givens cells lines cert is names base root none each g l v =

@@ -11,6 +11,7 @@ use Rattle.line_settle.specs.FactSets.{IsWithin, Leaves}
 use Rattle.line_settle.specs.Laws.{ForcingClosesALine}
 use Rattle.line_settle.specs.GridLaws.{at_with_cell, off_with_cell, shape_with_cell}
 use Rattle.picture.specs.BitLaws.{bit_is_set, no_bit, power_has}
+use Rattle.line_settle.specs.Branches.{colours_of, held}
 use Rattle.certificate.specs.declared.fault.CertFault.{CertFault}
 use Rattle.certificate.specs.declared.fault.CertFault.TheVariants.{Memory}
 use Rattle.certificate.specs.declared.line.CertLine.{CertLine}
@@ -19,7 +20,6 @@ use Rattle.certificate.specs.declared.notes.Note.{Note}
 use Rattle.certificate.specs.Cert.{AreWritable}
 use Rattle.certificate.specs.FirstFault.{HasFault, Leads}
 use Rattle.certificate.specs.Making.{CanWrite, EachExcludes, HasNoFault, ShowsOther, WritesTree}
-use Rattle.certificate.specs.Puzzle.{colours_of, held}
 use Rattle.certificate.specs.Walk.{Takes, pending, waiting}
 
 -- ---- what waits excludes no less than the facts at the root

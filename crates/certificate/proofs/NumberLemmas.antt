@@ -7,8 +7,8 @@ use Rattle.picture.specs.Document.{AreInside}
 use Rattle.picture.specs.Rows.{width_of}
 use Rattle.certificate.specs.declared.line.CellNumber.{CellNumber}
 use Rattle.certificate.specs.Cert.{AreOrdered, IsShort, rank}
-use Rattle.certificate.specs.Making.{IsAmong, NamesGivens, NamesUpTo, numbered}
-use Rattle.certificate.specs.Puzzle.{HasCellNumber, HasCellNumbers}
+use Rattle.certificate.specs.Making.{NamesGivens, NamesUpTo}
+use Rattle.certificate.specs.Puzzle.{HasCellNumber, HasCellNumbers, IsAmong, numbered}
 
 less_ordered : (a b : ℕ) (cells : List CellNumber) → a ≤ b → AreOrdered b cells → AreOrdered a cells
 less_ordered a b [] l o = tt

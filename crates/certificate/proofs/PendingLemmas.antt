@@ -5,8 +5,8 @@ use Rattle.picture.specs.Rows.{width_of, row_at, cell_at, with_cell}
 use Rattle.line_settle.specs.FactSets.{SameShape}
 use Rattle.line_settle.specs.Masks.{IsOnly}
 use Rattle.line_settle.specs.MaskLaws.{only_is_power}
+use Rattle.line_settle.specs.Branches.{branches, colours_of, held}
 use Rattle.certificate.specs.declared.notes.Note.{Note}
-use Rattle.certificate.specs.Puzzle.{branches, colours_of, held}
 use Rattle.certificate.specs.Walk.{AreInside, pending, waiting}
 use Rattle.certificate.proofs.ColourLemmas.{no_colours, one_colour}
 

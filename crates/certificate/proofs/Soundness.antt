@@ -20,10 +20,11 @@ use Rattle.line_settle.specs.GridLaws.{same_has_line, same_line_length, shape_tr
 use Rattle.line_settle.specs.ForceLaws.{on_or_not}
 use Rattle.line_settle.specs.FitLaws.{fits_narrowed}
 use Rattle.picture.specs.BitLaws.{power_has, set_bit}
+use Rattle.line_settle.specs.Branches.{colours_of, held}
 use Rattle.certificate.specs.declared.line.LineNumber.{LineNumber}
 use Rattle.certificate.specs.declared.line.CellNumber.{CellNumber}
 use Rattle.certificate.specs.Cert.{Certificate}
-use Rattle.certificate.specs.Puzzle.{HasCellNumber, HasCellNumbers, HasLineNumber, IsDead, IsForced, IsUnique, KeepsGivens, base_of, blank_for, colours_of, held, line_id, with_givens}
+use Rattle.certificate.specs.Puzzle.{HasCellNumber, HasCellNumbers, HasLineNumber, IsDead, IsForced, IsNamed, IsUnique, base_of, blank_for, line_id, numbered, with_givens}
 use Rattle.certificate.specs.Tree.{Tree, Trees, done, dead, forced, split, none, more, Proves, EachProves, IsProof}
 
 -- A picture lies in facts: they have its shape, and in each of its cells they leave its colour.
@@ -198,20 +199,19 @@ lies_blank picture other is t = record {
       all_left (length picture) (width_of picture) row col (cell_at other row col) (omega arith) (omega arith) (t.is_picture.colours row col);
 }
 
-lies_given : (picture other facts : List (List ℕ)) (cells : List CellNumber) → Twin picture other → HasCellNumbers picture cells → KeepsGivens picture cells other → LiesIn facts other → LiesIn (with_givens picture cells facts) other
+-- the number of a cell's place is the cell's
+number_is : (picture : List (List ℕ)) (cell : CellNumber) → HasCellNumber picture cell → numbered (cell.row - 1) (cell.col - 1) ≡ cell
+number_is picture cell has =
+    let a : cell.row - 1 + 1 ≡ cell.row = (let p = has.0 in omega arith) in
+    let b : cell.col - 1 + 1 ≡ cell.col = (let p = has.2 in omega arith) in
+    ap (λ (x : ℕ). let it : CellNumber = record { row = x; col = cell.col - 1 + 1 } in it) a ∙ ap (λ (y : ℕ). let it : CellNumber = record { row = cell.row; col = y } in it) b
+
+lies_given : (picture other facts : List (List ℕ)) (cells : List CellNumber) → Twin picture other → HasCellNumbers picture cells → ((row col : ℕ) → IsNamed cells row col → cell_at other row col ≡ cell_at picture row col) → LiesIn facts other → LiesIn (with_givens picture cells facts) other
 lies_given picture other facts [] t has keeps lies = lies
 lies_given picture other facts (cell ∷ cells) t has keeps lies =
-    lies_given picture other (with_given picture facts (cell.row - 1) (cell.col - 1)) cells t has.1 keeps.1
-    (lies_held facts other (cell.row - 1) (cell.col - 1) (cell_at picture (cell.row - 1) (cell.col - 1)) (sym keeps.0) (cell_inside picture other cell t has.0) lies)
-
-twin_shape : (picture other : List (List ℕ)) → IsPicture picture → IsPicture other → length other ≡ length picture → width_of other ≡ width_of picture → SameShape picture other
-twin_shape picture other is other_is rows columns = record {
-  rows = sym rows;
-  each = λ i. elim (cases_lt i (length picture)) [
-    | inl l ↦ is.rectangular i l ∙ (sym columns ∙ sym (other_is.rectangular i (omega arith)))
-    | inr p ↦ ap (λ (r : List ℕ). length r) (get_or_past picture i [] p ∙ sym (get_or_past other i [] (omega arith)))
-  ];
-}
+    let same = keeps (cell.row - 1) (cell.col - 1) (inl (number_is picture cell has.0)) in
+    lies_given picture other (with_given picture facts (cell.row - 1) (cell.col - 1)) cells t has.1 (λ row col named. keeps row col (inr named))
+    (lies_held facts other (cell.row - 1) (cell.col - 1) (cell_at picture (cell.row - 1) (cell.col - 1)) (sym same) (cell_inside picture other cell t has.0) lies)
 
 same_picture : (picture other : List (List ℕ)) → SameShape picture other → SameCells picture other → other ≡ picture
 same_picture picture other s cells =
@@ -220,7 +220,7 @@ same_picture picture other s cells =
 
 -- where there is a proof, there is no other picture
 pub proof_is_unique : (picture : List (List ℕ)) (cert : Certificate) → IsPicture picture → IsProof picture cert → IsUnique picture cert.givens
-proof_is_unique picture cert is p other twin =
-    let shape = twin_shape picture other is twin.is_picture twin.rows twin.columns in
-    let t : Twin picture other = record { is_picture = twin.is_picture; same_shape = shape; same_clues = twin.same_clues } in
-    same_picture picture other shape (sound picture other t p.tree (base_of picture cert.givens) p.proves (lies_given picture other (blank_for picture) cert.givens t p.inside twin.keeps_givens (lies_blank picture other is t)))
+proof_is_unique picture cert is p other s =
+    let shape : SameShape picture other = record { rows = sym s.rows; each = λ i. sym (s.columns i) } in
+    let t : Twin picture other = record { is_picture = s.is_picture; same_shape = shape; same_clues = s.has_clues } in
+    same_picture picture other shape (sound picture other t p.tree (base_of picture cert.givens) p.proves (lies_given picture other (blank_for picture) cert.givens t p.inside s.keeps_givens (lies_blank picture other is t)))

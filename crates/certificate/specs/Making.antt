@@ -5,18 +5,18 @@ use Rattle.picture.specs.declared.line_id.Axis.{Axis}
 use Rattle.picture.specs.declared.line_id.LineId.{LineId}
 use Rattle.picture.specs.CellSet.{HasCell}
 use Rattle.picture.specs.Picture.{IsPicture}
-use Rattle.picture.specs.Rows.{width_of, cell_at, line_of, lines_along, HasLine}
+use Rattle.picture.specs.Rows.{width_of, line_of, lines_along, HasLine}
 use Rattle.clues.specs.ClueBook.{clue_at, clues_of}
+use Rattle.clues.specs.Solution.{IsOther}
 use Rattle.line_settle.specs.Fitting.{CanFit}
-use Rattle.line_settle.specs.FactSets.{IsBase, IsWithin, Leaves, SameShape}
+use Rattle.line_settle.specs.FactSets.{IsBase, IsWithin, Leaves}
 use Rattle.certificate.specs.declared.line.CellNumber.{CellNumber}
 use Rattle.certificate.specs.declared.line.LineNumber.{LineNumber}
 use Rattle.certificate.specs.declared.line.CertLine.{CertLine}
 use Rattle.certificate.specs.declared.line.CertLine.TheVariants.{Line, Split, Dead, Done}
 use Rattle.certificate.specs.Cert.{AreOrdered, AreWritable, Certificate, IsWritable}
 use Rattle.certificate.specs.FirstFault.{CertFirstFault, FirstFault, Leads}
-use Rattle.certificate.specs.Puzzle.{HasCellNumber, HasCellNumbers, HasLineNumber, IsDead, IsForced, IsUnique, ShowsOnly, base_of, line_id}
-use Rattle.certificate.specs.Text.{cell_number}
+use Rattle.certificate.specs.Puzzle.{HasCellNumber, HasCellNumbers, HasLineNumber, IsAmong, IsDead, IsForced, IsUnique, ShowsOnly, base_of, line_id, numbered}
 use Rattle.certificate.specs.Tree.{IsProof}
 
 -- ---- the next line
@@ -90,14 +90,6 @@ WritesTree picture start (Some lines) = AreWritable lines × HasNoFault picture 
 
 -- ---- the certificate
 
-abbrev pub IsAmong : CellNumber → List CellNumber → Type 0
-IsAmong cell [] = ⊥
-IsAmong cell (first ∷ cells) = (cell ≡ first) ⊎ IsAmong cell cells
-
--- the number of a cell at a row and a column
-abbrev pub numbered : ℕ → ℕ → CellNumber
-numbered row col = cell_number (row + 1) (col + 1)
-
 -- exactly the cells of a set, by their numbers, in the order of rows
 pub record NamesGivens (picture : List (List ℕ)) (givens : List ℕ) (cells : List CellNumber) : Type 0 where
   pub ordered : AreOrdered 0 cells
@@ -114,26 +106,18 @@ pub record NamesUpTo (givens : List ℕ) (row col : ℕ) (cells : List CellNumbe
   pub named : (r c : ℕ) → IsAmong (numbered r c) cells ↔ (HasCell givens r c × ((r < row) ⊎ ((r ≡ row) × (c < col))))
   pub real : (cell : CellNumber) → IsAmong cell cells → (r : ℕ) × ((c : ℕ) × (cell ≡ numbered r c))
 
--- another picture: of the same size and with the same clues, and with the picture's colours in the givens
-pub record IsOtherPicture (picture : List (List ℕ)) (givens : List ℕ) (other : List (List ℕ)) : Type 0 where
-  pub is_picture : IsPicture other
-  pub same_shape : SameShape picture other
-  pub same_clues : clues_of other ≡ clues_of picture
-  pub keeps_givens : (row col : ℕ) → HasCell givens row col → cell_at other row col ≡ cell_at picture row col
-  pub differs : other ≡ picture → ⊥
-
 -- A certificate with exactly these givens that has no fault: so it proves the picture, and there is no other with its givens or,
 -- which is the same, those of the set. It has version 1 exactly where there are none, and each `line` excludes something.
 pub record IsMade (picture : List (List ℕ)) (givens : List ℕ) (cert : Certificate) : Type 0 where
   pub accepted : CertFirstFault picture cert None
   pub proof : IsProof picture cert
   pub unique : IsUnique picture cert.givens
-  pub no_other : (other : List (List ℕ)) → IsOtherPicture picture givens other → ⊥
+  pub no_other : (other : List (List ℕ)) → IsOther (clues_of picture) (HasCell givens) picture other → ⊥
   pub names : NamesGivens picture givens cert.givens
   pub version : (cert.version ≡ 1) ↔ (cert.givens ≡ [])
   pub excludes : EachExcludes picture (base_of picture cert.givens ∷ []) cert.lines
 
 -- a certificate, or there is another picture
 abbrev pub Makes : List (List ℕ) → List ℕ → Option Certificate → Type 0
-Makes picture givens None = (other : List (List ℕ)) × IsOtherPicture picture givens other
+Makes picture givens None = (other : List (List ℕ)) × IsOther (clues_of picture) (HasCell givens) picture other
 Makes picture givens (Some cert) = IsMade picture givens cert

@@ -4,13 +4,13 @@ use Rattle.picture.specs.Picture.{IsPicture}
 use Rattle.picture.specs.Rows.{width_of, with_cell}
 use Rattle.clues.specs.ClueBook.{Clues, clues_of}
 use Rattle.line_settle.specs.FactSets.{SameShape}
+use Rattle.line_settle.specs.Branches.{branches}
 use Rattle.certificate.specs.declared.fault.CertFault.{CertFault}
 use Rattle.certificate.specs.declared.fault.CertFault.TheVariants.{Memory}
 use Rattle.certificate.specs.declared.line.CellNumber.{CellNumber}
 use Rattle.certificate.specs.declared.line.CertLine.{CertLine}
 use Rattle.certificate.specs.FirstFault.{FirstFault, FirstFaultBehind, HasFault, Leads}
 use Rattle.certificate.specs.declared.notes.Note.{Note}
-use Rattle.certificate.specs.Puzzle.{branches}
 
 -- The facts of the branches that wait, read off the notes from the newest: those of a cell's colours that have not begun,
 -- and then what waits with the cell as it was before.

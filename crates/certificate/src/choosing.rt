@@ -3,8 +3,8 @@
 ghost use Rattle.std.specs.Prelude.{◌≡◌, ◌<◌, ◌≤◌, ◌↔◌, ℕ, false, length, IfSome, IsTrue, MatchOption};
 ghost use Rattle.picture.specs.Rows.{HasLine, line_of, width_of};
 ghost use Rattle.line_settle.specs.FactSets.{Leaves, SameShape};
-ghost use Rattle.certificate.specs.Making.{AreAlive, AreSingle, CanWrite, IsAlive, IsSingleRow, Numbers, ShowsOther, numbered};
-ghost use Rattle.certificate.specs.Puzzle.{HasCellNumber};
+ghost use Rattle.certificate.specs.Making.{AreAlive, AreSingle, CanWrite, IsAlive, IsSingleRow, Numbers, ShowsOther};
+ghost use Rattle.certificate.specs.Puzzle.{HasCellNumber, numbered};
 ghost use Rattle.certificate.specs.Walk.{CanCheck};
 
 use crate::due::put_crossing;

@@ -3,7 +3,7 @@
 ghost use Rattle.std.specs.Prelude.{◌≡◌, ℕ, ◌-◌, ◌^◌, ◌<◌, ◌∷◌, true, ◌++◌, length, reverse, IfOk, IfErr, OnOk};
 ghost use Rattle.picture.specs.Rows.{width_of, cell_at, with_cell};
 ghost use Rattle.line_settle.specs.FactSets.{IsFacts, SameShape};
-ghost use Rattle.certificate.specs.Puzzle.{branches, colours_of};
+ghost use Rattle.line_settle.specs.Branches.{branches, colours_of};
 ghost use Rattle.certificate.specs.Walk.{AreInside, pending, waiting};
 
 use crate::fault::CertFault;

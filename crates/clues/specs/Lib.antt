@@ -3,5 +3,7 @@ pub mod Clue
 pub mod ClueBook
 pub mod Laws
 pub mod Places
+pub mod Solution
+pub mod SolutionLaws
 pub mod RunLaws
 pub mod BookLaws

@@ -1,3 +1,4 @@
+pub mod Branches
 pub mod Counting
 pub mod Crossing
 pub mod Engine
@@ -19,3 +20,4 @@ pub mod GridLaws
 pub mod AlongLaws
 pub mod FitLaws
 pub mod ForceLaws
+pub mod SolutionLaws

@@ -1,38 +1,26 @@
 -- What a certificate that was made is for a document.
-use Rattle.std.proofs.Common.{◌≡◌, ℕ, ◌↔◌, List, Option, None, Some, Result, Ok, Err, IfOk, sym, ap, subst}
+use Rattle.std.proofs.Common.{◌≡◌, ℕ, ◌↔◌, List, Option, None, Some, Result, Ok, Err, IfOk, ap, subst}
 use Rattle.picture.specs.declared.document.Document.{Document}
 use Rattle.picture.specs.CellSet.{HasCell}
 use Rattle.picture.specs.Content.{content_of}
 use Rattle.picture.specs.Document.{AreInside, Content, ordered_of}
-use Rattle.line_settle.specs.FactSets.{SameShape}
+use Rattle.clues.specs.ClueBook.{clues_of}
+use Rattle.clues.specs.Solution.{IsOther}
+use Rattle.clues.specs.SolutionLaws.{other_fewer}
 use Rattle.certificate.specs.Cert.{Certificate}
-use Rattle.certificate.specs.Making.{IsOtherPicture, Makes}
+use Rattle.certificate.specs.Making.{Makes}
 use Rattle.edits.specs.Design.{Design, design_of}
 use Rattle.edits.specs.Laws.{MarksAreGivens}
 use Rattle.live_audit.specs.Bench.{IsGiven}
 use Rattle.live_audit.specs.Certify.{Certifies, CertifiesOrdered, IsCertificateFor, ordered}
 use Rattle.live_audit.specs.Verdict.{IsOtherFor}
 
-turned : (one other : List (List ℕ)) → SameShape one other → SameShape other one
-turned one other s = record { rows = sym s.rows; each = λ i. sym (s.each i) }
+-- the givens of a document, told by its marks or by a set
+other_made : (d : Design) (givens : List ℕ) (other : List (List ℕ)) → ((row col : ℕ) → HasCell givens row col ↔ IsGiven d row col) → IsOther (clues_of d.rows) (HasCell givens) d.rows other → IsOtherFor d other
+other_made d givens other g o = other_fewer (clues_of d.rows) (HasCell givens) (IsGiven d) d.rows other (λ row col h. (g row col).1 h) o
 
-other_made : (d : Design) (givens : List ℕ) (other : List (List ℕ)) → ((row col : ℕ) → HasCell givens row col ↔ IsGiven d row col) → IsOtherPicture d.rows givens other → IsOtherFor d other
-other_made d givens other g o = record {
-  is_picture = o.is_picture;
-  same_shape = turned d.rows other o.same_shape;
-  same_clues = o.same_clues;
-  keeps_givens = λ row col h. o.keeps_givens row col ((g row col).1 h);
-  differs = o.differs;
-}
-
-other_seen : (d : Design) (givens : List ℕ) (other : List (List ℕ)) → ((row col : ℕ) → HasCell givens row col ↔ IsGiven d row col) → IsOtherFor d other → IsOtherPicture d.rows givens other
-other_seen d givens other g o = record {
-  is_picture = o.is_picture;
-  same_shape = turned other d.rows o.same_shape;
-  same_clues = o.same_clues;
-  keeps_givens = λ row col h. o.keeps_givens row col ((g row col).0 h);
-  differs = o.differs;
-}
+other_seen : (d : Design) (givens : List ℕ) (other : List (List ℕ)) → ((row col : ℕ) → HasCell givens row col ↔ IsGiven d row col) → IsOtherFor d other → IsOther (clues_of d.rows) (HasCell givens) d.rows other
+other_seen d givens other g o = other_fewer (clues_of d.rows) (IsGiven d) (HasCell givens) d.rows other (λ row col h. (g row col).0 h) o
 
 -- a certificate of a document, or another picture for it
 abbrev MadeFor : Design → Option Certificate → Type 0

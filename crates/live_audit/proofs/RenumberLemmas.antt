@@ -11,6 +11,7 @@ use Rattle.clues.specs.Clue.{clue_of}
 use Rattle.clues.specs.ClueBook.{clue_at, clues_along, clues_of}
 use Rattle.clues.specs.Laws.{BooksAreTheirClues, CluesAreOfLines}
 use Rattle.line_settle.specs.FactSets.{SameShape}
+use Rattle.line_settle.specs.SolutionLaws.{solved_shape}
 use Rattle.edits.specs.Design.{Design}
 use Rattle.live_audit.specs.Laws.{OthersAreColoured}
 use Rattle.live_audit.specs.Verdict.{IsOtherFor}
@@ -150,17 +151,22 @@ pub other_moved : CluesAreOfLines → BooksAreTheirClues → (there back : ℕ �
 other_moved law books there back t b d e are marks comes small other o =
     let P : ℕ → Type 0 = λ x. ComesBack there back x × (there x < 16) in
     let none : P 0 = (ap back t ∙ b, omega (arith, t)) in
-    let each = each_of_other law P none d.rows other o.same_shape.rows o.same_clues (λ i j. (comes i j, small i j)) in
+    let s = o.solves in
+    let each = each_of_other law P none d.rows other s.rows s.has_clues (λ i j. (comes i j, small i j)) in
     let come : (i j : ℕ) → ComesBack there back (cell_at other i j) = λ i j. (each i j).0 in
+    let shape : SameShape (moved there other) e.rows = subst (SameShape (moved there other)) (sym are) (shape_moved there other d.rows (solved_shape s)) in
     record {
-      is_picture = picture_moved there t other o.is_picture (λ i j. (each i j).1);
-      same_shape = subst (SameShape (moved there other)) (sym are) (shape_moved there other d.rows o.same_shape);
-      same_clues = clues_moved law books there back t b d.rows other o.same_shape o.same_clues comes come ∙ ap clues_of (sym are);
-      keeps_givens = λ row col g.
-          let given : cell_at d.marks row col ≡ 1 = subst (λ (m : List (List ℕ)). cell_at m row col ≡ 1) marks g in
-          cell_moved there t other row col
-          ∙ (ap there (o.keeps_givens row col given)
-          ∙ (sym (cell_moved there t d.rows row col) ∙ ap (λ (rows : List (List ℕ)). cell_at rows row col) (sym are)));
+      solves = record {
+        is_picture = picture_moved there t other s.is_picture (λ i j. (each i j).1);
+        rows = shape.rows;
+        columns = shape.each;
+        has_clues = clues_moved law books there back t b d.rows other (solved_shape s) s.has_clues comes come ∙ ap clues_of (sym are);
+        keeps_givens = λ row col g.
+            let given : cell_at d.marks row col ≡ 1 = subst (λ (m : List (List ℕ)). cell_at m row col ≡ 1) marks g in
+            cell_moved there t other row col
+            ∙ (ap there (s.keeps_givens row col given)
+            ∙ (sym (cell_moved there t d.rows row col) ∙ ap (λ (rows : List (List ℕ)). cell_at rows row col) (sym are)));
+      };
       differs = λ h. o.differs (sym (restored there back other come) ∙ (ap (moved back) (h ∙ are) ∙ restored there back d.rows comes));
     }
 
@@ -169,6 +175,6 @@ other_moved law books there back t b d e are marks comes small other o =
 pub coloured : CluesAreOfLines → OthersAreColoured
 coloured law d other colours o i j =
     let first = colours 0 0 in
-    each_of_other law (λ (x : ℕ). x < length d.colours.triples) (omega arith) d.rows other o.same_shape.rows o.same_clues colours i j
+    each_of_other law (λ (x : ℕ). x < length d.colours.triples) (omega arith) d.rows other o.solves.rows o.solves.has_clues colours i j
 
 pub ruleset others = (coloured)

@@ -1,10 +1,13 @@
 -- What a judgement by parts comes to for a document.
 use Rattle.std.proofs.Common.{◌≡◌, ℕ, ◌≤◌, List, Option, Some, None, unwrap_or, Result, Ok, MatchResult, refl, sym, ap, subst, ◌∙◌, arith}
 use Rattle.picture.specs.declared.document.Document.{Document}
+use Rattle.picture.specs.CellSet.{HasCell}
 use Rattle.picture.specs.Document.{AreInside}
 use Rattle.picture.specs.Laws.{SameCellsAreEqual}
 use Rattle.picture.specs.Picture.{IsPicture}
 use Rattle.clues.specs.ClueBook.{Clues, clues_of}
+use Rattle.clues.specs.Solution.{IsOther}
+use Rattle.clues.specs.SolutionLaws.{other_fewer}
 use Rattle.line_settle.specs.declared.meter.Meter.{Meter}
 use Rattle.line_settle.specs.Counting.{counted}
 use Rattle.line_settle.specs.FactSets.{IsBase}
@@ -17,7 +20,6 @@ use Rattle.second_search.specs.Answering.{IsAnswer}
 use Rattle.second_search.specs.Judging.{AreTrue, Done, Judges, parts_of}
 use Rattle.second_search.specs.Judging as judging
 use Rattle.second_search.specs.Laws.{AllowancesBreakOff, SoundFacts}
-use Rattle.second_search.specs.Other.{IsOther}
 use Rattle.second_search.specs.Parts.{AreParts, IsScene}
 use Rattle.edits.specs.Design.{Design, design_of}
 use Rattle.edits.specs.History.{History}
@@ -25,7 +27,7 @@ use Rattle.edits.specs.Laws.{MarksAreGivens}
 use Rattle.live_audit.specs.declared.verdict.Ruling.{Ruling}
 use Rattle.live_audit.specs.declared.verdict.Verdict.{Verdict}
 use Rattle.live_audit.specs.declared.work.Work.{Work}
-use Rattle.live_audit.specs.Bench.{AreAnswersOf, AreGivenCells, IsAuditOf, IsAudited, Seen, nothing_done, seen}
+use Rattle.live_audit.specs.Bench.{AreAnswersOf, AreGivenCells, IsAuditOf, IsAudited, IsGiven, Seen, nothing_done, seen}
 use Rattle.live_audit.specs.Verdict.{Decides, IsOtherFor, IsRuledBy, IsRulingOn, IsVerdictOn, judged_as}
 
 -- ---- the scene of a document
@@ -62,25 +64,15 @@ answers_of same d clues facts givens kept g parts t = record {
 
 -- ---- other pictures
 
-pub other_for : (d : Design) (clues : Clues) (givens : List ℕ) (other : List (List ℕ)) → AreGivenCells d givens → clues ≡ clues_of d.rows → IsOther clues givens d.rows other → IsOtherFor d other
-other_for d clues givens other g e o = record {
-  is_picture = o.solves.is_picture;
-  same_shape = o.solves.same_shape;
-  same_clues = o.solves.has_clues ∙ e;
-  keeps_givens = λ row col h. o.solves.keeps_givens row col ((g.are row col).1 h);
-  differs = o.differs;
-}
+pub other_for : (d : Design) (clues : Clues) (givens : List ℕ) (other : List (List ℕ)) → AreGivenCells d givens → clues ≡ clues_of d.rows → IsOther clues (HasCell givens) d.rows other → IsOtherFor d other
+other_for d clues givens other g e o =
+    let P : Clues → Type 0 = λ c. IsOther c (IsGiven d) d.rows other in
+    subst P e (other_fewer clues (HasCell givens) (IsGiven d) d.rows other (λ row col h. (g.are row col).1 h) o)
 
-pub other_was : (d : Design) (clues : Clues) (givens : List ℕ) (other : List (List ℕ)) → AreGivenCells d givens → clues ≡ clues_of d.rows → IsOtherFor d other → IsOther clues givens d.rows other
-other_was d clues givens other g e o = record {
-  solves = record {
-    is_picture = o.is_picture;
-    same_shape = o.same_shape;
-    has_clues = o.same_clues ∙ sym e;
-    keeps_givens = λ row col h. o.keeps_givens row col ((g.are row col).0 h);
-  };
-  differs = o.differs;
-}
+pub other_was : (d : Design) (clues : Clues) (givens : List ℕ) (other : List (List ℕ)) → AreGivenCells d givens → clues ≡ clues_of d.rows → IsOtherFor d other → IsOther clues (HasCell givens) d.rows other
+other_was d clues givens other g e o =
+    let P : Clues → Type 0 = λ c. IsOther c (HasCell givens) d.rows other in
+    subst P (sym e) (other_fewer (clues_of d.rows) (IsGiven d) (HasCell givens) d.rows other (λ row col h. (g.are row col).0 h) o)
 
 -- ---- rulings
 

@@ -4,7 +4,7 @@ use Rattle.picture.specs.Document.{ordered_triples, renumbered_rows}
 use Rattle.certificate.specs.declared.line.CellNumber.{CellNumber}
 use Rattle.certificate.specs.Cert.{AreOrdered, Certificate}
 use Rattle.certificate.specs.FirstFault.{CertFirstFault}
-use Rattle.certificate.specs.Making.{IsAmong, numbered}
+use Rattle.certificate.specs.Puzzle.{IsAmong, numbered}
 use Rattle.certificate.specs.Tree.{IsProof}
 use Rattle.edits.specs.Design.{Design, design}
 use Rattle.live_audit.specs.Bench.{IsGiven}

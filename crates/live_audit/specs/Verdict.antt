@@ -1,10 +1,8 @@
 -- The verdict of a bench: whether another picture has the clues and the givens.
 use Rattle.std.specs.Prelude.{◌≡◌, ℕ, ◌≤◌, List, Option, Some, unwrap_or}
-use Rattle.picture.specs.Picture.{IsPicture}
-use Rattle.picture.specs.Rows.{cell_at}
 use Rattle.clues.specs.ClueBook.{clues_of}
+use Rattle.clues.specs.Solution.{IsOther}
 use Rattle.line_settle.specs.Counting.{counted}
-use Rattle.line_settle.specs.FactSets.{SameShape}
 use Rattle.second_search.specs.declared.keeper.Judged.{Judged}
 use Rattle.second_search.specs.declared.keeper.Judged.TheVariants as judged
 use Rattle.second_search.specs.declared.keeper.KeptPart.{KeptPart}
@@ -18,13 +16,9 @@ use Rattle.live_audit.specs.declared.verdict.Verdict.{Verdict}
 use Rattle.live_audit.specs.declared.verdict.Verdict.TheVariants.{Unique, Ambiguous, Undecided}
 use Rattle.live_audit.specs.Bench.{IsGiven, Seen, nothing_done}
 
--- another picture for a document: of the same size and with the same clues, and with the document's colours in its givens
-pub record IsOtherFor (d : Design) (other : List (List ℕ)) : Type 0 where
-  pub is_picture : IsPicture other
-  pub same_shape : SameShape other d.rows
-  pub same_clues : clues_of other ≡ clues_of d.rows
-  pub keeps_givens : (row col : ℕ) → IsGiven d row col → cell_at other row col ≡ cell_at d.rows row col
-  pub differs : other ≡ d.rows → ⊥
+-- another picture for a document: one with its clues, and with its colours in its givens
+abbrev pub IsOtherFor : Design → List (List ℕ) → Type 0
+IsOtherFor d other = IsOther (clues_of d.rows) (IsGiven d) d.rows other
 
 -- The verdict is true of a document: Unique says that there is no other picture, and Ambiguous shows one; Undecided stands only
 -- where an allowance is set, and names it.

@@ -117,8 +117,8 @@ holds_cells clues givens facts picture cells s p Unknown known = tt
 holds_cells clues givens facts picture cells s p Nothing known = tt
 holds_cells clues givens facts picture cells s p (Filling other) known = λ row col h.
     let i = part_in_picture clues givens facts picture cells s p row col h in
-    let rows = known.is_other.solves.same_shape.rows in
-    let wide : width_of other ≡ width_of picture = known.is_other.solves.same_shape.each 0 in
+    let rows = known.is_other.solves.rows in
+    let wide : width_of other ≡ width_of picture = known.is_other.solves.columns 0 in
     ((omega (arith, i.0)), (omega (arith, i.1)))
 
 pub holds_known : (clues : Clues) (givens : List ℕ) (facts picture : List (List ℕ)) (cells known_cells : List ℕ) (known : Answer) → IsScene clues givens facts picture → IsPart facts cells → known_cells ≡ cells → IsTrueOf clues givens picture known_cells known → HoldsCells cells known

@@ -11,11 +11,11 @@ use Rattle.line_settle.specs.FactSets.{IsFacts}
 use Rattle.line_settle.specs.GridLaws.{same_has_line, shape_sym, shape_trans}
 use Rattle.line_settle.specs.declared.line_engine.Outcome.{Outcome}
 use Rattle.line_settle.specs.declared.line_engine.Outcome.TheVariants.{Narrowed}
+use Rattle.line_settle.specs.Branches.{branches}
 use Rattle.propagate.specs.Closing.{Closes, HasDeadLine}
 use Rattle.second_search.specs.declared.cell.Cell.{Cell}
 use Rattle.second_search.specs.declared.coming.Coming.{Coming}
 use Rattle.second_search.specs.declared.coming.Coming.TheVariants.{Dies, Ends, Splits}
-use Rattle.second_search.specs.Branching.{branches}
 use Rattle.second_search.specs.Looking.{IsFirstUnsettled, Shows}
 use Rattle.second_search.specs.Parts.{IsBefore}
 use Rattle.second_search.specs.Searching.{Comes, ComesClosed, CostsAreUnique, Searches, SettlesTo, none_waits, is_dead, is_known, is_other, is_split}

@@ -11,7 +11,7 @@ use Rattle.second_search.specs.declared.coming.Coming.TheVariants.{Dies, Ends, S
 use Rattle.second_search.specs.declared.counting.Ending.TheVariants as ending
 use Rattle.second_search.specs.declared.counting.Step.{Step}
 use Rattle.second_search.specs.declared.counting.Step.TheVariants as step
-use Rattle.second_search.specs.Branching.{AreSameAbove, Search, branches, search_of}
+use Rattle.second_search.specs.Branching.{AreSameAbove, Search, search_of}
 use Rattle.second_search.specs.Looking.{AreRowsSettled}
 use Rattle.second_search.specs.Searching.{Allows, Comes, CountsSome, EndsAs, Searches, SplitsPast, none_waits, is_dead, is_known, is_other, is_split, once_more, past_dead, past_known, past_split, raised}
 use Rattle.second_search.specs.Stepping.{Compares, IsOneLess, Spends, Steps}
@@ -20,6 +20,7 @@ use Rattle.second_search.proofs.LookLemmas.{rows_same}
 use Rattle.second_search.proofs.WeightLemmas.{branches_lighter, load, load_append, load_more, weight, weight_within}
 use Rattle.std.proofs.Math.Pow.{pow_mono, pow_pos}
 use Rattle.picture.specs.Rows.{row_at}
+use Rattle.line_settle.specs.Branches.{branches}
 
 -- the search of what waits ends as that of the first facts, with n splits less
 pub record Going (clues : Clues) (known first : List (List ℕ)) (waiting : List (List (List ℕ))) (n : ℕ) : Type 0 where

@@ -12,12 +12,13 @@ use Rattle.clues.specs.Laws.{BooksAreTheirClues, CluesAreOfLines}
 use Rattle.line_settle.specs.FactSets.{IsFacts, SameShape, col_on, row_on}
 use Rattle.line_settle.specs.AlongLaws.{place_on}
 use Rattle.line_settle.specs.GridLaws.{cell_on, same_has_line, same_line_length, same_list, shape_sym, shape_trans, shape_with_cell}
+use Rattle.line_settle.specs.Branches.{branches, colours_of, held}
 use Rattle.propagate.specs.Closing.{EachFits}
 use Rattle.propagate.specs.Filling.{Fills, only}
 use Rattle.propagate.specs.Laws.{ClosingKeepsFillings, OnlyIsClosed}
 use Rattle.second_search.specs.declared.counting.Ending.{Ending}
 use Rattle.second_search.specs.declared.counting.Ending.TheVariants.{BrokenOff, Found, Nothing}
-use Rattle.second_search.specs.Branching.{FillsSome, branches, colours_of, held}
+use Rattle.second_search.specs.Branching.{FillsSome}
 use Rattle.second_search.specs.Looking.{Shows}
 use Rattle.second_search.specs.Searching.{Searches, alone, none_waits, is_dead, is_known, is_other, is_split}
 use Rattle.second_search.specs.Laws.{FillingsAreOfFacts}

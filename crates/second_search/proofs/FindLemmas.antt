@@ -8,6 +8,7 @@ use Rattle.std.proofs.Math.Pow.{pow_mono, pow_pos}
 use Rattle.std.proofs.lemmas.List.{get_or_past, get_or-replicate, length-replicate}
 use Rattle.picture.specs.declared.line_id.Axis.{Axis}
 use Rattle.picture.specs.declared.line_id.Axis.TheVariants.{Across, Down}
+use Rattle.picture.specs.CellSet.{HasCell}
 use Rattle.picture.specs.Picture.{IsPicture}
 use Rattle.picture.specs.Rows.{width_of, row_at, cell_at, lines_along, with_cell}
 use Rattle.clues.specs.ClueBook.{Clues, clues_along, clues_of}
@@ -18,11 +19,14 @@ use Rattle.propagate.specs.Filling.{Fills}
 use Rattle.second_search.specs.declared.cell.Cell.{Cell}
 use Rattle.second_search.specs.declared.looking.Look.{Look}
 use Rattle.second_search.specs.declared.looking.Look.TheVariants.{Nothing, Found, Split}
-use Rattle.second_search.specs.Branching.{AreSameAbove, FillsSome, Search, branches, colours_of, held, places, search_of}
+use Rattle.second_search.specs.Branching.{AreSameAbove, FillsSome, Search, places, search_of}
 use Rattle.second_search.specs.Looking.{AreRowsSettled, FindsFilling, Looks, Narrows}
-use Rattle.second_search.specs.Other.{AreSound, FindsFirst, FindsOther, HasClues, Solves}
+use Rattle.second_search.specs.Other.{AreSound, FindsFirst, FindsOther, HasClues}
+use Rattle.line_settle.specs.SolutionLaws.{solved_shape}
 use Rattle.line_settle.specs.GridLaws.{shape_refl, shape_sym, shape_trans, at_with_cell, off_with_cell, shape_with_cell}
 use Rattle.picture.specs.BitLaws.{bit_below, bit_is_set, power_has, set_bit}
+use Rattle.clues.specs.Solution.{Solves}
+use Rattle.line_settle.specs.Branches.{branches, colours_of, held}
 use Rattle.second_search.proofs.KeepLemmas.{EachQuiet, above_first, each_branch}
 use Rattle.second_search.proofs.LookLemmas.{rows_same}
 use Rattle.second_search.proofs.WeightLemmas.{branches_lighter, load, load_append, no_load, load_more, weight, weight_within}
@@ -296,12 +300,13 @@ found_one clues first known picture s i h = (i.back picture (inl h.0), h.1)
 both_outside : (a b : List (List ℕ)) (r c : ℕ) → SameShape a b → length (row_at a r) ≤ c → cell_at a r c ≡ cell_at b r c
 both_outside a b r c s p = let each = s.each r in get_or_past (row_at a r) c 0 p ∙ sym (get_or_past (row_at b r) c 0 (omega arith))
 
-fills_solves : (clues : Clues) (givens : List ℕ) (picture facts other : List (List ℕ)) → AreSound clues givens picture facts → Fills clues facts other → Solves clues givens picture other
+fills_solves : (clues : Clues) (givens : List ℕ) (picture facts other : List (List ℕ)) → AreSound clues givens picture facts → Fills clues facts other → Solves clues (HasCell givens) picture other
 fills_solves clues givens picture facts other s f =
     let shape : SameShape other picture = shape_trans f.same_shape (shape_sym s.same_shape) in
     record {
       is_picture = f.is_picture;
-      same_shape = shape;
+      rows = shape.rows;
+      columns = shape.each;
       has_clues = f.has_clues;
       keeps_givens = λ r c g. elim (cases_lt c (length (row_at other r))) [
         | inl l ↦ s.hold_givens r c (cell_at other r c) g (f.leaves r c l)
@@ -309,10 +314,10 @@ fills_solves clues givens picture facts other s f =
       ];
     }
 
-solves_fills : (clues : Clues) (givens : List ℕ) (picture facts other : List (List ℕ)) → AreSound clues givens picture facts → Solves clues givens picture other → Fills clues facts other
+solves_fills : (clues : Clues) (givens : List ℕ) (picture facts other : List (List ℕ)) → AreSound clues givens picture facts → Solves clues (HasCell givens) picture other → Fills clues facts other
 solves_fills clues givens picture facts other s h = record {
   is_picture = h.is_picture;
-  same_shape = shape_trans h.same_shape s.same_shape;
+  same_shape = shape_trans (solved_shape h) s.same_shape;
   has_clues = h.has_clues;
   leaves = s.leave other h;
 }

@@ -1,17 +1,17 @@
 -- What is found in a window is another picture.
 use Rattle.std.proofs.Common.{◌≡◌, ℕ, ◌<◌, List, [], ◌∷◌, length, Option, Some, refl, sym, ap, subst, inl, inr}
-use Rattle.picture.specs.CellSet.{PutsCell}
+use Rattle.picture.specs.CellSet.{HasCell, PutsCell}
 use Rattle.picture.specs.LineSet.{Lines}
 use Rattle.picture.specs.Rows.{width_of}
 use Rattle.clues.specs.ClueBook.{Clues}
 use Rattle.clues.specs.Laws.{BooksAreTheirClues, CluesAreOfLines}
+use Rattle.clues.specs.Solution.{IsOther}
 use Rattle.propagate.specs.Laws.{ClosingKeepsFillings, OnlyIsClosed}
 use Rattle.second_search.specs.declared.counting.Ending.{Ending}
 use Rattle.second_search.specs.declared.counting.Ending.TheVariants.{Found}
 use Rattle.second_search.specs.declared.near.Window.{Window}
 use Rattle.second_search.specs.Laws.{FillingsAreOfFacts}
 use Rattle.second_search.specs.Near.{IsWindow}
-use Rattle.second_search.specs.Other.{IsOther}
 use Rattle.second_search.specs.Parts.{IsScene}
 use Rattle.second_search.specs.Searching.{EndsAs, Searches, raised}
 use Rattle.second_search.specs.Through.{LeavesAlone, PutsBoth, across, down}
@@ -38,7 +38,7 @@ more_open facts old cells lines row col h l is puts both = record {
   ];
 }
 
-pub found_inside : CluesAreOfLines → BooksAreTheirClues → ClosingKeepsFillings → OnlyIsClosed → FillingsAreOfFacts → (clues : Clues) (givens : List ℕ) (facts picture : List (List ℕ)) → IsScene clues givens facts picture → (cells : List ℕ) (first new : List (List ℕ)) → first ≡ facts → LeavesAlone cells picture first new (length first) → (most : Option ℕ) (start count : ℕ) (ending : Ending) (other : List (List ℕ)) → ending ≡ Found other → (n : ℕ) × ((count ≡ raised start n) × EndsAs clues picture new most ending n) → IsOther clues givens picture other
+pub found_inside : CluesAreOfLines → BooksAreTheirClues → ClosingKeepsFillings → OnlyIsClosed → FillingsAreOfFacts → (clues : Clues) (givens : List ℕ) (facts picture : List (List ℕ)) → IsScene clues givens facts picture → (cells : List ℕ) (first new : List (List ℕ)) → first ≡ facts → LeavesAlone cells picture first new (length first) → (most : Option ℕ) (start count : ℕ) (ending : Ending) (other : List (List ℕ)) → ending ≡ Found other → (n : ℕ) × ((count ≡ raised start n) × EndsAs clues picture new most ending n) → IsOther clues (HasCell givens) picture other
 found_inside law books closing own fillings clues givens facts picture scene cells first new e left most start count ending other f h =
     let P : List (List ℕ) → Type 0 = λ x. LeavesAlone cells picture x new (length x) in
     let same = alone_is own cells picture facts new (length facts) scene.is_picture scene.sound.same_shape refl (subst P e left) in

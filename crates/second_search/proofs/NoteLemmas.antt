@@ -11,8 +11,9 @@ use Rattle.second_search.specs.declared.cell.Cell.{Cell}
 use Rattle.second_search.specs.declared.note.CellMask.{CellMask}
 use Rattle.second_search.specs.declared.note.Note.{Note}
 use Rattle.second_search.specs.declared.note.Note.TheVariants.{Restore, Branch}
-use Rattle.second_search.specs.Branching.{AreInside, IsInside, Search, branches, cells_held, colours_of, held, place, places, search_of, waiting}
+use Rattle.second_search.specs.Branching.{AreInside, IsInside, Search, cells_held, place, places, search_of, waiting}
 use Rattle.line_settle.specs.MaskLaws.{lowest_below, shifted}
+use Rattle.line_settle.specs.Branches.{branches, colours_of, held}
 use Rattle.second_search.proofs.GridLemmas.{cell_back, same_cell}
 
 has : ℕ → ℕ → Bool

@@ -14,12 +14,13 @@ use Rattle.picture.specs.Rows.{width_of, row_at, cell_at, line_of, HasLine}
 use Rattle.clues.specs.Clue.{clue_of}
 use Rattle.clues.specs.ClueBook.{Clues}
 use Rattle.clues.specs.Laws.{BooksAreTheirClues, CluesAreOfLines, IsOnLine}
+use Rattle.clues.specs.Solution.{IsOther, Solves}
 use Rattle.line_settle.specs.FactSets.{SameShape}
 use Rattle.line_settle.specs.Masks.{IsOnly}
+use Rattle.line_settle.specs.SolutionLaws.{solved_shape}
 use Rattle.propagate.specs.Filling.{Fills, only}
 use Rattle.propagate.specs.Laws.{OnlyIsClosed}
 use Rattle.second_search.specs.Laws.{FillingsAreOfFacts}
-use Rattle.second_search.specs.Other.{IsOther, Solves}
 use Rattle.second_search.specs.Parts.{AreParts, GoesThrough, IsBefore, IsOpenCell, IsOtherFilling, IsPart, IsScene, goes_on, part_at, picked}
 use Rattle.second_search.proofs.ChainLemmas.{bit_or_not, chain_back, chain_end, chain_on, none_has_two}
 use Rattle.second_search.proofs.GrowLemmas.{on_one_line}
@@ -96,18 +97,19 @@ picked_picture cells one other few q on =
     }
 
 -- a picture with the clues solves what it has itself
-pub solves_itself : (clues : Clues) (givens : List ℕ) (facts picture : List (List ℕ)) → IsScene clues givens facts picture → Solves clues givens picture picture
+pub solves_itself : (clues : Clues) (givens : List ℕ) (facts picture : List (List ℕ)) → IsScene clues givens facts picture → Solves clues (HasCell givens) picture picture
 solves_itself clues givens facts picture s = record {
   is_picture = s.is_picture;
-  same_shape = record { rows = refl; each = λ i. refl };
+  rows = refl;
+  columns = λ row. refl;
   has_clues = s.has_clues;
   keeps_givens = λ row col g. refl;
 }
 
 -- a cell at which another picture differs is open
-pub differs_open : (clues : Clues) (givens : List ℕ) (facts picture other : List (List ℕ)) (row col : ℕ) → IsScene clues givens facts picture → Solves clues givens picture other → (cell_at other row col ≡ cell_at picture row col → ⊥) → IsOpenCell facts row col
+pub differs_open : (clues : Clues) (givens : List ℕ) (facts picture other : List (List ℕ)) (row col : ℕ) → IsScene clues givens facts picture → Solves clues (HasCell givens) picture other → (cell_at other row col ≡ cell_at picture row col → ⊥) → IsOpenCell facts row col
 differs_open clues givens facts picture other row col s o d =
-    let each = o.same_shape.each row in
+    let each = o.columns row in
     elim (cases_lt col (length (row_at other row))) [
       | inl l ↦ record {
         one = cell_at other row col;
@@ -120,7 +122,7 @@ differs_open clues givens facts picture other row col s o d =
     ]
 
 -- off a part, a line through it has no cell at which another picture differs
-pub same_off_part : (clues : Clues) (givens : List ℕ) (facts picture other : List (List ℕ)) (cells : List ℕ) (line : LineId) (row col : ℕ) → IsScene clues givens facts picture → IsPart facts cells → Solves clues givens picture other → GoesThrough line cells → IsOnLine line row col → (HasCell cells row col → ⊥) → cell_at other row col ≡ cell_at picture row col
+pub same_off_part : (clues : Clues) (givens : List ℕ) (facts picture other : List (List ℕ)) (cells : List ℕ) (line : LineId) (row col : ℕ) → IsScene clues givens facts picture → IsPart facts cells → Solves clues (HasCell givens) picture other → GoesThrough line cells → IsOnLine line row col → (HasCell cells row col → ⊥) → cell_at other row col ≡ cell_at picture row col
 same_off_part clues givens facts picture other cells line row col s p o t on n = elim (cases_eq (cell_at other row col) (cell_at picture row col)) [
   | inl e ↦ e
   | inr d ↦ absurd (n (whole_lines facts cells line row col p t on (differs_open clues givens facts picture other row col s o d)))
@@ -153,14 +155,15 @@ settled_there clues givens facts picture row col s l m n =
 
 -- ---- another picture on one part
 
-pub one_filling : CluesAreOfLines → BooksAreTheirClues → CellsAreMembers → (clues : Clues) (givens : List ℕ) (facts picture other : List (List ℕ)) (cells : List ℕ) (row col : ℕ) → IsScene clues givens facts picture → IsPart facts cells → IsOther clues givens picture other
+pub one_filling : CluesAreOfLines → BooksAreTheirClues → CellsAreMembers → (clues : Clues) (givens : List ℕ) (facts picture other : List (List ℕ)) (cells : List ℕ) (row col : ℕ) → IsScene clues givens facts picture → IsPart facts cells → IsOther clues (HasCell givens) picture other
     → HasCell cells row col → (cell_at other row col ≡ cell_at picture row col → ⊥) → IsOtherFilling clues givens picture cells (picked cells other picture)
 one_filling of_lines books members clues givens facts picture other cells row col s p o h d =
     let new = picked cells other picture in
     let rect = s.is_picture.rectangular in
     let shape = shape_of_picked cells other picture rect in
-    let like_other = shape_on new picture other shape (shape_back other picture o.solves.same_shape) in
-    let on : (r c : ℕ) → HasCell cells r c → cell_at new r c ≡ cell_at other r c = λ r c x. on_cells cells other picture r c rect o.solves.same_shape x in
+    let of_other = solved_shape o.solves in
+    let like_other = shape_on new picture other shape (shape_back other picture of_other) in
+    let on : (r c : ℕ) → HasCell cells r c → cell_at new r c ≡ cell_at other r c = λ r c x. on_cells cells other picture r c rect of_other x in
     let off : (r c : ℕ) → (HasCell cells r c → ⊥) → cell_at new r c ≡ cell_at picture r c = λ r c n. off_part cells other picture r c rect n in
     let clue : (line : LineId) → HasLine new line → clue_of (line_of new line) ≡ clue_of (line_of picture line) = λ line has. elim (through_or_not cells line members p.from.set) [
       | inl t ↦
@@ -177,7 +180,8 @@ one_filling of_lines books members clues givens facts picture other cells row co
       is_other = record {
         solves = record {
           is_picture = picked_picture cells other picture o.solves.is_picture.colours s.is_picture on;
-          same_shape = shape;
+          rows = shape.rows;
+          columns = shape.each;
           has_clues = same_clues of_lines books new picture shape clue ∙ s.has_clues;
           keeps_givens = λ r c g. elim (bit_or_not (slice_index cells r) c) [ inl x ↦ on r c x ∙ o.solves.keeps_givens r c g | inr n ↦ off r c n ];
         };
@@ -187,11 +191,11 @@ one_filling of_lines books members clues givens facts picture other cells row co
     }
 
 pub some_filling : CluesAreOfLines → BooksAreTheirClues → CellsAreMembers → (clues : Clues) (givens : List ℕ) (facts picture parts : List (List ℕ)) → IsScene clues givens facts picture → AreParts facts parts
-    → ((other : List (List ℕ)) × IsOther clues givens picture other) ↔ ((i : ℕ) × ((i < length parts) × ((other : List (List ℕ)) × IsOtherFilling clues givens picture (part_at parts i) other)))
+    → ((other : List (List ℕ)) × IsOther clues (HasCell givens) picture other) ↔ ((i : ℕ) × ((i < length parts) × ((other : List (List ℕ)) × IsOtherFilling clues givens picture (part_at parts i) other)))
 some_filling of_lines books members clues givens facts picture parts s a = (
   (λ x.
       let other = x.0 in
-      let cell = differing_cell other picture x.1.solves.same_shape x.1.differs in
+      let cell = differing_cell other picture (solved_shape x.1.solves) x.1.differs in
       let row = cell.0 in
       let col = cell.1.0 in
       let held = a.all row col (differs_open clues givens facts picture other row col s x.1.solves cell.1.1) in
@@ -218,11 +222,11 @@ facts_filled closed clues givens facts picture other cells s =
       (λ f. (
         record {
           is_picture = f.is_other.solves.is_picture;
-          same_shape = shape_on other picture (picked cells facts alone) f.is_other.solves.same_shape (shape_on picture alone (picked cells facts alone) like (shape_back (picked cells facts alone) alone shape));
+          same_shape = shape_on other picture (picked cells facts alone) (solved_shape f.is_other.solves) (shape_on picture alone (picked cells facts alone) like (shape_back (picked cells facts alone) alone shape));
           has_clues = f.is_other.solves.has_clues;
           leaves = λ r c l.
               let P : ℕ → Type 0 = λ m. IsBitSet m (cell_at other r c) in
-              let each = f.is_other.solves.same_shape.each r in
+              let each = f.is_other.solves.columns r in
               elim (bit_or_not (slice_index cells r) c) [
                 | inl x ↦ subst P (sym (on r c x)) (s.sound.leave other f.is_other.solves r c l)
                 | inr n ↦ subst P (sym (off r c n)) ((closed.leaves picture r c (cell_at other r c)).1 (omega arith, f.elsewhere r c n))
@@ -248,7 +252,8 @@ facts_filled closed clues givens facts picture other cells s =
           is_other = record {
             solves = record {
               is_picture = fills.is_picture;
-              same_shape = same;
+              rows = same.rows;
+              columns = same.each;
               has_clues = fills.has_clues;
               keeps_givens = λ r c g. elim (bit_or_not (slice_index cells r) c) [
                 | inr n ↦ elsewhere r c n

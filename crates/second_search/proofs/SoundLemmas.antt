@@ -11,9 +11,11 @@ use Rattle.line_settle.specs.FactSets.{IsBase, IsLeast, Leaves, nothing_excluded
 use Rattle.propagate.specs.Filling.{Fills}
 use Rattle.propagate.specs.Laws.{ClosingKeepsFillings}
 use Rattle.second_search.specs.Laws.{SoundFacts}
-use Rattle.second_search.specs.Other.{AreSound, Solves}
+use Rattle.second_search.specs.Other.{AreSound}
+use Rattle.line_settle.specs.SolutionLaws.{solved_shape}
 use Rattle.line_settle.specs.GridLaws.{full_shape, shape_trans, all_left, at_with_cell, off_with_cell, shape_with_cell}
 use Rattle.picture.specs.BitLaws.{no_bit, power_has}
+use Rattle.clues.specs.SolutionLaws.{solves_fewer}
 
 -- a cell of a row of a picture lies in the picture
 row_inside : (picture : List (List ℕ)) (row col : ℕ) → IsPicture picture → col < length (row_at picture row) → (row < length picture) × (col < width_of picture)
@@ -35,8 +37,8 @@ none_sound clues givens picture is n = record {
   hold_givens = λ row col k g s. absurd (n row col g);
   leave = λ other h row col l.
       let i = row_inside other row col h.is_picture l in
-      let rows = h.same_shape.rows in
-      let wide : width_of other ≡ width_of picture = h.same_shape.each 0 in
+      let rows = h.rows in
+      let wide : width_of other ≡ width_of picture = h.columns 0 in
       all_left (length picture) (width_of picture) row col (cell_at other row col) (omega arith) (omega arith) (h.is_picture.colours row col);
 }
 
@@ -50,18 +52,9 @@ base_sound clues givens picture base is b = record {
       ((b.left row col k i.0 i.1).0 s).1 g;
   leave = λ other h row col l.
       let i = row_inside other row col h.is_picture l in
-      let rows = h.same_shape.rows in
-      let wide : width_of other ≡ width_of picture = h.same_shape.each 0 in
+      let rows = h.rows in
+      let wide : width_of other ≡ width_of picture = h.columns 0 in
       (b.left row col (cell_at other row col) (omega arith) (omega arith)).1 (h.is_picture.colours row col, h.keeps_givens row col);
-}
-
--- a picture that keeps more givens keeps fewer
-solves_fewer : (clues : Clues) (givens more : List ℕ) (picture other : List (List ℕ)) (row col : ℕ) → PutsCell givens more row col → Solves clues more picture other → Solves clues givens picture other
-solves_fewer clues givens more picture other row col p h = record {
-  is_picture = h.is_picture;
-  same_shape = h.same_shape;
-  has_clues = h.has_clues;
-  keeps_givens = λ r c g. h.keeps_givens r c ((p r c).1 (inl g));
 }
 
 same_place : (r c row col : ℕ) → ((r ≡ row) × (c ≡ col)) ⊎ ((r ≡ row) × (c ≡ col) → ⊥)
@@ -104,7 +97,7 @@ more_sound clues givens more picture facts row col is h l p s =
             subst Q (sym e.1) (subst P (sym e.0) here)
         | inr d ↦
             let R : ℕ → Type 0 = λ m. IsBitSet m (cell_at other r c) in
-            subst R (sym (off_with_cell facts row col (2 ^ colour) r c d)) (s.leave other (solves_fewer clues givens more picture other row col p o) r c i)
+            subst R (sym (off_with_cell facts row col (2 ^ colour) r c d)) (s.leave other (solves_fewer clues (HasCell more) (HasCell givens) picture other (λ r c g. (p r c).1 (inl g)) o) r c i)
       ];
     }
 
@@ -113,7 +106,7 @@ settled_sound closing clues givens picture facts settled t s = record {
   same_shape = shape_trans s.same_shape t.holds.same_shape;
   hold_givens = λ row col k g x. s.hold_givens row col k g (t.holds.leaves row col k x);
   leave = λ other h.
-      let fills : Fills clues facts other = record { is_picture = h.is_picture; same_shape = shape_trans h.same_shape s.same_shape; has_clues = h.has_clues; leaves = s.leave other h } in
+      let fills : Fills clues facts other = record { is_picture = h.is_picture; same_shape = shape_trans (solved_shape h) s.same_shape; has_clues = h.has_clues; leaves = s.leave other h } in
       ((closing.least clues facts settled other t).0 fills).leaves;
 }
 

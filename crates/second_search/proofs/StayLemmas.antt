@@ -9,6 +9,7 @@ use Rattle.picture.specs.Rows.{width_of, cell_at, line_of, HasLine}
 use Rattle.clues.specs.Clue.{clue_of}
 use Rattle.clues.specs.ClueBook.{Clues}
 use Rattle.clues.specs.Laws.{BooksAreTheirClues, CluesAreOfLines, IsOnLine}
+use Rattle.line_settle.specs.SolutionLaws.{solved_shape}
 use Rattle.second_search.specs.Laws.{FillingsStay}
 use Rattle.second_search.specs.Parts.{GoesThrough, HasTwoColours, IsChained, IsOpenCell, IsOtherFilling, IsPart, IsScene, KeepsLines, ShareLine, begins, goes_on, picked}
 use Rattle.second_search.proofs.ChainLemmas.{bit_or_not}
@@ -84,7 +85,7 @@ module _ (of_lines : CluesAreOfLines) (books : BooksAreTheirClues) (members : Ce
       let new = picked cells other picture_after in
       let rect = t.is_picture.rectangular in
       let shape = shape_of_picked cells other picture_after rect in
-      let like = f.is_other.solves.same_shape in
+      let like = solved_shape f.is_other.solves in
       let inside : (r c : ℕ) → HasCell cells r c → (r < length picture_after) × (c < width_of picture_after) = λ r c h. ((k (row_through r) (in_row cells r c h)).after, (k (column_through c) (in_column cells r c h)).after) in
       let on : (r c : ℕ) → HasCell cells r c → cell_at new r c ≡ cell_at other r c = λ r c h. on_part cells other picture_after r c (inside r c h).0 (inside r c h).1 h in
       let off : (r c : ℕ) → (HasCell cells r c → ⊥) → cell_at new r c ≡ cell_at picture_after r c = λ r c n. off_part cells other picture_after r c rect n in
@@ -107,7 +108,8 @@ module _ (of_lines : CluesAreOfLines) (books : BooksAreTheirClues) (members : Ce
         is_other = record {
           solves = record {
             is_picture = picked_picture cells other picture_after f.is_other.solves.is_picture.colours t.is_picture on;
-            same_shape = shape;
+            rows = shape.rows;
+            columns = shape.each;
             has_clues = same_clues of_lines books new picture_after shape clue ∙ t.has_clues;
             keeps_givens = λ r c g. elim (bit_or_not (slice_index cells r) c) [
               | inr n ↦ off r c n

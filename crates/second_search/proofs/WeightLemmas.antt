@@ -13,8 +13,8 @@ use Rattle.std.proofs.Math.Pow.{pow_mono, pow_pos}
 use Rattle.picture.specs.Rows.{row_at, cell_at, with_cell}
 use Rattle.line_settle.specs.Masks.{IsOnly}
 use Rattle.line_settle.specs.FactSets.{IsWithin}
-use Rattle.second_search.specs.Branching.{branches, colours_of, held}
 use Rattle.picture.specs.BitLaws.{fewer_le, bit_is_set, power_has}
+use Rattle.line_settle.specs.Branches.{branches, colours_of, held}
 
 -- the sum over a list
 abbrev total : {X : Type 0} → (X → ℕ) → List X → ℕ

@@ -1,12 +1,13 @@
 -- What a judged picture is said to be, in a caller's words.
 use Rattle.std.specs.Prelude.{ℕ, List}
+use Rattle.picture.specs.CellSet.{HasCell}
 use Rattle.clues.specs.ClueBook.{Clues}
+use Rattle.clues.specs.Solution.{IsOther}
 use Rattle.second_search.specs.declared.keeper.Judged.{Judged}
 use Rattle.second_search.specs.declared.keeper.Judged.TheVariants as judged
-use Rattle.second_search.specs.Other.{IsOther}
 
 -- what is answered is true: no other picture has the clues and the givens, or this one does
 abbrev pub IsAnswer : Clues → List ℕ → List (List ℕ) → Judged → Type 0
-IsAnswer clues givens picture judged.Unique = (other : List (List ℕ)) → IsOther clues givens picture other → ⊥
-IsAnswer clues givens picture (judged.Other other) = IsOther clues givens picture other.now
+IsAnswer clues givens picture judged.Unique = (other : List (List ℕ)) → IsOther clues (HasCell givens) picture other → ⊥
+IsAnswer clues givens picture (judged.Other other) = IsOther clues (HasCell givens) picture other.now
 IsAnswer clues givens picture judged.Undecided = Unit {0}

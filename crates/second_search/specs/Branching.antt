@@ -1,27 +1,14 @@
 -- Facts that wait to be searched, and the notes from which they are told.
-use Rattle.std.specs.Prelude.{◌≡◌, ℕ, ◌^◌, ◌<◌, ◌⊎◌, ◌==◌, Option, None, Some, List, [], ◌∷◌, ◌++◌, map}
-use Rattle.std.specs.List.{filter, range_with_len}
-use Rattle.std.specs.Int.{bit_at}
+use Rattle.std.specs.Prelude.{◌≡◌, ℕ, ◌^◌, ◌<◌, ◌⊎◌, Option, None, Some, List, [], ◌∷◌, ◌++◌, map}
 use Rattle.picture.specs.Rows.{cell_at, with_cell}
 use Rattle.clues.specs.ClueBook.{Clues}
 use Rattle.line_settle.specs.FactSets.{SameShape}
+use Rattle.line_settle.specs.Branches.{branches, colours_of}
 use Rattle.propagate.specs.Filling.{Fills}
 use Rattle.second_search.specs.declared.cell.Cell.{Cell}
 use Rattle.second_search.specs.declared.note.CellMask.{CellMask}
 use Rattle.second_search.specs.declared.note.Note.{Note}
 use Rattle.second_search.specs.declared.note.Note.TheVariants.{Restore, Branch}
-
--- the colours of a mask, in rising number
-unfoldable pub colours_of : ℕ → List ℕ
-colours_of mask = filter (λ k. bit_at mask k == 1) (range_with_len 0 16)
-
--- the facts with a cell held to each of some colours in turn
-abbrev pub held : List (List ℕ) → ℕ → ℕ → List ℕ → List (List (List ℕ))
-held facts row col colours = map (λ (k : ℕ). with_cell facts row col (2 ^ k)) colours
-
--- the branches of a cell: it is held to each colour of a mask in turn
-abbrev pub branches : List (List ℕ) → ℕ → ℕ → ℕ → List (List (List ℕ))
-branches facts row col mask = held facts row col (colours_of mask)
 
 abbrev pub place : ℕ → ℕ → Cell
 place row col = record { row = row; col = col }

@@ -1,6 +1,8 @@
 -- A picture judged by its parts, with what is known of each.
 use Rattle.std.specs.Prelude.{◌≡◌, ℕ, zero, suc, ◌+◌, ◌<◌, ◌≤◌, ◌⊎◌, Option, List, [], length, map, slice_index_or}
+use Rattle.picture.specs.CellSet.{HasCell}
 use Rattle.clues.specs.ClueBook.{Clues}
+use Rattle.clues.specs.Solution.{IsOther}
 use Rattle.line_settle.specs.declared.meter.Meter.{Meter}
 use Rattle.line_settle.specs.Counting.{Counts}
 use Rattle.second_search.specs.declared.counting.Ending.{Ending}
@@ -14,7 +16,6 @@ use Rattle.second_search.specs.declared.keeper.Judged.TheVariants as judged
 use Rattle.second_search.specs.declared.keeper.KeptPart.{KeptPart}
 use Rattle.second_search.specs.declared.keeper.Stop.{Stop}
 use Rattle.second_search.specs.declared.keeper.Stop.TheVariants.{Through, Found, BrokenOff}
-use Rattle.second_search.specs.Other.{IsOther}
 use Rattle.second_search.specs.Parts.{AreParts, IsOtherFilling}
 use Rattle.second_search.specs.Searching.{EndsAs, alone, raised}
 
@@ -197,8 +198,8 @@ AreTrue clues givens picture kept = (i : ℕ) → i < length kept → IsTrueOf c
 
 -- what a picture is judged to be is true: no other picture has the clues and the givens, or one does
 abbrev pub IsVerdict : Clues → List ℕ → List (List ℕ) → Verdict → Type 0
-IsVerdict clues givens picture Unique = (other : List (List ℕ)) → IsOther clues givens picture other → ⊥
-IsVerdict clues givens picture Other = (other : List (List ℕ)) × IsOther clues givens picture other
+IsVerdict clues givens picture Unique = (other : List (List ℕ)) → IsOther clues (HasCell givens) picture other → ⊥
+IsVerdict clues givens picture Other = (other : List (List ℕ)) × IsOther clues (HasCell givens) picture other
 IsVerdict clues givens picture Undecided = Unit {0}
 
 -- all parts of facts are kept, and nothing is known of them yet, so that all that is known is true

@@ -6,13 +6,14 @@ use Rattle.picture.specs.Picture.{IsPicture}
 use Rattle.picture.specs.Rows.{width_of, cell_at}
 use Rattle.clues.specs.ClueBook.{Clues}
 use Rattle.clues.specs.Laws.{IsOnLine}
+use Rattle.clues.specs.Solution.{IsOther}
 use Rattle.line_settle.specs.FactSets.{IsBase, IsLeast, nothing_excluded, with_given}
 use Rattle.line_settle.specs.Masks.{IsOnly}
 use Rattle.propagate.specs.Filling.{Fills, only}
 use Rattle.second_search.specs.declared.keeper.KeptPart.{KeptPart}
 use Rattle.second_search.specs.declared.keeper.Verdict.TheVariants.{Undecided}
 use Rattle.second_search.specs.Judging.{Judges}
-use Rattle.second_search.specs.Other.{AreSound, IsOther}
+use Rattle.second_search.specs.Other.{AreSound}
 use Rattle.second_search.specs.Parts.{AreParts, GoesThrough, IsOpenCell, IsOtherFilling, IsPart, IsScene, KeepsLines, part_at, picked}
 
 -- Facts that exclude nothing are sound where there is no given, and so is the base of any givens. They stay sound with a given
@@ -41,10 +42,10 @@ pub record PartsAreApart : Type 0 where
 -- Another picture exists exactly where some part has another filling. With the colours of another picture on one part
 -- where it differs, and the picture's elsewhere, there is another filling of that part: each line is one of the two pictures'.
 pub record PartsDecide : Type 0 where
-  pub one_part : (clues : Clues) (givens : List ℕ) (facts picture other : List (List ℕ)) (cells : List ℕ) (row col : ℕ) → IsScene clues givens facts picture → IsPart facts cells → IsOther clues givens picture other
+  pub one_part : (clues : Clues) (givens : List ℕ) (facts picture other : List (List ℕ)) (cells : List ℕ) (row col : ℕ) → IsScene clues givens facts picture → IsPart facts cells → IsOther clues (HasCell givens) picture other
       → HasCell cells row col → (cell_at other row col ≡ cell_at picture row col → ⊥) → IsOtherFilling clues givens picture cells (picked cells other picture)
   pub some_part : (clues : Clues) (givens : List ℕ) (facts picture : List (List ℕ)) (parts : List (List ℕ)) → IsScene clues givens facts picture → AreParts facts parts
-      → ((other : List (List ℕ)) × IsOther clues givens picture other) ↔ ((i : ℕ) × ((i < length parts) × ((other : List (List ℕ)) × IsOtherFilling clues givens picture (part_at parts i) other)))
+      → ((other : List (List ℕ)) × IsOther clues (HasCell givens) picture other) ↔ ((i : ℕ) × ((i < length parts) × ((other : List (List ℕ)) × IsOtherFilling clues givens picture (part_at parts i) other)))
 
 -- The other fillings of a part are what fills the facts on the part, with the picture's colour alone left elsewhere.
 abbrev pub FillingsAreOfFacts : Type 0

@@ -7,7 +7,8 @@ use Rattle.picture.specs.Picture.{IsPicture}
 use Rattle.picture.specs.Rows.{width_of, cell_at, line_of, HasLine}
 use Rattle.clues.specs.ClueBook.{Clues, clue_at, clues_of}
 use Rattle.clues.specs.Laws.{IsOnLine}
-use Rattle.second_search.specs.Other.{AreSound, IsOther}
+use Rattle.clues.specs.Solution.{IsOther}
+use Rattle.second_search.specs.Other.{AreSound}
 
 -- a mask with more than one colour
 pub record HasTwoColours (mask : ℕ) : Type 0 where
@@ -83,7 +84,7 @@ picked cells one other = map (λ (row : ℕ). picked_row cells one other row) (r
 
 -- another filling of a part: another picture that differs from the picture in cells of that part alone
 pub record IsOtherFilling (clues : Clues) (givens : List ℕ) (picture : List (List ℕ)) (cells : List ℕ) (other : List (List ℕ)) : Type 0 where
-  pub is_other : IsOther clues givens picture other
+  pub is_other : IsOther clues (HasCell givens) picture other
   pub elsewhere : (row col : ℕ) → (HasCell cells row col → ⊥) → cell_at other row col ≡ cell_at picture row col
 
 -- ---- scenes

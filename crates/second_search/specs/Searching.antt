@@ -9,6 +9,7 @@ use Rattle.line_settle.specs.declared.meter.Meter.{Meter}
 use Rattle.line_settle.specs.Counting.{Counts}
 use Rattle.line_settle.specs.Masks.{IsOnly}
 use Rattle.line_settle.specs.FactSets.{IsFacts, IsLeast, SameShape}
+use Rattle.line_settle.specs.Branches.{branches}
 use Rattle.propagate.specs.Closing.{EachFits, HasDeadLine}
 use Rattle.propagate.specs.Filling.{only}
 use Rattle.second_search.specs.declared.cell.Cell.{Cell}
@@ -16,7 +17,6 @@ use Rattle.second_search.specs.declared.coming.Coming.{Coming}
 use Rattle.second_search.specs.declared.coming.Coming.TheVariants.{Dies, Ends, Splits}
 use Rattle.second_search.specs.declared.counting.Ending.{Ending}
 use Rattle.second_search.specs.declared.counting.Ending.TheVariants.{Nothing, Found, BrokenOff}
-use Rattle.second_search.specs.Branching.{branches}
 use Rattle.second_search.specs.Looking.{IsFirstUnsettled, Shows}
 use Rattle.second_search.specs.Parts.{picked}
 

@@ -2,11 +2,12 @@
 use Rattle.std.specs.Prelude.{◌≡◌, ℕ, suc, ◌⊎◌, Bool, true, false, Option, None, Some, List, ◌++◌}
 use Rattle.picture.specs.Rows.{cell_at}
 use Rattle.clues.specs.ClueBook.{Clues}
+use Rattle.line_settle.specs.Branches.{branches}
 use Rattle.second_search.specs.declared.cell.Cell.{Cell}
 use Rattle.second_search.specs.declared.coming.Coming.TheVariants.{Dies, Ends, Splits}
 use Rattle.second_search.specs.declared.counting.Step.{Step}
 use Rattle.second_search.specs.declared.counting.Step.TheVariants.{Passed, Split, Other, Halted}
-use Rattle.second_search.specs.Branching.{Search, branches, places, search_of}
+use Rattle.second_search.specs.Branching.{Search, places, search_of}
 use Rattle.second_search.specs.Searching.{Comes, raised}
 
 -- what is left of an allowance after one split more

@@ -1,9 +1,10 @@
 //! Near pictures: other ones that differ from the known picture inside of one small window.
 
 ghost use Rattle.std.specs.Prelude.{◌≡◌, ◌≤◌, ◌<◌, ℕ, length, IfOk, IfSome};
+ghost use Rattle.picture.specs.CellSet.{HasCell};
 ghost use Rattle.picture.specs.Rows.{width_of};
+ghost use Rattle.clues.specs.Solution.{IsOther};
 ghost use Rattle.second_search.specs.Near.{IsWindow};
-ghost use Rattle.second_search.specs.Other.{IsOther};
 ghost use Rattle.second_search.specs.Parts.{IsScene};
 
 use crate::cell_lines::put_both;
@@ -42,7 +43,7 @@ pub(crate) fn find_near<E: LineEngine>(
     requires scene { IsScene scene.now.clues.now scene.now.givens.now scene.now.facts.now scene.now.picture.now }
     requires tall { length scene.now.clues.now.rows ≤ E.longest engine.old }
     requires wide { length scene.now.clues.now.columns ≤ E.longest engine.old }
-    ensures other { IfOk result (λ found. IfSome found (IsOther scene.now.clues.now scene.now.givens.now scene.now.picture.now)) }
+    ensures other { IfOk result (λ found. IfSome found (IsOther scene.now.clues.now (HasCell scene.now.givens.now) scene.now.picture.now)) }
     ensures same_longest { E.longest engine.new ≡ E.longest engine.old }
 {
     for band in 0..scene.facts.height() / SIDE + 1 {
@@ -65,7 +66,7 @@ fn find_in_band<E: LineEngine>(
     requires tall { length scene.now.clues.now.rows ≤ E.longest engine.old }
     requires wide { length scene.now.clues.now.columns ≤ E.longest engine.old }
     requires top { top ≤ 120 }
-    ensures other { IfOk result (λ found. IfSome found (IsOther scene.now.clues.now scene.now.givens.now scene.now.picture.now)) }
+    ensures other { IfOk result (λ found. IfSome found (IsOther scene.now.clues.now (HasCell scene.now.givens.now) scene.now.picture.now)) }
     ensures same_longest { E.longest engine.new ≡ E.longest engine.old }
 {
     for band in 0..scene.facts.width() / SIDE + 1 {
@@ -89,7 +90,7 @@ fn find_inside<E: LineEngine>(
     requires window { IsWindow scene.now.facts.now window }
     requires tall { length scene.now.clues.now.rows ≤ E.longest engine.old }
     requires wide { length scene.now.clues.now.columns ≤ E.longest engine.old }
-    ensures other { IfOk result (λ found. IfSome found (IsOther scene.now.clues.now scene.now.givens.now scene.now.picture.now)) }
+    ensures other { IfOk result (λ found. IfSome found (IsOther scene.now.clues.now (HasCell scene.now.givens.now) scene.now.picture.now)) }
     ensures same_longest { E.longest engine.new ≡ E.longest engine.old }
 {
     if window.lines.len() < FEWEST {

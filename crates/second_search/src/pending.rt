@@ -3,7 +3,8 @@
 ghost use Rattle.std.specs.Prelude.{◌≡◌, ℕ, ◌<◌, [], ◌∷◌, ◌++◌, length, reverse, IfOk, OnOk, IfSome};
 ghost use Rattle.picture.specs.Rows.{width_of, cell_at, with_cell};
 ghost use Rattle.line_settle.specs.FactSets.{SameShape};
-ghost use Rattle.second_search.specs.Branching.{branches, place, places, search_of, AreInside, AreSameAbove, GoesOn, IsInside, IsRowTaken, PutsBack};
+ghost use Rattle.line_settle.specs.Branches.{branches};
+ghost use Rattle.second_search.specs.Branching.{place, places, search_of, AreInside, AreSameAbove, GoesOn, IsInside, IsRowTaken, PutsBack};
 
 use crate::cell::Cell;
 use crate::note::{CellMask, Note};

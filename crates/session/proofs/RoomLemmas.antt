@@ -23,8 +23,8 @@ pub ruleset numbers = (ten_digits, append_assoc)
 pub verdict_fits : (d : Design) (allowance : Option ℕ) (verdict : Verdict) → IsVerdictOn d allowance verdict → verdict_room verdict ≤ 21 + picture_room d.rows
 verdict_fits d allowance Unique right = omega arith
 verdict_fits d allowance (Ambiguous other) right =
-    let shape = right.same_shape in
-    let same : picture_room other.now ≡ picture_room d.rows = rw (shape.rows, shape.each 0) refl in
+    let s = right.solves in
+    let same : picture_room other.now ≡ picture_room d.rows = rw (s.rows, s.columns 0) refl in
     omega (arith, same)
 verdict_fits d allowance (Undecided splits) right = omega arith
 

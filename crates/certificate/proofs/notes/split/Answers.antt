@@ -1,11 +1,11 @@
 use Rattle.std.proofs.Common.{◌≡◌, ℕ, List, [], ◌++◌, ap, sym, ◌∙◌, reverse}
 use Rattle.picture.specs.Rows.{cell_at}
 use Rattle.picture.specs.BitLaws.{bit_below}
-use Rattle.certificate.specs.Puzzle.{branches}
 use Rattle.certificate.specs.Walk.{pending}
 use Rattle.certificate.proofs.PendingLemmas.{no_branch, one_branch}
 use Rattle.certificate.proofs.notes.split.Goals as goal
 use Rattle.std.proofs.Common.{refl}
+use Rattle.line_settle.specs.Branches.{branches}
 
 pub returns-then-colours-eq0-clause-pending : goal.returns-then-colours-eq0-clause-pending
 returns-then-colours-eq0-clause-pending c =
