@@ -418,7 +418,7 @@ behind_block pattern left q len c background from entered here starts later cell
     let lies = laid_at pattern left s here starts laid reached begins (λ i. has_and here starts i) in
     let y = b.has_cells in
     record {
-      entry = block_entry pattern left s len c laid ends b lies (omega arith) ended;
+      entry = block_entry pattern left s len c laid ends b lies ended;
       seen_is = λ i k h.
           let t : suc (len - 1) ≡ len = omega arith in
           let u : s + suc (len - 1) ≡ s + len = omega arith in

@@ -51,6 +51,9 @@ has_one i = has_power 0 i
 pub has_place : (k i : ℕ) → k < 128 → has (1 * 2 ^ k % 340282366920938463463374607431768211456) i ≡ (i == k)
 has_place k i h = ap (λ m. has m i) (one_shifted k 340282366920938463463374607431768211455 refl h).0 ∙ has_power k i
 
+pub has_place_near : (k i : ℕ) → k < 64 → has (1 * 2 ^ k % 18446744073709551616) i ≡ (i == k)
+has_place_near k i h = ap (λ m. has m i) (one_shifted k 18446744073709551615 refl h).0 ∙ has_power k i
+
 pub has_above : (w a i : ℕ) → a < 2 ^ w → w ≤ i → has a i ≡ false
 unfolding has
 has_above w a i h l = ap (λ x. x == 1) (bit_at_above a w i h l)

@@ -13,6 +13,7 @@ use crate::positions::{add_colour, cells_with, fill_up};
 use crate::word::Word;
 use clues::Block;
 
+#[tactic(auto, using(crate::proofs::SetStepLemmas::making))]
 // Makes the set of cells in which a colour is left, unless it is one of the colours that are `made`.
 fn mark_colour<W: Word>(colour: u8, left: &[u16], made: u16, allowed: &mut [W]) -> u16
     requires colour { colour < 16 }

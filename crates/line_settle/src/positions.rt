@@ -166,7 +166,7 @@ pub fn cells_with<W: Word>(left: &[u16], colour: u8) -> W
     }
     // The last eight cells together: some of them once more, which changes nothing.
     let last = left.len() - 8;
-    cells.or(W::low(eight_with(left, last, colour)).up(last as u32))
+    cells.or(W::low(eight_with(left, last, colour)).up(last))
 }
 
 #[inline]
@@ -244,6 +244,6 @@ pub fn add_colour<W: Word>(set: W, colour: u8, out: &mut [u16])
     if cells % 8 != 0 {
         // The last eight cells: some of them once more, which changes nothing.
         let last = cells - 8;
-        colour_cells(set.down(last as u32).low_eight(), colour, last, 8, out);
+        colour_cells(set.down(last).low_eight(), colour, last, 8, out);
     }
 }

@@ -18,9 +18,9 @@ pub trait Word: Copy + Drop {
 
     ghost are_spans: { ℕ → Self.Spans → Type 0 };
 
-    /// The set of the positions below 64 that are bits of a number.
-    fn low(bits: u64) -> Self
-        ensures { bits result ≡ bits };
+    /// The set of the positions below 64 whose bits a number has.
+    fn low(places: u64) -> Self
+        ensures { bits result ≡ places };
 
     /// The set of one position.
     fn place(at: usize) -> Self
@@ -44,12 +44,12 @@ pub trait Word: Copy + Drop {
         ensures { bits result ≡ (bits self + bits other) % 2 ^ width };
 
     /// The positions so many steps lower.
-    fn down(self, steps: u32) -> Self
+    fn down(self, steps: usize) -> Self
         requires { steps < width }
         ensures { bits result ≡ bits self / 2 ^ steps };
 
     /// The positions so many steps higher.
-    fn up(self, steps: u32) -> Self
+    fn up(self, steps: usize) -> Self
         requires { steps < width }
         ensures { bits result ≡ bits self * 2 ^ steps % 2 ^ width };
 
@@ -87,8 +87,8 @@ impl Word for u64 {
     ghost are_spans = { AreSpans };
 
     #[inline]
-    fn low(bits: u64) -> u64 {
-        bits
+    fn low(places: u64) -> u64 {
+        places
     }
 
     #[inline]
@@ -117,12 +117,12 @@ impl Word for u64 {
     }
 
     #[inline]
-    fn down(self, steps: u32) -> u64 {
+    fn down(self, steps: usize) -> u64 {
         self >> steps
     }
 
     #[inline]
-    fn up(self, steps: u32) -> u64 {
+    fn up(self, steps: usize) -> u64 {
         self << steps
     }
 
@@ -162,8 +162,8 @@ impl Word for u128 {
     ghost are_spans = { AreSpansOf };
 
     #[inline]
-    fn low(bits: u64) -> u128 {
-        u128::from(bits)
+    fn low(places: u64) -> u128 {
+        u128::from(places)
     }
 
     #[inline]
@@ -192,12 +192,12 @@ impl Word for u128 {
     }
 
     #[inline]
-    fn down(self, steps: u32) -> u128 {
+    fn down(self, steps: usize) -> u128 {
         self >> steps
     }
 
     #[inline]
-    fn up(self, steps: u32) -> u128 {
+    fn up(self, steps: usize) -> u128 {
         self << steps
     }
 

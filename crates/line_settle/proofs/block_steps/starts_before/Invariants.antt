@@ -5,5 +5,5 @@ use Rattle.line_settle.proofs.block_steps.starts_before.Given as goal
 
 abbrev pub invariant-loop : goal.invariant-loop
 invariant-loop g l = record {
-  starts_are : (i : ℕ) → has (g.W.Word.bits l.starts) i ≡ lays (g.W.Word.bits l.cells) (g.W.Word.bits l.ends) l.counter i;
+  starts_are : (i : ℕ) → has (g.W.Word.bits l.starts) i ≡ lays (g.W.Word.bits l.cells) (g.W.Word.bits l.fn.ends) l.counter i;
 }

@@ -1,5 +1,6 @@
-use Rattle.std.proofs.Common.{◌≡◌, ℕ, ◌+◌, ◌-◌, ◌<◌, ◌≤◌, ◌∙◌, ◌&&◌, ◌||◌, sym, ap, subst, arith, length, map, get_or, set}
+use Rattle.std.proofs.Common.{◌≡◌, ℕ, ◌+◌, ◌-◌, ◌<◌, ◌≤◌, ◌∙◌, ◌&&◌, ◌||◌, List, sym, ap, subst, arith, length, map, get_or, set}
 use Rattle.std.proofs.lemmas.List.{length-set, map-set, length-map}
+use Rattle.clues.specs.Clue.{block, IsBlock}
 use Rattle.line_settle.specs.Positions.{has}
 use Rattle.line_settle.specs.Spelling.{pattern_of}
 use Rattle.line_settle.specs.Laying.{lays, IsBack, IsStart, state_before}
@@ -48,7 +49,11 @@ loop-j-preserved g c =
     let P : ℕ → ℕ → Type 0 = λ r v. IsStart (pattern_of blocks) left (state_before blocks r) v in
     let K : ℕ → ℕ → Type 0 = λ r v. IsBack (pattern_of blocks) left (state_before blocks r) v in
     let W : ℕ → Type 0 = λ b. Waits b (bits starts) (bits waits) in
-    let here = mark_block blocks left (map bits allowed) c.loop-j.j j (bits c.loop-j.later) (bits starts) (bits waits) (bits later) c.meets.result c.requires.blocks_of_clue (omega arith) (omega arith) c.requires.allowed_is c.meets.ensures kept.later_is ? (subst W background (c.fill_down-waits.ensures back c.spans-spans.ensures)) (λ e. ap bits (c.before_gap-later.ensures.none e)) (λ e i. c.before_gap-later.ensures.one e i ∙ ap (λ b. has b i && has (bits waits) (i + 1)) background) in
+    let len = (block_at blocks j).len in
+    let is_block : IsBlock (block_at blocks j) = c.requires.blocks_of_clue j (block 0 0) (omega arith) in
+    let inside : c.from.result < length allowed = omega (arith, c.requires.sixteen, c.from.ensures, is_block.in_palette) in
+    let cells = word_at bits allowed c.from.result c.index-allowed-from.result inside c.index-allowed-from.is ∙ ap (λ n. get_or (map bits allowed) n 0) c.from.ensures in
+    let here = mark_block blocks left (map bits allowed) c.loop-j.j j (bits c.loop-j.later) (bits starts) (bits waits) (bits later) c.meets.result c.requires.blocks_of_clue (omega arith) (omega arith) c.requires.allowed_is c.meets.ensures kept.later_is (λ i. c.starts_before-starts.ensures i ∙ ap (λ b. lays b (bits c.loop-j.later) len i) cells) (subst W background (c.fill_down-waits.ensures back c.spans-spans.ensures)) (λ e. ap bits (c.before_gap-later.ensures.none e)) (λ e i. c.before_gap-later.ensures.one e i ∙ ap (λ b. has b i && has (bits waits) (i + 1)) background) in
     record {
       later_is = here.here_is;
       starts = word_stored bits P B c.loop-j.starting c.loop-j.j j starts (omega arith) (omega arith) here.starts_are kept.starts;

@@ -37,7 +37,7 @@ loop-j-preserved g c =
     let waits = word_at bits waiting j later (omega arith) c.index-waiting-j.is in
     let starts = word_at bits starting j c.index-starting-j.result (omega arith) c.index-starting-j.is in
     let stay = stay_is from here (bits back) (bits later) (bits c.down.result) (bits c.and-stays.result) (bits c.or.result) (bits c.and.result) (get_or (map bits allowed) 0 0) (get_or (map bits waiting) j 0) c.or.ensures c.down.ensures c.and-stays.ensures c.and.ensures background waits in
-    let begin = c.and-2.ensures ∙ ap (λ s. bit_and here s) starts in
+    let begin = c.and-in-loop-j.ensures ∙ ap (λ s. bit_and here s) starts in
     let len = (block_at blocks j).len in
     record {
       behind = pass_block blocks left (map bits allowed) (map bits starting) (map bits waiting) j from (bits c.behind_gap.result) here (bits c.lay-laid.result.cells) (bits c.lay-laid.result.ends) old (map bits c.see_colour.new.seen) (map bits c.see_colour-in-loop-j.new.seen) c.meets.result c.requires.blocks_of_clue (omega arith) c.requires.allowed_is c.requires.marked c.meets.ensures c.loop-j.invariant.behind
@@ -67,12 +67,12 @@ returns g c =
     let from = bits c.loop-j.from in
     let here = bits c.fill_up-here-2.result in
     let back = c.index-allowed-0.result in
-    let later = c.index-waiting-2.result in
+    let later = c.index-waiting-blocks.result in
     let old = map bits c.loop-j.seen in
     let filled = c.fill_up-here-2.ensures in
     let background = word_at bits allowed 0 back (omega (arith, c.requires.sixteen)) c.index-allowed-0.is in
-    let waits = word_at bits waiting n later (omega arith) c.index-waiting-2.is in
-    let stay = last_is here (bits back) (bits later) (bits c.down-2.result) (bits c.and-stays-2.result) (bits c.and-3.result) (get_or (map bits allowed) 0 0) (get_or (map bits waiting) n 0) c.down-2.ensures c.and-stays-2.ensures c.and-3.ensures background waits in
+    let waits = word_at bits waiting n later (omega arith) c.index-waiting-blocks.is in
+    let stay = last_is here (bits back) (bits later) (bits c.down-2.result) (bits c.and-stays-2.result) (bits c.and-2.result) (get_or (map bits allowed) 0 0) (get_or (map bits waiting) n 0) c.down-2.ensures c.and-stays-2.ensures c.and-2.ensures background waits in
     pass_end blocks left (map bits allowed) (map bits c.args.starting.now) (map bits waiting) c.loop-j.j from here old (map bits c.see_colour-2.new.seen) c.requires.blocks_of_clue (omega arith) c.requires.allowed_is c.requires.marked c.loop-j.invariant.behind
     (record {
       first = filled.first;
