@@ -1,6 +1,7 @@
 //! One line compared with its clue by sets of positions, for the mask engine.
 
 ghost use Rattle.std.specs.Prelude.{◌≡◌, ℕ, ◌+◌, ◌<◌, ◌≤◌, ◌++◌, ◌==◌, ◌↔◌, true, false, IsTrue, length, slice_index, drop, replicate};
+ghost use Rattle.std.specs.Mem.{type_size};
 ghost use Rattle.clues.specs.Clue.{IsClue};
 ghost use Rattle.line_settle.specs.Narrowing.{Narrows};
 ghost use Rattle.line_settle.specs.Spelling.{gap, pattern_of, allows, finishes, reaches, passes_below};
@@ -49,6 +50,7 @@ fn narrow_sets<W: Word>(
     out: &mut [u16],
 ) -> bool
     requires blocks_of_clue { IsClue blocks.now }
+    requires small_word { type_size W.row ≤ 16 }
     requires short { length left.now < W.width }
     requires starting_room { length blocks.now < length starting.old }
     requires waiting_room { length blocks.now < length waiting.old }
@@ -91,6 +93,7 @@ pub fn narrow_by_sets<W: Word>(
     requires blocks_of_clue { IsClue blocks.now }
     requires same_length { length left.now ≡ length out.old }
     requires short { length left.now ≤ MAX_SIDE }
+    requires small_word { type_size W.row ≤ 16 }
     requires fits_word { length left.now < W.width }
     requires starting_room { length left.now < length starting.old }
     requires waiting_room { length left.now < length waiting.old }
