@@ -7,7 +7,7 @@ use Rattle.std.proofs.lemmas.List.{get_or_past, get_or-set_same, get_or-set_othe
 use Rattle.line_settle.specs.Spelling.{allows}
 use Rattle.line_settle.specs.Positions.{has, IsCellsWith, HasMade}
 use Rattle.line_settle.proofs.BitLemmas.{allows_none, allows_or, allows_shifted}
-use Rattle.line_settle.proofs.PositionLemmas.{has_and, has_or, has_none, has_one, has_place, has_down}
+use Rattle.line_settle.proofs.PositionLemmas.{has_or, has_none}
 
 -- ---- the sets of cells by colour
 

@@ -31,9 +31,7 @@ impl Model for MaskEngine {
 
     ghost view = { λ e. engine e.longest e.calls };
 
-    ghost invariant = { 
-        λ e. MaskRoom e.longest e.starting.items e.waiting.items e.far_starting.items e.far_waiting.items
-    };
+    ghost invariant = { λ e. MaskRoom e.longest e.starting.items e.waiting.items e.far_starting.items e.far_waiting.items };
 }
 
 impl MaskEngine {

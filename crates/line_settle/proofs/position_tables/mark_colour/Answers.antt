@@ -1,4 +1,4 @@
-use Rattle.std.proofs.Common.{◌≡◌, ℕ, ◌*◌, ◌%◌, ◌^◌, List, map, bit_or, sym, subst, arith, set}
+use Rattle.std.proofs.Common.{ℕ, ◌*◌, ◌%◌, ◌^◌, List, map, bit_or, sym, subst, arith, set}
 use Rattle.std.proofs.lemmas.List.{length-map, map-set}
 use Rattle.line_settle.specs.Positions.{HasMade}
 use Rattle.line_settle.proofs.SetStepLemmas.{made_more}

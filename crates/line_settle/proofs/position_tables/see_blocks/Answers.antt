@@ -1,4 +1,4 @@
-use Rattle.std.proofs.Common.{◌≡◌, ℕ, ◌+◌, ◌/◌, ◌&&◌, ◌||◌, ◌==◌, ◌∙◌, bit_and, bit_or, sym, ap, subst, arith, length, map, get_or}
+use Rattle.std.proofs.Common.{ℕ, ◌+◌, ◌&&◌, ◌||◌, ◌==◌, ◌∙◌, bit_and, sym, ap, subst, arith, length, map, get_or}
 use Rattle.line_settle.specs.Positions.{has}
 use Rattle.line_settle.specs.Spelling.{pattern_of}
 use Rattle.line_settle.specs.Laying.{moved, covers, state_behind}

@@ -1,4 +1,4 @@
-use Rattle.std.proofs.Common.{◌≡◌, ℕ, ◌<◌, ◌&&◌, ◌||◌, ◌==◌, ◌∙◌, List, map, bit_or, sym, ap, subst, arith, length, get_or, set}
+use Rattle.std.proofs.Common.{ℕ, ◌<◌, ◌∙◌, List, map, bit_or, ap, arith, length, get_or, set}
 use Rattle.std.proofs.lemmas.List.{length-map, map-set}
 use Rattle.line_settle.specs.Positions.{has}
 use Rattle.line_settle.proofs.SetStepLemmas.{seen_at}
