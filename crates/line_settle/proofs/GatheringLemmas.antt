@@ -72,15 +72,15 @@ gathered_all w left cells colour n small short is j = elim (cases_lt j w) [
 ]
 
 -- the cells of the whole eights, and the last eight cells laid over them
-pub overlapped : (left : List ℕ) (cells low colour whole last : ℕ) → last + 8 ≡ length left → last < whole → whole ≤ length left → length left < whole + 8 → length left < 128 → low < 2 ^ 8 → ((j : ℕ) → j < 8 → has low j ≡ allows (get_or left (last + j) 0) colour) → ((j : ℕ) → j < 128 → has cells j ≡ allows (get_or (take whole left) j 0) colour) → (i : ℕ) → i < 128 → has (bit_or cells (low * 2 ^ last % 2 ^ 128)) i ≡ allows (get_or left i 0) colour
-overlapped left cells low colour whole last e l w short room small new before i h =
-    has_or cells (low * 2 ^ last % 2 ^ 128) i ∙ elim (cases_lt i last) [
+pub overlapped : (w : ℕ) (left : List ℕ) (cells low colour whole last : ℕ) → last + 8 ≡ length left → last < whole → whole ≤ length left → length left < whole + 8 → length left < w → low < 2 ^ 8 → ((j : ℕ) → j < 8 → has low j ≡ allows (get_or left (last + j) 0) colour) → ((j : ℕ) → j < w → has cells j ≡ allows (get_or (take whole left) j 0) colour) → (i : ℕ) → i < w → has (bit_or cells (low * 2 ^ last % 2 ^ w)) i ≡ allows (get_or left i 0) colour
+overlapped w left cells low colour whole last e l ends short room small new before i h =
+    has_or cells (low * 2 ^ last % 2 ^ w) i ∙ elim (cases_lt i last) [
       | inl m ↦
-          ap (λ x. has cells i || x) (below_shifted 128 last low i m h)
+          ap (λ x. has cells i || x) (below_shifted w last low i m h)
           ∙ (false_behind (has cells i)
           ∙ (before i h ∙ ap (λ n. allows n colour) (get_or-take whole left i 0 (omega arith))))
       | inr m ↦
-          ap (λ x. has cells i || x) (shifted 128 last low i (pow_pos last) m h)
+          ap (λ x. has cells i || x) (shifted w last low i (pow_pos last) m h)
           ∙ (ap (λ x. x || has low (i - last)) (before i h)
           ∙ elim (cases_lt (i - last) 8) [
             | inl in_eight ↦

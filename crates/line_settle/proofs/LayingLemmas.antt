@@ -1,9 +1,9 @@
 -- Sets of positions moved over the cells of a block and over the gap before it.
-use Rattle.std.proofs.Common.{◌≡◌, ℕ, zero, suc, ◌+◌, ◌*◌, ◌/◌, ◌%◌, ◌<◌, ◌&&◌, ◌||◌, bit_and, bit_or, ap, ◌∙◌, arith}
+use Rattle.std.proofs.Common.{◌≡◌, ℕ, zero, suc, ◌+◌, ◌*◌, ◌/◌, ◌%◌, ◌^◌, ◌<◌, ◌&&◌, ◌||◌, bit_and, bit_or, ap, ◌∙◌, arith}
 use Rattle.std.proofs.Math.Bool.{and_comm}
 use Rattle.line_settle.specs.Positions.{has}
 use Rattle.line_settle.specs.Laying.{lays, moved, covers}
-use Rattle.line_settle.proofs.PositionLemmas.{has_and, has_or, has_none, has_down, has_up_first, has_up, up_next}
+use Rattle.line_settle.proofs.PositionLemmas.{has_and, has_or, has_none, has_down, none_moved_up, moved_up, up_next}
 
 -- ---- before the cells of a block
 
@@ -18,16 +18,16 @@ lays_more ends cells starts new n m i e is made =
 
 -- ---- the cells of a block, and behind them
 
-pub moved_more : (starts ends n m i : ℕ) → m ≡ n + 1 → ((j : ℕ) → j < 128 → has ends j ≡ moved starts n j) → i < 128 → has (ends * 2 % 340282366920938463463374607431768211456) i ≡ moved starts m i
-moved_more starts ends n m zero e is h = has_up_first ends ∙ ap (λ k. moved starts k 0) (let z : suc n ≡ m = omega arith in z)
-moved_more starts ends n m (suc i) e is h =
-    has_up ends i (omega arith) ∙ (is i (omega arith) ∙ ap (λ k. moved starts k (suc i)) (let z : suc n ≡ m = omega arith in z))
+pub moved_more : (w starts ends n m i : ℕ) → m ≡ n + 1 → ((j : ℕ) → j < w → has ends j ≡ moved starts n j) → i < w → has (ends * 2 % 2 ^ w) i ≡ moved starts m i
+moved_more w starts ends n m zero e is h = none_moved_up w ends h ∙ ap (λ k. moved starts k 0) (let z : suc n ≡ m = omega arith in z)
+moved_more w starts ends n m (suc i) e is h =
+    moved_up w ends i (omega arith) ∙ (is i (omega arith) ∙ ap (λ k. moved starts k (suc i)) (let z : suc n ≡ m = omega arith in z))
 
 pub covers_none : (starts i : ℕ) → has 0 i ≡ covers starts 0 i
 covers_none starts i = has_none i
 
-pub covers_more : (starts cells ends n m i : ℕ) → m ≡ n + 1 → ((j : ℕ) → j < 128 → has cells j ≡ covers starts n j) → ((j : ℕ) → j < 128 → has ends j ≡ moved starts n j) → i < 128 → has (bit_or cells ends) i ≡ covers starts m i
-covers_more starts cells ends n m i e is at h =
+pub covers_more : (w starts cells ends n m i : ℕ) → m ≡ n + 1 → ((j : ℕ) → j < w → has cells j ≡ covers starts n j) → ((j : ℕ) → j < w → has ends j ≡ moved starts n j) → i < w → has (bit_or cells ends) i ≡ covers starts m i
+covers_more w starts cells ends n m i e is at h =
     has_or cells ends i
     ∙ (ap (λ x. x || has ends i) (is i h)
     ∙ (ap (λ x. covers starts n i || x) (at i h)
@@ -35,8 +35,8 @@ covers_more starts cells ends n m i e is at h =
 
 -- ---- the gap before a block
 
-pub gap_behind : (from background i : ℕ) → i < 127 → has ((bit_and from background) * 2 % 340282366920938463463374607431768211456) (i + 1) ≡ (has background i && has from i)
-gap_behind from background i h = up_next (bit_and from background) i h ∙ (has_and from background i ∙ and_comm (has from i) (has background i))
+pub gap_behind : (w from background i : ℕ) → i + 1 < w → has ((bit_and from background) * 2 % 2 ^ w) (i + 1) ≡ (has background i && has from i)
+gap_behind w from background i h = up_next w (bit_and from background) i h ∙ (has_and from background i ∙ and_comm (has from i) (has background i))
 
 pub gap_before : (later background i : ℕ) → has (bit_and (later / 2) background) i ≡ (has background i && has later (i + 1))
 gap_before later background i = has_and (later / 2) background i ∙ (and_comm (has (later / 2) i) (has background i) ∙ ap (λ x. has background i && x) (has_down 1 later i))
@@ -45,4 +45,4 @@ pub ruleset starting = (lays_more)
 
 pub ruleset laying = (moved_more, covers_none, covers_more)
 
-pub ruleset gaps = (has_up_first, gap_behind, gap_before)
+pub ruleset gaps = (none_moved_up, gap_behind, gap_before)

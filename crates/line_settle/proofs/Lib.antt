@@ -29,6 +29,7 @@ pub mod SetStepLemmas
 pub mod LayingLemmas
 pub mod BlockLemmas
 pub mod MarkLemmas
+pub mod WordLemmas
 pub mod PassLemmas
 pub mod ShownLemmas
 pub mod StateSetLemmas

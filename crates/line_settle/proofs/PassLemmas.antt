@@ -58,9 +58,9 @@ over true true f = refl
 over true false f = refl
 over false e f = refl
 
-pub gap_entry : (pattern left : List ℕ) (q background from here : ℕ) → GapAt pattern q → IsCellsWith left 0 background → length left < 127 → IsEntry pattern left q from → has here 0 ≡ false → ((i : ℕ) → i < 127 → has here (i + 1) ≡ (has background i && has from i)) → IsEntry pattern left (q + 1) here
-gap_entry pattern left q background from here g is short before first next zero h = first ∙ sym (enters_not pattern left (q + 1) (finishes pattern left (q + 1)) (omega arith))
-gap_entry pattern left q background from here g is short before first next (suc i) h =
+pub gap_entry : (pattern left : List ℕ) (q background from here : ℕ) → GapAt pattern q → IsCellsWith left 0 background → IsEntry pattern left q from → has here 0 ≡ false → ((i : ℕ) → i < length left → has here (i + 1) ≡ (has background i && has from i)) → IsEntry pattern left (q + 1) here
+gap_entry pattern left q background from here g is before first next zero h = first ∙ sym (enters_not pattern left (q + 1) (finishes pattern left (q + 1)) (omega arith))
+gap_entry pattern left q background from here g is before first next (suc i) h =
     let z : suc i ≡ i + 1 = omega arith in
     let a = allows (get_or left i 0) 0 in
     let e = enters pattern left i q in
@@ -101,11 +101,11 @@ waited false false true false true x g true k l m = refl
 waited false false true false false x g true k l m = refl
 waited false false false h r x g true k l m = refl
 
-pub wait_reached : (pattern left : List ℕ) (s background from here : ℕ) → waits pattern s ≡ true → IsCellsWith left 0 background → length left < 127 → IsEntry pattern left s from → has here 0 ≡ has from 0 → ((i : ℕ) → i < 127 → has here (i + 1) ≡ (has from (i + 1) || (has background i && has here i))) → IsReached pattern left s here
-wait_reached pattern left s background from here w is short before first next zero h =
+pub wait_reached : (pattern left : List ℕ) (s background from here : ℕ) → waits pattern s ≡ true → IsCellsWith left 0 background → IsEntry pattern left s from → has here 0 ≡ has from 0 → ((i : ℕ) → i < length left → has here (i + 1) ≡ (has from (i + 1) || (has background i && has here i))) → IsReached pattern left s here
+wait_reached pattern left s background from here w is before first next zero h =
     let f = finishes pattern left s in
     ap (λ x. x && f) (first ∙ before 0 (omega arith)) ∙ twice (s == 0) f
-wait_reached pattern left s background from here w is short before first next (suc i) h =
+wait_reached pattern left s background from here w is before first next (suc i) h =
     let z : suc i ≡ i + 1 = omega arith in
     let e = enters pattern left (suc i) s in
     let f = finishes pattern (drop (suc i) left) s in
@@ -114,7 +114,7 @@ wait_reached pattern left s background from here w is short before first next (s
     let back = finish_on pattern left s i (omega arith) ∙ ap (λ n. x || (waits pattern s && (a && finishes pattern (drop n left) s))) (sym z) in
     let here_is = ap (λ n. has here n) z ∙ (next i (omega arith) ∙ (ap (λ n. has from n || (has background i && has here i)) (sym z) ∙ (ap (λ y. y || (has background i && has here i)) (before (suc i) h) ∙ ap (λ y. (e && f) || (y && has here i)) (is i (omega arith))))) in
     ap (λ y. y && f) here_is
-    ∙ waited e f a (has here i) (reaches pattern left i s) x (finishes pattern (drop i left) s) (waits pattern s) w back (wait_reached pattern left s background from here w is short before first next i (omega arith))
+    ∙ waited e f a (has here i) (reaches pattern left i s) x (finishes pattern (drop i left) s) (waits pattern s) w back (wait_reached pattern left s background from here w is before first next i (omega arith))
 
 -- ---- laying a block
 
@@ -196,8 +196,8 @@ block_entries pattern left s len c laid b is (suc t) l (suc i) h =
     onward false true f = refl
     onward false false f = refl
 
-pub block_entry : (pattern left : List ℕ) (s len c laid ends : ℕ) → BlockAt pattern s len c → IsLaid pattern left s laid → length left < 128 → ((i : ℕ) → i < 128 → has ends i ≡ moved laid len i) → IsEntry pattern left (s + len) ends
-block_entry pattern left s len c laid ends b is short e i h =
+pub block_entry : (pattern left : List ℕ) (s len c laid ends : ℕ) → BlockAt pattern s len c → IsLaid pattern left s laid → ((i : ℕ) → i ≤ length left → has ends i ≡ moved laid len i) → IsEntry pattern left (s + len) ends
+block_entry pattern left s len c laid ends b is e i h =
     let p = b.has_cells in
     let z : len ≡ suc (len - 1) = omega arith in
     let y : s + suc (len - 1) ≡ s + len = omega arith in
@@ -231,8 +231,8 @@ gap_seen true false a f true false x z y h k m n = absurd (let z : ⊥ = cc in z
 gap_seen false true a f true false x z y h k m n = absurd (let z : ⊥ = cc in z)
 gap_seen false false a f true false x z y h k m n = refl
 
-gap_passes : (pattern left : List ℕ) (q background from later i k : ℕ) → GapAt pattern q → IsCellsWith left 0 background → length left < 127 → IsEntry pattern left q from → IsBack pattern left (q + 1) later → i < length left → Passes pattern left i q k ≡ (stays from background later i && 0 == k)
-gap_passes pattern left q background from later i k g is short before back h =
+gap_passes : (pattern left : List ℕ) (q background from later i k : ℕ) → GapAt pattern q → IsCellsWith left 0 background → IsEntry pattern left q from → IsBack pattern left (q + 1) later → i < length left → Passes pattern left i q k ≡ (stays from background later i && 0 == k)
+gap_passes pattern left q background from later i k g is before back h =
     let w = gap_waits_not pattern q g in
     let a = allows (get_or left i 0) 0 in
     let e = enters pattern left i q in
@@ -266,8 +266,8 @@ wait_seen r h s b x z g false k l m = absurd (let z : ⊥ = cc in z)
 wait_seen r h s b x z g true k l m = spread_out r s b x z ∙ ap (λ y. ((r && s) && x) || (y && z)) (sym (kept h r s b g l m))
 
 -- a waiting state, whose next cell is of colour c
-wait_passes : (pattern left : List ℕ) (s background here laid later i k : ℕ) → waits pattern s ≡ true → IsCellsWith left 0 background → length left < 127 → IsReached pattern left s here → IsLaid pattern left s laid → IsBack pattern left s later → i < length left → Passes pattern left i s k ≡ ((has laid i && get_or pattern (s + 1) 0 == k) || (stays here background later i && 0 == k))
-wait_passes pattern left s background here laid later i k w is short reached lies back h =
+wait_passes : (pattern left : List ℕ) (s background here laid later i k : ℕ) → waits pattern s ≡ true → IsCellsWith left 0 background → IsReached pattern left s here → IsLaid pattern left s laid → IsBack pattern left s later → i < length left → Passes pattern left i s k ≡ ((has laid i && get_or pattern (s + 1) 0 == k) || (stays here background later i && 0 == k))
+wait_passes pattern left s background here laid later i k w is reached lies back h =
     let f = finishes pattern (drop (i + 1) left) in
     let a = advances pattern (get_or left i 0) f s in
     let b = allows (get_or left i 0) 0 && f s in
@@ -325,19 +325,19 @@ one_cell false true true false = refl
 one_cell false true false false = refl
 one_cell false false m x = refl
 
-block_below : (pattern left : List ℕ) (s len c background here laid later i k : ℕ) → BlockAt pattern s len c → IsCellsWith left 0 background → length left < 127 → IsReached pattern left s here → IsLaid pattern left s laid → IsBack pattern left s later → i < length left → (t : ℕ) → t < len → Below pattern left i (s + suc t) k ≡ ((Below pattern left i s k || (stays here background later i && 0 == k)) || (covers laid (suc t) i && c == k))
-block_below pattern left s len c background here laid later i k b is short reached lies back h zero l =
+block_below : (pattern left : List ℕ) (s len c background here laid later i k : ℕ) → BlockAt pattern s len c → IsCellsWith left 0 background → IsReached pattern left s here → IsLaid pattern left s laid → IsBack pattern left s later → i < length left → (t : ℕ) → t < len → Below pattern left i (s + suc t) k ≡ ((Below pattern left i s k || (stays here background later i && 0 == k)) || (covers laid (suc t) i && c == k))
+block_below pattern left s len c background here laid later i k b is reached lies back h zero l =
     let z : s + 1 ≡ suc s = omega arith in
     let before = Below pattern left i s k in
-    let w = wait_passes pattern left s background here laid later i k (waits_for_block pattern s len c b) is short reached lies back h in
+    let w = wait_passes pattern left s background here laid later i k (waits_for_block pattern s len c b) is reached lies back h in
     ap (λ n. Below pattern left i n k) z
     ∙ (ap (λ x. before || x) (w ∙ ap (λ n. (has laid i && n == k) || (stays here background later i && 0 == k)) (b.cells 0 l))
     ∙ first_cell before (has laid i) (c == k) (stays here background later i) (0 == k))
-block_below pattern left s len c background here laid later i k b is short reached lies back h (suc t) l =
+block_below pattern left s len c background here laid later i k b is reached lies back h (suc t) l =
     let z : s + suc (suc t) ≡ suc (s + suc t) = omega arith in
     let start = Below pattern left i s k || (stays here background later i && 0 == k) in
     ap (λ n. Below pattern left i n k) z
-    ∙ (ap (λ x. x || Passes pattern left i (s + suc t) k) (block_below pattern left s len c background here laid later i k b is short reached lies back h t (omega arith))
+    ∙ (ap (λ x. x || Passes pattern left i (s + suc t) k) (block_below pattern left s len c background here laid later i k b is reached lies back h t (omega arith))
     ∙ (ap (λ x. (start || (covers laid (suc t) i && c == k)) || x) (inside_passes pattern left s len c laid t i k b lies l h)
     ∙ one_cell start (covers laid (suc t) i) (moved laid (suc t) i) (c == k)))
 
@@ -347,26 +347,26 @@ block_below pattern left s len c background here laid later i k b is short reach
 abbrev pub HasSeen : List ℕ → List ℕ → List ℕ → ℕ → Type 0
 HasSeen pattern left seen n = (i k : ℕ) → i < length left → has (get_or seen k 0) i ≡ Below pattern left i n k
 
--- the positions behind the gap before a block
-pub record Entered (m : Bool) (background from entered : ℕ) : Type 0 where
+-- the positions behind the gap before a block, up to position n
+pub record Entered (n : ℕ) (m : Bool) (background from entered : ℕ) : Type 0 where
   pub none : m ≡ false → entered ≡ from
   pub first : m ≡ true → has entered 0 ≡ false
-  pub one : m ≡ true → (i : ℕ) → i < 127 → has entered (i + 1) ≡ (has background i && has from i)
+  pub one : m ≡ true → (i : ℕ) → i < n → has entered (i + 1) ≡ (has background i && has from i)
 
--- a set with what is reached from its positions over background
-pub record Filled (background entered here : ℕ) : Type 0 where
+-- a set with what is reached from its positions over background, up to position n
+pub record Filled (n background entered here : ℕ) : Type 0 where
   pub first : has here 0 ≡ has entered 0
-  pub on : (i : ℕ) → i < 127 → has here (i + 1) ≡ (has entered (i + 1) || (has background i && has here i))
+  pub on : (i : ℕ) → i < n → has here (i + 1) ≡ (has entered (i + 1) || (has background i && has here i))
 
-gap_entered : (pattern left : List ℕ) (q len c background from entered : ℕ) (m : Bool) → PieceAt pattern q m len c → IsCellsWith left 0 background → length left < 127 → IsEntry pattern left q from → Entered m background from entered → IsEntry pattern left (q + gap_before m) entered
-gap_entered pattern left q len c background from entered true p is short before e = gap_entry pattern left q background from entered (p.gap_is refl) is short before (e.first refl) (e.one refl)
-gap_entered pattern left q len c background from entered false p is short before e =
+gap_entered : (pattern left : List ℕ) (q len c background from entered : ℕ) (m : Bool) → PieceAt pattern q m len c → IsCellsWith left 0 background → IsEntry pattern left q from → Entered (length left) m background from entered → IsEntry pattern left (q + gap_before m) entered
+gap_entered pattern left q len c background from entered true p is before e = gap_entry pattern left q background from entered (p.gap_is refl) is before (e.first refl) (e.one refl)
+gap_entered pattern left q len c background from entered false p is before e =
     let z : q ≡ q + 0 = omega arith in
     λ i h. ap (λ s. has s i) (e.none refl) ∙ (before i h ∙ ap (λ s. enters pattern left i s && finishes pattern (drop i left) s) z)
 
-filled_has : (background entered here i : ℕ) → Filled background entered here → i < 128 → (has entered i || has here i) ≡ has here i
-filled_has background entered here zero f h = ap (λ x. x || has here 0) (sym f.first) ∙ or_self (has here 0)
-filled_has background entered here (suc i) f h =
+filled_has : (n background entered here i : ℕ) → Filled n background entered here → i ≤ n → (has entered i || has here i) ≡ has here i
+filled_has n background entered here zero f h = ap (λ x. x || has here 0) (sym f.first) ∙ or_self (has here 0)
+filled_has n background entered here (suc i) f h =
     let z : suc i ≡ i + 1 = omega arith in
     let e : has here (suc i) ≡ (has entered (suc i) || (has background i && has here i)) = ap (λ n. has here n) z ∙ (f.on i (omega arith) ∙ ap (λ n. has entered n || (has background i && has here i)) (sym z)) in
     ap (λ x. has entered (suc i) || x) e ∙ (same (has entered (suc i)) (has background i && has here i) ∙ sym e)
@@ -385,17 +385,17 @@ gap_and_wait false true true false z = refl
 gap_and_wait false true false false z = refl
 gap_and_wait false false h b z = refl
 
-background_below : (pattern left : List ℕ) (q len c background from entered here later i k : ℕ) (m : Bool) → PieceAt pattern q m len c → IsCellsWith left 0 background → length left < 127 → IsEntry pattern left q from → Entered m background from entered → Filled background entered here → IsBack pattern left (q + gap_before m) later → i < length left → (Below pattern left i (q + gap_before m) k || (stays here background later i && 0 == k)) ≡ (Below pattern left i q k || (((has from i || has here i) && (has background i && has later (i + 1))) && 0 == k))
-background_below pattern left q len c background from entered here later i k true p is short before e f back h =
+background_below : (pattern left : List ℕ) (q len c background from entered here later i k : ℕ) (m : Bool) → PieceAt pattern q m len c → IsCellsWith left 0 background → IsEntry pattern left q from → Entered (length left) m background from entered → Filled (length left) background entered here → IsBack pattern left (q + gap_before m) later → i < length left → (Below pattern left i (q + gap_before m) k || (stays here background later i && 0 == k)) ≡ (Below pattern left i q k || (((has from i || has here i) && (has background i && has later (i + 1))) && 0 == k))
+background_below pattern left q len c background from entered here later i k true p is before e f back h =
     let z : q + 1 ≡ suc q = omega arith in
     ap (λ n. Below pattern left i n k || (stays here background later i && 0 == k)) z
-    ∙ (ap (λ x. (Below pattern left i q k || x) || (stays here background later i && 0 == k)) (gap_passes pattern left q background from later i k (p.gap_is refl) is short before back h)
+    ∙ (ap (λ x. (Below pattern left i q k || x) || (stays here background later i && 0 == k)) (gap_passes pattern left q background from later i k (p.gap_is refl) is before back h)
     ∙ gap_and_wait (Below pattern left i q k) (has from i) (has here i) (has background i && has later (i + 1)) (0 == k))
-background_below pattern left q len c background from entered here later i k false p is short before e f back h =
+background_below pattern left q len c background from entered here later i k false p is before e f back h =
     let z : q + 0 ≡ q = omega arith in
     let b = has background i && has later (i + 1) in
     ap (λ n. Below pattern left i n k || (stays here background later i && 0 == k)) z
-    ∙ sym (ap (λ x. Below pattern left i q k || (((has x i || has here i) && b) && 0 == k)) (sym (e.none refl)) ∙ ap (λ x. Below pattern left i q k || ((x && b) && 0 == k)) (filled_has background entered here i f (omega arith)))
+    ∙ sym (ap (λ x. Below pattern left i q k || (((has x i || has here i) && b) && 0 == k)) (sym (e.none refl)) ∙ ap (λ x. Below pattern left i q k || ((x && b) && 0 == k)) (filled_has (length left) background entered here i f (omega arith)))
 
 -- what is known behind a block
 pub record Behind (pattern left : List ℕ) (q from : ℕ) (seen : List ℕ) : Type 0 where
@@ -408,23 +408,23 @@ stays_has from here background later i =
     ∙ (ap (λ x. x && has (bit_and background (later / 2)) i) (has_or from here i)
     ∙ ap (λ x. (has from i || has here i) && x) (has_and background (later / 2) i ∙ ap (λ x. has background i && x) (has_down 1 later i)))
 
-pub behind_block : (pattern left : List ℕ) (q len c background from entered here starts later cells ends : ℕ) (old mid new : List ℕ) (m : Bool) → PieceAt pattern q m len c → IsCellsWith left 0 background → length left < 127 → IsStart pattern left (q + gap_before m) starts → IsBack pattern left (q + gap_before m) later → Behind pattern left q from old → Entered m background from entered → Filled background entered here → ((i k : ℕ) → has (get_or mid k 0) i ≡ (has (get_or old k 0) i || (has (bit_and (bit_or from here) (bit_and background (later / 2))) i && 0 == k))) → ((i : ℕ) → i < 128 → has cells i ≡ covers (bit_and here starts) len i) → ((i : ℕ) → i < 128 → has ends i ≡ moved (bit_and here starts) len i) → ((i k : ℕ) → has (get_or new k 0) i ≡ (has (get_or mid k 0) i || (has cells i && c == k))) → Behind pattern left (q + gap_before m + len) ends new
-behind_block pattern left q len c background from entered here starts later cells ends old mid new m p is short begins back before e f mids covered ended news =
+pub behind_block : (pattern left : List ℕ) (q len c background from entered here starts later cells ends : ℕ) (old mid new : List ℕ) (m : Bool) → PieceAt pattern q m len c → IsCellsWith left 0 background → IsStart pattern left (q + gap_before m) starts → IsBack pattern left (q + gap_before m) later → Behind pattern left q from old → Entered (length left) m background from entered → Filled (length left) background entered here → ((i k : ℕ) → has (get_or mid k 0) i ≡ (has (get_or old k 0) i || (has (bit_and (bit_or from here) (bit_and background (later / 2))) i && 0 == k))) → ((i : ℕ) → i ≤ length left → has cells i ≡ covers (bit_and here starts) len i) → ((i : ℕ) → i ≤ length left → has ends i ≡ moved (bit_and here starts) len i) → ((i k : ℕ) → has (get_or new k 0) i ≡ (has (get_or mid k 0) i || (has cells i && c == k))) → Behind pattern left (q + gap_before m + len) ends new
+behind_block pattern left q len c background from entered here starts later cells ends old mid new m p is begins back before e f mids covered ended news =
     let s = q + gap_before m in
     let b = p.block_is in
     let laid = bit_and here starts in
-    let entry = gap_entered pattern left q len c background from entered m p is short before.entry e in
-    let reached = wait_reached pattern left s background entered here (waits_for_block pattern s len c b) is short entry f.first f.on in
+    let entry = gap_entered pattern left q len c background from entered m p is before.entry e in
+    let reached = wait_reached pattern left s background entered here (waits_for_block pattern s len c b) is entry f.first f.on in
     let lies = laid_at pattern left s here starts laid reached begins (λ i. has_and here starts i) in
     let y = b.has_cells in
     record {
-      entry = block_entry pattern left s len c laid ends b lies (omega arith) ended;
+      entry = block_entry pattern left s len c laid ends b lies ended;
       seen_is = λ i k h.
           let t : suc (len - 1) ≡ len = omega arith in
           let u : s + suc (len - 1) ≡ s + len = omega arith in
           let way = (has from i || has here i) && (has background i && has later (i + 1)) in
-          let below = block_below pattern left s len c background here laid later i k b is short reached lies back h (len - 1) (omega arith) in
-          let front = background_below pattern left q len c background from entered here later i k m p is short before.entry e f back h in
+          let below = block_below pattern left s len c background here laid later i k b is reached lies back h (len - 1) (omega arith) in
+          let front = background_below pattern left q len c background from entered here later i k m p is before.entry e f back h in
           news i k
           ∙ (ap (λ x. x || (has cells i && c == k)) (mids i k)
           ∙ (ap (λ x. (x || (has (bit_and (bit_or from here) (bit_and background (later / 2))) i && 0 == k)) || (has cells i && c == k)) (before.seen_is i k h)
@@ -441,8 +441,8 @@ end_seen r h true b x z k m = absurd (let z : ⊥ = cc in z)
 end_seen true h false b x z k m = ap (λ y. y && z) (sym m)
 end_seen false h false b x z k m = ap (λ y. y && z) (sym m)
 
-pub behind_all : (pattern left : List ℕ) (q background from here later : ℕ) (old new : List ℕ) → q + 1 ≡ length pattern → IsCellsWith left 0 background → length left < 127 → IsBack pattern left q later → Behind pattern left q from old → Filled background from here → ((i k : ℕ) → has (get_or new k 0) i ≡ (has (get_or old k 0) i || (has (bit_and here (bit_and background (later / 2))) i && 0 == k))) → HasSeen pattern left new (length pattern)
-behind_all pattern left q background from here later old new e is short back before f news i k h =
+pub behind_all : (pattern left : List ℕ) (q background from here later : ℕ) (old new : List ℕ) → q + 1 ≡ length pattern → IsCellsWith left 0 background → IsBack pattern left q later → Behind pattern left q from old → Filled (length left) background from here → ((i k : ℕ) → has (get_or new k 0) i ≡ (has (get_or old k 0) i || (has (bit_and here (bit_and background (later / 2))) i && 0 == k))) → HasSeen pattern left new (length pattern)
+behind_all pattern left q background from here later old new e is back before f news i k h =
     let z : suc q ≡ length pattern = omega arith in
     let w = waits_at_end pattern q (omega arith) in
     let l = le-ltb (q + 1) (length pattern) (omega arith) in
@@ -452,7 +452,7 @@ behind_all pattern left q background from here later old new e is short back bef
     let v = allows mask (get_or pattern (q + 1) 0) && fin (q + 1) in
     let x = get_or pattern (q + 1) 0 == k in
     let r = reaches pattern left i q in
-    let reached = wait_reached pattern left q background from here w is short before.entry f.first f.on i (omega arith) in
+    let reached = wait_reached pattern left q background from here w is before.entry f.first f.on i (omega arith) in
     let none : advances pattern mask fin q ≡ false = ap (λ t. t && v) l in
     let same = kept (has here i) r (advances pattern mask fin q) (waits pattern q && b) (finishes pattern (drop i left) q) (finish_on pattern left q i h) reached in
     let there = end_seen r (has here i) (advances pattern mask fin q) (waits pattern q && b) x (0 == k) none same in
@@ -468,19 +468,19 @@ behind_all pattern left q background from here later old new e is short back bef
 
 -- ---- in the blocks of a clue
 
-pub pass_block : (bs : List Block) (left allowed starting waiting : List ℕ) (j from entered here cells ends : ℕ) (old mid new : List ℕ) (m : Bool) → IsClue bs → j < length bs → IsAllowed bs left allowed → length left < 127 → AreMarked bs left starting waiting → m ≡ meets 0 bs j → Behind (pattern_of bs) left (state_behind 0 bs j) from old → Entered m (get_or allowed 0 0) from entered → Filled (get_or allowed 0 0) entered here → ((i k : ℕ) → has (get_or mid k 0) i ≡ (has (get_or old k 0) i || (has (bit_and (bit_or from here) (bit_and (get_or allowed 0 0) (get_or waiting j 0 / 2))) i && 0 == k))) → ((i : ℕ) → i < 128 → has cells i ≡ covers (bit_and here (get_or starting j 0)) (block_at bs j).len i) → ((i : ℕ) → i < 128 → has ends i ≡ moved (bit_and here (get_or starting j 0)) (block_at bs j).len i) → ((i k : ℕ) → has (get_or new k 0) i ≡ (has (get_or mid k 0) i || (has cells i && (block_at bs j).colour == k))) → Behind (pattern_of bs) left (state_behind 0 bs (j + 1)) ends new
-pass_block bs left allowed starting waiting j from entered here cells ends old mid new m clue h is short marks g before e f mids covered ended news =
+pub pass_block : (bs : List Block) (left allowed starting waiting : List ℕ) (j from entered here cells ends : ℕ) (old mid new : List ℕ) (m : Bool) → IsClue bs → j < length bs → IsAllowed bs left allowed → AreMarked bs left starting waiting → m ≡ meets 0 bs j → Behind (pattern_of bs) left (state_behind 0 bs j) from old → Entered (length left) m (get_or allowed 0 0) from entered → Filled (length left) (get_or allowed 0 0) entered here → ((i k : ℕ) → has (get_or mid k 0) i ≡ (has (get_or old k 0) i || (has (bit_and (bit_or from here) (bit_and (get_or allowed 0 0) (get_or waiting j 0 / 2))) i && 0 == k))) → ((i : ℕ) → i ≤ length left → has cells i ≡ covers (bit_and here (get_or starting j 0)) (block_at bs j).len i) → ((i : ℕ) → i ≤ length left → has ends i ≡ moved (bit_and here (get_or starting j 0)) (block_at bs j).len i) → ((i k : ℕ) → has (get_or new k 0) i ≡ (has (get_or mid k 0) i || (has cells i && (block_at bs j).colour == k))) → Behind (pattern_of bs) left (state_behind 0 bs (j + 1)) ends new
+pass_block bs left allowed starting waiting j from entered here cells ends old mid new m clue h is marks g before e f mids covered ended news =
     let b = block_at bs j in
-    let P : Bool → Type 0 = λ t. Entered t (get_or allowed 0 0) from entered in
+    let P : Bool → Type 0 = λ t. Entered (length left) t (get_or allowed 0 0) from entered in
     let K : ℕ → Type 0 = λ q. Behind (pattern_of bs) left q ends new in
-    subst K (sym (state_next 0 bs j h)) (behind_block (pattern_of bs) left (state_behind 0 bs j) b.len b.colour (get_or allowed 0 0) from entered here (get_or starting j 0) (get_or waiting j 0) cells ends old mid new (meets 0 bs j) (piece_of bs j clue h) is.background short (marks.starts j h) (marks.waits j (omega arith)) before (subst P g e) f mids covered ended news)
+    subst K (sym (state_next 0 bs j h)) (behind_block (pattern_of bs) left (state_behind 0 bs j) b.len b.colour (get_or allowed 0 0) from entered here (get_or starting j 0) (get_or waiting j 0) cells ends old mid new (meets 0 bs j) (piece_of bs j clue h) is.background (marks.starts j h) (marks.waits j (omega arith)) before (subst P g e) f mids covered ended news)
 
-pub pass_end : (bs : List Block) (left allowed starting waiting : List ℕ) (n from here : ℕ) (old new : List ℕ) → IsClue bs → n ≡ length bs → IsAllowed bs left allowed → length left < 127 → AreMarked bs left starting waiting → Behind (pattern_of bs) left (state_behind 0 bs n) from old → Filled (get_or allowed 0 0) from here → ((i k : ℕ) → has (get_or new k 0) i ≡ (has (get_or old k 0) i || (has (bit_and here (bit_and (get_or allowed 0 0) (get_or waiting (length bs) 0 / 2))) i && 0 == k))) → AreSeen bs left new
-pass_end bs left allowed starting waiting n from here old new clue e is short marks before f news =
+pub pass_end : (bs : List Block) (left allowed starting waiting : List ℕ) (n from here : ℕ) (old new : List ℕ) → IsClue bs → n ≡ length bs → IsAllowed bs left allowed → AreMarked bs left starting waiting → Behind (pattern_of bs) left (state_behind 0 bs n) from old → Filled (length left) (get_or allowed 0 0) from here → ((i k : ℕ) → has (get_or new k 0) i ≡ (has (get_or old k 0) i || (has (bit_and here (bit_and (get_or allowed 0 0) (get_or waiting (length bs) 0 / 2))) i && 0 == k))) → AreSeen bs left new
+pass_end bs left allowed starting waiting n from here old new clue e is marks before f news =
     let q = state_behind 0 bs (length bs) in
     let P : ℕ → Type 0 = λ m. Behind (pattern_of bs) left (state_behind 0 bs m) from old in
     let K : ℕ → Type 0 = λ s. IsBack (pattern_of bs) left s (get_or waiting (length bs) 0) in
-    behind_all (pattern_of bs) left q (get_or allowed 0 0) from here (get_or waiting (length bs) 0) old new (state_at_end bs clue).1 is.background short (subst K (state_at_end bs clue).0 (marks.waits (length bs) (omega arith))) (subst P e before) f news
+    behind_all (pattern_of bs) left q (get_or allowed 0 0) from here (get_or waiting (length bs) 0) old new (state_at_end bs clue).1 is.background (subst K (state_at_end bs clue).0 (marks.waits (length bs) (omega arith))) (subst P e before) f news
 
 pub none_yet : (bs : List Block) (left seen : List ℕ) → seen ≡ replicate 16 0 → finishes (pattern_of bs) left 0 ≡ true → Behind (pattern_of bs) left 0 1 seen
 none_yet bs left seen e f = record {

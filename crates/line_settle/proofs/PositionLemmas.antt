@@ -51,6 +51,9 @@ has_one i = has_power 0 i
 pub has_place : (k i : ℕ) → k < 128 → has (1 * 2 ^ k % 340282366920938463463374607431768211456) i ≡ (i == k)
 has_place k i h = ap (λ m. has m i) (one_shifted k 340282366920938463463374607431768211455 refl h).0 ∙ has_power k i
 
+pub has_place_near : (k i : ℕ) → k < 64 → has (1 * 2 ^ k % 18446744073709551616) i ≡ (i == k)
+has_place_near k i h = ap (λ m. has m i) (one_shifted k 18446744073709551615 refl h).0 ∙ has_power k i
+
 pub has_above : (w a i : ℕ) → a < 2 ^ w → w ≤ i → has a i ≡ false
 unfolding has
 has_above w a i h l = ap (λ x. x == 1) (bit_at_above a w i h l)
@@ -82,12 +85,18 @@ bit_doubled_first a = bit_at_lowest (a * 2) ∙ (omega arith)
 bit_doubled : (a i : ℕ) → bit_at (a * 2) (suc i) ≡ bit_at a i
 bit_doubled a i = bit_at-suc (a * 2) i ∙ ap (λ x. bit_at x i) (let e : a * 2 / 2 ≡ a = omega arith in e)
 
-pub has_up_first : (a : ℕ) → has (a * 2 % 340282366920938463463374607431768211456) 0 ≡ false
+pub none_moved_up : (w a : ℕ) → 0 < w → has (a * 2 % 2 ^ w) 0 ≡ false
 unfolding has
-has_up_first a = ap (λ x. x == 1) (bit_low 128 (a * 2) 0 (omega arith) ∙ bit_doubled_first a)
+none_moved_up w a h = ap (λ x. x == 1) (bit_low w (a * 2) 0 h ∙ bit_doubled_first a)
+
+pub moved_up : (w a i : ℕ) → i + 1 < w → has (a * 2 % 2 ^ w) (suc i) ≡ has a i
+moved_up w a i h = has_bit (a * 2 % 2 ^ w) a (suc i) i (bit_low w (a * 2) (suc i) (omega arith) ∙ bit_doubled a i)
+
+pub has_up_first : (a : ℕ) → has (a * 2 % 340282366920938463463374607431768211456) 0 ≡ false
+has_up_first a = none_moved_up 128 a (omega arith)
 
 pub has_up : (a i : ℕ) → i < 127 → has (a * 2 % 340282366920938463463374607431768211456) (suc i) ≡ has a i
-has_up a i h = has_bit (a * 2 % 340282366920938463463374607431768211456) a (suc i) i (bit_low 128 (a * 2) (suc i) (omega arith) ∙ bit_doubled a i)
+has_up a i h = moved_up 128 a i (omega arith)
 
 -- ---- the carries of an addition
 
@@ -119,17 +128,17 @@ carried_more (suc i) c a b =
     cc
 
 -- what the carries of `(from & run) + run` reach, besides the set itself
-abbrev pub risen : ℕ → ℕ → ℕ
-risen from run = bit_or from (bit_xor (bit_xor ((bit_and from run + run) % 340282366920938463463374607431768211456) (bit_and from run)) run)
+abbrev pub risen : ℕ → ℕ → ℕ → ℕ
+risen w from run = bit_or from (bit_xor (bit_xor ((bit_and from run + run) % 2 ^ w) (bit_and from run)) run)
 
-risen_bit : (from run i : ℕ) → i < 128 → bit_at (risen from run) i ≡ max (bit_at from i) (carried 0 (bit_and from run) run i)
-risen_bit from run i h =
+risen_bit : (w from run i : ℕ) → i < w → bit_at (risen w from run) i ≡ max (bit_at from i) (carried 0 (bit_and from run) run i)
+risen_bit w from run i h =
     let begun = bit_and from run in
-    let total = (begun + run) % 340282366920938463463374607431768211456 in
+    let total = (begun + run) % 2 ^ w in
     let a = bit_at_or from (bit_xor (bit_xor total begun) run) i in
     let b = bit_at_xor (bit_xor total begun) run i in
     let d = bit_at_xor total begun i in
-    let e = bit_low 128 (begun + run) i h in
+    let e = bit_low w (begun + run) i h in
     let z : begun + run + 0 ≡ begun + run = omega arith in
     let s = ap (λ x. bit_at x i) (sym z) ∙ sum_bit i 0 begun run in
     let l = carried_below i 0 begun run (omega arith) in
@@ -142,37 +151,35 @@ first_carry : (from a b : ℕ) → max (bit_at from 0) (carried 0 a b 0) ≡ bit
 unfolding carried
 first_carry from a b = omega arith
 
-pub risen_first : (from run : ℕ) → has (risen from run) 0 ≡ has from 0
-risen_first from run = has_bit (risen from run) from 0 0 (risen_bit from run 0 (omega arith) ∙ first_carry from (bit_and from run) run)
+pub risen_first : (w from run : ℕ) → 0 < w → has (risen w from run) 0 ≡ has from 0
+risen_first w from run h = has_bit (risen w from run) from 0 0 (risen_bit w from run 0 h ∙ first_carry from (bit_and from run) run)
 
 carry_on : (s r c : ℕ) → s < 2 → r < 2 → c < 2 → (min s r + r + c) / 2 ≡ min r (max s c)
 carry_on s r c h i j = omega arith
 
-risen_suc : (from run i : ℕ) → i < 127 → has (risen from run) (suc i) ≡ (has from (suc i) || (has run i && has (risen from run) i))
+risen_suc : (w from run i : ℕ) → i + 1 < w → has (risen w from run) (suc i) ≡ (has from (suc i) || (has run i && has (risen w from run) i))
 unfolding has
-risen_suc from run i h =
+risen_suc w from run i h =
     let begun = bit_and from run in
     let c = carried 0 begun run i in
     let l = carried_below i 0 begun run (omega arith) in
-    let x = bit_at (risen from run) i in
-    let here : x ≡ max (bit_at from i) c = risen_bit from run i (omega arith) in
+    let x = bit_at (risen w from run) i in
+    let here : x ≡ max (bit_at from i) c = risen_bit w from run i (omega arith) in
     let m = carried_more i 0 begun run in
     let n = bit_at_and from run i in
     let k = carry_on (bit_at from i) (bit_at run i) c (bit_at-lt from i) (bit_at-lt run i) l in
     let up : carried 0 begun run (suc i) ≡ min (bit_at run i) x = omega arith in
-    let more : bit_at (risen from run) (suc i) ≡ max (bit_at from (suc i)) (min (bit_at run i) x) = risen_bit from run (suc i) (omega arith) ∙ ap (λ y. max (bit_at from (suc i)) y) up in
+    let more : bit_at (risen w from run) (suc i) ≡ max (bit_at from (suc i)) (min (bit_at run i) x) = risen_bit w from run (suc i) (omega arith) ∙ ap (λ y. max (bit_at from (suc i)) y) up in
     let p = bit_at-lt run i in
-    let q = bit_at-lt (risen from run) i in
+    let q = bit_at-lt (risen w from run) i in
     ap (λ y. y == 1) more
     ∙ (max_is_one (bit_at from (suc i)) (min (bit_at run i) x) (bit_at-lt from (suc i)) (omega arith)
     ∙ ap (λ y. (bit_at from (suc i) == 1) || y) (min_is_one (bit_at run i) x p q))
 
-pub risen_on : (from run i : ℕ) → i < 127 → has (risen from run) (i + 1) ≡ (has from (i + 1) || (has run i && has (risen from run) i))
-risen_on from run i h =
-    let P : ℕ → Type 0 = λ n. has (risen from run) n ≡ (has from n || (has run i && has (risen from run) i)) in
-    subst P (let e : suc i ≡ i + 1 = omega arith in e) (risen_suc from run i h)
-
-pub ruleset rising = (risen_first, risen_on)
+pub risen_on : (w from run i : ℕ) → i + 1 < w → has (risen w from run) (i + 1) ≡ (has from (i + 1) || (has run i && has (risen w from run) i))
+risen_on w from run i h =
+    let P : ℕ → Type 0 = λ n. has (risen w from run) n ≡ (has from n || (has run i && has (risen w from run) i)) in
+    subst P (let e : suc i ≡ i + 1 = omega arith in e) (risen_suc w from run i h)
 
 -- ---- what reaches a set over fewer than n cells
 
@@ -262,10 +269,10 @@ spans_twice run runs s t i e g =
 
 -- ---- the next position
 
-pub up_next : (a j : ℕ) → j < 127 → has (a * 2 % 340282366920938463463374607431768211456) (j + 1) ≡ has a j
-up_next a j h =
-    let P : ℕ → Type 0 = λ n. has (a * 2 % 340282366920938463463374607431768211456) n ≡ has a j in
-    subst P (let e : suc j ≡ j + 1 = omega arith in e) (has_up a j h)
+pub up_next : (w a j : ℕ) → j + 1 < w → has (a * 2 % 2 ^ w) (j + 1) ≡ has a j
+up_next w a j h =
+    let P : ℕ → Type 0 = λ n. has (a * 2 % 2 ^ w) n ≡ has a j in
+    subst P (let e : suc j ≡ j + 1 = omega arith in e) (moved_up w a j h)
 
 pub false_behind : (b : Bool) → (b || false) ≡ b
 false_behind true = refl

@@ -1,5 +1,5 @@
 -- Sets of cells by colour, as the program makes them and writes them out.
-use Rattle.std.proofs.Common.{◌≡◌, ℕ, ◌*◌, ◌%◌, ◌^◌, ◌<◌, ◌≤◌, Bool, true, false, List, ◌==◌, ◌&&◌, ◌||◌, nat_lt, bit_or, refl, sym, ap, subst, ◌∙◌, arith, inl, inr, eq-eqb, ne_eqb, eqb-true, length, get_or}
+use Rattle.std.proofs.Common.{◌≡◌, ℕ, ◌+◌, ◌*◌, ◌%◌, ◌^◌, ◌<◌, ◌≤◌, Bool, true, false, List, ◌==◌, ◌&&◌, ◌||◌, nat_lt, bit_or, refl, sym, ap, subst, ◌∙◌, arith, inl, inr, eq-eqb, ne_eqb, eqb-true, length, get_or}
 use Rattle.std.proofs.Math.Bool.{and-false, or-false}
 use Rattle.std.proofs.Math.ListN.{set}
 use Rattle.std.proofs.lemmas.Bool.{cases_eq, cases_lt, lt-ltb, le-ltb, or_cases, or_left, or_right, false≢true}
@@ -7,7 +7,7 @@ use Rattle.std.proofs.lemmas.List.{get_or_past, get_or-set_same, get_or-set_othe
 use Rattle.line_settle.specs.Spelling.{allows}
 use Rattle.line_settle.specs.Positions.{has, IsCellsWith, HasMade}
 use Rattle.line_settle.proofs.BitLemmas.{allows_none, allows_or, allows_shifted}
-use Rattle.line_settle.proofs.PositionLemmas.{has_and, has_or, has_none, has_one, has_place, has_down, has_up_first, up_next}
+use Rattle.line_settle.proofs.PositionLemmas.{has_or, has_none}
 
 -- ---- the sets of cells by colour
 
@@ -60,7 +60,35 @@ seen_at seen colour n places i k e h =
     let P : ℕ → Type 0 = λ m. has (get_or (set seen m (bit_or (get_or seen m 0) places)) k 0) i ≡ (has (get_or seen k 0) i || (has places i && colour == k)) in
     subst P (sym e) (seen_more seen colour (bit_or (get_or seen colour 0) places) places i k h refl)
 
-pub ruleset writing = (has_none)
+-- one colour more is written, or none where its set is empty
+pub written_more : (sets : List ℕ) (k places i j : ℕ) (a b : Bool) → places ≡ get_or sets k 0 → a ≡ (nat_lt j k && has (get_or sets j 0) i) → b ≡ (a || (has places i && k == j)) → b ≡ (nat_lt j (k + 1) && has (get_or sets j 0) i)
+written_more sets k places i j a b e before new =
+    let h = has (get_or sets j 0) i in
+    new ∙ (ap (λ x. x || (has places i && k == j)) before ∙ elim (cases_lt j k) [
+      | inl low ↦
+          ap (λ x. (x && h) || (has places i && k == j)) (lt-ltb j k low)
+          ∙ (ap (λ x. h || (has places i && x)) (ne_eqb k j (λ z. absurd (omega arith)))
+          ∙ (ap (λ x. h || x) (and-false (has places i)) ∙ (or-false h ∙ sym (ap (λ x. x && h) (lt-ltb j (k + 1) (omega arith))))))
+      | inr high ↦ ap (λ x. (x && h) || (has places i && k == j)) (le-ltb j k high) ∙ elim (cases_eq k j) [
+        | inl same ↦
+            let P : ℕ → Type 0 = λ n. has places i ≡ has (get_or sets n 0) i in
+            let here : has places i ≡ h = subst P same (ap (λ s. has s i) e) in
+            ap (λ x. has places i && x) (eq-eqb k j same)
+            ∙ (and_true (has places i) ∙ (here ∙ sym (ap (λ x. x && h) (lt-ltb j (k + 1) (omega arith)))))
+        | inr other ↦
+            ap (λ x. has places i && x) (ne_eqb k j other)
+            ∙ (and-false (has places i) ∙ sym (ap (λ x. x && h) (le-ltb j (k + 1) (omega arith))))
+      ]
+    ])
+  where
+    and_true : (b : Bool) → (b && true) ≡ b
+    and_true true = refl
+    and_true false = refl
+
+pub written_none : (sets : List ℕ) (k places i j : ℕ) (a : Bool) → places ≡ get_or sets k 0 → places ≡ 0 → a ≡ (nat_lt j k && has (get_or sets j 0) i) → a ≡ (nat_lt j (k + 1) && has (get_or sets j 0) i)
+written_none sets k places i j a e none before =
+    let nothing : (has places i && k == j) ≡ false = ap (λ s. has s i && k == j) none ∙ ap (λ x. x && k == j) (has_none i) in
+    written_more sets k places i j a a e before (sym (or-false a) ∙ ap (λ x. a || x) (sym nothing))
 
 -- what lies behind the last colour was never seen
 pub all_written : (seen : List ℕ) (n i k : ℕ) → length seen ≤ n → (nat_lt k n && has (get_or seen k 0) i) ≡ has (get_or seen k 0) i

@@ -9,9 +9,9 @@ use Rattle.line_settle.specs.declared.positions.Spans.TheVariants.{Near, Far}
 unfoldable pub has : ℕ → ℕ → Bool
 has set i = bit_at set i == 1
 
--- a set has the positions before the cells in which colour k is left
+-- a set has the positions before the cells in which colour k is left, and not the one behind them
 abbrev pub IsCellsWith : List ℕ → ℕ → ℕ → Type 0
-IsCellsWith left k set = (i : ℕ) → i < 128 → has set i ≡ allows (slice_index left i) k
+IsCellsWith left k set = (i : ℕ) → i ≤ length left → has set i ≡ allows (slice_index left i) k
 
 -- such sets for the colours of a mask, by colour
 abbrev pub HasMade : List ℕ → ℕ → List ℕ → Type 0

@@ -5,40 +5,41 @@ ghost use Rattle.clues.specs.Clue.{IsClue};
 ghost use Rattle.line_settle.specs.Positions.{has};
 ghost use Rattle.line_settle.specs.Laying.{lays, moved, covers, meets};
 
+use crate::word::Word;
 use clues::Block;
 
-#[tactic(auto, using(crate::proofs::LayingLemmas::starting))]
 /// The positions from which `len` cells of a set lead to a position of `ends`.
-pub fn starts_before(ends: u128, cells: u128, len: u8) -> u128
-    ensures { (i : ℕ) → has result i ≡ lays cells ends len i }
+#[inline]
+pub fn starts_before<W: Word>(ends: W, cells: W, len: u8) -> W
+    ensures { (i : ℕ) → has (W.bits result) i ≡ lays (W.bits cells) (W.bits ends) len i }
 {
     let mut starts = ends;
     for _ in 0..len {
-        starts = (starts >> 1) & cells;
+        starts = starts.down(1).and(cells);
     }
     starts
 }
 
 /// Blocks laid on a line.
 #[derive(Clone, Copy)]
-pub struct Laid {
+pub struct Laid<W> {
     /// The positions before the cells that they take.
-    pub cells: u128,
+    pub cells: W,
     /// The positions behind them.
-    pub ends: u128,
+    pub ends: W,
 }
 
-#[tactic(auto, using(crate::proofs::LayingLemmas::laying))]
 /// Lays a block of `len` cells from each position of a set.
-pub fn lay(starts: u128, len: u8) -> Laid
-    ensures cells { (i : ℕ) → i < 128 → has result.cells i ≡ covers starts len i }
-    ensures ends { (i : ℕ) → i < 128 → has result.ends i ≡ moved starts len i }
+#[inline]
+pub fn lay<W: Word>(starts: W, len: u8) -> Laid<W>
+    ensures cells { (i : ℕ) → i < W.width → has (W.bits result.cells) i ≡ covers (W.bits starts) len i }
+    ensures ends { (i : ℕ) → i < W.width → has (W.bits result.ends) i ≡ moved (W.bits starts) len i }
 {
-    let mut cells = 0;
+    let mut cells = W::low(0);
     let mut ends = starts;
     for _ in 0..len {
-        cells |= ends;
-        ends <<= 1;
+        cells = cells.or(ends);
+        ends = ends.up(1);
     }
     Laid { cells, ends }
 }
@@ -52,28 +53,30 @@ pub fn meets(blocks: &[Block], j: usize) -> bool
     j > 0 && blocks[j - 1].colour == blocks[j].colour
 }
 
-#[tactic(auto, using(crate::proofs::LayingLemmas::gaps))]
 /// The positions before the gap before a block from which the line can go on, `later` being those behind the gap.
-pub fn before_gap(later: u128, background: u128, is_gap: bool) -> u128
+#[inline]
+pub fn before_gap<W: Word>(later: W, background: W, is_gap: bool) -> W
     ensures none { is_gap ≡ false → result ≡ later }
-    ensures one { is_gap ≡ true → (i : ℕ) → has result i ≡ (has background i && has later (i + 1)) }
+    ensures one { is_gap ≡ true
+        → (i : ℕ) → has (W.bits result) i ≡ (has (W.bits background) i && has (W.bits later) (i + 1)) }
 {
     if is_gap {
-        (later >> 1) & background
+        later.down(1).and(background)
     } else {
         later
     }
 }
 
-#[tactic(auto, using(crate::proofs::LayingLemmas::gaps))]
 /// The positions behind the gap before a block, `from` being those before the gap.
-pub fn behind_gap(from: u128, background: u128, is_gap: bool) -> u128
+#[inline]
+pub fn behind_gap<W: Word>(from: W, background: W, is_gap: bool) -> W
     ensures none { is_gap ≡ false → result ≡ from }
-    ensures first { is_gap ≡ true → has result 0 ≡ false }
-    ensures one { is_gap ≡ true → (i : ℕ) → i < 127 → has result (i + 1) ≡ (has background i && has from i) }
+    ensures first { is_gap ≡ true → has (W.bits result) 0 ≡ false }
+    ensures one { is_gap ≡ true → (i : ℕ) → i + 1 < W.width
+        → has (W.bits result) (i + 1) ≡ (has (W.bits background) i && has (W.bits from) i) }
 {
     if is_gap {
-        (from & background) << 1
+        from.and(background).up(1)
     } else {
         from
     }

@@ -20,6 +20,7 @@ mod shown_line;
 mod state_sets;
 mod sweep;
 mod tables;
+mod word;
 
 pub use facts::Facts;
 pub use forcing::{Forced, force, force_crossing};

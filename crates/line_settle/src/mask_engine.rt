@@ -17,16 +17,21 @@ use std::marker::Model;
 pub struct MaskEngine {
     longest: u8,
     calls: u64,
-    starting: Vec<u128>,
-    waiting: Vec<u128>,
+    starting: Vec<u64>,
+    waiting: Vec<u64>,
+    far_starting: Vec<u128>,
+    far_waiting: Vec<u128>,
 }
+
+// A line of fewer cells fits in 64 bits.
+const NEAR: usize = 64;
 
 impl Model for MaskEngine {
     ghost Value = { Engine };
 
     ghost view = { λ e. engine e.longest e.calls };
 
-    ghost invariant = { λ e. MaskRoom e.longest e.starting.items e.waiting.items };
+    ghost invariant = { λ e. MaskRoom e.longest e.starting.items e.waiting.items e.far_starting.items e.far_waiting.items };
 }
 
 impl MaskEngine {
@@ -36,13 +41,17 @@ impl MaskEngine {
         ensures { IfOk result (λ made. made ≡ engine longest 0) }
     {
         let side = usize::from(longest) + 1;
-        let starting = vec![in alloc; 0u128; side]?;
-        let waiting = vec![in alloc; 0u128; side]?;
+        let starting = vec![in alloc; 0u64; side]?;
+        let waiting = vec![in alloc; 0u64; side]?;
+        let far_starting = vec![in alloc; 0u128; side]?;
+        let far_waiting = vec![in alloc; 0u128; side]?;
         Ok(MaskEngine {
             longest,
             calls: 0,
             starting,
             waiting,
+            far_starting,
+            far_waiting,
         })
     }
 }
@@ -63,12 +72,12 @@ impl LineEngine for MaskEngine {
     fn narrow(&mut self, count: &mut u64, clue: &Clue, left: &[u16], out: &mut [u16]) -> Outcome {
         self.calls = self.calls.saturating_add(1);
         *count = count.saturating_add(1);
-        narrow_by_sets(
-            clue.blocks(),
-            left,
-            out,
-            &mut self.starting,
-            &mut self.waiting,
-        )
+        if left.len() < NEAR {
+            let starting = &mut self.starting;
+            narrow_by_sets(clue.blocks(), left, out, starting, &mut self.waiting)
+        } else {
+            let starting = &mut self.far_starting;
+            narrow_by_sets(clue.blocks(), left, out, starting, &mut self.far_waiting)
+        }
     }
 }

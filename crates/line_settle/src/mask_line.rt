@@ -1,6 +1,7 @@
 //! One line compared with its clue by sets of positions, for the mask engine.
 
 ghost use Rattle.std.specs.Prelude.{◌≡◌, ℕ, ◌+◌, ◌<◌, ◌≤◌, ◌++◌, ◌==◌, ◌↔◌, true, false, IsTrue, length, slice_index, drop, replicate};
+ghost use Rattle.std.specs.Mem.{type_size};
 ghost use Rattle.clues.specs.Clue.{IsClue};
 ghost use Rattle.line_settle.specs.Narrowing.{Narrows};
 ghost use Rattle.line_settle.specs.Spelling.{gap, pattern_of, allows, finishes, reaches, passes_below};
@@ -8,6 +9,7 @@ ghost use Rattle.line_settle.specs.Spelling.{gap, pattern_of, allows, finishes, 
 use crate::line_engine::Outcome;
 use crate::position_tables::{colours_of, mark_allowed, mark_back, see_blocks, write_colours};
 use crate::shown_line::{are_shown, narrow_shown, narrow_without_blocks};
+use crate::word::Word;
 use clues::Block;
 use picture::MAX_SIDE;
 
@@ -40,15 +42,16 @@ pub fn has_room(blocks: &[Block], cells: usize) -> bool
 // Says whether some line of the blocks keeps to the colours left, and writes the colours that such lines have in each
 // cell. It is kept out of the caller's body, where it is slower.
 #[inline(never)]
-fn narrow_sets(
+fn narrow_sets<W: Word>(
     blocks: &[Block],
     left: &[u16],
-    starting: &mut [u128],
-    waiting: &mut [u128],
+    starting: &mut [W],
+    waiting: &mut [W],
     out: &mut [u16],
 ) -> bool
     requires blocks_of_clue { IsClue blocks.now }
-    requires short { length left.now ≤ MAX_SIDE }
+    requires small_word { type_size W.row ≤ 16 }
+    requires short { length left.now < W.width }
     requires starting_room { length blocks.now < length starting.old }
     requires waiting_room { length blocks.now < length waiting.old }
     requires same_length { length left.now ≡ length out.old }
@@ -64,14 +67,14 @@ fn narrow_sets(
         (length (pattern_of blocks.now))
         k }
 {
-    let mut allowed = [0u128; 16];
+    let mut allowed = [W::low(0); 16];
     let made = mark_allowed(blocks, left, &mut allowed);
     let fits = mark_back(blocks, left, &allowed, starting, waiting);
     if !fits {
         out.fill(0);
         return false;
     }
-    let mut seen = [0u128; 16];
+    let mut seen = [W::low(0); 16];
     see_blocks(blocks, left, &allowed, starting, waiting, &mut seen);
     let colours = colours_of(made);
     write_colours(&seen[..usize::from(colours)], out);
@@ -80,16 +83,18 @@ fn narrow_sets(
 
 /// Compares a line with its clue by sets of positions for each block, in the buffers that are lent. A line without
 /// blocks or open cells needs only a pass over its cells. A clue of more blocks than the line has cells is not laid.
-pub fn narrow_by_sets(
+pub fn narrow_by_sets<W: Word>(
     blocks: &[Block],
     left: &[u16],
     out: &mut [u16],
-    starting: &mut [u128],
-    waiting: &mut [u128],
+    starting: &mut [W],
+    waiting: &mut [W],
 ) -> Outcome
     requires blocks_of_clue { IsClue blocks.now }
     requires same_length { length left.now ≡ length out.old }
     requires short { length left.now ≤ MAX_SIDE }
+    requires small_word { type_size W.row ≤ 16 }
+    requires fits_word { length left.now < W.width }
     requires starting_room { length left.now < length starting.old }
     requires waiting_room { length left.now < length waiting.old }
     ensures { Narrows blocks.now left.now result out.new }

@@ -1,6 +1,6 @@
 //! The passes of the mask engine over all blocks: from the back, and from the front.
 
-ghost use Rattle.std.specs.Prelude.{◌≡◌, ℕ, ◌<◌, ◌≤◌, ◌&&◌, ◌||◌, ◌==◌, true, length, replicate, slice_index};
+ghost use Rattle.std.specs.Prelude.{◌≡◌, ℕ, ◌<◌, ◌≤◌, ◌&&◌, ◌||◌, ◌==◌, true, length, map, replicate, slice_index};
 ghost use Rattle.std.specs.List.{All};
 ghost use Rattle.clues.specs.Clue.{IsClue};
 ghost use Rattle.line_settle.specs.Spelling.{allows, pattern_of, finishes};
@@ -9,17 +9,18 @@ ghost use Rattle.line_settle.specs.Laying.{AreMarked, AreSeen, IsAllowed};
 
 use crate::block_steps::{before_gap, behind_gap, lay, meets, starts_before};
 use crate::pattern::allows;
-use crate::positions::{Spans, add_colour, cells_with, fill_up};
+use crate::positions::{add_colour, cells_with, fill_up};
+use crate::word::Word;
 use clues::Block;
 
 #[tactic(auto, using(crate::proofs::SetStepLemmas::making))]
 // Makes the set of cells in which a colour is left, unless it is one of the colours that are `made`.
-fn mark_colour(colour: u8, left: &[u16], made: u16, allowed: &mut [u128]) -> u16
+fn mark_colour<W: Word>(colour: u8, left: &[u16], made: u16, allowed: &mut [W]) -> u16
     requires colour { colour < 16 }
-    requires short { length left.now < 128 }
+    requires short { length left.now < W.width }
     requires sixteen { length allowed.old ≡ 16 }
-    requires before { HasMade left.now made allowed.old }
-    ensures after { HasMade left.now result allowed.new }
+    requires before { HasMade left.now made (map W.bits allowed.old) }
+    ensures after { HasMade left.now result (map W.bits allowed.new) }
     ensures here { allows result colour ≡ true }
     ensures kept { (k : ℕ) → allows made k ≡ true → allows result k ≡ true }
 {
@@ -32,11 +33,11 @@ fn mark_colour(colour: u8, left: &[u16], made: u16, allowed: &mut [u128]) -> u16
 
 /// Makes the sets of cells in which the background and the colour of each block are left, and answers a mask of these
 /// colours.
-pub fn mark_allowed(blocks: &[Block], left: &[u16], allowed: &mut [u128]) -> u16
+pub fn mark_allowed<W: Word>(blocks: &[Block], left: &[u16], allowed: &mut [W]) -> u16
     requires blocks_of_clue { IsClue blocks.now }
-    requires short { length left.now < 128 }
+    requires short { length left.now < W.width }
     requires sixteen { length allowed.old ≡ 16 }
-    ensures made { IsAllowed blocks.now left.now allowed.new }
+    ensures made { IsAllowed blocks.now left.now (map W.bits allowed.new) }
     ensures background { allows result 0 ≡ true }
     ensures each { All (λ b. allows result b.colour ≡ true) blocks.now }
 {
@@ -49,93 +50,100 @@ pub fn mark_allowed(blocks: &[Block], left: &[u16], allowed: &mut [u128]) -> u16
 
 /// Marks for each block the positions from which the line can go to its end by laying it, and those from which it can
 /// by waiting for it first, and says whether some line can from its first position.
-pub fn mark_back(
+pub fn mark_back<W: Word>(
     blocks: &[Block],
     left: &[u16],
-    allowed: &[u128],
-    starting: &mut [u128],
-    waiting: &mut [u128],
+    allowed: &[W],
+    starting: &mut [W],
+    waiting: &mut [W],
 ) -> bool
     requires blocks_of_clue { IsClue blocks.now }
     requires sixteen { length allowed.now ≡ 16 }
-    requires short { length left.now < 128 }
+    requires short { length left.now < W.width }
     requires starting_room { length blocks.now < length starting.old }
     requires waiting_room { length blocks.now < length waiting.old }
-    requires allowed_is { IsAllowed blocks.now left.now allowed.now }
-    ensures marked { AreMarked blocks.now left.now starting.new waiting.new }
+    requires allowed_is { IsAllowed blocks.now left.now (map W.bits allowed.now) }
+    ensures marked { AreMarked blocks.now left.now (map W.bits starting.new) (map W.bits waiting.new) }
     ensures fits { result ≡ finishes (pattern_of blocks.now) left.now 0 }
 {
-    let background = Spans::of(allowed[0]);
-    let mut later = background.fill_down(1 << left.len());
+    let background = allowed[0];
+    let spans = background.spans();
+    let mut later = W::place(left.len()).fill_down(&spans);
     waiting[blocks.len()] = later;
     for j in (0..blocks.len()).rev() {
         let block = blocks[j];
         let starts = starts_before(later, allowed[usize::from(block.colour)], block.len);
-        let waits = background.fill_down(starts);
+        let waits = starts.fill_down(&spans);
         starting[j] = starts;
         waiting[j] = waits;
-        later = before_gap(waits, allowed[0], meets(blocks, j));
+        later = before_gap(waits, background, meets(blocks, j));
     }
-    later & 1 == 1
+    later.has_first()
 }
 
 /// Adds the cells of a set to those seen with a colour.
-pub fn see_colour(set: u128, colour: u8, seen: &mut [u128])
+#[inline]
+pub fn see_colour<W: Word>(set: W, colour: u8, seen: &mut [W])
     requires colour { colour < 16 }
     requires sixteen { length seen.old ≡ 16 }
-    ensures { (i k : ℕ) → has (slice_index seen.new k) i ≡ (has (slice_index seen.old k) i || (has set i && colour == k)) }
+    ensures { (i k : ℕ) → has (slice_index (map W.bits seen.new) k) i
+        ≡ (has (slice_index (map W.bits seen.old) k) i || (has (W.bits set) i && colour == k)) }
 {
-    seen[usize::from(colour)] |= set;
+    let at = usize::from(colour);
+    seen[at] = seen[at].or(set);
 }
 
 /// Sees the cells with which a line goes on from its first position to its end, by what is marked for each block.
-pub fn see_blocks(
+pub fn see_blocks<W: Word>(
     blocks: &[Block],
     left: &[u16],
-    allowed: &[u128],
-    starting: &[u128],
-    waiting: &[u128],
-    seen: &mut [u128],
+    allowed: &[W],
+    starting: &[W],
+    waiting: &[W],
+    seen: &mut [W],
 )
     requires blocks_of_clue { IsClue blocks.now }
     requires sixteen { length allowed.now ≡ 16 }
-    requires none_seen { seen.old ≡ replicate 16 0 }
-    requires short { length left.now < 127 }
+    requires none_seen { map W.bits seen.old ≡ replicate 16 0 }
+    requires short { length left.now < W.width }
     requires starting_room { length blocks.now < length starting.now }
     requires waiting_room { length blocks.now < length waiting.now }
-    requires allowed_is { IsAllowed blocks.now left.now allowed.now }
-    requires marked { AreMarked blocks.now left.now starting.now waiting.now }
+    requires allowed_is { IsAllowed blocks.now left.now (map W.bits allowed.now) }
+    requires marked { AreMarked blocks.now left.now (map W.bits starting.now) (map W.bits waiting.now) }
     requires fits { finishes (pattern_of blocks.now) left.now 0 ≡ true }
-    ensures { AreSeen blocks.now left.now seen.new }
+    ensures { AreSeen blocks.now left.now (map W.bits seen.new) }
 {
-    let mut from = 1;
+    let background = allowed[0];
+    let mut from = W::low(1);
     for j in 0..blocks.len() {
         let block = blocks[j];
-        let here = fill_up(behind_gap(from, allowed[0], meets(blocks, j)), allowed[0]);
+        let here = fill_up(behind_gap(from, background, meets(blocks, j)), background);
         // A line reads background in the gap, which begins at `from`, and while it waits, which it does within `here`. Of
-        // these cells it goes on behind those that end, one position on, where it can still wait for the block: a set's
-        // position i is bit i, so `>> 1` asks it of the position behind the cell.
-        see_colour((from | here) & (allowed[0] & (waiting[j] >> 1)), 0, seen);
-        let laid = lay(here & starting[j], block.len);
+        // these cells it goes on behind those that end, one position on, where it can still wait for the block.
+        let stays = background.and(waiting[j].down(1));
+        see_colour(from.or(here).and(stays), 0, seen);
+        let laid = lay(here.and(starting[j]), block.len);
         see_colour(laid.cells, block.colour, seen);
         from = laid.ends;
     }
     // The same behind the last block, where there is no gap.
-    let here = fill_up(from, allowed[0]);
-    see_colour(here & (allowed[0] & (waiting[blocks.len()] >> 1)), 0, seen);
+    let here = fill_up(from, background);
+    let stays = background.and(waiting[blocks.len()].down(1));
+    see_colour(here.and(stays), 0, seen);
 }
 
-#[tactic(auto, using(crate::proofs::SetStepLemmas::writing))]
 /// Writes for each cell the colours that were seen there.
-pub fn write_colours(seen: &[u128], out: &mut [u16])
+pub fn write_colours<W: Word>(seen: &[W], out: &mut [u16])
     requires sixteen { length seen.now ≤ 16 }
-    requires short { length out.old < 128 }
-    ensures { (i k : ℕ) → i < length out.old → allows (slice_index out.new i) k ≡ has (slice_index seen.now k) i }
+    requires short { length out.old < W.width }
+    ensures { (i k : ℕ) → i < length out.old
+        → allows (slice_index out.new i) k ≡ has (slice_index (map W.bits seen.now) k) i }
 {
     out.fill(0);
     for k in 0..seen.len() {
-        if seen[k] != 0 {
-            add_colour(seen[k], k as u8, out);
+        let set = seen[k];
+        if !set.is_none() {
+            add_colour(set, k as u8, out);
         }
     }
 }

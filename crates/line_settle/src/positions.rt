@@ -3,21 +3,23 @@
 ghost use Rattle.std.specs.Prelude.{◌≡◌, ℕ, ◌+◌, ◌*◌, ◌/◌, ◌<◌, ◌≤◌, ◌&&◌, ◌||◌, ◌==◌, Bool, length, slice_index};
 ghost use Rattle.line_settle.specs.Crossing.{differs};
 ghost use Rattle.line_settle.specs.Spelling.{allows};
-ghost use Rattle.line_settle.specs.Positions.{has, AreSpans, AreSpansOf, IsColoured};
+ghost use Rattle.line_settle.specs.Positions.{has, AreSpans, AreSpansOf, IsCellsWith, IsColoured};
 
 use crate::pattern::allows;
+use crate::word::Word;
 use std::simd::prelude::*;
 
-#[tactic(auto, using(crate::proofs::PositionLemmas::rising))]
 /// The positions that can be reached from a set, cell by cell upwards, over the cells of `run`.
-pub fn fill_up(set: u128, run: u128) -> u128
-    ensures first { has result 0 ≡ has set 0 }
-    ensures on { (i : ℕ) → i < 127 → has result (i + 1) ≡ (has set (i + 1) || (has run i && has result i)) }
+#[inline]
+pub fn fill_up<W: Word>(set: W, run: W) -> W
+    ensures first { has (W.bits result) 0 ≡ has (W.bits set) 0 }
+    ensures on { (i : ℕ) → i + 1 < W.width
+        → has (W.bits result) (i + 1) ≡ (has (W.bits set) (i + 1) || (has (W.bits run) i && has (W.bits result) i)) }
 {
     // Each cell of `run` hands a carry on, and takes a new one up where the set begins.
-    let begun = set & run;
-    let carried = begun.wrapping_add(run);
-    set | (carried ^ begun ^ run)
+    let begun = set.and(run);
+    let carried = begun.plus(run);
+    set.or(carried.xor(begun).xor(run))
 }
 
 /// For each power of two below the width of the positions, from 1 on, the positions from which so many cells in a row are
@@ -58,8 +60,8 @@ impl Spans {
 }
 
 #[tactic(auto, using(crate::proofs::SpanLemmas::spanning))]
-// The spans of cells before position 63.
-fn near_spans(cells: u64) -> [u64; 6]
+/// The spans of cells before position 63.
+pub fn near_spans(cells: u64) -> [u64; 6]
     ensures six { length result ≡ 6 }
     ensures each { AreSpans cells result }
 {
@@ -92,8 +94,8 @@ fn far_spans(cells: u128) -> [u128; 7]
 }
 
 #[tactic(auto, using(crate::proofs::SpanLemmas::filling))]
-// What reaches a set over cells before position 63, by their spans: after a round what does over fewer than `step` cells.
-fn fill_near(set: u64, spans: &[u64; 6]) -> u64
+/// What reaches a set over cells before position 63, by their spans: after a round what does over fewer than `step` cells.
+pub fn fill_near(set: u64, spans: &[u64; 6]) -> u64
     ensures { (cells : ℕ) → length spans.now ≡ 6 → AreSpans cells spans.now
         → (i : ℕ) → has result i ≡ (has set i || (has cells i && has result (i + 1))) }
 {
@@ -147,24 +149,24 @@ fn eight_with(left: &[u16], first: usize, colour: u8) -> u64
 }
 
 /// The cells of a line in which a colour is left, as the positions before them.
-pub fn cells_with(left: &[u16], colour: u8) -> u128
+pub fn cells_with<W: Word>(left: &[u16], colour: u8) -> W
     requires colour { colour < 16 }
-    requires short { length left.now < 128 }
-    ensures { (i : ℕ) → i < 128 → has result i ≡ allows (slice_index left.now i) colour }
+    requires short { length left.now < W.width }
+    ensures { IsCellsWith left.now colour (W.bits result) }
 {
     if left.len() < 8 {
-        return u128::from(few_with(left, colour));
+        return W::low(few_with(left, colour));
     }
-    let mut cells = 0u128;
+    let mut cells = W::low(0);
     for chunk in (0..left.len() / 8).rev() {
-        cells = (cells << 8) | u128::from(eight_with(left, 8 * chunk, colour));
+        cells = cells.up(8).or(W::low(eight_with(left, 8 * chunk, colour)));
     }
     if left.len() % 8 == 0 {
         return cells;
     }
     // The last eight cells together: some of them once more, which changes nothing.
     let last = left.len() - 8;
-    cells | (u128::from(eight_with(left, last, colour)) << last)
+    cells.or(W::low(eight_with(left, last, colour)).up(last))
 }
 
 #[inline]
@@ -221,26 +223,27 @@ fn colour_cells(set: u16, colour: u8, first: usize, count: usize, out: &mut [u16
 }
 
 /// Leaves a colour in the cells behind the positions of a set.
-pub fn add_colour(set: u128, colour: u8, out: &mut [u16])
+pub fn add_colour<W: Word>(set: W, colour: u8, out: &mut [u16])
     requires colour { colour < 16 }
-    requires short { length out.old < 128 }
+    requires short { length out.old < W.width }
     ensures { (i k : ℕ) → i < length out.old
-        → allows (slice_index out.new i) k ≡ (allows (slice_index out.old i) k || (has set i && colour == k)) }
+        → allows (slice_index out.new i) k
+        ≡ (allows (slice_index out.old i) k || (has (W.bits set) i && colour == k)) }
 {
     let cells = out.len();
     if cells < 8 {
-        colour_cells((set & 0xff) as u16, colour, 0, cells, out);
+        colour_cells(set.low_eight(), colour, 0, cells, out);
         return;
     }
     let mut rest = set;
     for chunk in 0..cells / 8 {
         // Always eight cells, so that they are coloured together.
-        colour_cells((rest & 0xff) as u16, colour, 8 * chunk, 8, out);
-        rest >>= 8;
+        colour_cells(rest.low_eight(), colour, 8 * chunk, 8, out);
+        rest = rest.down(8);
     }
     if cells % 8 != 0 {
         // The last eight cells: some of them once more, which changes nothing.
         let last = cells - 8;
-        colour_cells(((set >> last) & 0xff) as u16, colour, last, 8, out);
+        colour_cells(set.down(last).low_eight(), colour, last, 8, out);
     }
 }

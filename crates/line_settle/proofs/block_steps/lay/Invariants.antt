@@ -4,7 +4,7 @@ use Rattle.line_settle.specs.Laying.{moved, covers}
 use Rattle.line_settle.proofs.block_steps.lay.Given as goal
 
 abbrev pub invariant-loop : goal.invariant-loop
-invariant-loop l = record {
-  cells_are : (i : ℕ) → i < 128 → has l.cells i ≡ covers l.starts l.counter i;
-  ends_are : (i : ℕ) → i < 128 → has l.ends i ≡ moved l.starts l.counter i;
+invariant-loop g l = record {
+  cells_are : (i : ℕ) → i < g.W.Word.width → has (g.W.Word.bits l.cells) i ≡ covers (g.W.Word.bits l.fn.starts) l.counter i;
+  ends_are : (i : ℕ) → i < g.W.Word.width → has (g.W.Word.bits l.ends) i ≡ moved (g.W.Word.bits l.fn.starts) l.counter i;
 }

@@ -4,6 +4,6 @@ use Rattle.line_settle.specs.Laying.{lays}
 use Rattle.line_settle.proofs.block_steps.starts_before.Given as goal
 
 abbrev pub invariant-loop : goal.invariant-loop
-invariant-loop l = record {
-  starts_are : (i : ℕ) → has l.starts i ≡ lays l.cells l.ends l.counter i;
+invariant-loop g l = record {
+  starts_are : (i : ℕ) → has (g.W.Word.bits l.starts) i ≡ lays (g.W.Word.bits l.cells) (g.W.Word.bits l.fn.ends) l.counter i;
 }

@@ -1,0 +1,228 @@
+//! Words: numbers whose bits are a set of positions, so that one form of the passes serves lines of any length.
+
+ghost use Rattle.std.specs.Prelude.{◌≡◌, ℕ, ◌+◌, ◌*◌, ◌/◌, ◌%◌, ◌^◌, ◌<◌, ◌≤◌, ◌==◌, ◌&&◌, ◌||◌, bit_and, bit_or, bit_xor};
+ghost use Rattle.std.proofs.Common.{lit≤};
+ghost use Rattle.line_settle.specs.Positions.{has, AreSpans, AreSpansOf};
+
+use crate::positions::{Spans, fill_near, near_spans};
+
+/// A set of positions, of which position i is bit i of a number. A line of fewer cells than the width fits in it, with the
+/// position behind its last cell.
+pub trait Word: Copy + Drop {
+    ghost bits: { Self → ℕ };
+
+    ghost width: { ℕ };
+
+    /// What filling downwards over a set of cells needs of it.
+    type Spans: Copy + Drop;
+
+    ghost are_spans: { ℕ → Self.Spans → Type 0 };
+
+    /// The set of the positions below 64 whose bits a number has.
+    fn low(places: u64) -> Self
+        ensures { bits result ≡ places };
+
+    /// The set of one position.
+    fn place(at: usize) -> Self
+        requires { at < width }
+        ensures { (i : ℕ) → has (bits result) i ≡ (i == at) };
+
+    /// The positions of both sets.
+    fn and(self, other: Self) -> Self
+        ensures { bits result ≡ bit_and (bits self) (bits other) };
+
+    /// The positions of either set.
+    fn or(self, other: Self) -> Self
+        ensures { bits result ≡ bit_or (bits self) (bits other) };
+
+    /// The positions of one of the sets alone.
+    fn xor(self, other: Self) -> Self
+        ensures { bits result ≡ bit_xor (bits self) (bits other) };
+
+    /// The sum of the numbers, without a last carry.
+    fn plus(self, other: Self) -> Self
+        ensures { bits result ≡ (bits self + bits other) % 2 ^ width };
+
+    /// The positions so many steps lower.
+    fn down(self, steps: usize) -> Self
+        requires { steps < width }
+        ensures { bits result ≡ bits self / 2 ^ steps };
+
+    /// The positions so many steps higher.
+    fn up(self, steps: usize) -> Self
+        requires { steps < width }
+        ensures { bits result ≡ bits self * 2 ^ steps % 2 ^ width };
+
+    /// Whether the set has the first position.
+    fn has_first(self) -> bool
+        ensures { result ≡ has (bits self) 0 };
+
+    /// Whether the set is empty.
+    fn is_none(self) -> bool
+        ensures { result ≡ (bits self == 0) };
+
+    /// The positions below 8.
+    fn low_eight(self) -> u16
+        ensures { result ≡ bit_and (bits self) 255 };
+
+    /// What filling downwards over these cells needs.
+    fn spans(self) -> Self::Spans
+        ensures { are_spans (bits self) result };
+
+    /// The positions from which the set can be reached, cell by cell upwards, over cells with these spans.
+    fn fill_down(self, spans: &Self::Spans) -> Self
+        ensures { (cells : ℕ) → are_spans cells spans.now
+            → (i : ℕ) → has (bits result) i ≡ (has (bits self) i || (has cells i && has (bits result) (i + 1))) };
+
+    ghost wide: { 64 ≤ width };
+}
+
+impl Word for u64 {
+    ghost bits = { λ n. n };
+
+    ghost width = { 64 };
+
+    type Spans = [u64; 6];
+
+    ghost are_spans = { AreSpans };
+
+    #[inline]
+    fn low(places: u64) -> u64 {
+        places
+    }
+
+    #[inline]
+    fn place(at: usize) -> u64 {
+        1 << at
+    }
+
+    #[inline]
+    fn and(self, other: u64) -> u64 {
+        self & other
+    }
+
+    #[inline]
+    fn or(self, other: u64) -> u64 {
+        self | other
+    }
+
+    #[inline]
+    fn xor(self, other: u64) -> u64 {
+        self ^ other
+    }
+
+    #[inline]
+    fn plus(self, other: u64) -> u64 {
+        self.wrapping_add(other)
+    }
+
+    #[inline]
+    fn down(self, steps: usize) -> u64 {
+        self >> steps
+    }
+
+    #[inline]
+    fn up(self, steps: usize) -> u64 {
+        self << steps
+    }
+
+    #[inline]
+    fn has_first(self) -> bool {
+        self & 1 == 1
+    }
+
+    #[inline]
+    fn is_none(self) -> bool {
+        self == 0
+    }
+
+    #[inline]
+    fn low_eight(self) -> u16 {
+        (self & 0xff) as u16
+    }
+
+    fn spans(self) -> [u64; 6] {
+        near_spans(self)
+    }
+
+    fn fill_down(self, spans: &[u64; 6]) -> u64 {
+        fill_near(self, spans)
+    }
+
+    ghost wide = { lit≤ tt };
+}
+
+impl Word for u128 {
+    ghost bits = { λ n. n };
+
+    ghost width = { 128 };
+
+    type Spans = Spans;
+
+    ghost are_spans = { AreSpansOf };
+
+    #[inline]
+    fn low(places: u64) -> u128 {
+        u128::from(places)
+    }
+
+    #[inline]
+    fn place(at: usize) -> u128 {
+        1 << at
+    }
+
+    #[inline]
+    fn and(self, other: u128) -> u128 {
+        self & other
+    }
+
+    #[inline]
+    fn or(self, other: u128) -> u128 {
+        self | other
+    }
+
+    #[inline]
+    fn xor(self, other: u128) -> u128 {
+        self ^ other
+    }
+
+    #[inline]
+    fn plus(self, other: u128) -> u128 {
+        self.wrapping_add(other)
+    }
+
+    #[inline]
+    fn down(self, steps: usize) -> u128 {
+        self >> steps
+    }
+
+    #[inline]
+    fn up(self, steps: usize) -> u128 {
+        self << steps
+    }
+
+    #[inline]
+    fn has_first(self) -> bool {
+        self & 1 == 1
+    }
+
+    #[inline]
+    fn is_none(self) -> bool {
+        self == 0
+    }
+
+    #[inline]
+    fn low_eight(self) -> u16 {
+        (self & 0xff) as u16
+    }
+
+    fn spans(self) -> Spans {
+        Spans::of(self)
+    }
+
+    fn fill_down(self, spans: &Spans) -> u128 {
+        spans.fill_down(self)
+    }
+
+    ghost wide = { lit≤ tt };
+}
