@@ -1,4 +1,4 @@
--- A session that ran on the bench that was begun with what the file is opened as.
+-- A bench that was started with what the file is opened as, and a session that ran on it.
 use Rattle.std.proofs.Common.{◌≡◌, ℕ, List, Option, Result, Ok, Err, refl, sym, subst, inl}
 use Rattle.edits.specs.Design.{Design}
 use Rattle.live_audit.specs.Bench.{Begins, IsAudited, Seen}
@@ -8,17 +8,22 @@ use Rattle.nonobench.specs.declared.fault.ProgramFault.{ProgramFault}
 use Rattle.nonobench.specs.declared.options.Options.{Options}
 use Rattle.nonobench.specs.Faults.{session_fault_of}
 use Rattle.nonobench.specs.Open.{OpensFile}
-use Rattle.nonobench.specs.Work.{RunsOn, Works}
+use Rattle.nonobench.specs.Work.{IsStarted, RunsOn, Works}
 
-pub ran : (had have held holds : Option (List ℕ)) (file : List ℕ) (options : Options) (d : Design) (calls : ℕ) (fresh last : Seen) (answered ended : Result (Unit {0}) SessionFault)
-    → OpensFile file options (Ok d) → calls ≡ 0 → Begins d options.history calls fresh → IsAudited fresh → answered ≡ ended
-    → Runs had have held holds fresh last answered → RunsOn had have held holds file options ended
-ran had have held holds file options d calls fresh last answered ended opens none begins audited same runs = record {
+pub started : (file : List ℕ) (options : Options) (d : Design) (calls : ℕ) (fresh : Seen)
+    → OpensFile file options (Ok d) → calls ≡ 0 → Begins d options.history calls fresh → IsAudited fresh → IsStarted file options fresh
+started file options d calls fresh opens none begins audited = record {
   document = d;
   opens = opens;
-  fresh = fresh;
   begins = subst (λ n. Begins d options.history n fresh) none begins;
   audited = audited;
+}
+
+pub ran : (had have held holds : Option (List ℕ)) (file : List ℕ) (options : Options) (fresh last : Seen) (answered ended : Result (Unit {0}) SessionFault)
+    → IsStarted file options fresh → answered ≡ ended → Runs had have held holds fresh last answered → RunsOn had have held holds file options ended
+ran had have held holds file options fresh last answered ended started same runs = record {
+  fresh = fresh;
+  started = started;
   last = last;
   runs = subst (λ (r : Result (Unit {0}) SessionFault). Runs had have held holds fresh last r) same runs;
 }

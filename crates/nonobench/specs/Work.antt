@@ -18,13 +18,22 @@ pub record IsLawful (options : Options) : Type 0 where
   pub fits : options.history ≤ MAX_DEPTH
   pub background : options.non ≡ true → options.background ≡ None
 
--- The file is opened, and a session that ends so runs on a fresh bench with that document and a history of that depth.
-pub record RunsOn (had have held holds : Option (List ℕ)) (file : List ℕ) (options : Options) (ended : Result (Unit {0}) SessionFault) : Type 0 where
+-- The bench has the document that the file is opened as, and an empty history of that depth.
+pub record IsStarted (file : List ℕ) (options : Options) (fresh : Seen) : Type 0 where
   pub document : Design
   pub opens : OpensFile file options (Ok document)
-  pub fresh : Seen
   pub begins : Begins document options.history 0 fresh
   pub audited : IsAudited fresh
+
+-- what a call answers that starts a bench: that, or why the file is refused, or want of memory
+abbrev pub Starts : List ℕ → Options → Result Seen ProgramFault → Type 0
+Starts file options (Ok fresh) = IsStarted file options fresh
+Starts file options (Err fault) = (fault ≡ Memory) ⊎ OpensFile file options (Err fault)
+
+-- A session that ends so runs on a bench that was started with the file.
+pub record RunsOn (had have held holds : Option (List ℕ)) (file : List ℕ) (options : Options) (ended : Result (Unit {0}) SessionFault) : Type 0 where
+  pub fresh : Seen
+  pub started : IsStarted file options fresh
   pub last : Seen
   pub runs : Runs had have held holds fresh last ended
 

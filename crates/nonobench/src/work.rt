@@ -1,6 +1,6 @@
 //! The work on a file: a session.
 
-ghost use Rattle.nonobench.specs.Work.{IsLawful, Works};
+ghost use Rattle.nonobench.specs.Work.{IsLawful, Starts, Works};
 
 use crate::fault::ProgramFault;
 use crate::open::open_file;
@@ -30,9 +30,21 @@ pub fn run_work<R: Read, W: Write>(
         (W.contents writer.old) (W.contents writer.new)
         file.now options result }
 {
-    let document = open_file(alloc, file, &options)?;
-    let engine = MaskEngine::make(alloc, MAX_SIDE)?;
-    let mut bench = Bench::start(alloc, document, options.history, engine, InOrder::make())?;
+    let mut bench = fresh_bench(alloc, file, &options)?;
     run_session(alloc, reader, writer, &mut bench)?;
     Ok(())
+}
+
+// A bench with the document that the file is opened as.
+fn fresh_bench(
+    alloc: Global,
+    file: &[u8],
+    options: &Options,
+) -> Result<Bench<MaskEngine, InOrder>, ProgramFault>
+    requires { IsLawful options.now }
+    ensures { Starts file.now options.now result }
+{
+    let document = open_file(alloc, file, options)?;
+    let engine = MaskEngine::make(alloc, MAX_SIDE)?;
+    Ok(Bench::start(alloc, document, options.history, engine, InOrder::make())?)
 }
