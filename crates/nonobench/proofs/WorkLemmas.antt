@@ -4,9 +4,9 @@ use Rattle.edits.specs.Design.{Design}
 use Rattle.live_audit.specs.Bench.{Begins, IsAudited, Seen}
 use Rattle.session.specs.declared.session.SessionFault.{SessionFault}
 use Rattle.session.specs.Session.{Runs}
-use Rattle.nonobench.specs.declared.fault.ProgramFault.{ProgramFault}
+use Rattle.answers.specs.declared.fault.ProgramFault.{ProgramFault}
 use Rattle.nonobench.specs.declared.options.Options.{Options}
-use Rattle.nonobench.specs.Faults.{session_fault_of}
+use Rattle.answers.specs.Faults.{session_fault_of}
 use Rattle.nonobench.specs.Open.{OpensFile}
 use Rattle.nonobench.specs.Work.{IsStarted, RunsOn, Works}
 

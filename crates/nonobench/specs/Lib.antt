@@ -1,7 +1,4 @@
 pub mod Background
-pub mod Check
-pub mod Faults
 pub mod Open
-pub mod Run
 pub mod Work
 pub mod Words

@@ -6,10 +6,10 @@ use Rattle.edits.specs.Design.{Design}
 use Rattle.live_audit.specs.Bench.{Begins, IsAudited, Seen}
 use Rattle.session.specs.declared.session.SessionFault.{SessionFault}
 use Rattle.session.specs.Session.{Runs}
-use Rattle.nonobench.specs.declared.fault.ProgramFault.{ProgramFault}
-use Rattle.nonobench.specs.declared.fault.ProgramFault.TheVariants.{Memory}
+use Rattle.answers.specs.declared.fault.ProgramFault.{ProgramFault}
+use Rattle.answers.specs.declared.fault.ProgramFault.TheVariants.{Memory}
 use Rattle.nonobench.specs.declared.options.Options.{Options}
-use Rattle.nonobench.specs.Faults.{session_fault_of}
+use Rattle.answers.specs.Faults.{session_fault_of}
 use Rattle.nonobench.specs.Open.{OpensFile}
 
 -- the history is one that a bench can keep, and a background is given with a P3 text alone

@@ -2,9 +2,9 @@
 
 ghost use Rattle.std.specs.Prelude.{◌≡◌, ◌⊎◌, ◌<◌, ◌≤◌, length, take, IfOk, IfErr, IfSome};
 ghost use Rattle.std.specs.Io.KnownBytes.{Consumes, IsAtEnd};
-ghost use Rattle.nonobench.specs.declared.fault.ProgramFault.TheVariants.{Memory, TooLong, Read as Unread};
+ghost use Rattle.answers.specs.declared.fault.ProgramFault.TheVariants.{Memory, TooLong, Read as Unread};
 
-use crate::fault::ProgramFault;
+use answers::ProgramFault;
 use std::alloc::Global;
 use std::io::Read;
 

@@ -1,25 +1,22 @@
 //! The program: a session on a picture, its clues alone, and the check of its certificate.
+//!
+//! The clues and the check are calls of the crate `answers`, which other programs can make too.
 #![tactic(auto)]
 
-mod check;
-mod fault;
 mod input;
 mod open;
 mod options;
-mod run;
 mod words;
 mod work;
 
 ghost use Rattle.nonobench.specs.Words.{IsLawfulTask};
 ghost use Rattle.nonobench.specs.Work.{IsLawful};
 
-use crate::check::run_check;
-use crate::fault::ProgramFault;
 use crate::input::read_input;
 use crate::options::Options;
-use crate::run::run_clues;
 use crate::words::{Task, read_words};
 use crate::work::run_work;
+pub use answers::{ProgramFault, run_check, run_clues};
 use picture::{Rgb, send};
 use std::process::ExitCode;
 use std::rt::{Env, Files};

@@ -3,11 +3,11 @@
 ghost use Rattle.std.specs.Prelude.{◌≡◌, ◌≤◌, ℕ, IfErr, IfOk};
 ghost use Rattle.picture.specs.Rows.{cell_at};
 ghost use Rattle.edits.specs.Design.{design_of};
-ghost use Rattle.nonobench.specs.declared.fault.ProgramFault.TheVariants.{Memory};
+ghost use Rattle.answers.specs.declared.fault.ProgramFault.TheVariants.{Memory};
 ghost use Rattle.nonobench.specs.Open.{FindsPicture, Opened, OpensFile, OpensNon, black_on_white, two_colours};
 
-use crate::fault::ProgramFault;
 use crate::options::Options;
+use answers::ProgramFault;
 use clues::ClueBook;
 use line_settle::MaskEngine;
 use non_text::{NonPuzzle, puzzles_are_in_two_colours, read_non};

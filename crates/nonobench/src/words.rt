@@ -5,8 +5,8 @@ ghost use Rattle.nonobench.specs.declared.words.Task.TheVariants.{Clues};
 ghost use Rattle.nonobench.specs.Background.{background_of, is_comma, sample_before, sample_seen};
 ghost use Rattle.nonobench.specs.Words.{IsLawfulTask};
 
-use crate::fault::ProgramFault;
 use crate::options::Options;
+use answers::ProgramFault;
 use clap::error::ErrorKind;
 use clap::{Arg, ArgMatches, Command, Error, value_parser};
 use edits::MAX_DEPTH;

@@ -2,9 +2,9 @@
 
 ghost use Rattle.nonobench.specs.Work.{IsLawful, Starts, Works};
 
-use crate::fault::ProgramFault;
 use crate::open::open_file;
 use crate::options::Options;
+use answers::ProgramFault;
 use line_settle::MaskEngine;
 use live_audit::Bench;
 use picture::MAX_SIDE;

@@ -12,8 +12,8 @@ use Rattle.certificate.specs.declared.fault.CertFault.TheVariants as cert
 use Rattle.certificate.specs.Faults as certs
 use Rattle.session.specs.declared.session.SessionFault.{SessionFault}
 use Rattle.session.specs.declared.session.SessionFault.TheVariants as session
-use Rattle.nonobench.specs.declared.fault.ProgramFault.{ProgramFault}
-use Rattle.nonobench.specs.declared.fault.ProgramFault.TheVariants.{Ppm, Non, Edit, NoPicture, Cert, Memory, TooLong, Words, NotText, Background, BackgroundOfNon, Read, Write}
+use Rattle.answers.specs.declared.fault.ProgramFault.{ProgramFault}
+use Rattle.answers.specs.declared.fault.ProgramFault.TheVariants.{Ppm, Non, Edit, NoPicture, Cert, Memory, TooLong, Words, NotText, Background, BackgroundOfNon, Read, Write}
 
 -- a fault of the P3 text, but want of memory is one fault wherever it comes
 abbrev pub fault_of : PpmFault → ProgramFault

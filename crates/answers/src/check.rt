@@ -5,8 +5,8 @@ ghost use Rattle.picture.specs.Reading.{Gives};
 ghost use Rattle.certificate.specs.FirstFault.{AnswersFirst, CertFirstFault};
 ghost use Rattle.certificate.specs.Puzzle.{IsUnique};
 ghost use Rattle.certificate.specs.Tree.{IsProof};
-ghost use Rattle.nonobench.specs.declared.fault.ProgramFault.TheVariants.{Memory, Write as Unwritten};
-ghost use Rattle.nonobench.specs.Check.{Answers, IsCheckOf, IsOnlyPicture, IsProofOf, WritesBy, accepted_text, givens_text};
+ghost use Rattle.answers.specs.declared.fault.ProgramFault.TheVariants.{Memory, Write as Unwritten};
+ghost use Rattle.answers.specs.Check.{Answers, IsCheckOf, IsOnlyPicture, IsProofOf, WritesBy, accepted_text, givens_text};
 
 use crate::fault::ProgramFault;
 use certificate::{Cert, CertFault, check_cert, read_cert};
