@@ -11,7 +11,7 @@ ghost use Rattle.std.specs.Prelude.{◌<◌, ◌≤◌};
 use super::plain::{Cells, Runs, Sizes, with_run};
 use super::said::{document_in, triple_of};
 use super::searches::judged;
-use crate::search::{Said, other, settled};
+use crate::search::{Said, Tally, other, settled};
 use anyhow::{Result, bail, ensure};
 use clues::{Clue, ClueBook};
 use edits::Edit;
@@ -190,6 +190,21 @@ impl Case {
             && self.sizes.runs(&other) == self.sizes.runs(&self.cells)
             && agree(&self.cells, &other, self.givens)
     }
+
+    // Refuses what was judged twice, first under an allowance and then without, where it is not true, or not kept.
+    fn agrees(&self, [first, again]: &[Tally; 2], allowance: Option<u32>) -> Result<()> {
+        let is_undecided = matches!(first.said, Said::Undecided);
+        let is_right = if is_undecided {
+            allowance.is_some()
+        } else {
+            self.is_true(&first.said)
+        };
+        ensure!(is_right, "the verdict on {self:?} under {allowance:?}");
+        ensure!(self.is_true(&again.said), "the second verdict on {self:?}");
+        let is_kept = is_undecided || again.searched == 0;
+        ensure!(is_kept, "the answers kept of {self:?}");
+        Ok(())
+    }
 }
 
 // Whether there is another picture is answered alike by the search of the whole and by judging, under each allowance.
@@ -200,17 +215,8 @@ fn has_other<E: LineEngine>(alloc: Global, engine: &mut E, case: &Case) -> Resul
     let whole = other(alloc, engine, &clues, &document, &facts)?;
     ensure!(case.is_true(&whole.said), "another picture than {case:?}");
     for allowance in [Some(0), Some(1), None] {
-        let [first, again] = judged(alloc, engine, &clues, &document, &facts, allowance)?;
-        let is_undecided = matches!(first.said, Said::Undecided);
-        let is_right = if is_undecided {
-            allowance.is_some()
-        } else {
-            case.is_true(&first.said)
-        };
-        ensure!(is_right, "the verdict on {case:?} under {allowance:?}");
-        ensure!(case.is_true(&again.said), "the second verdict on {case:?}");
-        let is_kept = is_undecided || again.searched == 0;
-        ensure!(is_kept, "the answers kept of {case:?}");
+        let twice = judged(alloc, engine, &clues, &document, &facts, allowance)?;
+        case.agrees(&twice, allowance)?;
     }
     Ok(())
 }
