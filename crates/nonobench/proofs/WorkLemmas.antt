@@ -1,23 +1,12 @@
--- A bench that was started with what the file is opened as, and a session that ran on it.
-use Rattle.std.proofs.Common.{◌≡◌, ℕ, List, Option, Result, Ok, Err, refl, sym, subst, inl}
-use Rattle.edits.specs.Design.{Design}
-use Rattle.live_audit.specs.Bench.{Begins, IsAudited, Seen}
+-- A session that ran on a bench that was started with the file.
+use Rattle.std.proofs.Common.{◌≡◌, ℕ, List, Option, Result, Err, refl, sym, subst, inl}
+use Rattle.live_audit.specs.Bench.{Seen}
 use Rattle.session.specs.declared.session.SessionFault.{SessionFault}
 use Rattle.session.specs.Session.{Runs}
 use Rattle.answers.specs.declared.fault.ProgramFault.{ProgramFault}
 use Rattle.nonobench.specs.declared.options.Options.{Options}
 use Rattle.answers.specs.Faults.{session_fault_of}
-use Rattle.nonobench.specs.Open.{OpensFile}
 use Rattle.nonobench.specs.Work.{IsStarted, RunsOn, Works}
-
-pub started : (file : List ℕ) (options : Options) (d : Design) (calls : ℕ) (fresh : Seen)
-    → OpensFile file options (Ok d) → calls ≡ 0 → Begins d options.history calls fresh → IsAudited fresh → IsStarted file options fresh
-started file options d calls fresh opens none begins audited = record {
-  document = d;
-  opens = opens;
-  begins = subst (λ n. Begins d options.history n fresh) none begins;
-  audited = audited;
-}
 
 pub ran : (had have held holds : Option (List ℕ)) (file : List ℕ) (options : Options) (fresh last : Seen) (answered ended : Result (Unit {0}) SessionFault)
     → IsStarted file options fresh → answered ≡ ended → Runs had have held holds fresh last answered → RunsOn had have held holds file options ended
