@@ -1,4 +1,4 @@
-# Sourced by the scripts that measure with the driver: `program` is the proved driver, which is built first where it is not there
-# (that takes some minutes). `root` is the top of the repository.
+# Sourced by the scripts that measure with the program `tables`, which answers to their first word. It is not in the tree at
+# present (docs/DECISIONS.md): so they end here. `root` is the top of the repository.
 program=$root/crates/tables/out/tables
-[ -x "$program" ] || (cd "$root/crates/tables" && rt run -- line mask 120 15 open 3 >/dev/null)
+[ -x "$program" ] || { echo "this wants the program tables, which is not in the tree at present" >&2; exit 2; }
