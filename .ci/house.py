@@ -1,16 +1,18 @@
 #!/usr/bin/env python3
 """Counts what makes the house hard to live in, and prints a line for each: names repeated, long heads, dead definitions.
 
-Usage: .ci/house.py [-v]: with -v each place is printed too. Crates of tests and the table program count for nothing here.
+Usage: .ci/house.py [-v]: with -v each place is printed too. The crate of tests counts for nothing here.
 """
 
 import pathlib
 import re
+import shutil
 import subprocess
 import sys
+import tempfile
 
 ROOT = pathlib.Path(__file__).resolve().parent.parent
-OTHERS = {'tables', 'refused'}
+OTHERS = {'refused'}
 WIDE = 100
 MOST_PARAMETERS = 6
 
@@ -134,14 +136,16 @@ def unnamed_definitions():
 
 
 def shared_places():
-    """Pairs of places that share six lines or more, where the command `duplicates` is there to find them."""
-    try:
-        said = subprocess.run(['duplicates', '--most', '200', '--seconds', '120'], cwd=ROOT / 'crates', capture_output=True, text=True, timeout=180).stdout
-    except (OSError, subprocess.TimeoutExpired):
-        return
+    """Pairs of places that share six lines or more, by the command `duplicates`: it reads no .rt, so each file is handed to it as .rs."""
+    with tempfile.TemporaryDirectory() as folder:
+        for file, text in sources('src', '.rt'):
+            copy = pathlib.Path(folder, file.relative_to(ROOT)).with_suffix('.rs')
+            copy.parent.mkdir(parents=True, exist_ok=True)
+            copy.write_text(text, encoding='utf-8')
+        said = subprocess.run(['duplicates', '--most', '200', '--seconds', '120'], cwd=folder, capture_output=True, text=True, check=True).stdout
     for line in said.split('\n'):
-        if re.match(r'D\d+ ', line) and re.search(r'\.rt:', line):
-            yield line
+        if re.match(r'D\d+ ', line):
+            yield line.replace('.rs:', '.rt:')
 
 
 COUNTS = (
@@ -160,6 +164,9 @@ COUNTS = (
 
 def main():
     for what, count in COUNTS:
+        if count is shared_places and not shutil.which('duplicates'):
+            print(f'      ? {what}: there is no command `duplicates`')
+            continue
         found = list(count())
         print(f'{len(found):7} {what}')
         if '-v' in sys.argv[1:] and len(found) < 400:

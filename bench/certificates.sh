@@ -2,8 +2,8 @@
 # How long certificates are, and how much work it takes to make and to check them: seeded pictures of blobs and of noise, 20 to
 # 60 a side, without givens and with. For each that is unique the lines, the splits and the bytes of the certificate, and the
 # instructions of making it, checking it and settling the picture's clues by callgrind.
-# Usage: bench/certificates.sh [PICTURE..]   (P3 texts in place of the drawn ones; builds the proved driver first where it is not
-# there: that takes some minutes)
+# Usage: bench/certificates.sh [PICTURE..]   (P3 texts in place of the drawn ones; by the program
+# `tables`)
 set -euo pipefail
 root=$(cd "$(dirname "$0")/.." && pwd)
 . "$root/bench/blobs.sh"

@@ -2,7 +2,7 @@
 # How much work it takes to go on with a closed book after a stroke: pictures of blobs, and for each stroke the steps before,
 # kept and added, the dirty lines, the evaluations, and by callgrind the instructions of keeping what stands (`keep`) and of
 # closing it again (`close`), which are differences: an audit that goes on also makes its base and refreshes the clues.
-# Usage: bench/keep.sh [rounds]   (builds the proved driver first where it is not there: that takes some minutes)
+# Usage: bench/keep.sh [rounds]   (by the program `tables`)
 set -euo pipefail
 root=$(cd "$(dirname "$0")/.." && pwd)
 . "$root/bench/blobs.sh"

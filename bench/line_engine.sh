@@ -1,7 +1,7 @@
 #!/usr/bin/env bash
 # How much work an evaluation of a line takes: instructions by callgrind, for both engines on the same lines; and what
 # it takes to leave out what is not needed to force all that the line excludes (`sweep`), told in evaluations too.
-# Usage: bench/line_engine.sh [rounds]   (builds the proved driver first where it is not there: that takes some minutes)
+# Usage: bench/line_engine.sh [rounds]   (by the program `tables`)
 set -euo pipefail
 root=$(cd "$(dirname "$0")/.." && pwd)
 rounds=${1:-500}

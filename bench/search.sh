@@ -11,8 +11,7 @@
 # and noting their cells, looking for the first open one and telling parts.
 # At the end a search of a thousand splits and one of a million, on checkers of 80 by 80 and broken off there: seconds and the peak
 # of memory, by /usr/bin/time.
-# Usage: [REFERENCE=program] [PICTURES=folder] bench/search.sh [seconds]   (20 unless given; builds the proved driver first where
-# it is not there)
+# Usage: [REFERENCE=program] [PICTURES=folder] bench/search.sh [seconds]   (20 unless given; by the program `tables`)
 set -euo pipefail
 root=$(cd "$(dirname "$0")/.." && pwd)
 . "$root/bench/blobs.sh"

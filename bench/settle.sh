@@ -1,6 +1,6 @@
 #!/usr/bin/env bash
 # How much work settling a puzzle takes: evaluations and instructions for pictures of blobs, with both agendas.
-# Usage: bench/settle.sh [engine]   (mask or plain; builds the proved driver first where it is not there)
+# Usage: bench/settle.sh [engine]   (mask or plain; by the program `tables`)
 set -euo pipefail
 root=$(cd "$(dirname "$0")/.." && pwd)
 . "$root/bench/blobs.sh"

@@ -1,7 +1,7 @@
 #!/usr/bin/env bash
 # How much work it takes to make the step of a line: instructions by callgrind beside those of its two parts on the same
 # line, the one evaluation and the sweep that leaves premises out. The last column is the share that is neither.
-# Usage: bench/steps.sh [rounds]   (builds the proved driver first where it is not there: that takes some minutes)
+# Usage: bench/steps.sh [rounds]   (by the program `tables`)
 set -euo pipefail
 root=$(cd "$(dirname "$0")/.." && pwd)
 rounds=${1:-200}

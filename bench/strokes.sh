@@ -4,8 +4,8 @@
 # the strokes take of those of fresh audits (eval %), thousands of instructions of a stroke and of the start of a fresh bench as
 # medians, a paint and any stroke against the fresh start of the picture behind it (%, medians), and to what the instructions
 # go (%): copying the document, the base, the clues, keeping, evaluating, trimming, the rest of closing, and the parts.
-# Usage: bench/strokes.sh [side..]   (20, 60 and 120 unless given, STROKES=200; builds the proved driver first where it is not
-# there, which takes some minutes)
+# Usage: bench/strokes.sh [side..]   (20, 60 and 120 unless given, STROKES=200; by the program
+# `tables`)
 set -euo pipefail
 root=$(cd "$(dirname "$0")/.." && pwd)
 strokes=${STROKES:-200}
