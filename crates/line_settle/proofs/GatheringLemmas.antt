@@ -1,9 +1,9 @@
 -- The cells in which a colour is left, gathered as a set of positions, some cells at a time.
-use Rattle.std.proofs.Common.{◌≡◌, ℕ, zero, suc, ◌+◌, ◌-◌, ◌*◌, ◌%◌, ◌^◌, ◌<◌, ◌≤◌, Bool, true, false, cond, List, map, eqb, ◌==◌, ◌||◌, bit_and, bit_or, refl, sym, ap, subst, ◌∙◌, arith, inl, inr, eq-eqb, ne_eqb, length, get_or, replicate, take, w16}
+use Rattle.std.proofs.Common.{◌≡◌, ℕ, zero, suc, ◌+◌, ◌-◌, ◌*◌, ◌%◌, ◌^◌, ◌<◌, ◌≤◌, Bool, true, false, cond, List, map, eqb, ◌==◌, ◌||◌, bit_and, bit_or, refl, sym, ap, subst, ◌∙◌, arith, inl, inr, eq-eqb, ne_eqb, length, get_or, replicate, take, drop, get_or-drop, w16}
 use Rattle.std.specs.Int.{bit_at}
 use Rattle.std.specs.Simd.Lanes.{zip2, chunk, top, mask_l}
 use Rattle.std.proofs.lemmas.Bool.{cases_lt}
-use Rattle.std.proofs.lemmas.List.{get_or_past, get_or-map, get_or-take, length-map, length-take}
+use Rattle.std.proofs.lemmas.List.{get_or_past, get_or-map, get_or-take, length-map, length-take, take_all}
 use Rattle.std.proofs.lemmas.Nat.{pow_pos}
 use Rattle.std.proofs.lemmas.Nat.Bits.{bit_at_cat_low, bit_at_cat_high, bit_at-lt, and_pow}
 use Rattle.std.proofs.lemmas.Simd.{length-chunk, get_or-chunk, length-zip2, zip2_splat, map-map, bitmask_splat, bit_mask_l, mask_l-lt}
@@ -64,13 +64,6 @@ none_past left colour i h = ap (λ m. allows m colour) (get_or_past left i 0 h) 
 pub none_gathered : (left : List ℕ) (colour j : ℕ) → has 0 j ≡ allows (get_or left (length left + j) 0) colour
 none_gathered left colour j = has_none j ∙ sym (none_past left colour (length left + j) (omega arith))
 
--- all cells from n on, where the line ends among the next w ones
-pub gathered_all : (w : ℕ) (left : List ℕ) (cells colour n : ℕ) → cells < 2 ^ w → length left ≤ n + w → ((j : ℕ) → j < w → has cells j ≡ allows (get_or left (n + j) 0) colour) → (j : ℕ) → has cells j ≡ allows (get_or left (n + j) 0) colour
-gathered_all w left cells colour n small short is j = elim (cases_lt j w) [
-  | inl l ↦ is j l
-  | inr m ↦ has_above w cells j small m ∙ sym (none_past left colour (n + j) (omega arith))
-]
-
 -- the cells of the whole eights, and the last eight cells laid over them
 pub overlapped : (w : ℕ) (left : List ℕ) (cells low colour whole last : ℕ) → last + 8 ≡ length left → last < whole → whole ≤ length left → length left < whole + 8 → length left < w → low < 2 ^ 8 → ((j : ℕ) → j < 8 → has low j ≡ allows (get_or left (last + j) 0) colour) → ((j : ℕ) → j < w → has cells j ≡ allows (get_or (take whole left) j 0) colour) → (i : ℕ) → i < w → has (bit_or cells (low * 2 ^ last % 2 ^ w)) i ≡ allows (get_or left i 0) colour
 overlapped w left cells low colour whole last e l ends short room small new before i h =
@@ -101,6 +94,60 @@ overlapped w left cells low colour whole last e l ends short room small new befo
     twice : (b : Bool) → (b || b) ≡ b
     twice true = refl
     twice false = refl
+
+-- eight cells more behind those that are gathered already
+pub none_taken : (left : List ℕ) (colour n j : ℕ) → n ≡ 0 → has 0 j ≡ allows (get_or (take n left) j 0) colour
+none_taken left colour n j e = has_none j ∙ sym (none_past (take n left) colour j (let l = length-take n left in omega arith))
+
+pub gathered_on : (w : ℕ) (left : List ℕ) (cells low colour here next : ℕ) → next ≡ here + 8 → low < 2 ^ 8 → ((j : ℕ) → j < 8 → has low j ≡ allows (get_or left (here + j) 0) colour) → ((j : ℕ) → j < w → has cells j ≡ allows (get_or (take here left) j 0) colour) → (j : ℕ) → j < w → has (bit_or cells (low * 2 ^ here % 2 ^ w)) j ≡ allows (get_or (take next left) j 0) colour
+gathered_on w left cells low colour here next e small new before j h = has_or cells (low * 2 ^ here % 2 ^ w) j ∙ elim (cases_lt j here) [
+  | inl m ↦
+      ap (λ x. has cells j || x) (below_shifted w here low j m h)
+      ∙ (false_behind (has cells j)
+      ∙ (before j h
+      ∙ (ap (λ n. allows n colour) (get_or-take here left j 0 m) ∙ sym (ap (λ n. allows n colour) (get_or-take next left j 0 (omega arith))))))
+  | inr m ↦
+      ap (λ x. has cells j || x) (shifted w here low j (pow_pos here) m h)
+      ∙ (ap (λ x. x || has low (j - here)) (before j h ∙ none_past (take here left) colour j (let n = length-take here left in omega arith))
+      ∙ elim (cases_lt (j - here) 8) [
+        | inl inside ↦
+            let q : here + (j - here) ≡ j = omega arith in
+            new (j - here) inside ∙ (ap (λ n. allows (get_or left n 0) colour) q ∙ sym (ap (λ n. allows n colour) (get_or-take next left j 0 (omega arith))))
+        | inr past ↦ has_above 8 low (j - here) small past ∙ sym (none_past (take next left) colour j (let n = length-take next left in omega arith))
+      ])
+]
+
+-- all cells, where they are at most 64
+pub whole_word : (left : List ℕ) (cells colour : ℕ) → cells < 2 ^ 64 → length left ≤ 64 → ((j : ℕ) → j < 64 → has cells j ≡ allows (get_or left j 0) colour) → (j : ℕ) → has cells j ≡ allows (get_or left j 0) colour
+whole_word left cells colour small short is j = elim (cases_lt j 64) [
+  | inl l ↦ is j l
+  | inr m ↦ has_above 64 cells j small m ∙ sym (none_past left colour j (omega arith))
+]
+
+pub whole_taken : (left : List ℕ) (colour n j : ℕ) → length left ≤ n → allows (get_or (take n left) j 0) colour ≡ allows (get_or left j 0) colour
+whole_taken left colour n j h = ap (λ (xs : List ℕ). allows (get_or xs j 0) colour) (take_all n left h)
+
+pub whole_both : (left : List ℕ) (cells low colour : ℕ) → cells < 2 ^ 64 → low < 2 ^ 64 → length left ≤ 64 → ((j : ℕ) → j < 64 → has (bit_or cells low) j ≡ allows (get_or left j 0) colour) → (j : ℕ) → has (bit_or cells low) j ≡ allows (get_or left j 0) colour
+whole_both left cells low colour small few short is j = elim (cases_lt j 64) [
+  | inl l ↦ is j l
+  | inr m ↦
+      has_or cells low j
+      ∙ (ap (λ b. b || has low j) (has_above 64 cells j small m)
+      ∙ (has_above 64 low j few m ∙ sym (none_past left colour j (omega arith))))
+]
+
+-- the first 64 cells, and those behind them
+pub two_halves : (w : ℕ) (left : List ℕ) (front rest colour : ℕ) → front < 2 ^ 64 → ((i : ℕ) → has front i ≡ allows (get_or (take 64 left) i 0) colour) → ((i : ℕ) → has rest i ≡ allows (get_or (drop 64 left) i 0) colour) → (i : ℕ) → i < w → has (bit_or front (rest * 2 ^ 64 % 2 ^ w)) i ≡ allows (get_or left i 0) colour
+two_halves w left front rest colour small f r i h = has_or front (rest * 2 ^ 64 % 2 ^ w) i ∙ elim (cases_lt i 64) [
+  | inl m ↦
+      ap (λ x. has front i || x) (below_shifted w 64 rest i m h)
+      ∙ (false_behind (has front i) ∙ (f i ∙ ap (λ n. allows n colour) (get_or-take 64 left i 0 m)))
+  | inr m ↦
+      let q : 64 + (i - 64) ≡ i = omega arith in
+      ap (λ x. has front i || x) (shifted w 64 rest i (pow_pos 64) m h)
+      ∙ (ap (λ x. x || has rest (i - 64)) (has_above 64 front i small m)
+      ∙ (r (i - 64) ∙ (ap (λ n. allows n colour) (get_or-drop 64 left (i - 64) 0) ∙ ap (λ n. allows (get_or left n 0) colour) q)))
+]
 
 -- ---- eight cells that are compared together
 

@@ -32,8 +32,10 @@ pub struct Laid<W> {
 /// Lays a block of `len` cells from each position of a set.
 #[inline]
 pub fn lay<W: Word>(starts: W, len: u8) -> Laid<W>
-    ensures cells { (i : ℕ) → i < W.width → has (W.bits result.cells) i ≡ covers (W.bits starts) len i }
-    ensures ends { (i : ℕ) → i < W.width → has (W.bits result.ends) i ≡ moved (W.bits starts) len i }
+    ensures cells { (i : ℕ) → i < W.width
+        → has (W.bits result.cells) i ≡ covers (W.bits starts) len i }
+    ensures ends { (i : ℕ) → i < W.width
+        → has (W.bits result.ends) i ≡ moved (W.bits starts) len i }
 {
     let mut cells = W::low(0);
     let mut ends = starts;
@@ -58,7 +60,8 @@ pub fn meets(blocks: &[Block], j: usize) -> bool
 pub fn before_gap<W: Word>(later: W, background: W, is_gap: bool) -> W
     ensures none { is_gap ≡ false → result ≡ later }
     ensures one { is_gap ≡ true
-        → (i : ℕ) → has (W.bits result) i ≡ (has (W.bits background) i && has (W.bits later) (i + 1)) }
+        → (i : ℕ)
+        → has (W.bits result) i ≡ (has (W.bits background) i && has (W.bits later) (i + 1)) }
 {
     if is_gap {
         later.down(1).and(background)

@@ -12,7 +12,7 @@ use std::marker::Model;
 
 /// A line engine that keeps, for each block of the clue, the sets of positions from which the line can go to its end, by
 /// laying the block and by waiting for it, as the bits of numbers. A position is counted before and after each cell, so
-/// a line has at most 120 cells.
+/// a line of at most 63 cells has its sets in 64 bits, and a longer one, of at most 120 cells, in 128.
 #[derive(Drop)]
 pub struct MaskEngine {
     longest: u8,
@@ -31,7 +31,8 @@ impl Model for MaskEngine {
 
     ghost view = { λ e. engine e.longest e.calls };
 
-    ghost invariant = { λ e. MaskRoom e.longest e.starting.items e.waiting.items e.far_starting.items e.far_waiting.items };
+    ghost invariant = { λ e. MaskRoom e.longest e.starting.items e.waiting.items
+        e.far_starting.items e.far_waiting.items };
 }
 
 impl MaskEngine {

@@ -63,7 +63,11 @@ pub fn mark_back<W: Word>(
     requires starting_room { length blocks.now < length starting.old }
     requires waiting_room { length blocks.now < length waiting.old }
     requires allowed_is { IsAllowed blocks.now left.now (map W.bits allowed.now) }
-    ensures marked { AreMarked blocks.now left.now (map W.bits starting.new) (map W.bits waiting.new) }
+    ensures marked { AreMarked
+        blocks.now
+        left.now
+        (map W.bits starting.new)
+        (map W.bits waiting.new) }
     ensures fits { result ≡ finishes (pattern_of blocks.now) left.now 0 }
 {
     let background = allowed[0];
@@ -109,7 +113,11 @@ pub fn see_blocks<W: Word>(
     requires starting_room { length blocks.now < length starting.now }
     requires waiting_room { length blocks.now < length waiting.now }
     requires allowed_is { IsAllowed blocks.now left.now (map W.bits allowed.now) }
-    requires marked { AreMarked blocks.now left.now (map W.bits starting.now) (map W.bits waiting.now) }
+    requires marked { AreMarked
+        blocks.now
+        left.now
+        (map W.bits starting.now)
+        (map W.bits waiting.now) }
     requires fits { finishes (pattern_of blocks.now) left.now 0 ≡ true }
     ensures { AreSeen blocks.now left.now (map W.bits seen.new) }
 {

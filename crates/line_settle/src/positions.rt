@@ -14,7 +14,8 @@ use std::simd::prelude::*;
 pub fn fill_up<W: Word>(set: W, run: W) -> W
     ensures first { has (W.bits result) 0 ≡ has (W.bits set) 0 }
     ensures on { (i : ℕ) → i + 1 < W.width
-        → has (W.bits result) (i + 1) ≡ (has (W.bits set) (i + 1) || (has (W.bits run) i && has (W.bits result) i)) }
+        → has (W.bits result) (i + 1)
+        ≡ (has (W.bits set) (i + 1) || (has (W.bits run) i && has (W.bits result) i)) }
 {
     // Each cell of `run` hands a carry on, and takes a new one up where the set begins.
     let begun = set.and(run);
@@ -60,7 +61,7 @@ impl Spans {
 }
 
 #[tactic(auto, using(crate::proofs::SpanLemmas::spanning))]
-/// The spans of cells before position 63.
+/// The spans of cells in 64 bits.
 pub fn near_spans(cells: u64) -> [u64; 6]
     ensures six { length result ≡ 6 }
     ensures each { AreSpans cells result }
@@ -94,7 +95,7 @@ fn far_spans(cells: u128) -> [u128; 7]
 }
 
 #[tactic(auto, using(crate::proofs::SpanLemmas::filling))]
-/// What reaches a set over cells before position 63, by their spans: after a round what does over fewer than `step` cells.
+/// What reaches a set over cells in 64 bits, by their spans: after a round what does over fewer than `step` cells.
 pub fn fill_near(set: u64, spans: &[u64; 6]) -> u64
     ensures { (cells : ℕ) → length spans.now ≡ 6 → AreSpans cells spans.now
         → (i : ℕ) → has result i ≡ (has set i || (has cells i && has result (i + 1))) }
@@ -148,25 +149,39 @@ fn eight_with(left: &[u16], first: usize, colour: u8) -> u64
     (cells & bit).simd_eq(bit).to_bitmask()
 }
 
-/// The cells of a line in which a colour is left, as the positions before them.
-pub fn cells_with<W: Word>(left: &[u16], colour: u8) -> W
+// The same for at most 64 cells, eight by eight from the first on.
+fn near_with(left: &[u16], colour: u8) -> u64
     requires colour { colour < 16 }
-    requires short { length left.now < W.width }
-    ensures { IsCellsWith left.now colour (W.bits result) }
+    requires short { length left.now ≤ 64 }
+    ensures { (i : ℕ) → has result i ≡ allows (slice_index left.now i) colour }
 {
     if left.len() < 8 {
-        return W::low(few_with(left, colour));
+        return few_with(left, colour);
     }
-    let mut cells = W::low(0);
-    for chunk in (0..left.len() / 8).rev() {
-        cells = cells.up(8).or(W::low(eight_with(left, 8 * chunk, colour)));
+    let mut cells = 0;
+    for chunk in 0..left.len() / 8 {
+        cells |= eight_with(left, 8 * chunk, colour) << (8 * chunk);
     }
     if left.len() % 8 == 0 {
         return cells;
     }
     // The last eight cells together: some of them once more, which changes nothing.
     let last = left.len() - 8;
-    cells.or(W::low(eight_with(left, last, colour)).up(last))
+    cells | (eight_with(left, last, colour) << last)
+}
+
+/// The cells of a line in which a colour is left, as the positions before them.
+pub fn cells_with<W: Word>(left: &[u16], colour: u8) -> W
+    requires colour { colour < 16 }
+    requires short { length left.now < W.width }
+    ensures { IsCellsWith left.now colour (W.bits result) }
+{
+    if left.len() <= 64 {
+        return W::low(near_with(left, colour));
+    }
+    let front = near_with(&left[..64], colour);
+    let rest = near_with(&left[64..], colour);
+    W::low(front).or(W::low(rest).up(64))
 }
 
 #[inline]

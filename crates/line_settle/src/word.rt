@@ -18,7 +18,7 @@ pub trait Word: Copy + Drop {
 
     ghost are_spans: { ℕ → Self.Spans → Type 0 };
 
-    /// The set of the positions below 64 whose bits a number has.
+    /// The set of the positions below 64 that are the bits of a number.
     fn low(places: u64) -> Self
         ensures { bits result ≡ places };
 
@@ -72,9 +72,12 @@ pub trait Word: Copy + Drop {
     /// The positions from which the set can be reached, cell by cell upwards, over cells with these spans.
     fn fill_down(self, spans: &Self::Spans) -> Self
         ensures { (cells : ℕ) → are_spans cells spans.now
-            → (i : ℕ) → has (bits result) i ≡ (has (bits self) i || (has cells i && has (bits result) (i + 1))) };
+            → (i : ℕ)
+            → has (bits result) i ≡ (has (bits self) i || (has cells i && has (bits result) (i + 1))) };
 
     ghost wide: { 64 ≤ width };
+
+    ghost narrow: { width ≤ 128 };
 }
 
 impl Word for u64 {
@@ -150,6 +153,8 @@ impl Word for u64 {
     }
 
     ghost wide = { lit≤ tt };
+
+    ghost narrow = { lit≤ tt };
 }
 
 impl Word for u128 {
@@ -225,4 +230,6 @@ impl Word for u128 {
     }
 
     ghost wide = { lit≤ tt };
+
+    ghost narrow = { lit≤ tt };
 }
