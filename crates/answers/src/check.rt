@@ -30,8 +30,10 @@ pub fn run_check<W: Write>(
     background: Option<Rgb>,
     writer: &mut W,
 ) -> Result<(), ProgramFault>
-    ensures writes { WritesBy (W.contents writer.old) (W.contents writer.new) result (IsCheckOf file.now background cert.now) }
-    ensures only { IsProofOf file.now background cert.now → IfErr result (λ e. (e ≡ Memory) ⊎ (e ≡ Unwritten)) }
+    ensures writes { WritesBy (W.contents writer.old) (W.contents writer.new) result
+        (IsCheckOf file.now background cert.now) }
+    ensures only { IsProofOf file.now background cert.now
+        → IfErr result (λ e. (e ≡ Memory) ⊎ (e ≡ Unwritten)) }
     ensures unique { OnOk result (IsOnlyPicture file.now background cert.now) }
 {
     let text = checked_text(alloc, file, cert, background)?;

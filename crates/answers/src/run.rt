@@ -25,7 +25,8 @@ pub fn run_clues<W: Write>(
     paint: Option<(u8, u8, u8)>,
     writer: &mut W,
 ) -> Result<(), ProgramFault>
-    ensures { Writes (W.contents writer.old) (W.contents writer.new) result (shown bytes.now paint) }
+    ensures { Writes (W.contents writer.old) (W.contents writer.new) result
+        (shown bytes.now paint) }
 {
     let edit = paint.map(|(row, col, colour)| Edit::Paint { row, col, colour });
     let text = answer_text(alloc, bytes, edit)?;

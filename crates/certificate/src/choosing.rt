@@ -158,7 +158,8 @@ fn dead_along<E: LineEngine>(
 ) -> Option<CertLine>
     requires can { CanCheck picture.now book.now (E.longest engine.old) }
     requires same_shape { SameShape picture.now facts.now }
-    ensures dead { MatchOption result (AreAlive picture.now facts.now axis) (CanWrite picture.now facts.now) }
+    ensures dead { MatchOption result (AreAlive picture.now facts.now axis)
+        (CanWrite picture.now facts.now) }
     ensures same_longest { E.longest engine.new ≡ E.longest engine.old }
     ensures calls { E.calls engine.old ≤ E.calls engine.new }
 {
@@ -175,7 +176,8 @@ fn dead_along<E: LineEngine>(
 fn is_open(facts: &Facts, row: u8, col: u8) -> bool
     requires in_rows { row < length facts.now }
     requires in_columns { col < width_of facts.now }
-    ensures { (result ≡ false) → (j k : ℕ) → Leaves facts.now row col j → Leaves facts.now row col k → j ≡ k }
+    ensures { (result ≡ false) → (j k : ℕ) → Leaves facts.now row col j → Leaves facts.now row col k
+        → j ≡ k }
 {
     facts.left(row, col) != 0 && facts.shown(row, col).is_none()
 }
@@ -266,7 +268,8 @@ fn choose_end<E: LineEngine>(
 ) -> Option<CertLine>
     requires can { CanCheck picture.now book.now (E.longest engine.old) }
     requires same_shape { SameShape picture.now facts.now }
-    ensures writes { MatchOption result (ShowsOther picture.now facts.now) (CanWrite picture.now facts.now) }
+    ensures writes { MatchOption result (ShowsOther picture.now facts.now)
+        (CanWrite picture.now facts.now) }
     ensures same_longest { E.longest engine.new ≡ E.longest engine.old }
     ensures calls { E.calls engine.old ≤ E.calls engine.new }
 {
@@ -295,7 +298,8 @@ pub(crate) fn choose<E: LineEngine>(
 ) -> Option<CertLine>
     requires can { CanCheck picture.now book.now (E.longest engine.old) }
     requires same_shape { SameShape picture.now facts.now }
-    ensures writes { MatchOption result (ShowsOther picture.now facts.now) (CanWrite picture.now facts.now) }
+    ensures writes { MatchOption result (ShowsOther picture.now facts.now)
+        (CanWrite picture.now facts.now) }
     ensures same_longest { E.longest engine.new ≡ E.longest engine.old }
     ensures calls { E.calls engine.old ≤ E.calls engine.new }
 {

@@ -74,9 +74,12 @@ fn hold_at(
     requires line { HasLine facts.old line }
     requires place { i < length (line_of facts.old line) }
     requires inside { AreInside (length facts.old) (width_of facts.old) (reverse notes.old.items) }
-    ensures value { OnOk result (facts.new ≡ with_cell facts.old (row_on line.axis line.at i) (col_on line.axis line.at i) mask) }
-    ensures pending { OnOk result (pending facts.new (reverse notes.new.items) ≡ pending facts.old (reverse notes.old.items)) }
-    ensures inside { OnOk result (AreInside (length facts.old) (width_of facts.old) (reverse notes.new.items)) }
+    ensures value { OnOk result (facts.new
+        ≡ with_cell facts.old (row_on line.axis line.at i) (col_on line.axis line.at i) mask) }
+    ensures pending { OnOk result (pending facts.new (reverse notes.new.items)
+        ≡ pending facts.old (reverse notes.old.items)) }
+    ensures inside { OnOk result
+        (AreInside (length facts.old) (width_of facts.old) (reverse notes.new.items)) }
     ensures err { IfErr result (λ e. e ≡ CertFault.Memory) }
     ensures facts { IsFacts facts.old }
 {
@@ -99,8 +102,10 @@ fn hold_line(
     requires fits { length masks.now ≤ MAX_SIDE }
     requires inside { AreInside (length facts.old) (width_of facts.old) (reverse notes.old.items) }
     ensures holds { OnOk result (HoldsLine line facts.old facts.new masks.now) }
-    ensures pending { OnOk result (pending facts.new (reverse notes.new.items) ≡ pending facts.old (reverse notes.old.items)) }
-    ensures inside { OnOk result (AreInside (length facts.old) (width_of facts.old) (reverse notes.new.items)) }
+    ensures pending { OnOk result (pending facts.new (reverse notes.new.items)
+        ≡ pending facts.old (reverse notes.old.items)) }
+    ensures inside { OnOk result
+        (AreInside (length facts.old) (width_of facts.old) (reverse notes.new.items)) }
     ensures err { IfErr result (λ e. e ≡ CertFault.Memory) }
 {
     for i in 0..masks.len() {
@@ -123,9 +128,12 @@ fn force_by<E: LineEngine>(
     requires whole { length out.old ≡ length (line_of facts.old line) }
     requires fits { length out.old ≤ MAX_SIDE }
     requires inside { AreInside (length facts.old) (width_of facts.old) (reverse notes.old.items) }
-    ensures gains { OnOk result ((outcome : Outcome) × Gains clue.now line facts.old facts.new outcome) }
-    ensures pending { OnOk result (pending facts.new (reverse notes.new.items) ≡ pending facts.old (reverse notes.old.items)) }
-    ensures inside { OnOk result (AreInside (length facts.old) (width_of facts.old) (reverse notes.new.items)) }
+    ensures gains { OnOk result
+        ((outcome : Outcome) × Gains clue.now line facts.old facts.new outcome) }
+    ensures pending { OnOk result (pending facts.new (reverse notes.new.items)
+        ≡ pending facts.old (reverse notes.old.items)) }
+    ensures inside { OnOk result
+        (AreInside (length facts.old) (width_of facts.old) (reverse notes.new.items)) }
     ensures err { IfErr result (λ e. e ≡ CertFault.Memory) }
     ensures same_longest { E.longest engine.new ≡ E.longest engine.old }
     ensures calls { E.calls engine.old ≤ E.calls engine.new }
@@ -146,9 +154,12 @@ pub(crate) fn force<E: LineEngine>(
     requires line { HasLine facts.old line }
     requires short { length (line_of facts.old line) ≤ E.longest engine.old }
     requires inside { AreInside (length facts.old) (width_of facts.old) (reverse notes.old.items) }
-    ensures gains { OnOk result ((outcome : Outcome) × Gains clue.now line facts.old facts.new outcome) }
-    ensures pending { OnOk result (pending facts.new (reverse notes.new.items) ≡ pending facts.old (reverse notes.old.items)) }
-    ensures inside { OnOk result (AreInside (length facts.old) (width_of facts.old) (reverse notes.new.items)) }
+    ensures gains { OnOk result
+        ((outcome : Outcome) × Gains clue.now line facts.old facts.new outcome) }
+    ensures pending { OnOk result (pending facts.new (reverse notes.new.items)
+        ≡ pending facts.old (reverse notes.old.items)) }
+    ensures inside { OnOk result
+        (AreInside (length facts.old) (width_of facts.old) (reverse notes.new.items)) }
     ensures err { IfErr result (λ e. e ≡ CertFault.Memory) }
     ensures same_longest { E.longest engine.new ≡ E.longest engine.old }
     ensures calls { E.calls engine.old ≤ E.calls engine.new }

@@ -31,8 +31,10 @@ pub(crate) fn hold(
     requires in_columns { col < width_of facts.old }
     requires inside { AreInside (length facts.old) (width_of facts.old) (reverse notes.old.items) }
     ensures value { OnOk result (facts.new ≡ with_cell facts.old row col mask) }
-    ensures pending { OnOk result (pending facts.new (reverse notes.new.items) ≡ pending facts.old (reverse notes.old.items)) }
-    ensures inside { OnOk result (AreInside (length facts.old) (width_of facts.old) (reverse notes.new.items)) }
+    ensures pending { OnOk result (pending facts.new (reverse notes.new.items)
+        ≡ pending facts.old (reverse notes.old.items)) }
+    ensures inside { OnOk result
+        (AreInside (length facts.old) (width_of facts.old) (reverse notes.new.items)) }
     ensures err { IfErr result (λ e. e ≡ CertFault.Memory) }
     ensures facts { IsFacts facts.old }
 {
@@ -67,7 +69,8 @@ fn begin(facts: &mut Facts, notes: &mut Vec<Note>, note: Note) -> Result<(), Cer
     requires inside { AreInside (length facts.old) (width_of facts.old) (reverse notes.old.items) }
     ensures pending { OnOk result (waiting true facts.new (reverse notes.new.items)
         ≡ pending facts.old (note ∷ reverse notes.old.items)) }
-    ensures inside { OnOk result (AreInside (length facts.old) (width_of facts.old) (reverse notes.new.items)) }
+    ensures inside { OnOk result
+        (AreInside (length facts.old) (width_of facts.old) (reverse notes.new.items)) }
     ensures shape { SameShape facts.old facts.new }
     ensures err { IfErr result (λ e. e ≡ CertFault.Memory) }
 {
@@ -83,7 +86,8 @@ pub(crate) fn end_branch(facts: &mut Facts, notes: &mut Vec<Note>) -> Result<boo
     requires inside { AreInside (length facts.old) (width_of facts.old) (reverse notes.old.items) }
     ensures pending { IfOk result (λ going. waiting going facts.new (reverse notes.new.items)
         ≡ pending facts.old (reverse notes.old.items)) }
-    ensures inside { IfOk result (λ _. AreInside (length facts.old) (width_of facts.old) (reverse notes.new.items)) }
+    ensures inside { IfOk result
+        (λ _. AreInside (length facts.old) (width_of facts.old) (reverse notes.new.items)) }
     ensures shape { SameShape facts.old facts.new }
     ensures err { IfErr result (λ e. e ≡ CertFault.Memory) }
 {
@@ -110,7 +114,8 @@ pub(crate) fn split(
     requires inside { AreInside (length facts.old) (width_of facts.old) (reverse notes.old.items) }
     ensures pending { IfOk result (λ going. waiting going facts.new (reverse notes.new.items)
         ≡ branches facts.old row col (cell_at facts.old row col) ++ pending facts.old (reverse notes.old.items)) }
-    ensures inside { IfOk result (λ _. AreInside (length facts.old) (width_of facts.old) (reverse notes.new.items)) }
+    ensures inside { IfOk result
+        (λ _. AreInside (length facts.old) (width_of facts.old) (reverse notes.new.items)) }
     ensures shape { SameShape facts.old facts.new }
     ensures err { IfErr result (λ e. e ≡ CertFault.Memory) }
 {

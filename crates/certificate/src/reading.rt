@@ -96,7 +96,8 @@ fn rank(cell: CellNumber) -> u32
 // The givens that a text begins with, and the text below them.
 fn read_givens(alloc: Global, text: &[u8]) -> Result<(Vec<CellNumber>, &[u8]), CertFault>
     requires few { SECOND_LINE + length text.now < 2 ^ 64 }
-    ensures value { Gives CertFault.Memory givens_seen result (given_lines 2 0 (lines_of text.now)) }
+    ensures value { Gives CertFault.Memory givens_seen result
+        (given_lines 2 0 (lines_of text.now)) }
     ensures ordered { IfOk result (λ read. AreOrdered 0 read.0.items) }
     ensures rest { IfOk result (λ read. length read.1.now ≤ length text.now) }
 {
@@ -124,7 +125,8 @@ fn read_givens(alloc: Global, text: &[u8]) -> Result<(Vec<CellNumber>, &[u8]), C
 // The lines below the givens, of which the first has a number.
 fn read_lines(alloc: Global, text: &[u8], first: usize) -> Result<Vec<CertLine>, CertFault>
     requires few { first + length text.now < 2 ^ 64 }
-    ensures value { Gives CertFault.Memory (λ lines. lines.items) result (tree_lines first (lines_of text.now)) }
+    ensures value { Gives CertFault.Memory (λ lines. lines.items) result
+        (tree_lines first (lines_of text.now)) }
     ensures writable { IfOk result (λ lines. AreWritable lines.items) }
 {
     let mut lines = Vec::new(alloc);

@@ -21,7 +21,8 @@ fn has_only(left: u16, colour: u8) -> bool
 fn row_shows_only(facts: &Facts, picture: &Picture, row: u8) -> bool
     requires same_shape { SameShape picture.now facts.now }
     requires in_rows { row < length picture.now }
-    ensures { IsTrue result ↔ ((col k : ℕ) → Leaves facts.now row col k → k ≡ cell_at picture.now row col) }
+    ensures { IsTrue result ↔ ((col k : ℕ) → Leaves facts.now row col k
+        → k ≡ cell_at picture.now row col) }
 {
     for col in 0..picture.width() {
         if !has_only(facts.left(row, col), picture.cell(row, col)) {

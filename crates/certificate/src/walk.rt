@@ -28,7 +28,8 @@ fn take_forced<E: LineEngine>(
 ) -> Result<bool, CertFault>
     requires can { CanCheck picture.now book.now (E.longest engine.old) }
     requires walk { IsWalk picture.now facts.old (reverse notes.old.items) }
-    ensures takes { Takes picture.now facts.old (reverse notes.old.items) (line.Line at) number result facts.new (reverse notes.new.items) }
+    ensures takes { Takes picture.now facts.old (reverse notes.old.items) (line.Line at) number
+        result facts.new (reverse notes.new.items) }
     ensures same_longest { E.longest engine.new ≡ E.longest engine.old }
     ensures calls { E.calls engine.old ≤ E.calls engine.new }
 {
@@ -51,7 +52,8 @@ fn take_dead<E: LineEngine>(
 ) -> Result<bool, CertFault>
     requires can { CanCheck picture.now book.now (E.longest engine.old) }
     requires walk { IsWalk picture.now facts.old (reverse notes.old.items) }
-    ensures takes { Takes picture.now facts.old (reverse notes.old.items) (line.Dead at) number result facts.new (reverse notes.new.items) }
+    ensures takes { Takes picture.now facts.old (reverse notes.old.items) (line.Dead at) number
+        result facts.new (reverse notes.new.items) }
     ensures same_longest { E.longest engine.new ≡ E.longest engine.old }
     ensures calls { E.calls engine.old ≤ E.calls engine.new }
 {
@@ -74,7 +76,8 @@ fn take_split(
     number: usize,
 ) -> Result<bool, CertFault>
     requires walk { IsWalk picture.now facts.old (reverse notes.old.items) }
-    ensures takes { Takes picture.now facts.old (reverse notes.old.items) (line.Split cell) number result facts.new (reverse notes.new.items) }
+    ensures takes { Takes picture.now facts.old (reverse notes.old.items) (line.Split cell) number
+        result facts.new (reverse notes.new.items) }
 {
     let Some((row, col)) = cell_in(picture, cell) else {
         return Err(CertFault::Place(number));
@@ -91,7 +94,8 @@ fn take_done(
     number: usize,
 ) -> Result<bool, CertFault>
     requires walk { IsWalk picture.now facts.old (reverse notes.old.items) }
-    ensures takes { Takes picture.now facts.old (reverse notes.old.items) line.Done number result facts.new (reverse notes.new.items) }
+    ensures takes { Takes picture.now facts.old (reverse notes.old.items) line.Done number result
+        facts.new (reverse notes.new.items) }
 {
     if !shows_only(facts, picture) {
         return Err(CertFault::NotDone(number));
@@ -112,7 +116,8 @@ pub(crate) fn take_line<E: LineEngine>(
 ) -> Result<bool, CertFault>
     requires can { CanCheck picture.now book.now (E.longest engine.old) }
     requires walk { IsWalk picture.now facts.old (reverse notes.old.items) }
-    ensures takes { Takes picture.now facts.old (reverse notes.old.items) line number result facts.new (reverse notes.new.items) }
+    ensures takes { Takes picture.now facts.old (reverse notes.old.items) line number result
+        facts.new (reverse notes.new.items) }
     ensures same_longest { E.longest engine.new ≡ E.longest engine.old }
     ensures calls { E.calls engine.old ≤ E.calls engine.new }
 {

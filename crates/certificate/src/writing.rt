@@ -14,8 +14,10 @@ use std::io::Write;
 #[tactic(auto, using(crate::proofs::Sending::sending))]
 // Writes a number and the byte that closes it.
 fn send_number<W: Write>(number: u16, close: u8, writer: &mut W) -> Result<(), WriteFault>
-    ensures ok { OnOk result (Appends (W.contents writer.old) (W.contents writer.new) (number_text number close)) }
-    ensures err { OnErr result (AppendsFront (W.contents writer.old) (W.contents writer.new) (number_text number close)) }
+    ensures ok { OnOk result
+        (Appends (W.contents writer.old) (W.contents writer.new) (number_text number close)) }
+    ensures err { OnErr result
+        (AppendsFront (W.contents writer.old) (W.contents writer.new) (number_text number close)) }
 {
     let mut buffer = Buffer::new();
     send(buffer.format(number).as_bytes(), writer)?;
@@ -35,8 +37,10 @@ fn axis_word(axis: Axis) -> &'static [u8]
 #[tactic(auto, using(crate::proofs::Sending::sending))]
 // Writes a line that names a line.
 fn send_named<W: Write>(word: &[u8], line: LineNumber, writer: &mut W) -> Result<(), WriteFault>
-    ensures ok { OnOk result (Appends (W.contents writer.old) (W.contents writer.new) (named_text word.now line)) }
-    ensures err { OnErr result (AppendsFront (W.contents writer.old) (W.contents writer.new) (named_text word.now line)) }
+    ensures ok { OnOk result
+        (Appends (W.contents writer.old) (W.contents writer.new) (named_text word.now line)) }
+    ensures err { OnErr result
+        (AppendsFront (W.contents writer.old) (W.contents writer.new) (named_text word.now line)) }
 {
     send(word, writer)?;
     send(axis_word(line.axis), writer)?;
@@ -46,8 +50,10 @@ fn send_named<W: Write>(word: &[u8], line: LineNumber, writer: &mut W) -> Result
 #[tactic(auto, using(crate::proofs::Sending::sending))]
 // Writes a line that names a cell.
 fn send_cell<W: Write>(word: &[u8], cell: CellNumber, writer: &mut W) -> Result<(), WriteFault>
-    ensures ok { OnOk result (Appends (W.contents writer.old) (W.contents writer.new) (cell_text word.now cell)) }
-    ensures err { OnErr result (AppendsFront (W.contents writer.old) (W.contents writer.new) (cell_text word.now cell)) }
+    ensures ok { OnOk result
+        (Appends (W.contents writer.old) (W.contents writer.new) (cell_text word.now cell)) }
+    ensures err { OnErr result
+        (AppendsFront (W.contents writer.old) (W.contents writer.new) (cell_text word.now cell)) }
 {
     send(word, writer)?;
     send_number(cell.row, b' ', writer)?;
@@ -56,8 +62,10 @@ fn send_cell<W: Write>(word: &[u8], cell: CellNumber, writer: &mut W) -> Result<
 
 // Writes a line below the givens.
 fn send_line<W: Write>(line: CertLine, writer: &mut W) -> Result<(), WriteFault>
-    ensures ok { OnOk result (Appends (W.contents writer.old) (W.contents writer.new) (line_text line)) }
-    ensures err { OnErr result (AppendsFront (W.contents writer.old) (W.contents writer.new) (line_text line)) }
+    ensures ok { OnOk result
+        (Appends (W.contents writer.old) (W.contents writer.new) (line_text line)) }
+    ensures err { OnErr result
+        (AppendsFront (W.contents writer.old) (W.contents writer.new) (line_text line)) }
 {
     match line {
         CertLine::Line(line) => send_named(b"line ", line, writer),
@@ -70,8 +78,10 @@ fn send_line<W: Write>(line: CertLine, writer: &mut W) -> Result<(), WriteFault>
 #[tactic(auto, using(crate::proofs::Sending::given_loop))]
 // Writes the givens.
 fn send_givens<W: Write>(givens: &[CellNumber], writer: &mut W) -> Result<(), WriteFault>
-    ensures ok { OnOk result (Appends (W.contents writer.old) (W.contents writer.new) (givens_text givens.now)) }
-    ensures err { OnErr result (AppendsFront (W.contents writer.old) (W.contents writer.new) (givens_text givens.now)) }
+    ensures ok { OnOk result
+        (Appends (W.contents writer.old) (W.contents writer.new) (givens_text givens.now)) }
+    ensures err { OnErr result
+        (AppendsFront (W.contents writer.old) (W.contents writer.new) (givens_text givens.now)) }
 {
     for i in 0..givens.len() {
         send_cell(b"given ", givens[i], writer)?;
@@ -82,8 +92,10 @@ fn send_givens<W: Write>(givens: &[CellNumber], writer: &mut W) -> Result<(), Wr
 #[tactic(auto, using(crate::proofs::Sending::line_loop))]
 // Writes the lines below the givens.
 fn send_lines<W: Write>(lines: &[CertLine], writer: &mut W) -> Result<(), WriteFault>
-    ensures ok { OnOk result (Appends (W.contents writer.old) (W.contents writer.new) (lines_text lines.now)) }
-    ensures err { OnErr result (AppendsFront (W.contents writer.old) (W.contents writer.new) (lines_text lines.now)) }
+    ensures ok { OnOk result
+        (Appends (W.contents writer.old) (W.contents writer.new) (lines_text lines.now)) }
+    ensures err { OnErr result
+        (AppendsFront (W.contents writer.old) (W.contents writer.new) (lines_text lines.now)) }
 {
     for i in 0..lines.len() {
         send_line(lines[i], writer)?;
@@ -106,8 +118,10 @@ fn version_word(version: u8) -> &'static [u8]
 /// Writes a certificate as a text, each line with a line feed: the version, the givens and the lines. `read_cert` reads it as
 /// the same certificate. Nothing is kept in memory, and after a fault a front of the text is written.
 pub fn write_cert<W: Write>(cert: &Cert, writer: &mut W) -> Result<(), WriteFault>
-    ensures ok { OnOk result (Appends (W.contents writer.old) (W.contents writer.new) (cert_text cert.now)) }
-    ensures err { OnErr result (AppendsFront (W.contents writer.old) (W.contents writer.new) (cert_text cert.now)) }
+    ensures ok { OnOk result
+        (Appends (W.contents writer.old) (W.contents writer.new) (cert_text cert.now)) }
+    ensures err { OnErr result
+        (AppendsFront (W.contents writer.old) (W.contents writer.new) (cert_text cert.now)) }
 {
     send(version_word(cert.version()), writer)?;
     send_givens(cert.givens(), writer)?;

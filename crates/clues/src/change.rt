@@ -45,7 +45,8 @@ impl Change {
         ensures moves { result.moves ≡ still height width }
         ensures are_moves { AreMoves result.moves }
         ensures untouched { (line : LineId) → IsTouched result line → ⊥ }
-        ensures lines { (old new : List (List ℕ)) → HasSize height width old → HasSize height width new
+        ensures lines { (old new : List (List ℕ)) → HasSize height width old
+            → HasSize height width new
             → FollowsCells result.moves old new }
     {
         Change {
@@ -63,7 +64,8 @@ impl Change {
         requires before { IsSize height width }
         requires place { line.at ≤ lines_before line.axis (still height width) }
         requires room { lines_before line.axis (still height width) < MAX_SIDE }
-        ensures moves { result.moves ≡ moved_along line.axis (Places.Inserted line.at) height width }
+        ensures moves { result.moves
+            ≡ moved_along line.axis (Places.Inserted line.at) height width }
         ensures are_moves { AreMoves result.moves }
         ensures touched { (other : LineId)
             → IsTouched result other ↔ ((other ≡ line) ⊎ (other.axis ≡ crossing line.axis)) }
@@ -85,7 +87,8 @@ impl Change {
         requires more { 1 < lines_before line.axis (still height width) }
         ensures moves { result.moves ≡ moved_along line.axis (Places.Deleted line.at) height width }
         ensures are_moves { AreMoves result.moves }
-        ensures touched { (other : LineId) → IsTouched result other ↔ (other.axis ≡ crossing line.axis) }
+        ensures touched { (other : LineId)
+            → IsTouched result other ↔ (other.axis ≡ crossing line.axis) }
         ensures lines { (picture : List (List ℕ)) → HasSize height width picture
             → Follows result picture (line_deleted picture line) }
         ensures exact { (picture : List (List ℕ)) → HasSize height width picture
@@ -137,7 +140,8 @@ impl Change {
         ensures moves { self.new.moves ≡ self.old.moves }
         ensures touched { (other : LineId)
             → IsTouched self.new other ↔ (IsTouched self.old other ⊎ (other ≡ line)) }
-        ensures follows { (old new : List (List ℕ)) → Follows self.old old new → Follows self.new old new }
+        ensures follows { (old new : List (List ℕ)) → Follows self.old old new
+            → Follows self.new old new }
     {
         self.marked.put(line);
     }
@@ -150,7 +154,8 @@ impl Change {
         ensures touched { (line : LineId) → IsTouched self.new line
             ↔ (IsTouched self.old line ⊎ IsChanged self.old.moves old.now new.now line) }
         ensures follows { Follows self.new old.now new.now }
-        ensures exact { TouchesChanged self.old old.now new.now → IsChangeOf self.new old.now new.now }
+        ensures exact { TouchesChanged self.old old.now new.now
+            → IsChangeOf self.new old.now new.now }
     {
         let _ = self.places(Axis::Across);
         self.touch_along(old, new, Axis::Across);
@@ -207,7 +212,8 @@ impl Change {
         ensures origin { result ≡ origin_of self.now.moves line }
         ensures image { IfSome result (λ from. image_of self.now.moves from ≡ Some line) }
         ensures inside { IfSome result (λ from. from.at < lines_before from.axis self.now.moves) }
-        ensures none { IfNone result ((from : LineId) → image_of self.now.moves from ≡ Some line → ⊥) }
+        ensures none { IfNone result
+            ((from : LineId) → image_of self.now.moves from ≡ Some line → ⊥) }
     {
         let at = self.places(line.axis).old_place(line.at)?;
         Some(LineId {

@@ -72,12 +72,14 @@ impl ClueBook {
     /// that are copied are those of the picture's lines, the book is the picture's.
     pub fn refresh(&self, picture: &Picture, change: &Change) -> Result<ClueBook, AllocError>
         requires { CanRefresh self.now picture.now change.now }
-        ensures sizes { IfOk result (λ book. (axis : Axis) → length (clues_along axis book) ≡ lines_along axis picture.now) }
+        ensures sizes { IfOk result (λ book.
+            (axis : Axis) → length (clues_along axis book) ≡ lines_along axis picture.now) }
         ensures copied { IfOk result (λ book. KeepsClues change.now self.now book) }
         ensures counted { IfOk result (λ book. CountsClues change.now picture.now book) }
         ensures stands { KeepsClues change.now self.now (clues_of picture.now)
             → IfOk result (λ book. book ≡ clues_of picture.now) }
-        ensures value { (old : List (List ℕ)) → self.now ≡ clues_of old → Follows change.now old picture.now
+        ensures value { (old : List (List ℕ)) → self.now ≡ clues_of old
+            → Follows change.now old picture.now
             → IfOk result (λ book. book ≡ clues_of picture.now) }
     {
         let rows = self.refreshed(picture, change, Axis::Across)?;
@@ -94,9 +96,12 @@ impl ClueBook {
     ) -> Result<Vec<Clue>, AllocError>
         requires { CanRefresh self.now picture.now change.now }
         ensures count { IfOk result (λ clues. length clues.items ≡ lines_along axis picture.now) }
-        ensures fits { IfOk result (λ clues. (0 < length clues.items) × (length clues.items ≤ MAX_SIDE)) }
-        ensures copied { IfOk result (λ clues. EachAlong axis clues.items (IsOldClue change.now self.now)) }
-        ensures counted { IfOk result (λ clues. EachAlong axis clues.items (IsNewClue change.now picture.now)) }
+        ensures fits { IfOk result
+            (λ clues. (0 < length clues.items) × (length clues.items ≤ MAX_SIDE)) }
+        ensures copied { IfOk result
+            (λ clues. EachAlong axis clues.items (IsOldClue change.now self.now)) }
+        ensures counted { IfOk result
+            (λ clues. EachAlong axis clues.items (IsNewClue change.now picture.now)) }
     {
         let count = line_count(picture, axis);
         let mut clues = Vec::with_capacity(*self.rows.allocator(), usize::from(count))?;
@@ -157,8 +162,10 @@ impl ClueBook {
 #[tactic(auto, using(crate::proofs::LineClues::counting))]
 // The clues of all lines along an axis.
 fn clues_along(alloc: Global, picture: &Picture, axis: Axis) -> Result<Vec<Clue>, AllocError>
-    ensures clues { IfOk result (λ clues. clues.items ≡ first_clues axis picture.now (lines_along axis picture.now)) }
-    ensures fits { IfOk result (λ clues. (0 < length clues.items) × (length clues.items ≤ MAX_SIDE)) }
+    ensures clues { IfOk result
+        (λ clues. clues.items ≡ first_clues axis picture.now (lines_along axis picture.now)) }
+    ensures fits { IfOk result
+        (λ clues. (0 < length clues.items) × (length clues.items ≤ MAX_SIDE)) }
 {
     let count = line_count(picture, axis);
     let mut clues = Vec::with_capacity(alloc, usize::from(count))?;
@@ -193,7 +200,8 @@ fn copies(clues: &Vec<Clue>) -> Result<Vec<Clue>, AllocError>
 #[tactic(auto, using(crate::proofs::LineClues::counting))]
 // Whether these are the clues of all lines along an axis.
 fn are_clues(clues: &[Clue], picture: &Picture, axis: Axis) -> bool
-    ensures { IsTrue result ↔ (first_clues axis picture.now (lines_along axis picture.now) ≡ clues.now) }
+    ensures { IsTrue result ↔ (first_clues axis picture.now (lines_along axis picture.now)
+        ≡ clues.now) }
 {
     let count = line_count(picture, axis);
     if clues.len() != usize::from(count) {

@@ -37,7 +37,8 @@ pub fn clue_of(alloc: Global, line: LineView<'_>) -> Result<Clue, AllocError>
 // Puts a run that has ended behind the blocks before it, unless it is background, and counts them.
 fn finish(blocks: &mut Blocks, count: usize, run: Block) -> usize
     requires { run.colour ≢ 0 → count < MAX_SIDE }
-    ensures blocks { take result blocks.new ≡ take count blocks.old ++ blocks_of run.len run.colour }
+    ensures blocks { take result blocks.new
+        ≡ take count blocks.old ++ blocks_of run.len run.colour }
     ensures count { result ≡ count + length (blocks_of run.len run.colour) }
 {
     if run.colour == 0 {

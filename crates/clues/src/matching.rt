@@ -34,7 +34,8 @@ pub(crate) fn is_clue_of(clue: &Clue, line: LineView<'_>) -> bool
 /// The blocks behind a run that has ended, where it stands first among them. A run of background needs no block.
 pub fn without_run(blocks: &[Block], run: Block) -> Option<&[Block]>
     ensures some { IfSome result (λ rest. blocks.now ≡ blocks_of run.len run.colour ++ rest.now) }
-    ensures none { IfNone result ((rest : List Block) → blocks.now ≢ blocks_of run.len run.colour ++ rest) }
+    ensures none { IfNone result
+        ((rest : List Block) → blocks.now ≢ blocks_of run.len run.colour ++ rest) }
 {
     if run.colour == 0 {
         return Some(blocks);

@@ -170,7 +170,8 @@ fn is_same_at(picture: &Picture, axis: Axis, first: u8, second: u8, position: u8
     requires first_in { first < lines_along axis picture.now }
     requires second_in { second < lines_along axis picture.now }
     requires position { position < cells_along axis picture.now }
-    ensures { MatchBool result (SameAt axis first second picture.now position) (SameAt axis first second picture.now position → ⊥) }
+    ensures { MatchBool result (SameAt axis first second picture.now position)
+        (SameAt axis first second picture.now position → ⊥) }
 {
     let (row, col) = place_on(axis, first, position);
     let (other_row, other_col) = place_on(axis, second, position);

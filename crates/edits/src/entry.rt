@@ -36,7 +36,8 @@ impl Entry {
     #[tactic(auto, using(crate::proofs::FaultLemmas::lawful, crate::proofs::FaultLemmas::entry_of))]
     pub fn of(alloc: Global, document: &Document, edit: &Edit) -> Result<Entry, AllocError>
         requires { edit_fault (design_of document.now) edit.now ≡ None }
-        ensures note { IfOk result (λ entry. note_of entry ≡ note_for (design_of document.now) edit.now) }
+        ensures note { IfOk result
+            (λ entry. note_of entry ≡ note_for (design_of document.now) edit.now) }
         ensures entry { IfOk result (λ entry. IsEntry (design_of document.now) (note_of entry)) }
     {
         know(document);
@@ -78,7 +79,8 @@ impl Entry {
     /// The document before the edit. The entry is that of an edit which gives this document.
     pub fn revert(&self, document: &Document) -> Result<Document, AllocError>
         requires { (before : Design) × IsStep before (note_of self.now) (design_of document.now) }
-        ensures { IfOk result (λ d. (before : Design) → IsStep before (note_of self.now) (design_of document.now)
+        ensures { IfOk result (λ d.
+            (before : Design) → IsStep before (note_of self.now) (design_of document.now)
             → design_of d ≡ before) }
     {
         know(document);

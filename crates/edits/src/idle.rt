@@ -19,7 +19,8 @@ pub(crate) fn changes_nothing(document: &Document, edit: &Edit) -> bool
     requires inside { is_outside document.now.picture edit.now ≡ false }
     requires coloured { lacks_colour document.now.palette edit.now ≡ false }
     requires others { deletes_last document.now.picture edit.now ≡ false }
-    ensures { result ≡ same_design (edited (design_of document.now) edit.now) (design_of document.now) }
+    ensures { result ≡ same_design (edited (design_of document.now) edit.now)
+        (design_of document.now) }
 {
     know(document);
     match *edit {
@@ -42,7 +43,8 @@ pub(crate) fn changes_nothing(document: &Document, edit: &Edit) -> bool
 fn are_alike(document: &Document, axis: Axis, first: u8, second: u8) -> bool
     requires first_in { first < lines_along axis document.now.picture }
     requires second_in { second < lines_along axis document.now.picture }
-    ensures { MatchBool result (AreAlike axis first second (design_of document.now)) (AreAlike axis first second (design_of document.now) → ⊥) }
+    ensures { MatchBool result (AreAlike axis first second (design_of document.now))
+        (AreAlike axis first second (design_of document.now) → ⊥) }
 {
     for position in 0..line_length(&document.picture, axis) {
         if !are_alike_at(document, axis, first, second, position) {
@@ -57,7 +59,8 @@ fn are_alike_at(document: &Document, axis: Axis, first: u8, second: u8, position
     requires first_in { first < lines_along axis document.now.picture }
     requires second_in { second < lines_along axis document.now.picture }
     requires position { position < cells_along axis document.now.picture }
-    ensures { MatchBool result (AreAlikeAt axis first second (design_of document.now) position) (AreAlikeAt axis first second (design_of document.now) position → ⊥) }
+    ensures { MatchBool result (AreAlikeAt axis first second (design_of document.now) position)
+        (AreAlikeAt axis first second (design_of document.now) position → ⊥) }
 {
     know(document);
     let (row, col) = place_on(axis, first, position);

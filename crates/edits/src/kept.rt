@@ -67,7 +67,8 @@ pub(crate) fn kept_givens(
     edit: &Edit,
 ) -> Result<Vec<(u8, u8)>, AllocError>
     requires { is_outside document.now.picture edit.now ≡ false }
-    ensures { IfOk result (λ givens. givens.items ≡ givens_kept (design_of document.now).marks edit.now) }
+    ensures { IfOk result (λ givens.
+        givens.items ≡ givens_kept (design_of document.now).marks edit.now) }
 {
     match *edit {
         Edit::DeleteLine { line } => givens_of_line(alloc, document, line),
@@ -83,7 +84,8 @@ fn givens_of_line(
     line: LineId,
 ) -> Result<Vec<(u8, u8)>, AllocError>
     requires { line.at < lines_along line.axis document.now.picture }
-    ensures { IfOk result (λ givens. givens.items ≡ givens_of_line (design_of document.now).marks line) }
+    ensures { IfOk result (λ givens.
+        givens.items ≡ givens_of_line (design_of document.now).marks line) }
 {
     let _ = document.picture.height();
     let mut givens = Vec::new(alloc);

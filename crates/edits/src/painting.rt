@@ -114,7 +114,8 @@ fn push_changed(
 ) -> Result<(), AllocError>
     requires area { IsArea edit.now picture.now area.top area.below area.left area.beyond }
     requires row { row < length picture.now }
-    ensures { OnOk result (cells.new.items ≡ cells.old.items ++ changed_in_row edit.now picture.now row) }
+    ensures { OnOk result (cells.new.items
+        ≡ cells.old.items ++ changed_in_row edit.now picture.now row) }
 {
     for col in area.left..area.beyond {
         let old = picture.cell(row, col);
@@ -129,7 +130,8 @@ fn push_changed(
 /// Whether an edit gives some cell another colour.
 pub(crate) fn changes_cells(picture: &Picture, edit: &Edit) -> bool
     requires { is_outside picture.now edit.now ≡ false }
-    ensures { MatchBool result (changed_cells edit.now picture.now ≢ []) (changed_cells edit.now picture.now ≡ []) }
+    ensures { MatchBool result (changed_cells edit.now picture.now ≢ [])
+        (changed_cells edit.now picture.now ≡ []) }
 {
     let area = edit.area(picture);
     for row in area.top..area.below {
@@ -145,7 +147,8 @@ pub(crate) fn changes_cells(picture: &Picture, edit: &Edit) -> bool
 fn changes_row(picture: &Picture, edit: &Edit, area: Area, row: u8) -> bool
     requires area { IsArea edit.now picture.now area.top area.below area.left area.beyond }
     requires row { row < length picture.now }
-    ensures { MatchBool result (changed_in_row edit.now picture.now row ≢ []) (changed_in_row edit.now picture.now row ≡ []) }
+    ensures { MatchBool result (changed_in_row edit.now picture.now row ≢ [])
+        (changed_in_row edit.now picture.now row ≡ []) }
 {
     for col in area.left..area.beyond {
         let old = picture.cell(row, col);

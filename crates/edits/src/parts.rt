@@ -22,7 +22,8 @@ pub(crate) fn painted(
     cells: &[(u8, u8, u8)],
 ) -> Result<Document, AllocError>
     requires cells { All (IsCellIn document.now.picture) (map (repainted edit.now) cells.now) }
-    requires coloured { AreColoured (with_cells document.now.picture (map (repainted edit.now) cells.now)) document.now.palette }
+    requires coloured { AreColoured (with_cells document.now.picture
+        (map (repainted edit.now) cells.now)) document.now.palette }
     ensures { IfOk result (λ d. design_of d
         ≡ design document.now.palette (with_cells document.now.picture (map (repainted edit.now) cells.now)) (design_of document.now).marks) }
 {
@@ -43,7 +44,8 @@ pub(crate) fn with_cells(
     cells: &[(u8, u8, u8)],
 ) -> Result<Document, AllocError>
     requires cells { All (IsCellIn document.now.picture) cells.now }
-    requires coloured { AreColoured (with_cells document.now.picture cells.now) document.now.palette }
+    requires coloured { AreColoured (with_cells document.now.picture cells.now)
+        document.now.palette }
     ensures { IfOk result (λ d. design_of d
         ≡ design document.now.palette (with_cells document.now.picture cells.now) (design_of document.now).marks) }
 {
@@ -111,7 +113,8 @@ pub(crate) fn swapped(
 ) -> Result<Document, AllocError>
     requires first_in { first < lines_along axis document.now.picture }
     requires second_in { second < lines_along axis document.now.picture }
-    requires coloured { AreColoured (lines_swapped axis first second document.now.picture) document.now.palette }
+    requires coloured { AreColoured (lines_swapped axis first second document.now.picture)
+        document.now.palette }
     ensures { IfOk result (λ d. design_of d
         ≡ design document.now.palette (lines_swapped axis first second document.now.picture) (lines_swapped axis first second (design_of document.now).marks)) }
 {
@@ -249,7 +252,8 @@ pub(crate) fn restored(
     requires blank { AreColoured (line_inserted document.now.picture line) document.now.palette }
     requires cells { All (IsCellIn (line_inserted document.now.picture line)) cells.now }
     requires givens { All (IsPlaceIn (line_inserted document.now.picture line)) givens.now }
-    requires coloured { AreColoured (with_cells (line_inserted document.now.picture line) cells.now) document.now.palette }
+    requires coloured { AreColoured (with_cells (line_inserted document.now.picture line) cells.now)
+        document.now.palette }
     ensures { IfOk result (λ d. design_of d
         ≡ design document.now.palette (with_cells (line_inserted document.now.picture line) cells.now)
         (with_cells (line_inserted (design_of document.now).marks line) (map as_mark givens.now))) }

@@ -65,9 +65,11 @@ pub(crate) fn edit_of(
     document: &Document,
     edit: &Edit,
 ) -> Result<Prepared, EditFault>
-    ensures refused { IfErr result (λ fault. fault ≡ or_memory (edit_fault (design_of document.now) edit.now)) }
+    ensures refused { IfErr result
+        (λ fault. fault ≡ or_memory (edit_fault (design_of document.now) edit.now)) }
     ensures lawful { IfOk result (λ _. edit_fault (design_of document.now) edit.now ≡ None) }
-    ensures made { IfOk result (λ p. IsMade (ByEdit (note_for (design_of document.now) edit.now)) (moves_of edit.now document.now.picture)
+    ensures made { IfOk result (λ p. IsMade (ByEdit (note_for (design_of document.now) edit.now))
+        (moves_of edit.now document.now.picture)
         (design_of document.now) (edited (design_of document.now) edit.now) p) }
 {
     if let Some(fault) = edit.refusal(document) {
@@ -86,7 +88,8 @@ pub(crate) fn edit_of(
 /// The document before an edit that was made, from the one after it and what was kept of the edit.
 pub(crate) fn undo_of(document: &Document, entry: &Entry) -> Result<Prepared, AllocError>
     requires { (before : Design) × IsStep before (note_of entry.now) (design_of document.now) }
-    ensures { IfOk result (λ p. (before : Design) → IsStep before (note_of entry.now) (design_of document.now)
+    ensures { IfOk result (λ p.
+        (before : Design) → IsStep before (note_of entry.now) (design_of document.now)
         → IsMade ByUndo (back (moves_of entry.now.edit before.rows)) (design_of document.now) before p) }
 {
     let before = entry.revert(document)?;

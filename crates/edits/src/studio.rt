@@ -91,12 +91,16 @@ impl Studio {
 
     /// What an edit comes to, or the first fault that refuses it. The studio stays as it is.
     pub fn prepare(&self, alloc: Global, edit: &Edit) -> Result<Prepared, EditFault>
-        ensures refused { IfErr result (λ fault. fault ≡ or_memory (edit_fault self.now.document edit.now)) }
+        ensures refused { IfErr result
+            (λ fault. fault ≡ or_memory (edit_fault self.now.document edit.now)) }
         ensures lawful { IfOk result (λ _. edit_fault self.now.document edit.now ≡ None) }
         ensures ready { IfOk result (λ p. IsPlanFor self.now p) }
-        ensures next { IfOk result (λ p. advanced self.now p.advance ≡ after_edit self.now edit.now) }
-        ensures change { IfOk result (λ p. IsChangeBy (moves_of edit.now self.now.document.rows) self.now.document.rows p.document.rows p.change) }
-        ensures exact { IfOk result (λ p. IsChangeOf p.change self.now.document.rows p.document.rows) }
+        ensures next { IfOk result
+            (λ p. advanced self.now p.advance ≡ after_edit self.now edit.now) }
+        ensures change { IfOk result (λ p. IsChangeBy (moves_of edit.now self.now.document.rows)
+            self.now.document.rows p.document.rows p.change) }
+        ensures exact { IfOk result
+            (λ p. IsChangeOf p.change self.now.document.rows p.document.rows) }
     {
         edit_of(alloc, &self.document, edit)
     }
@@ -109,7 +113,8 @@ impl Studio {
         ensures next { IfOk result (λ p. advanced self.now p.advance ≡ undone self.now) }
         ensures change { IfOk result (λ p. IfSome (last_turn self.now.past) (λ turn.
             IsChangeBy (back (moves_of turn.edit turn.document.rows)) self.now.document.rows p.document.rows p.change)) }
-        ensures exact { IfOk result (λ p. IsChangeOf p.change self.now.document.rows p.document.rows) }
+        ensures exact { IfOk result
+            (λ p. IsChangeOf p.change self.now.document.rows p.document.rows) }
     {
         let Some(entry) = self.past.back() else {
             return Err(EditFault::UndoEmpty);
@@ -126,7 +131,8 @@ impl Studio {
         ensures next { IfOk result (λ p. advanced self.now p.advance ≡ redone self.now) }
         ensures change { IfOk result (λ p. IfSome (first_turn self.now.future) (λ turn.
             IsChangeBy (moves_of turn.edit self.now.document.rows) self.now.document.rows p.document.rows p.change)) }
-        ensures exact { IfOk result (λ p. IsChangeOf p.change self.now.document.rows p.document.rows) }
+        ensures exact { IfOk result
+            (λ p. IsChangeOf p.change self.now.document.rows p.document.rows) }
     {
         let Some(entry) = self.future.front() else {
             return Err(EditFault::RedoEmpty);

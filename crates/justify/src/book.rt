@@ -130,7 +130,8 @@ fn copies(steps: &Vec<Step>) -> Result<Vec<Step>, AllocError>
 // Excludes what a step draws.
 fn gain_drawn(facts: &mut Facts, step: &Step)
     requires line { HasLine facts.old step.now.line }
-    requires inside { (i : ℕ) → Mentions step.now.drawn i → i < length (line_of facts.old step.now.line) }
+    requires inside { (i : ℕ) → Mentions step.now.drawn i
+        → i < length (line_of facts.old step.now.line) }
     ensures { GainDrawn step.now facts.old facts.new }
 {
     let line = step.line;
@@ -143,7 +144,8 @@ fn gain_drawn(facts: &mut Facts, step: &Step)
 fn exclude_on(facts: &mut Facts, line: LineId, place: u8, colours: u16)
     requires line { HasLine facts.old line }
     requires place { place < length (line_of facts.old line) }
-    ensures { ExcludesAt facts.old facts.new (row_on line.axis line.at place) (col_on line.axis line.at place) colours }
+    ensures { ExcludesAt facts.old facts.new (row_on line.axis line.at place)
+        (col_on line.axis line.at place) colours }
 {
     let _ = facts.height();
     match line.axis {

@@ -64,7 +64,8 @@ fn passes(line: LineId, row: u8, col: u8) -> bool
 
 // The place along a line of a cell that it goes through.
 pub(crate) fn place_along(line: LineId, row: u8, col: u8) -> u8
-    ensures { (i : ℕ) → row ≡ row_on line.axis line.at i → col ≡ col_on line.axis line.at i → i ≡ result }
+    ensures { (i : ℕ) → row ≡ row_on line.axis line.at i → col ≡ col_on line.axis line.at i
+        → i ≡ result }
 {
     match line.axis {
         Axis::Across => col,

@@ -40,8 +40,10 @@ pub fn audit_anew<E: LineEngine, A: Agenda>(
     requires wide { width_of picture.now ≤ E.longest engine.old }
     requires tall { length picture.now ≤ E.longest engine.old }
     ensures audit { IfOk result (λ audit. IsAudit picture.now base audit.clues audit.book) }
-    ensures work { IfOk result (λ audit. IsAnew base audit.book meter.old meter.new (E.calls engine.old) (E.calls engine.new)) }
-    ensures counts { (evaluations : ℕ) × Counts evaluations 0 meter.old meter.new (E.calls engine.old) (E.calls engine.new) }
+    ensures work { IfOk result (λ audit.
+        IsAnew base audit.book meter.old meter.new (E.calls engine.old) (E.calls engine.new)) }
+    ensures counts { (evaluations : ℕ)
+        × Counts evaluations 0 meter.old meter.new (E.calls engine.old) (E.calls engine.new) }
     ensures memory { IfErr result (λ e. e ≡ fault.Memory) }
     ensures same_longest { E.longest engine.new ≡ E.longest engine.old }
 {
@@ -79,9 +81,11 @@ pub fn audit_again<E: LineEngine, A: Agenda>(
     ensures audit { IfOk result (λ audit. IsAudit new.now base audit.clues audit.book) }
     ensures fresh { (facts : List (List ℕ)) → IsLeast (clues_of new.now) base facts
         → IfOk result (λ audit. audit.book.facts ≡ facts) }
-    ensures goes_on { IfOk result (λ audit. GoesOn change.now.moves before.now.clues audit.clues before.now.book audit.book
+    ensures goes_on { IfOk result
+        (λ audit. GoesOn change.now.moves before.now.clues audit.clues before.now.book audit.book
         meter.old meter.new (E.calls engine.old) (E.calls engine.new)) }
-    ensures counts { (evaluations : ℕ) × Counts evaluations 0 meter.old meter.new (E.calls engine.old) (E.calls engine.new) }
+    ensures counts { (evaluations : ℕ)
+        × Counts evaluations 0 meter.old meter.new (E.calls engine.old) (E.calls engine.new) }
     ensures memory { IfErr result (λ e. e ≡ fault.Memory) }
     ensures same_longest { E.longest engine.new ≡ E.longest engine.old }
 {

@@ -38,7 +38,8 @@ fn make_base_row(document: &Document, facts: &mut Facts, row: u8)
 fn base_mask(document: &Document, row: u8, col: u8) -> u16
     requires in_rows { row < length document.now.picture }
     requires in_columns { col < width_of document.now.picture }
-    ensures { (k : ℕ) → IsBitSet result k ↔ IsOpen document.now.givens document.now.picture row col k }
+    ensures { (k : ℕ) → IsBitSet result k
+        ↔ IsOpen document.now.givens document.now.picture row col k }
 {
     let colour = document.picture.cell(row, col);
     if document.givens.has(row, col) {

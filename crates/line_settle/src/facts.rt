@@ -169,7 +169,8 @@ fn write_row(cells: &mut [u16], height: u8, width: u8, line: LineId, masks: &[u1
     requires line { HasLine (rows_of height width cells.old) line }
     requires whole { length masks.now ≡ length (line_of (rows_of height width cells.old) line) }
     ensures cells { AreMasks height width cells.new }
-    ensures holds { HoldsLine line (rows_of height width cells.old) (rows_of height width cells.new) masks.now }
+    ensures holds { HoldsLine line (rows_of height width cells.old) (rows_of height width cells.new)
+        masks.now }
 {
     for col in 0..width {
         cells[usize::from(line.at) * usize::from(width) + usize::from(col)] = masks[usize::from(
@@ -185,7 +186,8 @@ fn write_column(cells: &mut [u16], height: u8, width: u8, line: LineId, masks: &
     requires line { HasLine (rows_of height width cells.old) line }
     requires whole { length masks.now ≡ length (line_of (rows_of height width cells.old) line) }
     ensures cells { AreMasks height width cells.new }
-    ensures holds { HoldsLine line (rows_of height width cells.old) (rows_of height width cells.new) masks.now }
+    ensures holds { HoldsLine line (rows_of height width cells.old) (rows_of height width cells.new)
+        masks.now }
 {
     for row in 0..height {
         cells[usize::from(row) * usize::from(width) + usize::from(line.at)] = masks[usize::from(

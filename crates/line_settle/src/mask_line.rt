@@ -15,7 +15,8 @@ use picture::MAX_SIDE;
 
 // How many cells a block takes behind a block of colour `last`, with the background that must lie between them.
 fn cells_for(block: Block, last: u8) -> usize
-    ensures value { result ≡ length (gap (block.colour == last) ++ replicate block.len block.colour) }
+    ensures value { result ≡ length
+        (gap (block.colour == last) ++ replicate block.len block.colour) }
     ensures small { result ≤ 256 }
 {
     let len = usize::from(block.len);

@@ -141,7 +141,8 @@ fn few_with(left: &[u16], colour: u8) -> u64
 fn eight_with(left: &[u16], first: usize, colour: u8) -> u64
     requires colour { colour < 16 }
     requires room { first + 8 ≤ length left.now }
-    ensures each { (i : ℕ) → i < 8 → has result i ≡ allows (slice_index left.now (first + i)) colour }
+    ensures each { (i : ℕ) → i < 8
+        → has result i ≡ allows (slice_index left.now (first + i)) colour }
     ensures no_more { result < 256 }
 {
     let bit = u16x8::splat(1 << colour);
@@ -203,7 +204,8 @@ pub fn places_apart(before: &[u16], after: &[u16], cells: usize) -> u128
     requires same_length { length after.now ≡ length before.now }
     requires room { 8 * ((cells + 7) / 8) ≤ length before.now }
     requires short { length before.now < 128 }
-    requires same_behind { (i : ℕ) → cells ≤ i → slice_index before.now i ≡ slice_index after.now i }
+    requires same_behind { (i : ℕ) → cells ≤ i
+        → slice_index before.now i ≡ slice_index after.now i }
     ensures { (i : ℕ) → has result i ≡ differs before.now after.now i }
 {
     let mut places = 0u128;

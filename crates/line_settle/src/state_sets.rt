@@ -140,14 +140,16 @@ impl PatternSets {
 
     // The states that a cell with one of the colours can leave as they are.
     fn resting_by(&self, colours: u16) -> u128
-        ensures { (q : ℕ) → (has result q ≡ true) ↔ ((has self.now.waiting q ≡ true) × (allows colours 0 ≡ true)) }
+        ensures { (q : ℕ) → (has result q ≡ true)
+            ↔ ((has self.now.waiting q ≡ true) × (allows colours 0 ≡ true)) }
     {
         if allows(colours, 0) { self.waiting } else { 0 }
     }
 
     /// How a cell with one of the mask's colours moves a line.
     pub fn moves_by(&self, mask: u16) -> Moves
-        ensures { (pattern : List ℕ) → ArePatternSets pattern self.now → MovesBy pattern mask result }
+        ensures { (pattern : List ℕ) → ArePatternSets pattern self.now
+            → MovesBy pattern mask result }
     {
         let colours = mask & self.colours;
         if colours == self.colours {

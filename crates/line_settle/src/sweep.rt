@@ -26,7 +26,8 @@ pub struct Reached {
 
 // The states behind a cell of drawn colours; mostly it has none.
 fn reach_drawn(sets: &PatternSets, colours: u16, from: u128) -> u128
-    ensures { (pattern : List ℕ) (before : ℕ → Bool) → ArePatternSets pattern sets.now → AreStates pattern before from
+    ensures { (pattern : List ℕ) (before : ℕ → Bool) → ArePatternSets pattern sets.now
+        → AreStates pattern before from
         → AreStates pattern (reach_step pattern colours before) result }
 {
     if colours == 0 {
@@ -49,7 +50,8 @@ fn reach(sets: &PatternSets, moves: Moves, colours: u16, from: Reached) -> Reach
 
 // The states before a cell of drawn colours that it leads to one of a set; mostly it has none.
 fn back_drawn(sets: &PatternSets, colours: u16, later: u128) -> u128
-    ensures { (pattern : List ℕ) (behind : ℕ → Bool) → ArePatternSets pattern sets.now → AreStates pattern behind later
+    ensures { (pattern : List ℕ) (behind : ℕ → Bool) → ArePatternSets pattern sets.now
+        → AreStates pattern behind later
         → AreStates pattern (finish_step pattern colours behind) result }
 {
     if colours == 0 {

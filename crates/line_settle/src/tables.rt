@@ -100,7 +100,8 @@ fn colours_from(pattern: &[u8], mask: u16, before: &[bool], later: &[bool], q: u
     requires row { length pattern.now ≤ length later.now }
     requires rows { length pattern.now ≤ length before.now }
     requires state { q < length pattern.now }
-    ensures { (k : ℕ) → allows result k ≡ passes pattern.now mask (truth_at before.now) (truth_at later.now) q k }
+    ensures { (k : ℕ) → allows result k
+        ≡ passes pattern.now mask (truth_at before.now) (truth_at later.now) q k }
 {
     if !before[q] {
         return 0;
@@ -142,7 +143,8 @@ fn mark_state(row: &mut [bool], state: usize)
 // Stores a row at place `i` of a table of such rows.
 fn store_row(row: &[bool], table: &mut [bool], i: usize)
     requires { i * length row.now + length row.now ≤ length table.old }
-    ensures stored { (q : ℕ) → q < length row.now → table_row table.new (length row.now) i q ≡ truth_at row.now q }
+    ensures stored { (q : ℕ) → q < length row.now
+        → table_row table.new (length row.now) i q ≡ truth_at row.now q }
     ensures others { (j q : ℕ) → j ≢ i → q < length row.now
         → table_row table.new (length row.now) j q ≡ table_row table.old (length row.now) j q }
 {
@@ -157,7 +159,8 @@ pub fn mark_finishing(pattern: &[u8], left: &[u16], row: &mut [bool], table: &mu
     requires begun { 0 < length pattern.now }
     requires row { length pattern.now ≤ length row.old }
     requires room { length left.now * length row.old + length row.old ≤ length table.old }
-    ensures first { (q : ℕ) → q < length pattern.now → truth_at row.new q ≡ finishes pattern.now left.now q }
+    ensures first { (q : ℕ) → q < length pattern.now
+        → truth_at row.new q ≡ finishes pattern.now left.now q }
     ensures each { (i q : ℕ) → i ≤ length left.now → q < length pattern.now
         → table_row table.new (length row.old) i q ≡ finishes pattern.now (drop i left.now) q }
 {

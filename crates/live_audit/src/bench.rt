@@ -145,8 +145,10 @@ impl<E: LineEngine + Drop, A: Agenda + Drop> Bench<E, A> {
     // Audits what a step of the history comes to beside the bench, and only then takes the step, for which no memory is taken.
     fn advance(&mut self, prepared: Prepared) -> Result<(), EditFault>
         requires plan { IsPlanFor self.old.history prepared }
-        requires change { IsChangeOf prepared.change self.old.history.document.rows prepared.document.rows }
-        ensures history { OnOk result (self.new.history ≡ advanced self.old.history prepared.advance) }
+        requires change { IsChangeOf prepared.change self.old.history.document.rows
+            prepared.document.rows }
+        ensures history { OnOk result
+            (self.new.history ≡ advanced self.old.history prepared.advance) }
         ensures book { OnOk result (CarriesOn prepared.change.moves self.old self.new) }
         ensures memory { IfErr result (λ fault. fault ≡ Memory) }
         ensures as_before { OnErr result (IsAsBefore self.old self.new) }
@@ -184,7 +186,8 @@ impl<E: LineEngine + Drop, A: Agenda + Drop> Bench<E, A> {
     /// is kept, so a verdict that was decided is answered without a search until the next edit, undo or redo that is
     /// accepted. Where memory is wanting nothing changes.
     pub fn verdict(&mut self) -> Result<Verdict<'_>, AllocError>
-        ensures* keeps { sem 𝓛 (follows_so (the_row E.row A.row E.LineEngine A.Agenda) (the_row E.row A.row E.LineEngine A.Agenda)
+        ensures* keeps { sem 𝓛 (follows_so (the_row E.row A.row E.LineEngine A.Agenda)
+            (the_row E.row A.row E.LineEngine A.Agenda)
             self.entry.ghost_name none (λ _ _. ⊤) (λ last. IsAudited last
             × MatchResult result (Tells self.old last) (λ _. IsAsBefore self.old last))) }
         ensures headline { IfOk result (IsVerdictOn self.old.history.document self.old.allowance) }
@@ -196,7 +199,8 @@ impl<E: LineEngine + Drop, A: Agenda + Drop> Bench<E, A> {
     // Judges the present picture by its parts, and notes what that took.
     fn decide(&mut self) -> Result<Ruling, AllocError>
         ensures decides { IfOk result (λ ruling. Decides self.old self.new (judged_as ruling)) }
-        ensures ruling { IfOk result (IsRulingOn self.new.history.document self.new.allowance self.new.kept) }
+        ensures ruling { IfOk result
+            (IsRulingOn self.new.history.document self.new.allowance self.new.kept) }
         ensures as_before { OnErr result (IsAsBefore self.old self.new) }
         ensures audited { IsAudited self.new }
     {

@@ -45,8 +45,10 @@ pub(crate) fn audit_first<E: LineEngine, A: Agenda>(
     meter: &mut Meter,
 ) -> Result<Audit, AllocError>
     requires long { MAX_SIDE ≤ E.longest engine.old }
-    ensures audited { IfOk result (λ audit. IsAuditOf (design_of document.now) audit.clues audit.book) }
-    ensures work { IfOk result (λ audit. IsAnew audit.book.base audit.book meter.old meter.new (E.calls engine.old) (E.calls engine.new)) }
+    ensures audited { IfOk result
+        (λ audit. IsAuditOf (design_of document.now) audit.clues audit.book) }
+    ensures work { IfOk result (λ audit. IsAnew audit.book.base audit.book meter.old meter.new
+        (E.calls engine.old) (E.calls engine.new)) }
     ensures same_longest { E.longest engine.new ≡ E.longest engine.old }
 {
     let base = base_of(alloc, document)?;
@@ -73,7 +75,8 @@ pub(crate) fn audit_next<E: LineEngine, A: Agenda>(
     requires change { IsChangeOf change.now old.now.picture new.now.picture }
     requires long { MAX_SIDE ≤ E.longest engine.old }
     ensures audited { IfOk result (λ audit. IsAuditOf (design_of new.now) audit.clues audit.book) }
-    ensures goes_on { IfOk result (λ audit. GoesOn change.now.moves before.now.clues audit.clues before.now.book audit.book
+    ensures goes_on { IfOk result
+        (λ audit. GoesOn change.now.moves before.now.clues audit.clues before.now.book audit.book
         meter.old meter.new (E.calls engine.old) (E.calls engine.new)) }
     ensures same_longest { E.longest engine.new ≡ E.longest engine.old }
 {
@@ -124,7 +127,8 @@ pub(crate) fn answers_first(
     document: &Document,
     audit: &Audit,
 ) -> Result<Keeper, AllocError>
-    ensures answers { IfOk result (AreAnswersOf (design_of document.now) audit.now.clues audit.now.book.facts) }
+    ensures answers { IfOk result
+        (AreAnswersOf (design_of document.now) audit.now.clues audit.now.book.facts) }
     ensures starts { IfOk result (Starts audit.now.book.facts) }
 {
     let _ = document;
@@ -142,9 +146,11 @@ pub(crate) fn answers_next(
     after: &Audit,
 ) -> Result<Keeper, AllocError>
     requires audited { IsAuditOf (design_of old.now) before.now.clues before.now.book }
-    requires answers { AreAnswersOf (design_of old.now) before.now.clues before.now.book.facts keeper.now }
+    requires answers { AreAnswersOf (design_of old.now) before.now.clues before.now.book.facts
+        keeper.now }
     requires next { IsAuditOf (design_of new.now) after.now.clues after.now.book }
-    ensures answers { IfOk result (AreAnswersOf (design_of new.now) after.now.clues after.now.book.facts) }
+    ensures answers { IfOk result
+        (AreAnswersOf (design_of new.now) after.now.clues after.now.book.facts) }
     ensures carries { IfOk result (Carries before.now.clues before.now.book.facts old.now.picture
         after.now.clues after.now.book.facts new.now.picture keeper.now) }
 {
@@ -167,12 +173,15 @@ pub(crate) fn rule<E: LineEngine>(
     splits: &mut u32,
 ) -> Result<Ruling, AllocError>
     requires audited { IsAuditOf (design_of document.now) audit.now.clues audit.now.book }
-    requires answers { AreAnswersOf (design_of document.now) audit.now.clues audit.now.book.facts keeper.old }
+    requires answers { AreAnswersOf (design_of document.now) audit.now.clues audit.now.book.facts
+        keeper.old }
     requires long { MAX_SIDE ≤ E.longest engine.old }
-    ensures judges { IfOk result (λ ruling. Done parts.old parts.new splits.old splits.new search.old search.new (E.calls engine.old) (E.calls engine.new)
+    ensures judges { IfOk result (λ ruling. Done parts.old parts.new splits.old splits.new
+        search.old search.new (E.calls engine.old) (E.calls engine.new)
         (Judges audit.now.clues audit.now.book.facts document.now.picture allowance keeper.old keeper.new (judged_as ruling))) }
     ensures ruling { IfOk result (IsRulingOn (design_of document.now) allowance keeper.new) }
-    ensures answers { AreAnswersOf (design_of document.now) audit.now.clues audit.now.book.facts keeper.new }
+    ensures answers { AreAnswersOf (design_of document.now) audit.now.clues audit.now.book.facts
+        keeper.new }
     ensures refused { OnErr result (keeper.new ≡ keeper.old) }
     ensures same_longest { E.longest engine.new ≡ E.longest engine.old }
 {

@@ -43,7 +43,8 @@ fn with_digit(value: u8, digit: u8) -> u8
 #[tactic(auto, using(crate::proofs::ClueLineLemmas::places))]
 // The numbers between the commas of a line.
 fn numbers(alloc: Global, line: &[u8]) -> Result<SmallVec<u8, 8>, NonFault>
-    ensures { Gives NonFault.Memory (λ v. v.items) result (all_capped (numbers_in (slice_split (λ b. b == 44) line.now))) }
+    ensures { Gives NonFault.Memory (λ v. v.items) result
+        (all_capped (numbers_in (slice_split (λ b. b == 44) line.now))) }
 {
     let mut numbers = SmallVec::new(alloc);
     let mut rest = Some(line);

@@ -12,7 +12,8 @@ use picture::Picture;
 /// The law of the round trip: where no cell of a picture has a colour above 1, the text that `write_non` writes is read
 /// by `read_non` as the picture's clues, with the picture as the goal. Nothing is computed.
 pub fn round_trip()
-    ensures { (rows : List (List ℕ)) → IsPicture rows → is_two_colour rows ≡ true → IsReadAgain rows }
+    ensures { (rows : List (List ℕ)) → IsPicture rows → is_two_colour rows ≡ true
+        → IsReadAgain rows }
 {}
 
 /// The law of the round trip at one picture.

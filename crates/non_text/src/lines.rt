@@ -73,7 +73,8 @@ fn place_of(bytes: &[u8], separator: u8) -> Option<usize>
 #[tactic(auto, using(crate::proofs::LinesLemmas::splitting))]
 // The bytes up to the first separator, and what stands behind it, where there is one.
 pub(crate) fn split_first(bytes: &[u8], separator: u8) -> (&[u8], Option<&[u8]>)
-    ensures pieces { slice_split (λ b. b == separator) bytes.now ≡ result.0.now ∷ pieces_behind separator result.1 }
+    ensures pieces { slice_split (λ b. b == separator) bytes.now
+        ≡ result.0.now ∷ pieces_behind separator result.1 }
     ensures shorter { IfSome result.1 (λ rest. length rest.now < length bytes.now) }
     ensures all { IfNone result.1 (result.0.now ≡ bytes.now) }
 {

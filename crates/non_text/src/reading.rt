@@ -48,7 +48,8 @@ fn goal_behind(
     requires rows_fit { height ≤ MAX_SIDE }
     requires has_column { 0 < width }
     requires columns_fit { width ≤ MAX_SIDE }
-    ensures { Gives NonFault.Memory (λ goal. goal) result (goal_behind height width (lines_of text.now)) }
+    ensures { Gives NonFault.Memory (λ goal. goal) result
+        (goal_behind height width (lines_of text.now)) }
 {
     match find(text, b"goal") {
         None => Ok(None),

@@ -46,7 +46,8 @@ fn clues(
     cells: u8,
 ) -> Result<Vec<Clue>, NonFault>
     requires { cells < 255 }
-    ensures { Gives NonFault.Memory (λ v. v.items) result (clues_in cells (take n (kept_in leaves_blanks text.now))) }
+    ensures { Gives NonFault.Memory (λ v. v.items) result
+        (clues_in cells (take n (kept_in leaves_blanks text.now))) }
 {
     let mut clues = Vec::new(alloc);
     let mut rest = text;
@@ -70,7 +71,8 @@ pub(crate) fn clues_behind(
     cells: u8,
 ) -> Result<Vec<Clue>, NonFault>
     requires { cells < 255 }
-    ensures { Gives NonFault.Memory (λ v. v.items) result (clues_behind word.now n cells (lines_of text.now)) }
+    ensures { Gives NonFault.Memory (λ v. v.items) result
+        (clues_behind word.now n cells (lines_of text.now)) }
 {
     let Some((_, behind)) = find(text, word) else {
         return Err(NonFault::BadCount);

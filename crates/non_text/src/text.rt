@@ -37,7 +37,8 @@ fn put_number(text: &mut Vec<u8>, number: u8) -> Result<(), AllocError>
 #[tactic(auto, using(crate::proofs::TextLemmas::texts))]
 // A keyword line with a number.
 fn put_size(text: &mut Vec<u8>, keyword: &[u8], size: u8) -> Result<(), AllocError>
-    ensures { OnOk result (text.new.items ≡ text.old.items ++ ended_line (keyword.now ++ decimal size)) }
+    ensures { OnOk result (text.new.items
+        ≡ text.old.items ++ ended_line (keyword.now ++ decimal size)) }
 {
     text.extend_from_slice(keyword)?;
     put_number(text, size)?;
@@ -69,7 +70,8 @@ fn put_blocks(text: &mut Vec<u8>, blocks: &[Block]) -> Result<(), AllocError>
 
 // Blocks behind others.
 fn put_others(text: &mut Vec<u8>, blocks: &[Block]) -> Result<(), AllocError>
-    ensures { OnOk result (text.new.items ≡ text.old.items ++ flat_map (λ b. 44 ∷ decimal b.len) blocks.now) }
+    ensures { OnOk result (text.new.items
+        ≡ text.old.items ++ flat_map (λ b. 44 ∷ decimal b.len) blocks.now) }
 {
     for block in blocks {
         text.push(b',')?;
@@ -81,7 +83,8 @@ fn put_others(text: &mut Vec<u8>, blocks: &[Block]) -> Result<(), AllocError>
 #[tactic(auto, using(crate::proofs::TextLemmas::texts))]
 // The clues of the rows, or of the columns.
 fn put_clues(text: &mut Vec<u8>, clues: &ClueBook, axis: Axis) -> Result<(), AllocError>
-    ensures { OnOk result (text.new.items ≡ text.old.items ++ flat_map ended_clue (clues_along axis clues.now)) }
+    ensures { OnOk result (text.new.items
+        ≡ text.old.items ++ flat_map ended_clue (clues_along axis clues.now)) }
 {
     for at in 0..line_count(clues, axis) {
         put_clue(text, clues.clue(LineId { axis, at }))?;

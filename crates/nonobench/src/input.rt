@@ -16,9 +16,11 @@ const ROOM: usize = 4096;
 
 /// All bytes up to the end of the input. It is too long where it has more than 16,777,216 bytes.
 pub fn read_input<R: Read>(alloc: Global, reader: &mut R) -> Result<Vec<u8>, ProgramFault>
-    ensures all { IfOk result (λ bytes. IfSome (R.remaining reader.old) (λ input. bytes.items ≡ input)) }
+    ensures all { IfOk result
+        (λ bytes. IfSome (R.remaining reader.old) (λ input. bytes.items ≡ input)) }
     ensures fits { IfOk result (λ bytes. length bytes.items ≤ 16777216) }
-    ensures long { result ≡ Err ProgramFault.TooLong → IfSome (R.remaining reader.old) (λ input. 16777216 < length input) }
+    ensures long { result ≡ Err ProgramFault.TooLong
+        → IfSome (R.remaining reader.old) (λ input. 16777216 < length input) }
     ensures only { IfErr result (λ e. (e ≡ TooLong) ⊎ ((e ≡ Unread) ⊎ (e ≡ Memory))) }
 {
     let mut bytes = Vec::new(alloc);
@@ -39,7 +41,8 @@ pub fn read_input<R: Read>(alloc: Global, reader: &mut R) -> Result<Vec<u8>, Pro
 fn read_some<R: Read>(reader: &mut R, buffer: &mut [u8]) -> Result<usize, ProgramFault>
     requires { 0 < length buffer.old }
     ensures within { IfOk result (λ count. count ≤ length buffer.new) }
-    ensures bytes { IfOk result (λ count. Consumes (R.remaining reader.old) (R.remaining reader.new) (take count buffer.new)) }
+    ensures bytes { IfOk result (λ count.
+        Consumes (R.remaining reader.old) (R.remaining reader.new) (take count buffer.new)) }
     ensures end { IfOk result (λ count. count ≡ 0 → IsAtEnd (R.remaining reader.new)) }
     ensures err { IfErr result (λ e. e ≡ Unread) }
 {

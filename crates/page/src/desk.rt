@@ -62,7 +62,8 @@ fn answer_file(
     response: &mut Response,
 ) -> Result<(), AllocError>
     requires { IsBlank response.old }
-    ensures { OnOk result (IsFixed (file_answer files.now method.now (option_copied path.entry)) response.new) }
+    ensures { OnOk result (IsFixed (file_answer files.now method.now (option_copied path.entry))
+        response.new) }
 {
     let file = match path {
         Some(path) => file_at(files, path.as_bytes()),

@@ -70,7 +70,8 @@ pub fn serve_peers<R: Read, W: Write>(
     writer: &mut W,
     desk: &mut Desk,
 ) -> Result<(), PageFault>
-    ensures { ServesPeers (R.remaining reader.old) (R.remaining reader.new) (W.contents writer.old) (W.contents writer.new) desk.old desk.new result }
+    ensures { ServesPeers (R.remaining reader.old) (R.remaining reader.new) (W.contents writer.old)
+        (W.contents writer.new) desk.old desk.new result }
 {
     let mut room = make_room(alloc)?;
     // A loop is proved to end, so this one counts its turns.

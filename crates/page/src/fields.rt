@@ -29,7 +29,8 @@ pub fn refuse(response: &mut Response, refusal: Refusal) -> Result<(), AllocErro
 /// Sends a file.
 pub fn send_file(response: &mut Response, file: &PageFile) -> Result<(), AllocError>
     requires { IsBlank response.old }
-    ensures { OnOk result (IsFixed (fixed 200 (type_field (kind_text file.now.kind) ∷ []) file.now.bytes) response.new) }
+    ensures { OnOk result (IsFixed
+        (fixed 200 (type_field (kind_text file.now.kind) ∷ []) file.now.bytes) response.new) }
 {
     begin(response)?;
     response.add_header(
@@ -93,7 +94,8 @@ fn begin(response: &mut Response) -> Result<(), AllocError>
 }
 
 fn add_allow(response: &mut Response, methods: HeaderValue) -> Result<(), AllocError>
-    ensures fields { OnOk result (fields_of response.new ≡ fields_of response.old ++ (codes "allow", methods.bytes) ∷ []) }
+    ensures fields { OnOk result
+        (fields_of response.new ≡ fields_of response.old ++ (codes "allow", methods.bytes) ∷ []) }
     ensures status { response.new.status ≡ response.old.status }
     ensures body { response.new.body ≡ response.old.body }
 {

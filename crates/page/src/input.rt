@@ -22,8 +22,10 @@ const MOST_OF_PEER: usize = 262_144;
 pub fn read_all<R: Read + Drop>(alloc: Global, reader: R) -> Result<Vec<u8>, PageFault>
     ensures all { IfOk result (λ bytes. IfSome (R.remaining reader) (λ file. bytes.items ≡ file)) }
     ensures fits { IfOk result (λ bytes. length bytes.items ≤ 16777216) }
-    ensures long { result ≡ Err PageFault.TooLong → IfSome (R.remaining reader) (λ file. 16777216 < length file) }
-    ensures only { IfErr result (λ why. (why ≡ PageFault.TooLong) ⊎ ((why ≡ PageFault.Read) ⊎ (why ≡ PageFault.Memory))) }
+    ensures long { result ≡ Err PageFault.TooLong
+        → IfSome (R.remaining reader) (λ file. 16777216 < length file) }
+    ensures only { IfErr result
+        (λ why. (why ≡ PageFault.TooLong) ⊎ ((why ≡ PageFault.Read) ⊎ (why ≡ PageFault.Memory))) }
 {
     let mut bytes = Vec::new(alloc);
     let mut reader = reader.take(MOST_OF_FILE + 1);
@@ -36,7 +38,8 @@ pub fn read_all<R: Read + Drop>(alloc: Global, reader: R) -> Result<Vec<u8>, Pag
 
 // Reads all that is left, behind what there is.
 fn read_rest<R: Read>(bytes: &mut Vec<u8>, reader: &mut R) -> Result<(), PageFault>
-    ensures ok { OnOk result (IfSome (R.remaining reader.old) (λ rest. bytes.new.items ≡ bytes.old.items ++ rest)) }
+    ensures ok { OnOk result
+        (IfSome (R.remaining reader.old) (λ rest. bytes.new.items ≡ bytes.old.items ++ rest)) }
     ensures err { IfErr result (λ why. (why ≡ PageFault.Read) ⊎ (why ≡ PageFault.Memory)) }
 {
     match reader.read_to_end(bytes) {
@@ -68,7 +71,8 @@ pub fn make_room(alloc: Global) -> Result<Vec<u8>, AllocError>
 pub fn next_frame<R: Read>(room: &mut [u8], reader: &mut R) -> Result<Option<usize>, PageFault>
     requires { length room.old ≡ 262144 }
     ensures room { length room.new ≡ 262144 }
-    ensures ok { IfOk result (λ found. MatchOption found (Ends (R.remaining reader.old) (R.remaining reader.new))
+    ensures ok { IfOk result
+        (λ found. MatchOption found (Ends (R.remaining reader.old) (R.remaining reader.new))
         (λ count. (count ≤ 262144) × Takes (R.remaining reader.old) (R.remaining reader.new) (take count room.new))) }
     ensures err { IfErr result (IsUntaken (R.remaining reader.old) (R.remaining reader.new)) }
 {
@@ -86,7 +90,8 @@ pub fn next_frame<R: Read>(room: &mut [u8], reader: &mut R) -> Result<Option<usi
 
 // How long the next frame says that it is. None at the end.
 fn next_count<R: Read>(reader: &mut R) -> Result<Option<u32>, PageFault>
-    ensures ok { IfOk result (λ found. MatchOption found (Ends (R.remaining reader.old) (R.remaining reader.new))
+    ensures ok { IfOk result
+        (λ found. MatchOption found (Ends (R.remaining reader.old) (R.remaining reader.new))
         (λ count. Consumes (R.remaining reader.old) (R.remaining reader.new) (to_be_bytes w32 count))) }
     ensures err { IfErr result (λ why. why ≡ PageFault.Read) }
 {
@@ -107,7 +112,8 @@ fn count_of(bytes: [u8; 4]) -> u32
 
 // The next byte. None at the end.
 fn next_byte<R: Read>(reader: &mut R) -> Result<Option<u8>, PageFault>
-    ensures ok { IfOk result (λ found. MatchOption found (Ends (R.remaining reader.old) (R.remaining reader.new))
+    ensures ok { IfOk result
+        (λ found. MatchOption found (Ends (R.remaining reader.old) (R.remaining reader.new))
         (λ byte. Consumes (R.remaining reader.old) (R.remaining reader.new) (byte ∷ []))) }
     ensures err { IfErr result (λ why. why ≡ PageFault.Read) }
 {
@@ -132,9 +138,11 @@ fn fill<R: Read>(room: &mut [u8], reader: &mut R) -> Result<(), PageFault>
 
 /// Writes what goes back, in the same form. After a fault a front of that went out.
 pub fn send_frame<W: Write>(bytes: &[u8], writer: &mut W) -> Result<(), PageFault>
-    ensures ok { OnOk result (Appends (W.contents writer.old) (W.contents writer.new) (frame bytes.now)) }
+    ensures ok { OnOk result
+        (Appends (W.contents writer.old) (W.contents writer.new) (frame bytes.now)) }
     ensures fits { OnOk result (length bytes.now < 2 ^ 32) }
-    ensures front { OnErr result (AppendsFront (W.contents writer.old) (W.contents writer.new) (frame bytes.now)) }
+    ensures front { OnErr result
+        (AppendsFront (W.contents writer.old) (W.contents writer.new) (frame bytes.now)) }
     ensures err { IfErr result (λ why. why ≡ PageFault.Write) }
 {
     if bytes.len() > u32::MAX as usize {

@@ -16,7 +16,8 @@ const MOST_CELLS: usize = MAX_SIDE as usize;
 pub(crate) fn insert_row(cells: &mut Vec<u8>, width: usize, at: usize) -> Result<(), AllocError>
     requires place { at * width ≤ vec_len cells.old }
     requires fits { vec_len cells.old + width ≤ 65536 }
-    ensures ok { OnOk result (cells.new.items ≡ take (at * width) cells.old.items ++ (replicate width 0 ++ drop (at * width) cells.old.items)) }
+    ensures ok { OnOk result (cells.new.items ≡ take (at * width) cells.old.items
+        ++ (replicate width 0 ++ drop (at * width) cells.old.items)) }
     ensures err { OnErr result (cells.new.items ≡ cells.old.items) }
 {
     cells.resize(cells.len() + width, 0)?;
@@ -33,7 +34,8 @@ pub(crate) fn insert_column(
 ) -> Result<(), AllocError>
     requires cells { AreCells height width cells.old.items }
     requires place { at ≤ width }
-    ensures ok { OnOk result (cells.new.items ≡ concat (with_line Down at (rows_of height width cells.old.items))) }
+    ensures ok { OnOk result
+        (cells.new.items ≡ concat (with_line Down at (rows_of height width cells.old.items))) }
     ensures err { OnErr result (cells.new.items ≡ cells.old.items) }
 {
     let mut wider = Vec::with_capacity(*cells.allocator(), cells.len() + height)?;
@@ -58,7 +60,8 @@ fn push_with_gap(cells: &mut Vec<u8>, row: &[u8], at: usize) -> Result<(), Alloc
 /// Takes the row at a place out.
 pub(crate) fn delete_row(cells: &mut Vec<u8>, width: usize, at: usize)
     requires { at * width + width ≤ vec_len cells.old }
-    ensures { cells.new.items ≡ take (at * width) cells.old.items ++ drop (at * width + width) cells.old.items }
+    ensures { cells.new.items
+        ≡ take (at * width) cells.old.items ++ drop (at * width + width) cells.old.items }
 {
     cells[at * width..].rotate_left(width);
     cells.truncate(cells.len() - width);
@@ -68,7 +71,8 @@ pub(crate) fn delete_row(cells: &mut Vec<u8>, width: usize, at: usize)
 pub(crate) fn delete_column(cells: &mut Vec<u8>, height: usize, width: usize, at: usize)
     requires cells { AreCells height width cells.old.items }
     requires place { at < width }
-    ensures { cells.new.items ≡ concat (without_line Down at (rows_of height width cells.old.items)) }
+    ensures { cells.new.items
+        ≡ concat (without_line Down at (rows_of height width cells.old.items)) }
 {
     for row in 0..height {
         cells.remove(row * (width - 1) + at);
@@ -80,7 +84,8 @@ pub(crate) fn swap_rows(cells: &mut [u8], width: usize, i: usize, j: usize)
     requires fits { width ≤ MAX_SIDE }
     requires first { i * width + width ≤ length cells.old }
     requires second { j * width + width ≤ length cells.old }
-    ensures { cells.new ≡ with_part (with_part cells.old (i * width) (part cells.old (j * width) width)) (j * width) (part cells.old (i * width) width) }
+    ensures { cells.new ≡ with_part (with_part cells.old (i * width)
+        (part cells.old (j * width) width)) (j * width) (part cells.old (i * width) width) }
 {
     let first = row_copy(&cells[i * width..i * width + width]);
     let second = row_copy(&cells[j * width..j * width + width]);

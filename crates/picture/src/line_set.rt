@@ -43,7 +43,8 @@ impl LineSet {
     /// The names along an axis at the places of a mask: bit n of it stands for the line at place n.
     pub fn along(axis: Axis, places: u128) -> LineSet
         requires { places < 2 ^ MAX_SIDE }
-        ensures members { (line : LineId) → HasName result line ↔ ((line.axis ≡ axis) × IsBitSet places line.at) }
+        ensures members { (line : LineId)
+            → HasName result line ↔ ((line.axis ≡ axis) × IsBitSet places line.at) }
         ensures set { IsLineSet result }
     {
         let (rows, columns) = match axis {

@@ -12,7 +12,8 @@ impl Document {
     /// background, and with no colour that no cell has. Each cell keeps its colour, and the givens stay.
     pub fn ordered(&self) -> Result<Document, AllocError>
         ensures content { IfOk result (λ d. content_of d ≡ ordered_of (content_of self.now)) }
-        ensures shown { IfOk result (λ d. rows_shown d.palette.triples d.picture ≡ rows_shown self.now.palette.triples self.now.picture) }
+        ensures shown { IfOk result (λ d. rows_shown d.palette.triples d.picture
+            ≡ rows_shown self.now.palette.triples self.now.picture) }
     {
         let mut palette = self.palette.background_alone()?;
         let picture = self.picture.renumbered(&self.palette, &mut palette)?;

@@ -143,7 +143,8 @@ impl Palette {
         requires { number < length self.old.triples }
         ensures ok { OnOk result (self.new ≡ with_triple self.old number rgb) }
         ensures fault { Refuses PaletteFault.Memory result (set_fault self.old number rgb) }
-        ensures same { 0 < number → triple_at self.old.triples number ≡ rgb → IsOk result × (self.new ≡ self.old) }
+        ensures same { 0 < number → triple_at self.old.triples number ≡ rgb
+            → IsOk result × (self.new ≡ self.old) }
         ensures err { OnErr result (self.new ≡ self.old) }
     {
         if self.stands_elsewhere(number, rgb) {
@@ -163,7 +164,8 @@ impl Palette {
 
     // A palette with the same maxval and the background alone.
     pub(crate) fn background_alone(&self) -> Result<Palette, AllocError>
-        ensures value { IfOk result (λ p. p ≡ only_background self.now.maxval (first_of self.now.triples)) }
+        ensures value { IfOk result
+            (λ p. p ≡ only_background self.now.maxval (first_of self.now.triples)) }
         ensures palette { IsPalette self.now }
     {
         let mut colours = IndexSet::new(*self.colours.allocator());

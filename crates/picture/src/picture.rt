@@ -188,8 +188,10 @@ impl Picture {
     ) -> Result<Picture, AllocError>
         requires coloured { AreColoured self.now colours.now }
         requires among { AreAmong palette.old colours.now }
-        ensures palette { OnOk result (palette.new ≡ with_seen palette.old (flat_map (triples_of colours.now.triples) self.now)) }
-        ensures rows { IfOk result (λ p. p ≡ renumbered_rows palette.new.triples colours.now.triples self.now) }
+        ensures palette { OnOk result (palette.new
+            ≡ with_seen palette.old (flat_map (triples_of colours.now.triples) self.now)) }
+        ensures rows { IfOk result
+            (λ p. p ≡ renumbered_rows palette.new.triples colours.now.triples self.now) }
         ensures coloured { IfOk result (λ p. AreColoured p palette.new) }
     {
         let _ = colours.len();
@@ -215,10 +217,13 @@ fn numbers_for(
     colours: &Palette,
     palette: &mut Palette,
 ) -> Result<Vec<u8>, AllocError>
-    requires coloured { EachIndex cells.now (λ k. slice_index cells.now k < length colours.now.triples) }
+    requires coloured { EachIndex cells.now
+        (λ k. slice_index cells.now k < length colours.now.triples) }
     requires among { AreAmong palette.old colours.now }
-    ensures palette { OnOk result (palette.new ≡ with_seen palette.old (triples_of colours.now.triples cells.now)) }
-    ensures numbers { IfOk result (λ numbers. numbers.items ≡ map (number_among palette.new.triples) (triples_of colours.now.triples cells.now)) }
+    ensures palette { OnOk result
+        (palette.new ≡ with_seen palette.old (triples_of colours.now.triples cells.now)) }
+    ensures numbers { IfOk result (λ numbers. numbers.items
+        ≡ map (number_among palette.new.triples) (triples_of colours.now.triples cells.now)) }
 {
     let mut numbers = Vec::with_capacity(alloc, cells.len())?;
     for cell in cells {

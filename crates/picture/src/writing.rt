@@ -16,7 +16,8 @@ pub struct WriteFault;
 /// Writes all the bytes, or after a fault a front of them.
 pub fn send<W: Write>(bytes: &[u8], writer: &mut W) -> Result<(), WriteFault>
     ensures ok { OnOk result (Appends (W.contents writer.old) (W.contents writer.new) bytes.now) }
-    ensures err { OnErr result (AppendsFront (W.contents writer.old) (W.contents writer.new) bytes.now) }
+    ensures err { OnErr result
+        (AppendsFront (W.contents writer.old) (W.contents writer.new) bytes.now) }
 {
     let mut sent = 0;
     while sent < bytes.len() {
@@ -29,7 +30,8 @@ pub fn send<W: Write>(bytes: &[u8], writer: &mut W) -> Result<(), WriteFault>
 fn write_some<W: Write>(bytes: &[u8], writer: &mut W) -> Result<usize, WriteFault>
     requires { 0 < length bytes.now }
     ensures count { IfOk result (λ n. (0 < n) × (n ≤ length bytes.now)) }
-    ensures ok { IfOk result (λ n. Appends (W.contents writer.old) (W.contents writer.new) (take n bytes.now)) }
+    ensures ok { IfOk result
+        (λ n. Appends (W.contents writer.old) (W.contents writer.new) (take n bytes.now)) }
     ensures err { OnErr result (Keeps (W.contents writer.old) (W.contents writer.new)) }
 {
     match writer.write(bytes) {

@@ -45,7 +45,8 @@ pub fn number_of(
 ) -> Result<u8, PpmFault>
     requires fits { IsTrue (fits palette.old.maxval triple.colour) }
     requires known { AreKnown palette.old.triples known.old }
-    ensures read { Gives Memory (λ number. (number, palette.new)) result (numbered palette.old triple) }
+    ensures read { Gives Memory (λ number. (number, palette.new)) result
+        (numbered palette.old triple) }
     ensures known { OnOk result (AreKnown palette.new.triples known.new) }
 {
     let slot = slot_of(triple.colour);

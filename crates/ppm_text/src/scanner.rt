@@ -249,8 +249,10 @@ fn first_digit(text: &[u8]) -> Option<(u32, &[u8])>
 fn behind_token(bytes: &[u8], end: usize) -> Option<usize>
     requires { end ≤ length bytes.now }
     ensures within { IfSome result (λ behind. behind ≤ length bytes.now) }
-    ensures ends { IfSome result (λ behind. (n : ℕ) → number_on (Some n) (drop end bytes.now) ≡ Some n) }
-    ensures rest { IfSome result (λ behind. tokens_from true end (without_comments false (drop end bytes.now))
+    ensures ends { IfSome result
+        (λ behind. (n : ℕ) → number_on (Some n) (drop end bytes.now) ≡ Some n) }
+    ensures rest { IfSome result
+        (λ behind. tokens_from true end (without_comments false (drop end bytes.now))
         ≡ tokens_at bytes.now behind) }
     ensures other { IfNone result (end < length bytes.now) }
     ensures goes_on { IfNone result (is_gap (slice_index bytes.now end) ≡ false) }

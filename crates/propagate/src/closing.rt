@@ -29,7 +29,8 @@ pub fn close_facts<E: LineEngine, A: Agenda>(
     requires lines { AreLinesOf facts.old dirty.now }
     requires quiet { QuietOutside book.now facts.old dirty.now }
     ensures closes { Closes book.now facts.old facts.new result }
-    ensures works { Works book.now dirty.now facts.old facts.new result meter.old meter.new (E.calls engine.old) (E.calls engine.new) }
+    ensures works { Works book.now dirty.now facts.old facts.new result meter.old meter.new
+        (E.calls engine.old) (E.calls engine.new) }
     ensures same_longest { E.longest engine.new ≡ E.longest engine.old }
 {
     let _ = (facts.height(), engine.calls());
@@ -58,7 +59,8 @@ fn evaluate<E: LineEngine, A: Agenda>(
     requires closable { AreClosable book.now (E.longest engine.old) facts.old }
     requires line { HasLine facts.old line }
     ensures gains { Gains (clue_at book.now line) line facts.old facts.new result }
-    ensures puts { PutsCrossing line (line_of facts.old line) (line_of facts.new line) (A.members agenda.old) (A.members agenda.new) }
+    ensures puts { PutsCrossing line (line_of facts.old line) (line_of facts.new line)
+        (A.members agenda.old) (A.members agenda.new) }
     ensures counts { Counts 1 0 meter.old meter.new (E.calls engine.old) (E.calls engine.new) }
     ensures same_longest { E.longest engine.new ≡ E.longest engine.old }
     ensures facts { IsFacts facts.old }

@@ -32,7 +32,8 @@ pub fn close<E: LineEngine, A: Agenda>(
     requires lines { AreLinesOf book.facts dirty.now }
     requires quiet { QuietOutside clues.now book.facts dirty.now }
     ensures closes { ClosesBook clues.now book result }
-    ensures works { BookWorks dirty.now book result meter.old meter.new (E.calls engine.old) (E.calls engine.new) }
+    ensures works { BookWorks dirty.now book result meter.old meter.new (E.calls engine.old)
+        (E.calls engine.new) }
     ensures trimmed { AreTrimmed clues.now book → IfOk result (AreTrimmed clues.now) }
     ensures same_longest { E.longest engine.new ≡ E.longest engine.old }
 {

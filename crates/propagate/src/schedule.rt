@@ -28,7 +28,8 @@ pub fn run_schedule<E: LineEngine>(
     requires derivation { IsDerivation clues.now book }
     requires lines { All (HasLine book.facts) schedule.now }
     ensures runs { RunsSchedule clues.now book schedule.now result }
-    ensures works { ScheduleWorks schedule.now result meter.old meter.new (E.calls engine.old) (E.calls engine.new) }
+    ensures works { ScheduleWorks schedule.now result meter.old meter.new (E.calls engine.old)
+        (E.calls engine.new) }
     ensures trimmed { AreTrimmed clues.now book → IfOk result (AreTrimmed clues.now) }
     ensures same_longest { E.longest engine.new ≡ E.longest engine.old }
 {

@@ -24,7 +24,8 @@ pub fn settle_afresh<E: LineEngine, A: Agenda>(
 ) -> Result<Facts, CloseFault>
     requires { AreClosable book.now (E.longest engine.old) base.now }
     ensures settles { Settles book.now base.now result }
-    ensures works { SettlingWorks book.now base.now result meter.old meter.new (E.calls engine.old) (E.calls engine.new) }
+    ensures works { SettlingWorks book.now base.now result meter.old meter.new (E.calls engine.old)
+        (E.calls engine.new) }
     ensures same_longest { E.longest engine.new ≡ E.longest engine.old }
 {
     let _calls = engine.calls();

@@ -33,7 +33,8 @@ pub(crate) fn take_turn<E: LineEngine>(
     requires line { HasLine book.old.facts line }
     ensures turn { IfOk result (λ _. TakesTurn clues.now line book.old book.new) }
     ensures comes_to { IfOk result (Turn clues.now line book.old book.new) }
-    ensures dead { result ≡ Err fault.Dead → ¬ CanFit (clue_at clues.now line) (line_of book.old.facts line) }
+    ensures dead { result ≡ Err fault.Dead
+        → ¬ CanFit (clue_at clues.now line) (line_of book.old.facts line) }
     ensures counts { Counts 1 0 meter.old meter.new (E.calls engine.old) (E.calls engine.new) }
     ensures same_longest { E.longest engine.new ≡ E.longest engine.old }
     ensures account { IsAccount book.old }

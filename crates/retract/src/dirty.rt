@@ -45,8 +45,10 @@ fn put_dirty(
     requires books { HaveBooks change.now.moves old.now new.now }
     requires facts { HaveFacts change.now.moves before.now after.now }
     requires none { (line : LineId) → line.axis ≡ axis → HasName dirty.old line → ⊥ }
-    ensures along { AreDirtyAlong axis change.now.moves old.now new.now before.now after.now dirty.new }
-    ensures others { (line : LineId) → (line.axis ≡ axis → ⊥) → HasName dirty.new line ↔ HasName dirty.old line }
+    ensures along { AreDirtyAlong axis change.now.moves old.now new.now before.now after.now
+        dirty.new }
+    ensures others { (line : LineId) → (line.axis ≡ axis → ⊥)
+        → HasName dirty.new line ↔ HasName dirty.old line }
 {
     let in_place = stays_in_place(old, new, change, axis);
     for at in 0..line_count(new, axis) {
@@ -88,7 +90,8 @@ fn says_the_same(
     requires books { HaveBooks change.now.moves old.now new.now }
     requires facts { HaveFacts change.now.moves before.now after.now }
     requires line { HasLine after.now line }
-    ensures { IsTrue result ↔ SaysTheSame change.now.moves old.now new.now before.now after.now line }
+    ensures { IsTrue result ↔ SaysTheSame change.now.moves old.now new.now before.now after.now
+        line }
 {
     let Some(from) = change.origin(line) else {
         return false;

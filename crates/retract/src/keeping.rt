@@ -43,10 +43,13 @@ pub fn keep(
     requires books { HaveBooks change.now.moves old.now new.now }
     requires base { (axis : Axis) → lines_along axis base ≡ lines_after axis change.now.moves }
     ensures base { IfOk result (λ kept. kept.book.base ≡ base) }
-    ensures steps { IfOk result (λ kept. AreStanding change.now.moves old.now new.now base book.now.steps kept.book.steps) }
-    ensures dirty { IfOk result (λ kept. AreDirty change.now.moves old.now new.now book.now.facts kept.book.facts kept.dirty) }
+    ensures steps { IfOk result
+        (λ kept. AreStanding change.now.moves old.now new.now base book.now.steps kept.book.steps) }
+    ensures dirty { IfOk result (λ kept.
+        AreDirty change.now.moves old.now new.now book.now.facts kept.book.facts kept.dirty) }
     ensures derivation { IfOk result (λ kept. IsDerivation new.now kept.book) }
-    ensures trimmed { AreTrimmed old.now book.now → IfOk result (λ kept. AreTrimmed new.now kept.book) }
+    ensures trimmed { AreTrimmed old.now book.now
+        → IfOk result (λ kept. AreTrimmed new.now kept.book) }
     ensures closed { IsClosed old.now book.now.facts
         → IfOk result (λ kept. EachOutside IsClosedLine new.now kept.book.facts kept.dirty) }
     ensures fits { EachFits old.now book.now.facts
@@ -70,7 +73,8 @@ fn standing(
     requires books { HaveBooks change.now.moves old.now new.now }
     requires base { (axis : Axis) → lines_along axis base ≡ lines_after axis change.now.moves }
     ensures base { IfOk result (λ kept. kept.base ≡ base) }
-    ensures steps { IfOk result (λ kept. AreStanding change.now.moves old.now new.now base book.now.steps kept.steps) }
+    ensures steps { IfOk result
+        (λ kept. AreStanding change.now.moves old.now new.now base book.now.steps kept.steps) }
     ensures derivation { IfOk result (λ kept. IsDerivation new.now kept) }
     ensures trimmed { AreTrimmed old.now book.now → IfOk result (λ kept. AreTrimmed new.now kept) }
 {

@@ -27,12 +27,17 @@ pub(crate) fn standing_line(
 ) -> Option<LineId>
     requires books { HaveBooks change.now.moves old.now new.now }
     requires line { step.now.line.at < lines_before step.now.line.axis change.now.moves }
-    requires premises { (i : ℕ) → Mentions step.now.premises i → i < lines_before (crossing step.now.line.axis) change.now.moves }
-    requires drawn { (i : ℕ) → Mentions step.now.drawn i → i < lines_before (crossing step.now.line.axis) change.now.moves }
-    requires known { (axis : Axis) → lines_along axis known.now ≡ lines_after axis change.now.moves }
-    ensures some { IfSome result (λ to. Stands change.now.moves old.now new.now (Excludes known.now) step.now to) }
+    requires premises { (i : ℕ) → Mentions step.now.premises i
+        → i < lines_before (crossing step.now.line.axis) change.now.moves }
+    requires drawn { (i : ℕ) → Mentions step.now.drawn i
+        → i < lines_before (crossing step.now.line.axis) change.now.moves }
+    requires known { (axis : Axis)
+        → lines_along axis known.now ≡ lines_after axis change.now.moves }
+    ensures some { IfSome result
+        (λ to. Stands change.now.moves old.now new.now (Excludes known.now) step.now to) }
     ensures moves { AreMoves change.now.moves }
-    ensures none { IfNone result ((to : LineId) → Stands change.now.moves old.now new.now (Excludes known.now) step.now to → ⊥) }
+    ensures none { IfNone result ((to : LineId)
+        → Stands change.now.moves old.now new.now (Excludes known.now) step.now to → ⊥) }
 {
     images_are_lines();
     let _ = known.height();
@@ -53,7 +58,8 @@ pub(crate) fn standing_line(
 
 // Whether each cell that premises mention keeps its place along the line.
 fn stay_in_place(change: &Change, axis: Axis, premises: &[Premise]) -> bool
-    requires { (i : ℕ) → Mentions premises.now i → i < lines_before (crossing axis) change.now.moves }
+    requires { (i : ℕ) → Mentions premises.now i
+        → i < lines_before (crossing axis) change.now.moves }
     ensures { IsTrue result ↔ StayInPlace change.now.moves axis premises.now }
 {
     for premise in premises {

@@ -54,9 +54,12 @@ pub(crate) fn search_counted<E: LineEngine>(
     requires lines { AreLinesOf facts lines }
     requires quiet { QuietOutside book.now facts lines }
     requires some { 0 < name_count lines }
-    ensures ends { IfOk result (λ ending. (n : ℕ) × ((splits.new ≡ raised splits.old n) × EndsAs book.now known.now facts allowance ending n)) }
-    ensures counts { (evaluations : ℕ) × Counts evaluations 0 meter.old meter.new (E.calls engine.old) (E.calls engine.new) }
-    ensures evaluates { OnOk result (CountsSome meter.old meter.new (E.calls engine.old) (E.calls engine.new)) }
+    ensures ends { IfOk result (λ ending. (n : ℕ) × ((splits.new ≡ raised splits.old n)
+        × EndsAs book.now known.now facts allowance ending n)) }
+    ensures counts { (evaluations : ℕ)
+        × Counts evaluations 0 meter.old meter.new (E.calls engine.old) (E.calls engine.new) }
+    ensures evaluates { OnOk result
+        (CountsSome meter.old meter.new (E.calls engine.old) (E.calls engine.new)) }
     ensures rises { splits.old ≤ splits.new }
     ensures same_longest { E.longest engine.new ≡ E.longest engine.old }
 {
@@ -115,9 +118,12 @@ fn look_once<E: LineEngine>(
     requires quiet { QuietOutside book.now pending.old.at_hand lines.now }
     requires some { 0 < name_count lines.now }
     requires above { AreRowsSettled pending.old.at_hand top }
-    ensures steps { IfOk result (Steps book.now known.now pending.old pending.new left.old left.new splits.old splits.new) }
-    ensures counts { (evaluations : ℕ) × Counts evaluations 0 meter.old meter.new (E.calls engine.old) (E.calls engine.new) }
-    ensures evaluates { OnOk result (CountsSome meter.old meter.new (E.calls engine.old) (E.calls engine.new)) }
+    ensures steps { IfOk result
+        (Steps book.now known.now pending.old pending.new left.old left.new splits.old splits.new) }
+    ensures counts { (evaluations : ℕ)
+        × Counts evaluations 0 meter.old meter.new (E.calls engine.old) (E.calls engine.new) }
+    ensures evaluates { OnOk result
+        (CountsSome meter.old meter.new (E.calls engine.old) (E.calls engine.new)) }
     ensures rises { splits.old ≤ splits.new }
     ensures same_longest { E.longest engine.new ≡ E.longest engine.old }
 {

@@ -128,12 +128,16 @@ impl Keeper {
     /// scene's picture elsewhere. Of each other part nothing is known. The parts kept so far are those of the facts before, and
     /// what is known of them is true; so it is of the parts after. Takes memory of the allocator that this was made with.
     pub fn carry(&self, before: &Scene, after: &Scene) -> Result<Keeper, AllocError>
-        requires before { IsScene before.now.clues.now before.now.givens.now before.now.facts.now before.now.picture.now }
-        requires after { IsScene after.now.clues.now after.now.givens.now after.now.facts.now after.now.picture.now }
+        requires before { IsScene before.now.clues.now before.now.givens.now before.now.facts.now
+            before.now.picture.now }
+        requires after { IsScene after.now.clues.now after.now.givens.now after.now.facts.now
+            after.now.picture.now }
         requires parts { AreParts before.now.facts.now (parts_of self.now) }
-        requires true_answers { AreTrue before.now.clues.now before.now.givens.now before.now.picture.now self.now }
+        requires true_answers { AreTrue before.now.clues.now before.now.givens.now
+            before.now.picture.now self.now }
         ensures parts { IfOk result (λ keeper. AreParts after.now.facts.now (parts_of keeper)) }
-        ensures true_answers { IfOk result (AreTrue after.now.clues.now after.now.givens.now after.now.picture.now) }
+        ensures true_answers { IfOk result
+            (AreTrue after.now.clues.now after.now.givens.now after.now.picture.now) }
         ensures carries { IfOk result
             (Carries before.now.clues.now before.now.facts.now before.now.picture.now after.now.clues.now after.now.facts.now after.now.picture.now self.now) }
     {
@@ -158,15 +162,21 @@ impl Keeper {
         same: &LineSet,
         cells: &CellSet,
     ) -> Result<Answer, AllocError>
-        requires before { IsScene before.now.clues.now before.now.givens.now before.now.facts.now before.now.picture.now }
-        requires after { IsScene after.now.clues.now after.now.givens.now after.now.facts.now after.now.picture.now }
+        requires before { IsScene before.now.clues.now before.now.givens.now before.now.facts.now
+            before.now.picture.now }
+        requires after { IsScene after.now.clues.now after.now.givens.now after.now.facts.now
+            after.now.picture.now }
         requires parts { AreParts before.now.facts.now (parts_of self.now) }
-        requires true_answers { AreTrue before.now.clues.now before.now.givens.now before.now.picture.now self.now }
-        requires same { AreSameLines before.now.clues.now before.now.facts.now before.now.picture.now after.now.clues.now after.now.facts.now after.now.picture.now same.now }
+        requires true_answers { AreTrue before.now.clues.now before.now.givens.now
+            before.now.picture.now self.now }
+        requires same { AreSameLines before.now.clues.now before.now.facts.now
+            before.now.picture.now after.now.clues.now after.now.facts.now after.now.picture.now
+            same.now }
         requires part { IsPart after.now.facts.now cells.now }
         ensures carried { IfOk result
             (IsCarried before.now.clues.now before.now.facts.now before.now.picture.now after.now.clues.now after.now.facts.now after.now.picture.now self.now cells.now) }
-        ensures true_answer { IfOk result (IsTrueOf after.now.clues.now after.now.givens.now after.now.picture.now cells.now) }
+        ensures true_answer { IfOk result
+            (IsTrueOf after.now.clues.now after.now.givens.now after.now.picture.now cells.now) }
     {
         fillings_stay();
         let _ = after.facts.height();
@@ -230,20 +240,25 @@ impl Keeper {
         searched: &mut u32,
         splits: &mut u32,
     ) -> Result<Judged<'_>, AllocError>
-        requires scene { IsScene scene.now.clues.now scene.now.givens.now scene.now.facts.now scene.now.picture.now }
+        requires scene { IsScene scene.now.clues.now scene.now.givens.now scene.now.facts.now
+            scene.now.picture.now }
         requires parts { AreParts scene.now.facts.now (parts_of self.old) }
-        requires true_answers { AreTrue scene.now.clues.now scene.now.givens.now scene.now.picture.now self.old }
+        requires true_answers { AreTrue scene.now.clues.now scene.now.givens.now
+            scene.now.picture.now self.old }
         requires tall { length scene.now.clues.now.rows ≤ E.longest engine.old }
         requires wide { length scene.now.clues.now.columns ≤ E.longest engine.old }
-        ensures* keeps { sem 𝓛 (follows_so the_row the_row self.entry.ghost_name none (λ _ _. ⊤) (λ last. AreParts scene.now.facts.now (parts_of last)
+        ensures* keeps { sem 𝓛 (follows_so the_row the_row self.entry.ghost_name none (λ _ _. ⊤)
+            (λ last. AreParts scene.now.facts.now (parts_of last)
             × AreTrue scene.now.clues.now scene.now.givens.now scene.now.picture.now last
             × MatchResult result
             (λ judged. (verdict : Verdict) × (AnswersAs last judged verdict
             × Done searched.old searched.new splits.old splits.new meter.old meter.new (E.calls engine.old) (E.calls engine.new)
             (Judges scene.now.clues.now scene.now.facts.now scene.now.picture.now allowance self.old last verdict)))
             (λ _. last ≡ self.old))) }
-        ensures answer { IfOk result (IsAnswer scene.now.clues.now scene.now.givens.now scene.now.picture.now) }
-        ensures counts { (evaluations : ℕ) × Counts evaluations 0 meter.old meter.new (E.calls engine.old) (E.calls engine.new) }
+        ensures answer { IfOk result
+            (IsAnswer scene.now.clues.now scene.now.givens.now scene.now.picture.now) }
+        ensures counts { (evaluations : ℕ)
+            × Counts evaluations 0 meter.old meter.new (E.calls engine.old) (E.calls engine.new) }
         ensures rises { (searched.old ≤ searched.new) × (splits.old ≤ splits.new) }
         ensures same_longest { E.longest engine.new ≡ E.longest engine.old }
     {
@@ -276,19 +291,25 @@ impl Keeper {
         searched: &mut u32,
         splits: &mut u32,
     ) -> Result<Verdict, AllocError>
-        requires scene { IsScene scene.now.clues.now scene.now.givens.now scene.now.facts.now scene.now.picture.now }
+        requires scene { IsScene scene.now.clues.now scene.now.givens.now scene.now.facts.now
+            scene.now.picture.now }
         requires parts { AreParts scene.now.facts.now (parts_of self.old) }
-        requires true_answers { AreTrue scene.now.clues.now scene.now.givens.now scene.now.picture.now self.old }
+        requires true_answers { AreTrue scene.now.clues.now scene.now.givens.now
+            scene.now.picture.now self.old }
         requires tall { length scene.now.clues.now.rows ≤ E.longest engine.old }
         requires wide { length scene.now.clues.now.columns ≤ E.longest engine.old }
-        ensures judges { IfOk result (λ verdict. Done searched.old searched.new splits.old splits.new meter.old meter.new (E.calls engine.old) (E.calls engine.new)
+        ensures judges { IfOk result (λ verdict. Done searched.old searched.new splits.old
+            splits.new meter.old meter.new (E.calls engine.old) (E.calls engine.new)
             (Judges scene.now.clues.now scene.now.facts.now scene.now.picture.now allowance self.old self.new verdict)) }
         ensures refused { OnErr result (self.new ≡ self.old) }
         ensures parts { AreParts scene.now.facts.now (parts_of self.new) }
-        ensures true_answers { AreTrue scene.now.clues.now scene.now.givens.now scene.now.picture.now self.new }
+        ensures true_answers { AreTrue scene.now.clues.now scene.now.givens.now
+            scene.now.picture.now self.new }
         ensures shown { IfOk result (IsShown self.new) }
-        ensures verdict { IfOk result (IsVerdict scene.now.clues.now scene.now.givens.now scene.now.picture.now) }
-        ensures counts { (evaluations : ℕ) × Counts evaluations 0 meter.old meter.new (E.calls engine.old) (E.calls engine.new) }
+        ensures verdict { IfOk result
+            (IsVerdict scene.now.clues.now scene.now.givens.now scene.now.picture.now) }
+        ensures counts { (evaluations : ℕ)
+            × Counts evaluations 0 meter.old meter.new (E.calls engine.old) (E.calls engine.new) }
         ensures rises { (searched.old ≤ searched.new) × (splits.old ≤ splits.new) }
         ensures same_longest { E.longest engine.new ≡ E.longest engine.old }
     {
@@ -312,7 +333,8 @@ impl Keeper {
 
     /// Another filling of the first part of which one is kept: after a judgement that answered another picture, that one.
     pub fn other(&self) -> Option<&Picture>
-        ensures { MatchOption result (HasNoFilling self.now (length self.now)) (λ other. FirstFilling self.now other.now) }
+        ensures { MatchOption result (HasNoFilling self.now (length self.now))
+            (λ other. FirstFilling self.now other.now) }
     {
         for i in 0..self.kept.len() {
             if let Answer::Filling(picture) = &self.kept[i].answer {
@@ -324,7 +346,8 @@ impl Keeper {
 
     // The first part of which another filling is kept.
     fn kept_filling(&self) -> Option<usize>
-        ensures { MatchOption result (HasNoFilling self.now (length self.now)) (λ i. HasNoFilling self.now i × HasFilling self.now i) }
+        ensures { MatchOption result (HasNoFilling self.now (length self.now))
+            (λ i. HasNoFilling self.now i × HasFilling self.now i) }
     {
         for i in 0..self.kept.len() {
             if let Answer::Filling(_) = &self.kept[i].answer {
@@ -345,13 +368,17 @@ impl Keeper {
         searched: &mut u32,
         splits: &mut u32,
     ) -> Result<Stop, AllocError>
-        requires scene { IsScene scene.now.clues.now scene.now.givens.now scene.now.facts.now scene.now.picture.now }
-        requires parts { (i : ℕ) → i < length self.now → IsPart scene.now.facts.now (cells_at self.now i) }
+        requires scene { IsScene scene.now.clues.now scene.now.givens.now scene.now.facts.now
+            scene.now.picture.now }
+        requires parts { (i : ℕ) → i < length self.now
+            → IsPart scene.now.facts.now (cells_at self.now i) }
         requires tall { length scene.now.clues.now.rows ≤ E.longest engine.old }
         requires wide { length scene.now.clues.now.columns ≤ E.longest engine.old }
-        ensures stops { IfOk result (λ stop. Done searched.old searched.new splits.old splits.new meter.old meter.new (E.calls engine.old) (E.calls engine.new)
+        ensures stops { IfOk result (λ stop. Done searched.old searched.new splits.old splits.new
+            meter.old meter.new (E.calls engine.old) (E.calls engine.new)
             (Stops scene.now.clues.now scene.now.facts.now scene.now.picture.now allowance self.now stop)) }
-        ensures counts { (evaluations : ℕ) × Counts evaluations 0 meter.old meter.new (E.calls engine.old) (E.calls engine.new) }
+        ensures counts { (evaluations : ℕ)
+            × Counts evaluations 0 meter.old meter.new (E.calls engine.old) (E.calls engine.new) }
         ensures rises { (searched.old ≤ searched.new) × (splits.old ≤ splits.new) }
         ensures same_longest { E.longest engine.new ≡ E.longest engine.old }
     {
@@ -381,13 +408,16 @@ impl Keeper {
         splits: &mut u32,
     ) -> Result<Ending, AllocError>
         requires place { i < length self.now }
-        requires scene { IsScene scene.now.clues.now scene.now.givens.now scene.now.facts.now scene.now.picture.now }
+        requires scene { IsScene scene.now.clues.now scene.now.givens.now scene.now.facts.now
+            scene.now.picture.now }
         requires part { IsPart scene.now.facts.now (cells_at self.now i) }
         requires tall { length scene.now.clues.now.rows ≤ E.longest engine.old }
         requires wide { length scene.now.clues.now.columns ≤ E.longest engine.old }
-        ensures ends { IfOk result (λ ending. Done searched.old searched.new splits.old splits.new meter.old meter.new (E.calls engine.old) (E.calls engine.new)
+        ensures ends { IfOk result (λ ending. Done searched.old searched.new splits.old splits.new
+            meter.old meter.new (E.calls engine.old) (E.calls engine.new)
             (EndsPart scene.now.clues.now scene.now.facts.now scene.now.picture.now allowance (kept_at self.now i) ending)) }
-        ensures counts { (evaluations : ℕ) × Counts evaluations 0 meter.old meter.new (E.calls engine.old) (E.calls engine.new) }
+        ensures counts { (evaluations : ℕ)
+            × Counts evaluations 0 meter.old meter.new (E.calls engine.old) (E.calls engine.new) }
         ensures rises { (searched.old ≤ searched.new) × (splits.old ≤ splits.new) }
         ensures same_longest { E.longest engine.new ≡ E.longest engine.old }
     {

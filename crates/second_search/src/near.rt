@@ -40,10 +40,12 @@ pub(crate) fn find_near<E: LineEngine>(
     engine: &mut E,
     scene: &Scene,
 ) -> Result<Option<Picture>, AllocError>
-    requires scene { IsScene scene.now.clues.now scene.now.givens.now scene.now.facts.now scene.now.picture.now }
+    requires scene { IsScene scene.now.clues.now scene.now.givens.now scene.now.facts.now
+        scene.now.picture.now }
     requires tall { length scene.now.clues.now.rows ≤ E.longest engine.old }
     requires wide { length scene.now.clues.now.columns ≤ E.longest engine.old }
-    ensures other { IfOk result (λ found. IfSome found (IsOther scene.now.clues.now (HasCell scene.now.givens.now) scene.now.picture.now)) }
+    ensures other { IfOk result (λ found. IfSome found
+        (IsOther scene.now.clues.now (HasCell scene.now.givens.now) scene.now.picture.now)) }
     ensures same_longest { E.longest engine.new ≡ E.longest engine.old }
 {
     for band in 0..scene.facts.height() / SIDE + 1 {
@@ -62,11 +64,13 @@ fn find_in_band<E: LineEngine>(
     scene: &Scene,
     top: u8,
 ) -> Result<Option<Picture>, AllocError>
-    requires scene { IsScene scene.now.clues.now scene.now.givens.now scene.now.facts.now scene.now.picture.now }
+    requires scene { IsScene scene.now.clues.now scene.now.givens.now scene.now.facts.now
+        scene.now.picture.now }
     requires tall { length scene.now.clues.now.rows ≤ E.longest engine.old }
     requires wide { length scene.now.clues.now.columns ≤ E.longest engine.old }
     requires top { top ≤ 120 }
-    ensures other { IfOk result (λ found. IfSome found (IsOther scene.now.clues.now (HasCell scene.now.givens.now) scene.now.picture.now)) }
+    ensures other { IfOk result (λ found. IfSome found
+        (IsOther scene.now.clues.now (HasCell scene.now.givens.now) scene.now.picture.now)) }
     ensures same_longest { E.longest engine.new ≡ E.longest engine.old }
 {
     for band in 0..scene.facts.width() / SIDE + 1 {
@@ -86,11 +90,13 @@ fn find_inside<E: LineEngine>(
     scene: &Scene,
     window: Window,
 ) -> Result<Option<Picture>, AllocError>
-    requires scene { IsScene scene.now.clues.now scene.now.givens.now scene.now.facts.now scene.now.picture.now }
+    requires scene { IsScene scene.now.clues.now scene.now.givens.now scene.now.facts.now
+        scene.now.picture.now }
     requires window { IsWindow scene.now.facts.now window }
     requires tall { length scene.now.clues.now.rows ≤ E.longest engine.old }
     requires wide { length scene.now.clues.now.columns ≤ E.longest engine.old }
-    ensures other { IfOk result (λ found. IfSome found (IsOther scene.now.clues.now (HasCell scene.now.givens.now) scene.now.picture.now)) }
+    ensures other { IfOk result (λ found. IfSome found
+        (IsOther scene.now.clues.now (HasCell scene.now.givens.now) scene.now.picture.now)) }
     ensures same_longest { E.longest engine.new ≡ E.longest engine.old }
 {
     if window.lines.len() < FEWEST {

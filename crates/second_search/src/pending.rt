@@ -84,7 +84,8 @@ impl Pending {
     fn hold(&mut self, row: u8, col: u8, mask: u16) -> Result<(), AllocError>
         requires in_rows { row < length self.old.at_hand }
         requires in_columns { col < width_of self.old.at_hand }
-        ensures { OnOk result (self.new ≡ search_of (with_cell self.old.at_hand row col mask) self.old.behind self.old.cells) }
+        ensures { OnOk result (self.new
+            ≡ search_of (with_cell self.old.at_hand row col mask) self.old.behind self.old.cells) }
     {
         let left = self.facts.left(row, col);
         if left != mask {
@@ -150,8 +151,10 @@ impl Pending {
     fn begin(&mut self, cell: CellMask) -> Result<(), AllocError>
         requires inside { IsInside (length self.old.at_hand) (width_of self.old.at_hand) cell }
         requires some { 0 < cell.mask }
-        ensures waits { OnOk result (branches self.old.at_hand cell.row cell.col cell.mask ++ self.old.behind ≡ self.new.at_hand ∷ self.new.behind) }
-        ensures held { OnOk result (places cell.row cell.col cell.mask ++ self.old.cells ≡ place cell.row cell.col ∷ self.new.cells) }
+        ensures waits { OnOk result (branches self.old.at_hand cell.row cell.col cell.mask
+            ++ self.old.behind ≡ self.new.at_hand ∷ self.new.behind) }
+        ensures held { OnOk result (places cell.row cell.col cell.mask ++ self.old.cells
+            ≡ place cell.row cell.col ∷ self.new.cells) }
     {
         let lowest = 1 << cell.mask.trailing_zeros();
         self.push_branch(CellMask {
@@ -167,9 +170,11 @@ impl Pending {
 // Puts back what the newest notes say, down to a branch with colours still to try, which it takes off.
 fn put_back(facts: &mut Facts, notes: &mut Vec<Note>) -> Option<CellMask>
     requires { AreInside (length facts.old) (width_of facts.old) (reverse notes.old.items) }
-    ensures puts_back { PutsBack facts.old (reverse notes.old.items) facts.new (reverse notes.new.items) result }
+    ensures puts_back { PutsBack facts.old (reverse notes.old.items) facts.new
+        (reverse notes.new.items) result }
     ensures inside { AreInside (length facts.new) (width_of facts.new) (reverse notes.new.items) }
-    ensures some { IfSome result (λ cell. (0 < cell.mask) × IsInside (length facts.new) (width_of facts.new) cell) }
+    ensures some { IfSome result
+        (λ cell. (0 < cell.mask) × IsInside (length facts.new) (width_of facts.new) cell) }
 {
     while let Some(note) = notes.pop() {
         match note {

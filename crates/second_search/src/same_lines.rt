@@ -12,9 +12,12 @@ use picture::{Axis, LineId, LineSet, LineView, MAX_SIDE, Picture};
 
 // The names of the lines that are the same in two scenes.
 pub(crate) fn same_lines(before: &Scene, after: &Scene) -> LineSet
-    requires before { IsScene before.now.clues.now before.now.givens.now before.now.facts.now before.now.picture.now }
-    requires after { IsScene after.now.clues.now after.now.givens.now after.now.facts.now after.now.picture.now }
-    ensures { AreSameLines before.now.clues.now before.now.facts.now before.now.picture.now after.now.clues.now after.now.facts.now after.now.picture.now result }
+    requires before { IsScene before.now.clues.now before.now.givens.now before.now.facts.now
+        before.now.picture.now }
+    requires after { IsScene after.now.clues.now after.now.givens.now after.now.facts.now
+        after.now.picture.now }
+    ensures { AreSameLines before.now.clues.now before.now.facts.now before.now.picture.now
+        after.now.clues.now after.now.facts.now after.now.picture.now result }
 {
     let mut lines = LineSet::empty();
     put_same(before, after, Axis::Across, &mut lines);
@@ -24,9 +27,13 @@ pub(crate) fn same_lines(before: &Scene, after: &Scene) -> LineSet
 
 // Puts the names of the lines along an axis that are the same in two scenes into a set.
 fn put_same(before: &Scene, after: &Scene, axis: Axis, lines: &mut LineSet)
-    requires before { IsScene before.now.clues.now before.now.givens.now before.now.facts.now before.now.picture.now }
-    requires after { IsScene after.now.clues.now after.now.givens.now after.now.facts.now after.now.picture.now }
-    ensures { PutsSame before.now.clues.now before.now.facts.now before.now.picture.now after.now.clues.now after.now.facts.now after.now.picture.now axis (lines_along axis after.now.picture.now) lines.old lines.new }
+    requires before { IsScene before.now.clues.now before.now.givens.now before.now.facts.now
+        before.now.picture.now }
+    requires after { IsScene after.now.clues.now after.now.givens.now after.now.facts.now
+        after.now.picture.now }
+    ensures { PutsSame before.now.clues.now before.now.facts.now before.now.picture.now
+        after.now.clues.now after.now.facts.now after.now.picture.now axis
+        (lines_along axis after.now.picture.now) lines.old lines.new }
 {
     for at in 0..line_count(after.picture, axis) {
         let line = LineId { axis, at };
@@ -49,10 +56,13 @@ fn line_count(picture: &Picture, axis: Axis) -> u8
 
 // Whether a line of the scene after is the same in both.
 fn is_same_line(before: &Scene, after: &Scene, line: LineId) -> bool
-    requires before { IsScene before.now.clues.now before.now.givens.now before.now.facts.now before.now.picture.now }
-    requires after { IsScene after.now.clues.now after.now.givens.now after.now.facts.now after.now.picture.now }
+    requires before { IsScene before.now.clues.now before.now.givens.now before.now.facts.now
+        before.now.picture.now }
+    requires after { IsScene after.now.clues.now after.now.givens.now after.now.facts.now
+        after.now.picture.now }
     requires has { HasLine after.now.picture.now line }
-    ensures { IsTrue result ↔ IsSameLine before.now.clues.now before.now.facts.now before.now.picture.now after.now.clues.now after.now.facts.now after.now.picture.now line }
+    ensures { IsTrue result ↔ IsSameLine before.now.clues.now before.now.facts.now
+        before.now.picture.now after.now.clues.now after.now.facts.now after.now.picture.now line }
 {
     clues_are_of_lines();
     if line.at >= line_count(before.picture, line.axis) {

@@ -192,7 +192,8 @@ fn why_text<E: LineEngine + Drop, A: Agenda + Drop>(
     requires in_rows { row < length bench.now.history.document.rows }
     requires in_columns { col < width_of bench.now.history.document.rows }
     requires in_colours { colour < 16 }
-    ensures { IfOk result (λ text. (why : Why) × (Explains bench.now row col colour why × (text.items ≡ why_text why))) }
+    ensures { IfOk result (λ text.
+        (why : Why) × (Explains bench.now row col colour why × (text.items ≡ why_text why))) }
 {
     let mut text = Vec::new(alloc);
     let why = bench.why(row, col, colour)?;
@@ -234,7 +235,8 @@ fn verdict_text<E: LineEngine + Drop, A: Agenda + Drop>(
 // An empty text with room for each verdict on a picture.
 fn room_for_verdict(alloc: Global, picture: &Picture) -> Result<Vec<u8>, AllocError>
     ensures empty { IfOk result (λ text. text.items ≡ []) }
-    ensures room { IfOk result (λ text. vec_len text + (21 + picture_room picture.now) ≤ vec_capacity text) }
+    ensures room { IfOk result
+        (λ text. vec_len text + (21 + picture_room picture.now) ≤ vec_capacity text) }
 {
     let row_room = usize::from(picture.width()) + 1;
     let picture_room = usize::from(picture.height()) * row_room;
@@ -299,7 +301,8 @@ fn report_front<E: LineEngine + Drop, A: Agenda + Drop>(
     alloc: Global,
     bench: &Bench<E, A>,
 ) -> Result<Vec<u8>, AllocError>
-    ensures front { IfOk result (λ text. text.items ≡ front_text bench.now.history.document bench.now.clues bench.now.book.facts) }
+    ensures front { IfOk result (λ text.
+        text.items ≡ front_text bench.now.history.document bench.now.clues bench.now.book.facts) }
     ensures room { IfOk result (λ text. vec_len text + 68 ≤ vec_capacity text) }
 {
     let mut text = Vec::new(alloc);
@@ -342,7 +345,8 @@ fn certificate_text<E: LineEngine + Drop, A: Agenda + Drop>(
     alloc: Global,
     bench: &mut Bench<E, A>,
 ) -> Result<Vec<u8>, Refusal>
-    ensures text { IfOk result (λ text. (found : Option Certificate) × (Certifies bench.old.history.document found × (text.items ≡ certified_text found))) }
+    ensures text { IfOk result (λ text. (found : Option Certificate)
+        × (Certifies bench.old.history.document found × (text.items ≡ certified_text found))) }
     ensures err { IfErr result (λ e. e ≡ refusal.Memory) }
     ensures as_before { IsAsBefore bench.old bench.new }
 {

@@ -31,7 +31,8 @@ pub(crate) fn push_clues(text: &mut Vec<u8>, book: &ClueBook) -> Result<(), Allo
 
 // A line for each row, or for each column.
 fn push_lines(text: &mut Vec<u8>, book: &ClueBook, axis: Axis) -> Result<(), AllocError>
-    ensures { OnOk result (text.new.items ≡ text.old.items ++ lines_text (letter_of axis) 1 (clues_along axis book.now)) }
+    ensures { OnOk result (text.new.items
+        ≡ text.old.items ++ lines_text (letter_of axis) 1 (clues_along axis book.now)) }
 {
     for at in 0..line_count(book, axis) {
         let clue = book.clue(LineId { axis, at });

@@ -65,7 +65,8 @@ impl Inbox {
     // Reads once. What was not looked at is lost.
     fn refill<R: Read>(&mut self, reader: &mut R) -> Result<(), ReadFault>
         ensures fits { OnOk result (length self.new ≤ 4096) }
-        ensures read { OnOk result (Consumes (R.remaining reader.old) (R.remaining reader.new) self.new) }
+        ensures read { OnOk result
+            (Consumes (R.remaining reader.old) (R.remaining reader.new) self.new) }
         ensures end { OnOk result (self.new ≡ [] → IsAtEnd (R.remaining reader.new)) }
         ensures err { OnErr result (Keeps (R.remaining reader.old) (R.remaining reader.new)) }
     {
@@ -107,9 +108,11 @@ impl Lines {
     // line needs no line feed where it has a byte. Of a line of any length at most 202 bytes are kept. After a fault the
     // line that was not finished is lost.
     pub(crate) fn next<R: Read>(&mut self, reader: &mut R) -> Result<Option<Request>, ReadFault>
-        ensures value { Hands (R.remaining reader.old) (R.remaining reader.new) self.old self.new result }
+        ensures value { Hands (R.remaining reader.old) (R.remaining reader.new) self.old self.new
+            result }
         ensures bounded { IfOk result (λ asked. IfSome asked AsksBounded) }
-        ensures steps { IfOk result (λ asked. OnSome asked (steps_left self.new < steps_left self.old)) }
+        ensures steps { IfOk result
+            (λ asked. OnSome asked (steps_left self.new < steps_left self.old)) }
     {
         let mut draft = Draft::new();
         while self.has_more(reader)? {
@@ -125,8 +128,10 @@ impl Lines {
 
     // Whether a byte waits, after a read where none did. The end of the input is met once.
     fn has_more<R: Read>(&mut self, reader: &mut R) -> Result<bool, ReadFault>
-        ensures waits { IfOk result (λ more. Waits (R.remaining reader.old) (R.remaining reader.new) self.old self.new more) }
-        ensures err { OnErr result (Keeps (R.remaining reader.old) (R.remaining reader.new) × ((self.old.inbox ≡ []) × (self.old.ended ≡ false))) }
+        ensures waits { IfOk result (λ more.
+            Waits (R.remaining reader.old) (R.remaining reader.new) self.old self.new more) }
+        ensures err { OnErr result (Keeps (R.remaining reader.old) (R.remaining reader.new)
+            × ((self.old.inbox ≡ []) × (self.old.ended ≡ false))) }
     {
         if !self.inbox.as_slice().is_empty() {
             return Ok(true);
@@ -140,7 +145,8 @@ impl Lines {
 
     // Reads once where none waits, and notes the end of the input.
     fn read_on<R: Read>(&mut self, reader: &mut R) -> Result<(), ReadFault>
-        ensures read { OnOk result (Consumes (R.remaining reader.old) (R.remaining reader.new) self.new.inbox) }
+        ensures read { OnOk result
+            (Consumes (R.remaining reader.old) (R.remaining reader.new) self.new.inbox) }
         ensures ended { OnOk result (self.new.ended ≡ (length self.new.inbox == 0)) }
         ensures end { OnOk result (self.new.inbox ≡ [] → IsAtEnd (R.remaining reader.new)) }
         ensures steps { OnOk result (steps_left self.new < 4097 * (1048576 - self.old.reads)) }

@@ -12,7 +12,8 @@ use std::alloc::AllocError;
 
 // The line of a reason, and its premises where it has some: `by r 1 given 1=a`.
 pub(crate) fn push_reason(text: &mut Vec<u8>, reason: &Reason) -> Result<(), AllocError>
-    ensures { OnOk result (text.new.items ≡ text.old.items ++ reason_text reason.now.line reason.now.premises) }
+    ensures { OnOk result (text.new.items
+        ≡ text.old.items ++ reason_text reason.now.line reason.now.premises) }
 {
     text.extend_from_slice(b"by ")?;
     text.push(letter_of_axis(reason.line.axis))?;

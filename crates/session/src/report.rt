@@ -24,7 +24,8 @@ pub(crate) fn push_front(
     clues: &ClueBook,
     map: &Facts,
 ) -> Result<(), AllocError>
-    ensures { OnOk result (text.new.items ≡ text.old.items ++ front_text (design_of document.now) clues.now map.now) }
+    ensures { OnOk result (text.new.items
+        ≡ text.old.items ++ front_text (design_of document.now) clues.now map.now) }
 {
     push_document(text, document)?;
     push_audit(text, clues, map)
@@ -54,7 +55,8 @@ fn push_last(text: &mut Vec<u8>, number: usize) -> Result<(), AllocError>
 
 #[tactic(auto, using(std::proofs::lemmas::List::append_assoc))]
 fn push_document(text: &mut Vec<u8>, document: &Document) -> Result<(), AllocError>
-    ensures { OnOk result (text.new.items ≡ text.old.items ++ document_text (design_of document.now)) }
+    ensures { OnOk result (text.new.items
+        ≡ text.old.items ++ document_text (design_of document.now)) }
 {
     push_size(text, &document.picture)?;
     push_colours(text, &document.palette)?;
@@ -85,7 +87,8 @@ fn push_colours(text: &mut Vec<u8>, palette: &Palette) -> Result<(), AllocError>
 }
 
 fn push_triples(text: &mut Vec<u8>, palette: &Palette) -> Result<(), AllocError>
-    ensures { OnOk result (text.new.items ≡ text.old.items ++ colour_lines palette.now.triples (length palette.now.triples)) }
+    ensures { OnOk result (text.new.items
+        ≡ text.old.items ++ colour_lines palette.now.triples (length palette.now.triples)) }
 {
     for number in 0..palette.len() {
         push_colour(text, number, palette.rgb(number))?;
@@ -108,7 +111,8 @@ fn push_colour(text: &mut Vec<u8>, number: u8, rgb: Rgb) -> Result<(), AllocErro
 
 // A line for each given, in row order.
 fn push_givens(text: &mut Vec<u8>, document: &Document) -> Result<(), AllocError>
-    ensures { OnOk result (text.new.items ≡ text.old.items ++ givens_text (design_of document.now)) }
+    ensures { OnOk result (text.new.items
+        ≡ text.old.items ++ givens_text (design_of document.now)) }
 {
     for row in 0..document.picture.height() {
         push_row_givens(text, document, row)?;
@@ -118,7 +122,8 @@ fn push_givens(text: &mut Vec<u8>, document: &Document) -> Result<(), AllocError
 
 fn push_row_givens(text: &mut Vec<u8>, document: &Document, row: u8) -> Result<(), AllocError>
     requires { row < length document.now.picture }
-    ensures { OnOk result (text.new.items ≡ text.old.items ++ row_givens (design_of document.now) row (width_of document.now.picture)) }
+    ensures { OnOk result (text.new.items ≡ text.old.items
+        ++ row_givens (design_of document.now) row (width_of document.now.picture)) }
 {
     for col in 0..document.picture.width() {
         if is_given(document, row, col) {
@@ -197,7 +202,8 @@ pub(crate) fn push_ending(
     past: usize,
     future: usize,
 ) -> Result<(), AllocError>
-    ensures items { OnOk result (text.new.items ≡ text.old.items ++ ending_text verdict.now past future) }
+    ensures items { OnOk result
+        (text.new.items ≡ text.old.items ++ ending_text verdict.now past future) }
     ensures room { TakesRoom text.old text.new (length verdict.now + 59) result }
 {
     text.extend_from_slice(b"verdict ")?;

@@ -52,7 +52,8 @@ pub fn run_session<R: Read, W: Write, E: LineEngine + Drop, A: Agenda + Drop>(
     writer: &mut W,
     bench: &mut Bench<E, A>,
 ) -> Result<(), SessionFault>
-    ensures { Runs (R.remaining reader.old) (R.remaining reader.new) (W.contents writer.old) (W.contents writer.new) bench.old bench.new result }
+    ensures { Runs (R.remaining reader.old) (R.remaining reader.new) (W.contents writer.old)
+        (W.contents writer.new) bench.old bench.new result }
 {
     let mut lines = Lines::new();
     while let Some(request) = lines.next(reader)? {

@@ -53,7 +53,8 @@ pub(crate) fn push_picture(text: &mut Vec<u8>, picture: &Picture) -> Result<(), 
 // A row of a picture.
 fn push_row(text: &mut Vec<u8>, picture: &Picture, row: u8) -> Result<(), AllocError>
     requires { row < length picture.now }
-    ensures items { OnOk result (text.new.items ≡ text.old.items ++ row_text letter (row_at picture.now row)) }
+    ensures items { OnOk result
+        (text.new.items ≡ text.old.items ++ row_text letter (row_at picture.now row)) }
     ensures room { TakesRoom text.old text.new (width_of picture.now + 1) result }
 {
     for col in 0..picture.width() {
@@ -76,7 +77,8 @@ pub(crate) fn push_map(text: &mut Vec<u8>, facts: &Facts) -> Result<(), AllocErr
 // A row of a map.
 fn push_masks(text: &mut Vec<u8>, facts: &Facts, row: u8) -> Result<(), AllocError>
     requires { row < length facts.now }
-    ensures { OnOk result (text.new.items ≡ text.old.items ++ row_text mask_letter (row_at facts.now row)) }
+    ensures { OnOk result (text.new.items
+        ≡ text.old.items ++ row_text mask_letter (row_at facts.now row)) }
 {
     for col in 0..facts.width() {
         text.push(mask_letter(facts.left(row, col)))?;

@@ -58,7 +58,8 @@ struct Start {
 
 // Facts that exclude nothing, and no given.
 fn started(alloc: Global, picture: &Picture) -> Result<Start, AllocError>
-    ensures { IfOk result (λ start. AreSound (clues_of picture.now) start.givens picture.now start.facts) }
+    ensures { IfOk result (λ start.
+        AreSound (clues_of picture.now) start.givens picture.now start.facts) }
 {
     laws::sound_facts();
     let facts = Facts::none(alloc, picture.height(), picture.width())?;
@@ -109,7 +110,8 @@ fn puzzle_of(
     engine: &mut MaskEngine,
     file: &[u8],
 ) -> Result<Puzzle, AllocError>
-    ensures { IfOk result (λ puzzle. IsScene puzzle.book puzzle.givens puzzle.facts puzzle.picture) }
+    ensures { IfOk result (λ puzzle.
+        IsScene puzzle.book puzzle.givens puzzle.facts puzzle.picture) }
 {
     let picture = picture_of(alloc, file)?;
     let book = ClueBook::of(alloc, &picture)?;
@@ -216,7 +218,8 @@ fn judge(
 ) -> Result<Report, AllocError>
     requires scene { IsScene puzzle.now.book puzzle.now.givens puzzle.now.facts puzzle.now.picture }
     requires parts { AreParts puzzle.now.facts (parts_of keeper.old) }
-    requires true_answers { AreTrue puzzle.now.book puzzle.now.givens puzzle.now.picture keeper.old }
+    requires true_answers { AreTrue puzzle.now.book puzzle.now.givens puzzle.now.picture
+        keeper.old }
     ensures parts { AreParts puzzle.now.facts (parts_of keeper.new) }
     ensures true_answers { AreTrue puzzle.now.book puzzle.now.givens puzzle.now.picture keeper.new }
 {
@@ -251,7 +254,8 @@ fn judge_again(
 ) -> Report
     requires scene { IsScene puzzle.now.book puzzle.now.givens puzzle.now.facts puzzle.now.picture }
     requires parts { AreParts puzzle.now.facts (parts_of keeper.old) }
-    requires true_answers { AreTrue puzzle.now.book puzzle.now.givens puzzle.now.picture keeper.old }
+    requires true_answers { AreTrue puzzle.now.book puzzle.now.givens puzzle.now.picture
+        keeper.old }
     ensures parts { AreParts puzzle.now.facts (parts_of keeper.new) }
     ensures true_answers { AreTrue puzzle.now.book puzzle.now.givens puzzle.now.picture keeper.new }
 {
@@ -271,10 +275,12 @@ fn kept(rt: &impl Abort, keeper: &Keeper) -> [u8; 16] {
 }
 
 fn carry(keeper: &Keeper, before: &Puzzle, after: &Puzzle) -> Result<Keeper, AllocError>
-    requires before { IsScene before.now.book before.now.givens before.now.facts before.now.picture }
+    requires before { IsScene before.now.book before.now.givens before.now.facts
+        before.now.picture }
     requires after { IsScene after.now.book after.now.givens after.now.facts after.now.picture }
     requires parts { AreParts before.now.facts (parts_of keeper.now) }
-    requires true_answers { AreTrue before.now.book before.now.givens before.now.picture keeper.now }
+    requires true_answers { AreTrue before.now.book before.now.givens before.now.picture
+        keeper.now }
 {
     let before = Scene {
         clues: &before.book,
@@ -301,10 +307,12 @@ fn judges(
     before: &Puzzle,
     after: &Puzzle,
 )
-    requires before { IsScene before.now.book before.now.givens before.now.facts before.now.picture }
+    requires before { IsScene before.now.book before.now.givens before.now.facts
+        before.now.picture }
     requires after { IsScene after.now.book after.now.givens after.now.facts after.now.picture }
     requires parts { AreParts before.now.facts (parts_of keeper.old) }
-    requires true_answers { AreTrue before.now.book before.now.givens before.now.picture keeper.old }
+    requires true_answers { AreTrue before.now.book before.now.givens before.now.picture
+        keeper.old }
 {
     let report = judge_again(rt, memory, engine, keeper, before);
     assert!(rt; report.other == Some(OTHER) && report.searched == 1 && report.splits == 1);

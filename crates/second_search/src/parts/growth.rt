@@ -124,7 +124,8 @@ impl Growth {
     fn gather(&mut self, facts: &Facts, line: LineId)
         requires has { HasLine facts.now line }
         requires waits { HasName self.old.waiting line }
-        ensures grown { (row col : ℕ) → IsGrown facts.now row col self.old → IsGrown facts.now row col self.new }
+        ensures grown { (row col : ℕ) → IsGrown facts.now row col self.old
+            → IsGrown facts.now row col self.new }
         ensures open_cells { HasOpenCellsOf facts.now line self.new.cells }
         ensures unvisited { self.new.unvisited ≡ self.old.unvisited }
     {
