@@ -49,3 +49,12 @@ instructions() {
     shift
     valgrind --tool=callgrind --callgrind-out-file=/dev/null "$@" <"$input" 2>&1 >/dev/null | sed -n 's/.*Collected : //p'
 }
+
+# The same within a function and all that it calls alone: `within FUNCTION FILE PROGRAM WORD..`, where FUNCTION is a pattern of
+# callgrind. It says 0 where the function was not called or stands inline.
+within() {
+    local function=$1 input=$2
+    shift 2
+    valgrind --tool=callgrind --callgrind-out-file=/dev/null --toggle-collect="$function" "$@" <"$input" 2>&1 >/dev/null |
+        sed -n 's/.*Collected : //p'
+}

@@ -1,34 +1,31 @@
 #!/usr/bin/env bash
-# How much work it takes to go on with a closed book after a stroke: pictures of blobs, and for each stroke the steps before,
-# kept and added, the dirty lines, the evaluations, and by callgrind the instructions of keeping what stands (`keep`) and of
-# closing it again (`close`), which are differences: an audit that goes on also makes its base and refreshes the clues.
-# Usage: bench/keep.sh [rounds]   (by the program `tables`)
+# What a stroke in the middle of a picture of blobs takes in a session of `nonobench work`: instructions by callgrind, those of
+# opening the picture taken off; of them those of keeping what stands of the book (`keep`) and of closing it again (`close`).
+# Usage: bench/keep.sh
 set -euo pipefail
 root=$(cd "$(dirname "$0")/.." && pwd)
 . "$root/bench/blobs.sh"
-rounds=${1:-6}
-. "$root/bench/driver.sh"
+program=$root/crates/nonobench/out/nonobench
+[ -x "$program" ] || (cd "$root/crates/nonobench" && rt run <stdin >/dev/null)
 work=$(mktemp -d)
 trap 'rm -rf "$work"' EXIT
+mkdir "$work/pictures"
 # a picture of 120 rows has no room for one more
-draw_blobs "$work" 119
-# the instructions of one round of such work after a stroke of a picture
-round() {
-    local many one
-    many=$(instructions "$3" "$program" keep "$1" "$2" "$rounds")
-    one=$(instructions "$3" "$program" keep "$1" "$2" 1)
-    echo $(((many - one) / (rounds - 1)))
-}
-printf '%-20s %-8s %7s %6s %6s %6s %12s %9s %9s %9s %11s\n' \
-    picture stroke before kept dirty added evaluations base refresh keep close
-for picture in "$work"/*; do
-    for stroke in paint fill insert delete swap; do
-        set -- $("$program" keep base "$stroke" 1 <"$picture" | tr -dc '0-9 ')
-        base=$(round base "$stroke" "$picture")
-        refresh=$(round refresh "$stroke" "$picture")
-        keep=$(round keep "$stroke" "$picture")
-        audit=$(round audit "$stroke" "$picture")
-        printf '%-20s %-8s %7s %6s %6s %6s %12s %9s %9s %9s %11s\n' "$(basename "$picture")" "$stroke" "$@" \
-            "$base" "$refresh" "$((keep - base))" "$((audit - keep - refresh))"
+draw_blobs "$work/pictures" 119
+: >"$work/none"
+# the instructions of a stroke less those of opening, in all or within a function
+more() { echo $(($("$@" "$work/stroke" "$program" work "$picture") - $("$@" "$work/none" "$program" work "$picture"))); }
+printf '%-20s %-8s %12s %12s %12s\n' picture stroke all keep close
+for picture in "$work"/pictures/*; do
+    side=$(basename "$picture" | cut -dx -f1 | sed 's/^0*//')
+    at=$((side / 2))
+    for stroke in "paint $at $at b" "fill $((at - 4)) $((at - 4)) $((at + 5)) $((at + 5)) b" "insert row $at" "delete row $at" \
+        "swap row $at $((at + 5))"; do
+        echo "$stroke" >"$work/stroke"
+        if [ "$("$program" work "$picture" <"$work/stroke")" != ok ]; then
+            echo "${stroke% b} ." >"$work/stroke"
+        fi
+        printf '%-20s %-8s %12s %12s %12s\n' "$(basename "$picture")" "${stroke%% *}" "$(more instructions)" \
+            "$(more within 'retract::keeping::keep*')" "$(more within 'propagate::closing_book::close*')"
     done
 done

@@ -1,21 +1,23 @@
 #!/usr/bin/env bash
-# How much work settling a puzzle takes: evaluations and instructions for pictures of blobs, with both agendas.
-# Usage: bench/settle.sh [engine]   (mask or plain; by the program `tables`)
+# What it takes to open a picture of blobs in a session of `nonobench work`, which settles it with a book of reasons:
+# instructions by callgrind in all and within closing, and how many cells the map leaves open.
+# Usage: bench/settle.sh [PICTURE..]   (P3 texts in place of the drawn ones)
 set -euo pipefail
 root=$(cd "$(dirname "$0")/.." && pwd)
 . "$root/bench/blobs.sh"
-engine=${1:-mask}
-. "$root/bench/driver.sh"
+program=$root/crates/nonobench/out/nonobench
+[ -x "$program" ] || (cd "$root/crates/nonobench" && rt run <stdin >/dev/null)
 work=$(mktemp -d)
 trap 'rm -rf "$work"' EXIT
-draw_blobs "$work" 120
-printf '%-20s %-8s %12s %10s %8s %8s %14s\n' picture agenda evaluations narrowed open lines instructions
-for picture in "$work"/*; do
-    side=$(basename "$picture" | cut -dx -f1 | sed 's/^0*//')
-    for agenda in inorder newest; do
-        line=$("$program" settle "$engine" "$agenda" <"$picture")
-        set -- $(echo "$line" | tr -dc '0-9 ')
-        cost=$(instructions "$picture" "$program" settle "$engine" "$agenda")
-        printf '%-20s %-8s %12s %10s %8s %8s %14s\n' "$(basename "$picture")" "$agenda" "$1" "$2" "$3" "$((2 * side))" "$cost"
-    done
+if [ $# -eq 0 ]; then
+    mkdir "$work/pictures"
+    draw_blobs "$work/pictures" 120
+    set -- "$work"/pictures/*
+fi
+: >"$work/none"
+printf '%-20s %8s %14s %14s\n' picture open instructions closing
+for picture; do
+    printf '%-20s %8s %14s %14s\n' "$(basename "$picture")" "$(echo map | "$program" work "$picture" | tr -dc '?' | wc -c)" \
+        "$(instructions "$work/none" "$program" work "$picture")" \
+        "$(within 'propagate::closing_book::close*' "$work/none" "$program" work "$picture")"
 done

@@ -1,14 +1,12 @@
-"""Draws pictures with sessions of strokes on them, and tells what callgrind and the drivers say of the strokes.
+"""Draws pictures with sessions of strokes on them, and tells what callgrind says of the strokes.
 
-strokes.py draw FOLDER SIDE STROKES    writes pictures NAME.ppm with sessions NAME.txt, without a stroke that is refused
-strokes.py head                        writes the head of the table
-strokes.py tell NAME COUNTS ONE OTHER  writes a line of the table: COUNTS are the lines of `tables keep count`, ONE is
-                                       a folder with a profile of each stroke, prof.1 and on, and OTHER one in which the
-                                       profiles have the start of a fresh bench too, made behind the stroke before
+strokes.py draw FOLDER SIDE STROKES                writes pictures NAME.ppm with sessions NAME.txt, without a stroke that is refused
+strokes.py head                                    writes the head of the table
+strokes.py tell NAME OPENING ALL STROKES PROFILE   writes a line of the table: the instructions of opening the picture and of the
+                                                   whole session, its number of strokes, and a profile of `Bench::advance` alone
 """
 import pathlib
 import random
-import statistics
 import sys
 from collections import Counter
 
@@ -118,9 +116,8 @@ def taken(whole, *starts):
 
 
 def divided(path):
-    """The instructions of a stroke, and what they go to. Each named function is called by the one above it alone."""
+    """What the instructions of the strokes go to. Each named function is called by the one above it alone."""
     whole = profile(path)
-    stroke = taken(whole, "tables::keep::striking::strike")
     advance = taken(whole, "live_audit::bench::Bench::advance")
     closing = taken(whole, "propagate::closing_book::close")
     parts = Counter()
@@ -131,28 +128,16 @@ def divided(path):
     parts["base"] = taken(whole, "live_audit::making::base_of")
     parts["parts"] = taken(whole, "live_audit::making::answers_next")
     parts["keeping"] = advance - closing - parts["clues"] - parts["base"] - parts["parts"]
-    parts["copying"] = stroke - advance
-    return stroke, parts
+    return advance, parts
 
 
-WORK = ("copying", "base", "clues", "keeping", "evaluating", "trimming", "closing", "parts")
+WORK = ("base", "clues", "keeping", "evaluating", "trimming", "closing", "parts")
 
 
-def tell(name, counts, strokes, fresh):
-    """A line of the table. The first stroke is left out: its profile has the start of the program too."""
-    counts = [line.split() for line in open(counts)][1:]
-    before, kept, _, evaluations, anew = (sum(int(line[i]) for line in counts) for i in range(1, 6))
-    profiles = [divided(strokes / f"prof.{i + 2}") for i in range(len(counts))]
-    starts = [taken(profile(fresh / f"prof.{i + 3}"), "tables::keep::striking::begin") for i in range(len(counts) - 1)]
-    each = [(line[0], stroke, start) for line, (stroke, _), start in zip(counts, profiles, starts)]
-    paints = [stroke / start for edit, stroke, start in each if edit == "paint"]
-    total = sum(stroke for stroke, _ in profiles)
-    shares = " ".join(f"{100 * sum(parts[work] for _, parts in profiles) / total:8.1f}" for work in WORK)
-    print(
-        f"{name:14} {100 * kept / before:6.0f} {100 * evaluations / anew:6.0f}"
-        f" {statistics.median(stroke for stroke, _ in profiles) / 1000:10,.0f} {statistics.median(starts) / 1000:10,.0f}"
-        f" {100 * statistics.median(paints):6.0f} {100 * statistics.median(stroke / start for _, stroke, start in each):6.0f} {shares}"
-    )
+def tell(name, opening, whole, strokes, path):
+    total, parts = divided(path)
+    shares = " ".join(f"{100 * parts[work] / total:10.1f}" if total else f"{'-':>10}" for work in WORK)
+    print(f"{name:14} {(whole - opening) / strokes / 1000:10,.0f} {opening / 1000:10,.0f} {shares}")
 
 
 def main():
@@ -160,9 +145,9 @@ def main():
     if task == "draw":
         draw(pathlib.Path(words[0]), int(words[1]), int(words[2]))
     elif task == "head":
-        print(f"{'picture':14} {'kept %':>6} {'eval %':>6} {'stroke':>10} {'start':>10} {'paint':>6} {'all':>6} " + " ".join(f"{work:>8}" for work in WORK))
+        print(f"{'picture':14} {'stroke':>10} {'opening':>10} " + " ".join(f"{work:>10}" for work in WORK))
     else:
-        tell(words[0], *map(pathlib.Path, words[1:]))
+        tell(words[0], int(words[1]), int(words[2]), int(words[3]), pathlib.Path(words[4]))
 
 
 if __name__ == "__main__":
