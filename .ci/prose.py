@@ -2,7 +2,8 @@
 """Reads the documents and says what a reader would stumble over.
 
 For each *.md of the repository, or those that are named: a sentence above 40 words, a stiff phrase, a link or a path
-that does not exist. In README.md also a command that the gate does not run. And the kit's version in the file KIT is
+that does not exist. In README.md also a command that the gate does not run, and in docs/PROOF.md a line of a clause that
+stands in no source. And the kit's version in the file KIT is
 that of `rt version`, where there is one.
 
 A block of README.md that begins with ```sh is run by .ci/tutorial, so its commands pass. A block that begins with
@@ -87,6 +88,18 @@ def anchors(path):
     return {re.sub(r"[^\w\- ]", "", head.lower()).replace(" ", "-") for head in heads}
 
 
+def sources():
+    """The texts of all code and definitions."""
+    texts = []
+    for folder, folders, names in os.walk(os.path.join(ROOT, "crates")):
+        folders[:] = [f for f in folders if f not in ("out", "must-fail", "proofs", "tests")]
+        for name in names:
+            if name.endswith((".rt", ".antt")):
+                with open(os.path.join(folder, name), encoding="utf-8") as file:
+                    texts.append(file.read())
+    return texts
+
+
 def exists(path, folder):
     path = path.rstrip(".,:;")
     if re.search(r"[*{}<>$]|\b[A-Z]{2,}\b(?!\.md)|/out\b", path) and not path.endswith(".md"):
@@ -125,6 +138,12 @@ def faults_of(name):
         for match in re.findall(r"(?<![\w./])[A-Z_]{3,}\.md\b", plain):
             if not any(os.path.exists(os.path.join(base, match)) for base in (ROOT, folder, os.path.join(ROOT, "docs"))):
                 yield number, f"a path to nothing: {match}"
+    if name == os.path.join("docs", "PROOF.md"):
+        known = sources()
+        for number, _, held in found:
+            for at, line in enumerate(held, number + 1):
+                if line.strip() and not any(line.strip() in text for text in known):
+                    yield at, f"a clause that stands in no source: {line.strip()[:60]}"
     if name == "README.md":
         for number, info, held in found:
             if info.split()[:2] == ["sh", "build"]:
