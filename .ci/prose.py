@@ -1,0 +1,188 @@
+#!/usr/bin/env python3
+"""Reads the documents and says what a reader would stumble over.
+
+For each *.md of the repository, or those that are named: a sentence above 40 words, a stiff phrase, a link or a path
+that does not exist. In README.md also a command that the gate does not run, and in docs/PROOF.md a line of a clause that
+stands in no source. And the kit's version in the file KIT is
+that of `rt version`, where there is one.
+
+A block of README.md that begins with ```sh is run by .ci/tutorial, so its commands pass. A block that begins with
+```sh build holds commands that only build or serve; each must begin as one of BUILDS. No other block may be named sh.
+
+Usage: .ci/prose.py [--short] [DOCUMENT ..]; --short prints the number of faults of each document alone.
+"""
+import os
+import re
+import shutil
+import subprocess
+import sys
+
+ROOT = os.path.dirname(os.path.dirname(os.path.abspath(__file__)))
+MOST_WORDS = 40
+STIFF = ["want of memory", "for want of", "wanting", "is had", "are had", "was had", "be had", "in front of which",
+         "behind which", "thereof", "therein", "whereof", "hereby", "wherein"]
+# Folders in which a path that is named must exist, and commands that build, prove or serve rather than answer.
+FOLDERS = "docs|crates|bench|tests|examples|page|\\.ci"
+BUILDS = ["bash .ci/run", "(cd crates/nonobench && rt try ", "(cd crates/nonobench && rt run ", "install -D ",
+          "export PATH=", "page/serve "]
+
+
+def documents():
+    for folder, folders, names in os.walk(ROOT):
+        folders[:] = sorted(f for f in folders if f not in (".git", "out", "must-fail", "target"))
+        for name in sorted(names):
+            if name.endswith(".md"):
+                yield os.path.relpath(os.path.join(folder, name), ROOT)
+
+
+def blocks(text):
+    """Gives (line number, info, lines) for each code block, and the text with those lines blank."""
+    found, kept, inside = [], [], None
+    for number, line in enumerate(text.split("\n"), 1):
+        if line.lstrip().startswith("```"):
+            if inside is None:
+                inside = (number, line.strip()[3:].strip(), [])
+                found.append(inside)
+            else:
+                inside = None
+            kept.append("")
+        elif inside is not None:
+            inside[2].append(line)
+            kept.append("")
+        else:
+            kept.append(line)
+    return found, kept
+
+
+def units(lines):
+    """Cuts prose into paragraphs, items, headings and cells, each with the number of its first line."""
+    number, held = 0, []
+    for at, line in enumerate(lines + [""], 1):
+        text = line.strip()
+        starts = not text or re.match(r"(#|\||[-*+] |\d+\. |>)", text)
+        if starts and held:
+            yield number, " ".join(held)
+            held = []
+        if not text:
+            continue
+        if text.startswith("|"):
+            for cell in re.sub(r"`[^`]*`", "code", text).strip("|").split("|"):
+                yield at, cell
+            continue
+        if not held:
+            number = at
+        held.append(re.sub(r"^(#+|[-*+]|\d+\.|>) ", "", text))
+        if text.startswith("#"):
+            yield number, held.pop()
+
+
+def sentences(unit):
+    text = re.sub(r"`[^`]*`", "code", unit)
+    text = re.sub(r"!?\[([^\]]*)\]\([^)]*\)", r"\1", text)
+    return re.split(r"(?<=[.!?])[)\"'*_]*\s+(?=[A-Z(\"'`*_c0-9])", text)
+
+
+def anchors(path):
+    with open(path, encoding="utf-8") as file:
+        heads = re.findall(r"^#+ (.*)$", file.read(), re.M)
+    return {re.sub(r"[^\w\- ]", "", head.lower()).replace(" ", "-") for head in heads}
+
+
+def sources():
+    """The texts of all code and definitions."""
+    texts = []
+    for folder, folders, names in os.walk(os.path.join(ROOT, "crates")):
+        folders[:] = [f for f in folders if f not in ("out", "must-fail", "proofs", "tests")]
+        for name in names:
+            if name.endswith((".rt", ".antt")):
+                with open(os.path.join(folder, name), encoding="utf-8") as file:
+                    texts.append(file.read())
+    return texts
+
+
+def exists(path, folder):
+    path = path.rstrip(".,:;")
+    if re.search(r"[*{}<>$]|\b[A-Z]{2,}\b(?!\.md)|/out\b", path) and not path.endswith(".md"):
+        return True
+    return any(os.path.exists(os.path.join(base, path)) for base in (ROOT, folder))
+
+
+def faults_of(name):
+    path = os.path.join(ROOT, name)
+    folder = os.path.dirname(path)
+    with open(path, encoding="utf-8") as file:
+        found, lines = blocks(file.read())
+    for number, unit in units(lines):
+        for sentence in sentences(unit):
+            words = [w for w in sentence.split() if re.search(r"\w", w)]
+            if len(words) > MOST_WORDS:
+                yield number, f"a sentence of {len(words)} words: {' '.join(words[:8])} .."
+        low = unit.lower()
+        for phrase in STIFF:
+            if re.search(r"\b" + phrase + r"\b", low):
+                yield number, f"a stiff phrase: {phrase}"
+    for number, line in enumerate(lines, 1):
+        for target in re.findall(r"\]\(([^)\s]+)\)", line):
+            if re.match(r"[a-z]+:", target):
+                continue
+            file, _, anchor = target.partition("#")
+            aim = os.path.join(folder, file) if file else path
+            if not os.path.exists(aim):
+                yield number, f"a link to nothing: {target}"
+            elif anchor and aim.endswith(".md") and anchor not in anchors(aim):
+                yield number, f"a link to no heading: {target}"
+        plain = re.sub(r"\]\([^)]*\)", "]", line)
+        for match in re.findall(rf"(?<![\w./$\"])(?:{FOLDERS})/[\w./*{{}}<>$-]*", plain):
+            if not exists(match, folder):
+                yield number, f"a path to nothing: {match}"
+        for match in re.findall(r"(?<![\w./])[A-Z_]{3,}\.md\b", plain):
+            if not any(os.path.exists(os.path.join(base, match)) for base in (ROOT, folder, os.path.join(ROOT, "docs"))):
+                yield number, f"a path to nothing: {match}"
+    if name == os.path.join("docs", "PROOF.md"):
+        known = sources()
+        for number, _, held in found:
+            for at, line in enumerate(held, number + 1):
+                if line.strip() and not any(line.strip() in text for text in known):
+                    yield at, f"a clause that stands in no source: {line.strip()[:60]}"
+    if name == "README.md":
+        for number, info, held in found:
+            if info.split()[:2] == ["sh", "build"]:
+                for at, line in enumerate(held, number + 1):
+                    if line.strip() and not any(line.startswith(start) for start in BUILDS):
+                        yield at, f"a command that the gate does not run: {line.strip()}"
+            elif not (info == "text" or info == "sh" or info.startswith("sh needs ")):
+                yield number, f"a block that is not sh, sh needs TOOL, sh build or text: {info or 'no name'}"
+
+
+def kit_fault():
+    if shutil.which("rt") is None:
+        return None
+    told = subprocess.run(["rt", "version"], capture_output=True, text=True).stdout.strip()
+    with open(os.path.join(ROOT, "KIT"), encoding="utf-8") as file:
+        kept = file.read().strip()
+    return None if told == kept else f"KIT says {kept!r}, and rt version says {told!r}"
+
+
+def main():
+    words = sys.argv[1:]
+    short = "--short" in words
+    named = [w for w in words if w != "--short"]
+    total = 0
+    for name in named or documents():
+        faults = sorted(faults_of(name))
+        total += len(faults)
+        if short and faults:
+            print(f"{name}: {len(faults)}")
+        elif not short:
+            for number, fault in faults:
+                print(f"{name}:{number}: {fault}")
+    if not named:
+        fault = kit_fault()
+        if fault:
+            total += 1
+            print(fault)
+    print(f"prose: {total} faults")
+    return 1 if total else 0
+
+
+sys.exit(main())
