@@ -3,8 +3,7 @@
 
 For each *.md of the repository, or those that are named: a sentence above 40 words, a stiff phrase, a link or a path
 that does not exist. In README.md also a command that the gate does not run, and in docs/PROOF.md a line of a clause that
-stands in no source. And the kit's version in the file KIT is
-that of `rt version`, where there is one.
+stands in no source. And the kit's version in the file KIT is that of `rt version`, where there is one.
 
 A block of README.md that begins with ```sh is run by .ci/tutorial, so its commands pass. A block that begins with
 ```sh build holds commands that only build or serve; each must begin as one of BUILDS. No other block may be named sh.

@@ -1,6 +1,6 @@
 #!/usr/bin/env bash
 # What a stroke in the middle of a picture of blobs takes in a session of `nonobench work`: instructions by callgrind, those of
-# opening the picture taken off; of them those of keeping what stands of the book (`keep`) and of closing it again (`close`).
+# opening the picture taken off; of them those of closing the book again (`close`). Keeping what stands of it is inline.
 # Usage: bench/keep.sh
 set -euo pipefail
 root=$(cd "$(dirname "$0")/.." && pwd)
@@ -15,7 +15,7 @@ draw_blobs "$work/pictures" 119
 : >"$work/none"
 # the instructions of a stroke less those of opening, in all or within a function
 more() { echo $(($("$@" "$work/stroke" "$program" work "$picture") - $("$@" "$work/none" "$program" work "$picture"))); }
-printf '%-20s %-8s %12s %12s %12s\n' picture stroke all keep close
+printf '%-20s %-8s %12s %12s\n' picture stroke all close
 for picture in "$work"/pictures/*; do
     side=$(basename "$picture" | cut -dx -f1 | sed 's/^0*//')
     at=$((side / 2))
@@ -25,7 +25,7 @@ for picture in "$work"/pictures/*; do
         if [ "$("$program" work "$picture" <"$work/stroke")" != ok ]; then
             echo "${stroke% b} ." >"$work/stroke"
         fi
-        printf '%-20s %-8s %12s %12s %12s\n' "$(basename "$picture")" "${stroke%% *}" "$(more instructions)" \
-            "$(more within 'retract::keeping::keep*')" "$(more within 'propagate::closing_book::close*')"
+        printf '%-20s %-8s %12s %12s\n' "$(basename "$picture")" "${stroke%% *}" "$(more instructions)" \
+            "$(more within 'propagate::closing_book::close*')"
     done
 done
