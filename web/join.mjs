@@ -31,7 +31,10 @@ function scripts() {
   return { page: lines.slice(0, at), worker: lines.slice(at + 1) };
 }
 
-const sources = (names) => names.map((name) => read('page', name)).join('\n');
+// A source without the lines that are comments alone.
+const bare = (source) => source.replace(/^[ \t]*\/\*[^]*?\*\/[ \t]*\n/gm, '').replace(/^[ \t]*\/\/.*\n/gm, '');
+
+const sources = (names) => names.map((name) => bare(read('page', name))).join('\n');
 
 // The page's styles: page.css first, then the others by name.
 function styles() {
@@ -43,7 +46,7 @@ function pageText(version) {
   const { page, worker } = scripts();
   const packed = gzipSync(readFileSync(join(folder, 'nonobench.wasm')), { level: 9 });
   packed[9] = 255; // the system that packed it
-  const engine = read('web', 'nonobench.mjs').replace(/^export /gm, '');
+  const engine = bare(read('web', 'nonobench.mjs')).replace(/^export /gm, '');
   const built = {
     module: packed.toString('base64'),
     packed: 'gzip',

@@ -1,7 +1,8 @@
 //! What the calls are asked, as values.
 
-ghost use Rattle.std.specs.Prelude.{IfSome};
+ghost use Rattle.std.specs.Prelude.{◌≡◌, IfSome};
 ghost use Rattle.answers.specs.Start.{IsLawful};
+ghost use Rattle.web.specs.Asked.{background_asked, options_asked};
 
 use answers::{Options, background_in};
 use edits::MAX_DEPTH;
@@ -23,7 +24,9 @@ pub struct Checked<'a> {
 }
 
 /// The colour of a background as the host words it: none where the word is empty.
-pub fn background_of(word: &[u8]) -> Option<Option<Rgb>> {
+pub fn background_of(word: &[u8]) -> Option<Option<Rgb>>
+    ensures { result ≡ background_asked word.now }
+{
     if word.is_empty() {
         return Some(None);
     }
@@ -35,7 +38,8 @@ pub fn background_of(word: &[u8]) -> Option<Option<Rgb>> {
 
 /// The options of a bench, where they are lawful.
 pub fn options_of(non: bool, word: &[u8], history: u32) -> Option<Options>
-    ensures { IfSome result IsLawful }
+    ensures value { result ≡ options_asked non word.now history }
+    ensures lawful { IfSome result IsLawful }
 {
     let background = background_of(word)?;
     if non && background.is_some() {

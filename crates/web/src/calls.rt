@@ -1,9 +1,13 @@
 //! The calls that a host makes.
 
+ghost use Rattle.std.specs.Prelude.{◌≡◌, ◌++◌, None, drop, length, take, IfSome};
+ghost use Rattle.web.specs.Asked.{background_asked, options_asked};
+ghost use Rattle.web.specs.Desk.{Checks, Closes, IsKept, Opens, Says};
+
 use crate::asked::{Asked, Checked, background_of, options_of};
 use crate::desk::Desk;
 use crate::held::Held;
-use crate::inside::{check_in, close_in, open_in, say_in, take_in};
+use crate::inside::{check_in, close_in, copy_front, keep_text, lend_text, open_in, say_in};
 use crate::status::{DONE, MEMORY, OPTIONS};
 use core::mem::replace_with;
 use std::alloc::Global;
@@ -35,7 +39,12 @@ pub extern "C" fn nonobench_open(
     background: &[u8],
     history: u32,
     handle: &mut u32,
-) -> u32 {
+) -> u32
+    ensures opens { IfSome (options_asked non background.now history) (λ options.
+        Opens file.now options held.old.desk held.new.desk result handle.new) }
+    ensures refused { options_asked non background.now history ≡ None
+        → (result ≡ 6) × IsKept held.old.desk held.new.desk }
+{
     let Some(options) = options_of(non, background, history) else {
         return OPTIONS;
     };
@@ -46,19 +55,32 @@ pub extern "C" fn nonobench_open(
 
 /// Answers lines on the bench of a handle. What a session writes for them is the text.
 #[unsafe(no_mangle)]
-pub extern "C" fn nonobench_say(held: &mut Held, handle: u32, lines: &[u8]) -> u32 {
+pub extern "C" fn nonobench_say(held: &mut Held, handle: u32, lines: &[u8]) -> u32
+    ensures { Says handle lines.now held.old.desk held.new.desk result }
+{
     replace_with(held, (handle, lines), say_in)
 }
 
 /// Puts the text of the last call out, as far as there is room, and says how many bytes it has.
 #[unsafe(no_mangle)]
-pub extern "C" fn nonobench_take(held: &mut Held, out: &mut [u8]) -> usize {
-    replace_with(held, out, take_in)
+pub extern "C" fn nonobench_take(held: &mut Held, out: &mut [u8]) -> usize
+    ensures all { result ≡ length held.old.desk.text.items }
+    ensures front { out.new ≡ take (length out.old) held.old.desk.text.items
+        ++ drop (length held.old.desk.text.items) out.old }
+    ensures text { held.new.desk.text.items ≡ held.old.desk.text.items }
+    ensures kept { IsKept held.old.desk held.new.desk }
+{
+    let text = replace_with(held, (), lend_text);
+    let count = copy_front(&text, out);
+    replace_with(held, text, keep_text);
+    count
 }
 
 /// Ends the bench of a handle.
 #[unsafe(no_mangle)]
-pub extern "C" fn nonobench_close(held: &mut Held, handle: u32) -> u32 {
+pub extern "C" fn nonobench_close(held: &mut Held, handle: u32) -> u32
+    ensures { Closes handle held.old.desk held.new.desk result }
+{
     replace_with(held, handle, close_in)
 }
 
@@ -69,7 +91,12 @@ pub extern "C" fn nonobench_check(
     file: &[u8],
     cert: &[u8],
     background: &[u8],
-) -> u32 {
+) -> u32
+    ensures checks { IfSome (background_asked background.now) (λ colour.
+        Checks file.now colour cert.now held.new.desk.text.items result) }
+    ensures refused { background_asked background.now ≡ None → result ≡ 6 }
+    ensures kept { IsKept held.old.desk held.new.desk }
+{
     let Some(background) = background_of(background) else {
         return OPTIONS;
     };
