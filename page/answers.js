@@ -1,10 +1,11 @@
 // The texts that a session answers with, as docs/FORMATS.md tells them. No mark ends an answer: which lines are its own
 // follows from the line that asked and, for rows, from the picture's size. So a text is read beside the lines that asked.
 
+const { LETTERS, TextFault, answersTo } = (() => {
 /** A text that no session writes for the lines that asked. */
-export class TextFault extends Error {}
+class TextFault extends Error {}
 
-export const LETTERS = '.abcdefghijklmno';
+const LETTERS = '.abcdefghijklmno';
 const PICTURE_ROW = /^[.a-o]+$/;
 const MAP_ROW = /^[.a-o?]+$/;
 const NUMBER = '(0|[1-9][0-9]*)';
@@ -209,7 +210,7 @@ function sizeBehind(words, answer, size) {
  * The answers in a text to the lines that asked, one for each line with a word. `size` is that of the picture before the
  * first line, or null where it is not known. Throws a TextFault where the text is not one for these lines.
  */
-export function answersTo(lines, text, size = null) {
+function answersTo(lines, text, size = null) {
   const reader = new Reader(text);
   const answers = [];
   for (const line of lines) {
@@ -225,3 +226,6 @@ export function answersTo(lines, text, size = null) {
   must(reader.at === reader.lines.length, 'the text goes on behind the last answer');
   return answers;
 }
+
+return { LETTERS, TextFault, answersTo };
+})();
