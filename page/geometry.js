@@ -49,9 +49,10 @@ class Geometry {
   room(cell) {
     const font = this.fontFor(cell);
     const isTiny = cell < 7 * this.scale;
-    const one = (size) => size.signs * font * 0.62 + size.blocks * ((this.letters ? 0.62 : 0) * font + font / 2 + 2);
+    const tick = 4 * this.scale;
+    const one = (size) => (isTiny ? size.blocks * (tick + 2) : size.signs * font * 0.62 + size.blocks * ((this.letters ? 0.62 : 0) * font + font / 2 + 2));
     const most = Math.max(0, ...this.rowSizes.map(one));
-    const tall = Math.max(0, ...this.columnSizes.map((size) => size.blocks)) * (this.pitchFor(cell) + 1);
+    const tall = Math.max(0, ...this.columnSizes.map((size) => size.blocks)) * ((isTiny ? tick : this.pitchFor(cell)) + 1);
     const bound = isTiny ? 0.2 : this.width < 600 * this.scale ? 0.28 : 0.34;
     return {
       left: Math.ceil(clamp(most + 12 * this.scale, 26 * this.scale, this.width * bound)),

@@ -23,12 +23,8 @@ hearPointers();
 on('opened', () => {
   document.body.classList.remove('starting');
   $('start').hidden = true;
-  $('work').hidden = false;
-  sheet.state = null;
-  sheet.overlay = new Map();
   Object.assign(cursor, { row: 0, col: 0 });
   showTitle();
-  sheet.resized();
 });
 on('closed', () => {
   document.body.classList.add('starting');
@@ -36,14 +32,11 @@ on('closed', () => {
   $('start').hidden = false;
   showTitle();
 });
-on('shown', (state) => {
-  sheet.show(state);
+on('shown', () => {
   showTitle();
   for (const id of ['undo', 'redo']) $('quick').querySelector(`[data-action="${id}"]`).disabled = !actions.get(id).can();
 });
-on('judged', (state) => sheet.judge(state));
 on('busy', (is) => sheet.stage.setAttribute('aria-busy', is));
-on('stroke', () => { if (sheet.state) { sheet.update(); sheet.redraw(); } });
 on('recovered', () => say('The engine had to be started again. Nothing of the picture is lost.'));
 on('lost', (fault) => say(`The engine does not start (${fault.text ?? fault.message}). Save the picture and reload the page.`, 'alarm'));
 

@@ -12,8 +12,7 @@ function showPalette() {
   const letters = [...LETTERS.slice(0, colours.length)];
   if (!letters.includes(tools.colour)) tools.colour = letters.at(-1);
   palette.row.replaceChildren(...letters.map((letter, at) => {
-    const button = make('button', { type: 'button', role: 'radio', 'data-letter': letter, 'aria-label': colourText(letter), title: `${colourText(letter)}${at < 10 ? ` (key ${at})` : ''}` },
-      at < 10 ? String(at) : letter);
+    const button = make('button', { type: 'button', role: 'radio', 'data-letter': letter, 'aria-label': colourText(letter), title: `${colourText(letter)}${at < 10 ? ` (key ${at})` : ''}` }, letter);
     dress(button, letter);
     return button;
   }));

@@ -207,3 +207,14 @@ class Sheet {
 }
 
 const sheet = new Sheet($('stage'));
+on('opened', () => {
+  $('work').hidden = false;
+  Object.assign(sheet, { state: null, overlay: new Map(), boxes: [], reason: null, other: false, held: null });
+  sheet.resized();
+});
+on('shown', (state) => sheet.show(state));
+on('judged', (state) => sheet.judge(state));
+on('stroke', () => {
+  sheet.update();
+  sheet.redraw();
+});
