@@ -24,24 +24,18 @@ on('opened', () => {
   document.body.classList.remove('starting');
   $('start').hidden = true;
   Object.assign(cursor, { row: 0, col: 0 });
-  showTitle();
 });
 on('closed', () => {
   document.body.classList.add('starting');
   $('work').hidden = true;
   $('start').hidden = false;
-  showTitle();
 });
 on('shown', () => {
-  showTitle();
   for (const id of ['undo', 'redo']) $('quick').querySelector(`[data-action="${id}"]`).disabled = !actions.get(id).can();
 });
 on('busy', (is) => sheet.stage.setAttribute('aria-busy', is));
 on('recovered', () => say('The engine had to be started again. Nothing of the picture is lost.'));
 on('lost', (fault) => say(`The engine does not start (${fault.text ?? fault.message}). Save the picture and reload the page.`, 'alarm'));
 
-function showTitle() {
-  $('title').textContent = bench.state ? `${bench.name}${bench.isSaved ? '' : ' •'}` : '';
-}
 
 tell('ready', null);
