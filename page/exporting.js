@@ -40,7 +40,7 @@ function printedLegend(doc) {
   const signs = LETTERS.slice(1, colours.length);
   return make('p', { class: 'legend' }, ...[...signs].flatMap((letter, at) => {
     const swatch = svgPart('svg', { viewBox: '0 0 10 10', width: '0.9em', height: '0.9em' });
-    swatch.append(svgPart('rect', { x: 0, y: 0, width: 10, height: 10, fill: `#${hexOf(colours[at + 1])}`, stroke: '#555', 'stroke-width': 0.5 }));
+    swatch.append(svgPart('rect', { x: 0, y: 0, width: 10, height: 10, fill: `#${plainHexOf(colours[at + 1])}`, stroke: '#555', 'stroke-width': 0.5 }));
     return [make('span', {}, swatch, ` ${letter}`), ' '];
   }));
 }
@@ -82,7 +82,7 @@ async function askAbout() {
   keep.about = Object.fromEntries(fields.map(([name, input]) => [name, input.value.trim()]));
   bench.name = bareName(file.value);
   keep.now();
-  showTitle();
+  showFileName();
 }
 
 addAction({ id: 'about', name: 'Title and author …', place: 'file', group: 'save', run: askAbout });

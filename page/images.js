@@ -11,9 +11,9 @@ function kindOfFile(bytes) {
   if (bytesBegin(bytes, 'GIF8')) return 'gif';
   if (bytesBegin(bytes, 'RIFF') && bytesBegin(bytes, 'WEBP', 8)) return 'webp';
   let at = bytesBegin(bytes, '\u00ef\u00bb\u00bf') ? 3 : 0;
-  while (at < bytes.length && isSpace(bytes[at])) at++;
+  while (at < bytes.length && isBlankByte(bytes[at])) at++;
   if (bytes[at] === 60) return 'xml'; // <
-  return bytes.length && bytes.subarray(0, 4096).every((byte) => byte >= 32 || isSpace(byte)) ? 'non' : null;
+  return bytes.length && bytes.subarray(0, 4096).every((byte) => byte >= 32 || isBlankByte(byte)) ? 'non' : null;
 }
 
 const pairAt = (bytes, at, low) => (low ? bytes[at] + bytes[at + 1] * 256 : bytes[at] * 256 + bytes[at + 1]);

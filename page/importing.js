@@ -204,7 +204,7 @@ class Importing {
 
   showSwatches() {
     this.swatches.replaceChildren(...this.doc.colours.map((triple, at) => {
-      const name = `#${hexOf(triple)}`;
+      const name = `#${plainHexOf(triple)}`;
       const button = make('button', { type: 'button', 'aria-pressed': String(at === 0), 'aria-label': `Background ${name}`, title: name, disabled: this.two.checked, onclick: () => {
         this.background = this.own[at];
         this.change('background');

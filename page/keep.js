@@ -132,8 +132,11 @@ keep.said = ({ kind, why, record }) => {
   return say(`${reason}: your work is in this tab alone. Save it to a file (Ctrl+S).`, 'alarm');
 };
 
-/** Keeps what is open under a name of its own; `id` where it was kept before. Says so where another tab has it. */
-keep.begin = async (id = null, about = {}) => {
+/**
+ * Keeps what is open under a name of its own; `id` where it was kept before. Says so where another tab has it. What is
+ * blank is kept from the first stroke on.
+ */
+keep.begin = async (id = null, about = {}, isBlank = false) => {
   keep.end();
   keep.about = about;
   let free = id === null ? null : await claim(id, globalThis);
@@ -142,7 +145,7 @@ keep.begin = async (id = null, about = {}) => {
   free ??= await claim(keep.id, globalThis);
   keep.free = free;
   if (isElsewhere) say('This picture is open in another tab, which keeps it. This tab has a copy of its own.', 'alarm');
-  keep.now();
+  if (!isBlank) keep.now();
   return isElsewhere;
 };
 

@@ -8,7 +8,7 @@ const MOST_COLOURS = 16; // of a puzzle, with the background
 /** A file that is not read; the message is for the user. */
 class FileFault extends Error {}
 
-const isSpace = (byte) => byte === 32 || (byte >= 9 && byte <= 13);
+const isBlankByte = (byte) => byte === 32 || (byte >= 9 && byte <= 13);
 const PPM_COMMENT = 35;
 
 // Tokens of a PPM's text from a place: runs that are neither white space nor comments.
@@ -21,7 +21,7 @@ class PpmTokens {
   skip() {
     const { bytes } = this;
     while (this.at < bytes.length) {
-      if (isSpace(bytes[this.at])) this.at++;
+      if (isBlankByte(bytes[this.at])) this.at++;
       else if (bytes[this.at] === PPM_COMMENT) while (this.at < bytes.length && bytes[this.at] !== 10 && bytes[this.at] !== 13) this.at++;
       else return;
     }
@@ -32,7 +32,7 @@ class PpmTokens {
     const { bytes } = this;
     const from = this.at;
     let value = 0;
-    for (; this.at < bytes.length && !isSpace(bytes[this.at]) && bytes[this.at] !== PPM_COMMENT; this.at++) {
+    for (; this.at < bytes.length && !isBlankByte(bytes[this.at]) && bytes[this.at] !== PPM_COMMENT; this.at++) {
       const digit = bytes[this.at] - 48;
       if (digit < 0 || digit > 9) throw new FileFault(`The picture's ${what} at byte ${from} is no number.`);
       value = Math.min(value * 10 + digit, 1e9);

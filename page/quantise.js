@@ -16,7 +16,7 @@ function oklabOf(red, green, blue) {
 }
 
 const keyOf = (data, at) => (data[at] << 16) | (data[at + 1] << 8) | data[at + 2];
-const tripleOf = (key) => [key >> 16, (key >> 8) & 255, key & 255];
+const tripleOfKey = (key) => [key >> 16, (key >> 8) & 255, key & 255];
 
 /** The colours of the pixels that are not transparent, each with its place in Oklab and how many pixels have it. */
 function spotsOf({ data }) {
@@ -26,7 +26,7 @@ function spotsOf({ data }) {
     const key = keyOf(data, at);
     const spot = spots.get(key);
     if (spot) spot.weight++;
-    else spots.set(key, { key, triple: tripleOf(key), lab: oklabOf(...tripleOf(key)), weight: 1 });
+    else spots.set(key, { key, triple: tripleOfKey(key), lab: oklabOf(...tripleOfKey(key)), weight: 1 });
   }
   return [...spots.values()];
 }
@@ -100,7 +100,7 @@ function numbersFor({ data }, palette) {
     const at = index * 4;
     if (isTransparent(data, at)) return -1;
     const key = keyOf(data, at);
-    if (!known.has(key)) known.set(key, nearestOf(labs, oklabOf(...tripleOf(key))));
+    if (!known.has(key)) known.set(key, nearestOf(labs, oklabOf(...tripleOfKey(key))));
     return known.get(key);
   });
 }

@@ -53,7 +53,7 @@ async function save() {
 function saved(state, file) {
   if (bench.state === state) bench.isSaved = true;
   keep.now();
-  showTitle();
+  showFileName();
   say(`${file} saved.`);
 }
 
@@ -89,7 +89,7 @@ function exportAs(form, content, suffix = '') {
 }
 
 /** Shows the document's name, and whether it is in a file. */
-function showTitle() {
+function showFileName() {
   const isOpen = bench.state !== null;
   const where = bench.isSaved ? '' : keep.isKept ? ' · kept in this browser, not in a file' : ' · not kept';
   $('title').textContent = isOpen ? bench.name + where : '';
@@ -98,10 +98,10 @@ function showTitle() {
 
 on('shown', () => {
   if (!keep.isPaused) keep.now();
-  showTitle();
+  showFileName();
 });
-on('kept', showTitle);
-on('closed', showTitle);
+on('kept', showFileName);
+on('closed', showFileName);
 addEventListener('beforeunload', (event) => {
   if (!bench.state || bench.isSaved) return;
   event.preventDefault();

@@ -39,7 +39,7 @@ function newCard() {
   form.addEventListener('submit', (event) => {
     event.preventDefault();
     const background = [1, 3, 5].map((at) => parseInt(ground.value.slice(at, at + 2), 16));
-    openDoc(emptyDoc(Number(columns.value), Number(rows.value), background), { name: 'picture' });
+    openDoc(emptyDoc(Number(columns.value), Number(rows.value), background), { name: 'picture', isBlank: true });
   });
   return form;
 }

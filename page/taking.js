@@ -8,7 +8,7 @@ const bareName = (name) => (name ?? '').replace(/\.[A-Za-z0-9]{1,5}$/, '').repla
  * Opens what is kept or made, in place of the present document, and keeps it under a name of its own. `base` is how the
  * bench opens it. Answers whether it is open; what is refused is told.
  */
-async function openBase(base, { name, isSaved = true, id = null, about = {}, strokes, handle = null, form = 'ppm' }) {
+async function openBase(base, { name, isSaved = true, id = null, about = {}, strokes, handle = null, form = 'ppm', isBlank = false }) {
   keep.isPaused = true;
   try {
     await bench.open(base, { name, strokes, isSaved });
@@ -21,8 +21,8 @@ async function openBase(base, { name, isSaved = true, id = null, about = {}, str
   if (base.format === 'non') bench.base = baseOf(docOf(bench.state)); // what was searched for once is not searched for again
   saving.handle = handle;
   saving.form = form;
-  await keep.begin(id, about);
-  showTitle();
+  await keep.begin(id, about, isBlank);
+  showFileName();
   return true;
 }
 

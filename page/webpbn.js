@@ -2,7 +2,7 @@
 // The format is Wolter's, https://webpbn.com/pbn_fmt.html; givens stand as a saved solution, which has `?` elsewhere.
 
 const WEBPBN_GIVENS = 'givens';
-const hexOf = (triple) => triple.map((sample) => sample.toString(16).padStart(2, '0')).join('');
+const plainHexOf = (triple) => triple.map((sample) => sample.toString(16).padStart(2, '0')).join('');
 
 /** The blocks of one line of letters, as the session's clues have them. */
 function blocksOfLine(letters) {
@@ -18,7 +18,7 @@ function cluesOfRows(picture) {
 // Names and signs of colours. White is `.` and black is `X`, as the format has them from the start.
 function webpbnColours(colours) {
   return colours.map((triple, at) => {
-    const hex = hexOf(triple);
+    const hex = plainHexOf(triple);
     if (hex === 'ffffff') return { hex, name: 'white', sign: '.' };
     if (hex === '000000') return { hex, name: 'black', sign: 'X' };
     return at === 0 ? { hex, name: 'background', sign: '-' } : { hex, name: `colour ${LETTERS[at]}`, sign: LETTERS[at] };
