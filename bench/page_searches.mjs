@@ -1,40 +1,26 @@
-// Tests of the page's searches in the second worker, of the ways to make a picture unique, of copies of a document, and of
-// what a solver's marks cross off. The pictures are worked by hand. Run: node --test bench/page_searches.mjs
+// Tests of the page's searches in the second worker, of the ways to make a picture unique, and of what a solver's marks cross
+// off. The pictures are worked by hand. Run: node --test bench/page_searches.mjs
 import assert from 'node:assert/strict';
 import { test } from 'node:test';
 import { loadPage } from './page_load.mjs';
 
 const many = (count, what) => `${count} ${what}${count === 1 ? '' : 's'}`;
-const SCRIPTS = ['answers.js', 'copy.js', 'searches.js', 'fix.js', 'crossing.js'];
-const NAMES = ['copyOf', 'Searches', 'cellsThatDiffer', 'givensFor', 'repaintsFor', 'crossedOff', 'isMet', 'marksOf'];
-const { copyOf, Searches, cellsThatDiffer, givensFor, repaintsFor, crossedOff, isMet, marksOf } = loadPage(SCRIPTS, NAMES, { many });
+const number = (count) => count.toLocaleString('en');
+const SCRIPTS = ['answers.js', 'mirror.js', 'searches.js', 'fix.js', 'crossing.js'];
+const NAMES = ['Searches', 'cellsThatDiffer', 'givensFor', 'repaintsFor', 'crossedOff', 'isMet', 'marksOf'];
+const { Searches, cellsThatDiffer, givensFor, repaintsFor, crossedOff, isMet, marksOf } = loadPage(SCRIPTS, NAMES, { many, number });
 
 const COLOURS = [[255, 255, 255], [0, 0, 0], [255, 0, 0], [0, 0, 255]];
 const stateOf = (picture, givens = []) => ({
     rows: picture.length, columns: picture[0].length, maxval: 255, colours: COLOURS, picture, givens: new Set(givens), verdict: { kind: 'verdict', word: 'undecided', splits: 100 },
 });
 
-test('a copy has the same colours in the order of their first cells', () => {
-    const copy = copyOf(stateOf(['.b', 'ba'], [3, 1]));
-    assert.equal(copy.text, 'P3\n2 2\n255\n255 255 255\n255 0 0\n255 0 0\n0 0 0\n');
-    assert.equal(copy.background, '255,255,255');
-    assert.deepEqual(copy.lines, ['colour add 0 0 255', 'pin 1 2', 'pin 2 2']);
-    assert.equal([...'.abc'].map(copy.copy).join(''), '.bac');
-    assert.equal([...'.abc'].map(copy.own).join(''), '.bac');
-});
-
-test('three colours that change places in turn', () => {
-    const copy = copyOf(stateOf(['cab']));
-    assert.equal([...'.abc'].map(copy.copy).join(''), '.bca');
-    assert.equal([...'.abc'].map(copy.own).join(''), '.cab');
-});
-
 // An engine that answers from a list; a text that is missing is never answered.
 function engineOf(texts, log) {
     return {
-        call(name, fields) {
-            log.push(name === 'say' ? fields.lines : name);
-            if (name === 'open') return Promise.resolve();
+        open() { log.push('open'); return Promise.resolve(); },
+        say(lines) {
+            log.push(lines.join('; '));
             const text = texts.shift();
             return text === undefined ? new Promise(() => {}) : Promise.resolve(text);
         },
@@ -52,22 +38,22 @@ function searchesOf(texts, seconds = 60) {
         failed: (name, fault) => seen.failed.push(fault.message),
         seconds: () => seconds,
     });
-    searches.state = stateOf(['b.', '.b']);
+    searches.state = stateOf(['ab', 'ca']);
     return { searches, log, seen };
 }
 const pause = (ms) => new Promise((go) => setTimeout(go, ms));
 
-test('a verdict takes more splits in turn, and its picture has the letters of the document', async () => {
-    const { searches, log, seen } = searchesOf(['ok\nok\n', 'ok\nundecided 1000\n', 'ok\nambiguous\n.a\na.\n']);
+test('a verdict takes more splits in turn', async () => {
+    const { searches, log, seen } = searchesOf(['ok\nundecided 1000\n', 'ok\nambiguous\nba\nac\n']);
     await searches.judge();
-    assert.deepEqual(log, ['start', 'open', 'colour add 0 0 0\ncolour add 0 0 255\n', 'allow 1000\nverdict\n', 'allow 10000\nverdict\n']);
-    assert.deepEqual(seen.judged, [{ kind: 'verdict', word: 'ambiguous', other: ['.b', 'b.'] }]);
+    assert.deepEqual(log, ['start', 'open', 'allow 1000; verdict', 'allow 10000; verdict']);
+    assert.deepEqual(seen.judged, [{ kind: 'verdict', word: 'ambiguous', other: ['ba', 'ac'] }]);
     assert.equal(seen.told.at(-1), null);
     assert.deepEqual(seen.ended, []);
 });
 
 test('the worker that was through with one search serves the next on the same picture', async () => {
-    const { searches, log } = searchesOf(['ok\nok\n', 'ok\nunique\n', 'nonocert 1\nline r 1\ndone\n']);
+    const { searches, log } = searchesOf(['ok\nunique\n', 'nonocert 1\nline r 1\ndone\n']);
     await searches.judge();
     assert.equal(await searches.certify(), 'nonocert 1\nline r 1\ndone\n');
     assert.equal(log.filter((line) => line === 'open').length, 1);
@@ -75,7 +61,7 @@ test('the worker that was through with one search serves the next on the same pi
 
 test('Stop, a stroke and the end of the time end the worker at once', async () => {
     for (const [how, why] of [[(searches) => searches.stop(), 'stopped'], [(searches) => searches.strokeBegun(), 'stroke'], [() => {}, 'time']]) {
-        const { searches, log, seen } = searchesOf(['ok\nok\n'], why === 'time' ? 0.05 : 60);
+        const { searches, log, seen } = searchesOf([], why === 'time' ? 0.05 : 60);
         const found = searches.certify();
         await pause(20);
         how(searches);
@@ -85,28 +71,28 @@ test('Stop, a stroke and the end of the time end the worker at once', async () =
 });
 
 test('what a certificate finds is told as the verdict', async () => {
-    const { searches, seen } = searchesOf(['ok\nok\n', 'ambiguous\n', 'ok\nambiguous\n.a\na.\n']);
+    const { searches, seen } = searchesOf(['ambiguous\n', 'ok\nambiguous\nba\nac\n']);
     assert.equal(await searches.certify(), null);
     assert.deepEqual(seen.judged.map((verdict) => verdict.word), ['ambiguous']);
-    const unique = searchesOf(['ok\nok\n', 'nonocert 1\ndone\n']);
+    const unique = searchesOf(['nonocert 1\ndone\n']);
     await unique.searches.certify();
     assert.deepEqual(unique.seen.judged.map((verdict) => verdict.word), ['unique']);
 });
 
 test('an undecided verdict is searched for once no stroke comes', async () => {
-    const { searches, log, seen } = searchesOf(['ok\nok\n', 'ok\nunique\n']);
-    searches.stateShown(stateOf(['b.', '.b']));
-    searches.stateShown(stateOf(['b.', '.b']));
+    const { searches, log, seen } = searchesOf(['ok\nunique\n']);
+    searches.stateShown(stateOf(['ab', 'ca']));
+    searches.stateShown(stateOf(['ab', 'ca']));
     await pause(300);
     assert.equal(log.filter((line) => line === 'open').length, 1);
     assert.deepEqual(seen.judged.map((verdict) => verdict.word), ['unique']);
-    searches.stateShown({ ...stateOf(['b.', '.b']), verdict: { word: 'unique' } });
+    searches.stateShown({ ...stateOf(['ab', 'ca']), verdict: { word: 'unique' } });
     await pause(250);
     assert.equal(log.filter((line) => line === 'open').length, 1);
 });
 
 test('lack of memory is told', async () => {
-    const { searches, seen } = searchesOf(['ok\nok\n', 'ok\nrefused: Memory\n']);
+    const { searches, seen } = searchesOf(['ok\nrefused: Memory\n']);
     assert.equal(await searches.judge(), null);
     assert.deepEqual(seen.failed, ['memory ran out']);
 });
@@ -139,7 +125,7 @@ function smallCopy(state) {
         if (word === 'undo') held.rows = before;
         return word === 'verdict' ? judge() : { kind: 'ok' };
     };
-    return { letters: { copy: (letter) => letter }, found: null, notes: [], changes() {}, note(text) { this.notes.push(text); }, async say(...lines) { return lines.map(one); }, async verdict() { return judge(); } };
+    return { found: null, notes: [], changes() {}, note(text) { this.notes.push(text); }, async say(...lines) { return lines.map(one); }, async verdict() { return judge(); } };
 }
 
 test('two squares that turn each want one given', async () => {

@@ -83,7 +83,7 @@ async function repaintsFor(copy, state, other, found = () => {}) {
   for (const index of byDistance(state, cellsThatDiffer(state.picture, other))) {
     if (state.givens.has(index)) continue;
     for (const letter of coloursFor(state, other, index, used)) {
-      const lines = [`paint ${place(index, state.columns)} ${copy.letters.copy(letter)}`, `allow ${TRY_SPLITS}`, 'verdict', 'undo'];
+      const lines = [`paint ${place(index, state.columns)} ${letter}`, `allow ${TRY_SPLITS}`, 'verdict', 'undo'];
       const [painted, , verdict] = await copy.say(...lines);
       if (painted.kind !== 'ok') throw new Error('a cell could not be painted');
       tried++;

@@ -14,10 +14,10 @@ class Ended extends Error {
   }
 }
 
-/** The copy of the document in the second worker, as a job meets it. `found` is its result where time ends it. */
+/** The copy of the document in the second worker, as a job meets it. `found` is its result where time or Stop ends it. */
 class Copy {
-  constructor(searches, run, state, letters) {
-    Object.assign(this, { searches, run, state, letters });
+  constructor(searches, run) {
+    Object.assign(this, { searches, run });
   }
 
   set found(value) {
@@ -33,14 +33,11 @@ class Copy {
     this.searches.opened = null;
   }
 
-  /** The answers to lines, rows of pictures with the document's letters. */
+  /** The answers to lines. */
   async say(...lines) {
-    const text = await this.searches.within(this.run, this.searches.engine.call('say', { lines: lines.join('\n') + '\n' }));
-    const answers = answersTo(lines, text, this.state);
-    for (const answer of answers) {
-      if (answer.other) answer.other = answer.other.map((row) => [...row].map(this.letters.own).join(''));
-      if (answer.kind === 'refused' && answer.name === 'Memory') throw new Error('memory ran out');
-    }
+    const text = await this.searches.within(this.run, this.run.engine.say(lines));
+    const answers = answersTo(lines, text, this.run.state);
+    if (answers.some((answer) => answer.name === 'Memory')) throw new Error('memory ran out');
     return answers;
   }
 
@@ -49,7 +46,7 @@ class Copy {
     for (const splits of STEPS) {
       const [, verdict] = await this.say(`allow ${splits}`, 'verdict');
       if (verdict.word !== 'undecided') return verdict;
-      this.note(`none within ${splits.toLocaleString('en')} splits`);
+      this.note(`none within ${number(splits)} splits`);
     }
     throw new Error('a search without a bound came to no verdict');
   }
@@ -70,7 +67,7 @@ class Searches {
   constructor(hooks) {
     this.hooks = hooks;
     this.engine = null;
-    this.opened = null; // the state whose copy the engine holds, with its letters
+    this.opened = null; // the state whose copy the engine holds
     this.state = null;
     this.running = null;
     this.waits = 0;
@@ -148,16 +145,15 @@ class Searches {
   async copied(run) {
     this.engine ??= this.hooks.start();
     run.engine = this.engine;
-    if (this.opened?.state !== run.state) {
-      this.opened = null;
-      const letters = copyOf(run.state);
-      await this.within(run, this.engine.call('open', { file: letters.text, options: { background: letters.background } }));
-      const copy = new Copy(this, run, run.state, letters);
-      const answers = letters.lines.length ? await copy.say(...letters.lines) : [];
-      if (answers.some((answer) => answer.kind !== 'ok')) throw new Error('the copy is not the same');
-      this.opened = { state: run.state, letters };
-    }
-    return new Copy(this, run, run.state, this.opened.letters);
+    const copy = new Copy(this, run);
+    if (this.opened === run.state) return copy;
+    this.opened = null;
+    const { text, background, lines } = openingOf(run.state);
+    await this.within(run, run.engine.open(text, { background }));
+    const answers = lines.length ? await copy.say(...lines) : [];
+    if (answers.some((answer) => answer.kind !== 'ok')) throw new Error('the copy is not the same');
+    this.opened = run.state;
+    return copy;
   }
 
   within(run, promise) {
