@@ -1,0 +1,5 @@
+// Starts the page: after all other scripts.
+
+makeMenus();
+hearKeys();
+tell('ready', null);
