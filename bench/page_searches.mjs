@@ -2,13 +2,13 @@
 // off. The pictures are worked by hand. Run: node --test bench/page_searches.mjs
 import assert from 'node:assert/strict';
 import { test } from 'node:test';
-import { loadPage } from './page_load.mjs';
+import { load } from '../page/test/load.mjs';
 
 const many = (count, what) => `${count} ${what}${count === 1 ? '' : 's'}`;
 const number = (count) => count.toLocaleString('en');
 const SCRIPTS = ['answers.js', 'mirror.js', 'searches.js', 'fix.js', 'crossing.js'];
 const NAMES = ['Searches', 'cellsThatDiffer', 'givensFor', 'repaintsFor', 'crossedOff', 'isMet', 'marksOf'];
-const { Searches, cellsThatDiffer, givensFor, repaintsFor, crossedOff, isMet, marksOf } = loadPage(SCRIPTS, NAMES, { many, number });
+const { Searches, cellsThatDiffer, givensFor, repaintsFor, crossedOff, isMet, marksOf } = load(SCRIPTS, NAMES, { many, number });
 
 const COLOURS = [[255, 255, 255], [0, 0, 0], [255, 0, 0], [0, 0, 255]];
 const stateOf = (picture, givens = []) => ({
@@ -33,7 +33,7 @@ function searchesOf(texts, seconds = 60) {
     const searches = new Searches({
         start: () => { log.push('start'); return engineOf(texts, log); },
         told: (what) => seen.told.push(what),
-        judged: (state, verdict) => seen.judged.push(verdict),
+        judged: (verdict) => seen.judged.push(verdict),
         ended: (name, why) => seen.ended.push(why),
         failed: (name, fault) => seen.failed.push(fault.message),
         seconds: () => seconds,
@@ -81,12 +81,12 @@ test('what a certificate finds is told as the verdict', async () => {
 
 test('an undecided verdict is searched for once no stroke comes', async () => {
     const { searches, log, seen } = searchesOf(['ok\nunique\n']);
-    searches.stateShown(stateOf(['ab', 'ca']));
-    searches.stateShown(stateOf(['ab', 'ca']));
+    searches.shown(stateOf(['ab', 'ca']));
+    searches.shown(stateOf(['ab', 'ca']));
     await pause(300);
     assert.equal(log.filter((line) => line === 'open').length, 1);
     assert.deepEqual(seen.judged.map((verdict) => verdict.word), ['unique']);
-    searches.stateShown({ ...stateOf(['ab', 'ca']), verdict: { word: 'unique' } });
+    searches.shown({ ...stateOf(['ab', 'ca']), verdict: { word: 'unique' } });
     await pause(250);
     assert.equal(log.filter((line) => line === 'open').length, 1);
 });

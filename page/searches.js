@@ -30,7 +30,7 @@ class Copy {
 
   /** From here on the copy is another picture or has other givens. */
   changes() {
-    this.searches.opened = null;
+    this.searches.opened = -1;
   }
 
   /** The answers to lines. */
@@ -61,13 +61,14 @@ class Copy {
 class Searches {
   /**
    * `hooks.start` starts an engine, `hooks.told` is called with what runs ({ name, elapsed, seconds, note }) each quarter of
-   * a second and with null when nothing does, `hooks.judged` with a state and the verdict found of it, `hooks.ended` with
-   * name and reason where a search came to no end, `hooks.failed` with a fault. `hooks.seconds` is the time chosen.
+   * a second and with null when nothing does, `hooks.judged` with the verdict found of the present document, `hooks.ended`
+   * with name and reason where a search came to no end, `hooks.failed` with a fault. `hooks.seconds` is the time chosen.
    */
   constructor(hooks) {
     this.hooks = hooks;
     this.engine = null;
-    this.opened = null; // the state whose copy the engine holds
+    this.opened = -1; // the version of the document whose copy the engine holds
+    this.version = 0;
     this.state = null;
     this.running = null;
     this.waits = 0;
@@ -79,11 +80,18 @@ class Searches {
     this.end('stroke');
   }
 
-  /** A stroke is answered: where the verdict is open, it is searched for. */
-  stateShown(state) {
+  /** Another document is shown: where its verdict is open, it is searched for. */
+  shown(state) {
     this.strokeBegun();
+    this.version++;
     this.state = state;
-    if (state.verdict?.word === 'undecided') this.waits = setTimeout(() => this.judge(), REST);
+    if (state?.verdict.word === 'undecided') this.waits = setTimeout(() => this.judge(), REST);
+  }
+
+  /** The same document is shown with another verdict. */
+  judged(state) {
+    this.state = state;
+    if (state.verdict.word !== 'undecided') clearTimeout(this.waits);
   }
 
   /** Ends what runs, on the user's word. */
@@ -94,33 +102,32 @@ class Searches {
 
   /** Searches for the verdict of the present picture. */
   async judge(seconds = this.hooks.seconds()) {
-    const { state } = this;
+    const { version } = this;
     const verdict = await this.job('Searching for another picture', seconds, (copy) => copy.verdict());
-    if (verdict && state === this.state) this.hooks.judged(state, verdict);
+    this.tellVerdict(version, verdict);
     return verdict;
   }
 
   /** A certificate: its text, or null. What its search finds is told as the verdict too. */
   async certify(seconds = this.hooks.seconds()) {
-    const { state } = this;
+    const { version } = this;
     return this.job('Searching for a certificate', seconds, async (copy) => {
       const [answer] = await copy.say('certify');
-      if (answer.kind === 'text') {
-        if (state === this.state) this.hooks.judged(state, { kind: 'verdict', word: 'unique' });
-        return answer.text;
-      }
       if (answer.kind === 'refused') throw new Error(answer.name);
-      const verdict = await copy.verdict();
-      if (state === this.state) this.hooks.judged(state, verdict);
-      return null;
+      this.tellVerdict(version, answer.kind === 'text' ? { kind: 'verdict', word: 'unique' } : await copy.verdict());
+      return answer.text ?? null;
     });
+  }
+
+  tellVerdict(version, verdict) {
+    if (verdict && version === this.version) this.hooks.judged(verdict);
   }
 
   /** Runs a job on a copy of the present picture, within so many seconds. Ended before, it gives what it found so far or null. */
   async job(name, seconds, work) {
     clearTimeout(this.waits);
     this.end('another');
-    const run = { name, seconds, from: performance.now(), note: '', found: null, state: this.state };
+    const run = { name, seconds, from: performance.now(), note: '', found: null, state: this.state, version: this.version };
     run.cut = new Promise((_, reject) => { run.reject = reject; });
     run.cut.catch(() => {});
     run.clock = setInterval(() => this.tick(run), TICK);
@@ -146,13 +153,13 @@ class Searches {
     this.engine ??= this.hooks.start();
     run.engine = this.engine;
     const copy = new Copy(this, run);
-    if (this.opened === run.state) return copy;
-    this.opened = null;
-    const { text, background, lines } = openingOf(run.state);
+    if (this.opened === run.version) return copy;
+    this.opened = -1;
+    const { text, background, lines } = baseOf(docOf(run.state));
     await this.within(run, run.engine.open(text, { background }));
     const answers = lines.length ? await copy.say(...lines) : [];
     if (answers.some((answer) => answer.kind !== 'ok')) throw new Error('the copy is not the same');
-    this.opened = run.state;
+    this.opened = run.version;
     return copy;
   }
 
@@ -183,7 +190,8 @@ class Searches {
   discard(run) {
     if (!run.engine || run.engine !== this.engine) return;
     this.engine.end();
-    this.engine = this.opened = null;
+    this.engine = null;
+    this.opened = -1;
   }
 }
 
