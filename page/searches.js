@@ -103,7 +103,7 @@ class Searches {
   /** Searches for the verdict of the present picture. */
   async judge(seconds = this.hooks.seconds()) {
     const { version } = this;
-    const verdict = await this.job('Searching for another picture', seconds, (copy) => copy.verdict());
+    const verdict = await this.job('Searching for another picture', seconds, (copy) => copy.verdict(), true);
     this.tellVerdict(version, verdict);
     return verdict;
   }
@@ -116,18 +116,21 @@ class Searches {
       if (answer.kind === 'refused') throw new Error(answer.name);
       this.tellVerdict(version, answer.kind === 'text' ? { kind: 'verdict', word: 'unique' } : await copy.verdict());
       return answer.text ?? null;
-    });
+    }, true);
   }
 
   tellVerdict(version, verdict) {
     if (verdict && version === this.version) this.hooks.judged(verdict);
   }
 
-  /** Runs a job on a copy of the present picture, within so many seconds. Ended before, it gives what it found so far or null. */
-  async job(name, seconds, work) {
+  /**
+   * Runs a job on a copy of the present picture, within so many seconds. Ended before, it gives what it found so far or
+   * null. `judges` says that its end is a verdict.
+   */
+  async job(name, seconds, work, judges = false) {
     clearTimeout(this.waits);
     this.end('another');
-    const run = { name, seconds, from: performance.now(), note: '', found: null, state: this.state, version: this.version };
+    const run = { name, judges, seconds, from: performance.now(), note: '', found: null, state: this.state, version: this.version };
     run.cut = new Promise((_, reject) => { run.reject = reject; });
     run.cut.catch(() => {});
     run.clock = setInterval(() => this.tick(run), TICK);
