@@ -1,6 +1,6 @@
 // The panel 'Fix it' of an ambiguous picture: cells to be given until it is unique, or single cells to be repainted.
 
-const fixing = { found: [] };
+let fixPreview = false;
 
 function openFix() {
   const { state } = bench;
@@ -21,8 +21,7 @@ function openFix() {
 
 function closeFix() {
   if ($('fix')) $('fix').hidden = true;
-  fixing.found = [];
-  if (sheet.preview) showPreview(null);
+  showPreview(null);
 }
 
 const fixSays = (text) => { if ($('fix-said')) $('fix-said').textContent = text; };
@@ -46,7 +45,6 @@ async function giveCells() {
 async function findRepaints() {
   const { state } = bench;
   const version = searches.version;
-  fixing.found = [];
   $('fix-list').replaceChildren();
   fixSays('');
   const found = await searches.job('Looking for cells to repaint', secondsChosen(), (copy) => repaintsFor(copy, state, state.verdict.other, (one) => listRepaint(state, one)));
@@ -61,7 +59,6 @@ function listRepaint(state, one) {
   const show = () => showPreview(one);
   const button = make('button', { type: 'button', onclick: () => paintRepaint(state, one), onpointerenter: show, onfocus: show, onpointerleave: () => showPreview(null), onblur: () => showPreview(null) },
     `Row ${row + 1}, column ${col + 1}: `, fixChip(state, before), ' to ', fixChip(state, letter));
-  fixing.found.push(one);
   $('fix-list').append(make('li', {}, button));
 }
 
@@ -73,11 +70,11 @@ function fixChip(state, letter) {
   return chip;
 }
 
-/** Shows a cell with a colour that it does not have, or no such cell. */
+/** Shows a cell with a colour that it does not have, or takes that back. */
 function showPreview(one) {
-  sheet.preview = one;
   if (one) sheet.reveal(Math.floor(one.index / bench.state.columns), one.index % bench.state.columns);
-  sheet.redraw();
+  if (one || fixPreview) sheet.preview(one ? new Map([[one.index, one.letter]]) : null);
+  fixPreview = one !== null;
 }
 
 async function paintRepaint(state, { index, letter }) {

@@ -77,7 +77,7 @@ function showHatching(state) {
   $('hatching').value = sheet.hatching;
   $('legend').textContent = {
     off: '',
-    differing: state.verdict.other ? 'hatched: the other picture has another colour here' : 'no other picture is known',
+    differing: state.verdict.other ? 'framed: the other picture has the colour in the corner' : 'no other picture is known',
     open: 'hatched: not settled line by line, a solver has to guess',
   }[sheet.hatching];
   sheet.redraw();
