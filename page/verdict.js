@@ -115,7 +115,6 @@ function showVerdict(state) {
   $('audit').dataset.word = word;
   $('verdict').textContent = title;
   $('verdict-why').textContent = told;
-  document.title = `${title} · ${bench.name} · nonobench`;
   $('open').textContent = `${number(state.open)} of ${many(state.rows * state.columns, 'cell')}`;
   $('changed').textContent = [numbersOf('row', state.changed.rows), numbersOf('column', state.changed.columns)].filter(Boolean).join('; ') || 'none';
   if (word !== 'ambiguous') sheet.other = false;
@@ -184,7 +183,7 @@ on('ready', () => {
   for (const id of ['other', 'fix', 'search', 'play']) $('verdict-do').append(actionButton(actions.get(id)));
 });
 on('stroke', () => searches.strokeBegun());
-on('begun', () => searches.strokeBegun());
+on('begun', (tool) => { if (tool !== 'why' && tool !== 'select') searches.strokeBegun(); });
 on('closed', () => searches.shown(null));
 on('opened', () => { verdictView.hatching = null; });
 on('shown', ({ state }) => {

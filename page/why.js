@@ -38,12 +38,14 @@ function whyText(reason) {
 function forgetWhy() {
   why.asked = null;
   if ($('why')) $('why').replaceChildren();
-  if (!sheet.reason) return;
-  sheet.reason = null;
-  sheet.redraw();
 }
 
 on('ready', () => $('cell').append(make('div', { id: 'why', role: 'status' })));
-on('shown', forgetWhy);
+on('asked', ({ row, col }) => whyAt(row, col));
+on('pointed', (at) => { if (tools.name === 'why' && at?.part === 'cell') whyAt(at.row, at.col); });
+on('reason', (reason) => { if (!reason) forgetWhy(); });
+on('shown', () => {
+  forgetWhy();
+  forgetReason();
+});
 on('closed', forgetWhy);
-on('tool', (name) => { if (name !== 'why') forgetWhy(); });
