@@ -186,7 +186,7 @@ on('stroke', () => searches.strokeBegun());
 on('begun', (tool) => { if (tool !== 'why' && tool !== 'select') searches.strokeBegun(); });
 on('closed', () => searches.shown(null));
 on('opened', () => { verdictView.hatching = null; });
-on('shown', ({ state }) => {
+on('shown', (state) => {
   verdictView.ended = null;
   searches.shown(state);
   showVerdict(state);
