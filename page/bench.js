@@ -5,7 +5,7 @@ const HISTORY = 1000; // commands that the bench's history holds
 const MOST_LINES = 2000; // of one text
 const MOST_STROKES = 400; // that can be taken back
 const MOST_PAINTED = 400; // commands to paint a document back; where it takes more it is opened anew
-const FIRST_MS = 25; // what a verdict may take in the first worker: the rest is searched in the second
+const FIRST_MS = 40; // what a verdict may take in the first worker: the rest is searched in the second
 const FIRST_SPLITS = 100;
 
 const clueText = (blocks) => blocks.map((block) => block.length + block.letter).join(' ') || '0';
@@ -66,7 +66,8 @@ class Bench {
       throw fault;
     }
     tell('opened', this);
-    this.show(this.state, null);
+    this.show(this.state);
+    this.run();
     return this.state;
   }
 
@@ -166,9 +167,9 @@ class Bench {
     this.running = true;
     const { engine } = this;
     tell('busy', true);
-    while (this.queue.length && this.engine === engine) {
+    while ((this.queue.length || this.isUnsearched()) && this.engine === engine) {
       try {
-        await this.next();
+        await (this.queue.length ? this.next() : this.search());
       } catch (fault) {
         if (this.engine !== engine) return;
         await this.recover(fault);
@@ -179,6 +180,23 @@ class Bench {
     this.running = false;
     tell('busy', false);
     if (this.queue.length) this.run();
+  }
+
+  isUnsearched() {
+    return this.state?.verdict.word === 'undecided' && this.searched !== this.state.picture;
+  }
+
+  // A verdict with as many splits as are made in a moment; more is searched elsewhere.
+  async search() {
+    const { state, splits } = this;
+    const begin = performance.now();
+    const [, verdict] = await this.said([`allow ${splits}`, 'verdict']);
+    const spent = performance.now() - begin;
+    if (verdict.kind === 'refused') throw new EngineFault({ kind: 'memory', text: verdict.name });
+    if (spent > FIRST_MS) this.splits = Math.max(1, Math.floor((splits * FIRST_MS) / spent));
+    else if (verdict.word === 'undecided') this.splits = Math.min(FIRST_SPLITS, splits * 2);
+    this.searched = state.picture;
+    this.judged(state, verdict);
   }
 
   async next() {
@@ -224,8 +242,9 @@ class Bench {
   }
 
   // Says commands and asks for what is to be shown; nothing is searched.
-  async sent(lines) {
+  async sent(lines, way = 'new') {
     const all = [...lines, 'allow 0', 'report', 'verdict'];
+    tell('sent', { way, lines });
     const answers = await this.said(all);
     const [report, verdict] = answers.slice(-2);
     const refused = [report, verdict].find((one) => one.kind === 'refused');
@@ -253,11 +272,11 @@ class Bench {
       if (this.past.length) this.past.at(-1).after = docOf(this.state);
     }
     this.isSaved = false;
-    this.show(this.state, before);
+    this.show(this.state);
   }
 
-  show(state, before) {
-    tell('shown', { state, before });
+  show(state) {
+    tell('shown', state);
   }
 
   async sendUndo(item) {
@@ -266,7 +285,7 @@ class Bench {
     if (!stroke) return this.answer(item, [{ kind: 'refused', name: isUndo ? 'UndoEmpty' : 'RedoEmpty' }]);
     const doc = isUndo ? stroke.before : stroke.after;
     if (stroke.live) {
-      const answers = await this.sent(stroke.lines.map(() => item.way));
+      const answers = await this.sent(stroke.lines.map(() => item.way), item.way);
       this.turn(isUndo, stroke);
       this.took(answers, doc);
       return this.answer(item, answers.answers.slice(0, 1));
@@ -317,7 +336,7 @@ class Bench {
       for (const one of [...this.past, ...this.future]) one.live = false;
       this.state = state;
       tell('recovered', fault);
-      this.show(state, null);
+      this.show(state);
     } catch (again) {
       for (const one of this.queue.splice(0)) one.reject(again);
       tell('lost', again);

@@ -2,6 +2,7 @@
 // then a little k-means (Lloyd). Distances are taken in Oklab (Ottosson, 2020), where equal steps look equal.
 
 const KMEANS_ROUNDS = 8;
+const BIN = 0.03; // a side of the boxes of Oklab in which colours are taken as one
 
 function oklabOf(red, green, blue) {
   const [r, g, b] = [LIGHT_OF[red], LIGHT_OF[green], LIGHT_OF[blue]];
@@ -69,10 +70,23 @@ const meanOf = (spots, field) => {
   return [0, 1, 2].map((axis) => spots.reduce((sum, spot) => sum + spot.weight * spot[field][axis], 0) / weight);
 };
 
+// Like colours as one spot. Its weight grows more slowly than its pixels, so that a wide sky does not take all colours.
+function gatheredSpots(spots) {
+  const bins = new Map();
+  for (const spot of spots) {
+    const key = spot.lab.map((place) => Math.round(place / BIN)).join();
+    if (bins.has(key)) bins.get(key).push(spot);
+    else bins.set(key, [spot]);
+  }
+  return [...bins.values()].map((bin) => ({ lab: meanOf(bin, 'lab'), triple: meanOf(bin, 'triple'), weight: Math.sqrt(weightOf(bin)) }));
+}
+
 /** At most so many triples that stand well for an image's colours; its own ones where there are no more than that. */
 function paletteFor(image, most) {
-  const spots = spotsOf(image);
-  if (spots.length <= most) return spots.sort((a, b) => b.weight - a.weight).map((spot) => spot.triple);
+  const all = spotsOf(image);
+  if (all.length <= most) return all.sort((a, b) => b.weight - a.weight).map((spot) => spot.triple);
+  const gathered = gatheredSpots(all);
+  const spots = gathered.length > most ? gathered : all;
   let groups = cutBoxes(spots, most);
   for (let round = 0; round < KMEANS_ROUNDS; round++) {
     const centres = groups.map((group) => meanOf(group, 'lab'));
