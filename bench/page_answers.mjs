@@ -2,9 +2,9 @@
 // Run: node --test bench/page_answers.mjs
 import assert from 'node:assert/strict';
 import { test } from 'node:test';
-import { loadPage } from './page_load.mjs';
+import { load } from '../page/test/load.mjs';
 
-const { TextFault, answersTo } = loadPage(['answers.js'], ['TextFault', 'answersTo']);
+const { TextFault, answersTo } = load(['answers.js'], ['TextFault', 'answersTo']);
 
 const REPORT = `size 2 2
 colours 2 maxval 255
