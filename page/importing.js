@@ -169,7 +169,8 @@ class Importing {
     if (this.two.checked) Object.assign(options, { threshold: Number(this.threshold.value), inverted: this.inverted.checked });
     const times = this.size[0] * this.size[1] > 5000 ? 2 : 3;
     const fine = this.sharp.checked || this.two.checked ? null : this.cells(times);
-    this.doc = this.grounded(docOfCells(this.cells(), options, fine));
+    const cells = fine ? scaledTo(fine, { x: 0, y: 0, width: fine.width, height: fine.height }, ...this.size) : this.cells();
+    this.doc = this.grounded(docOfCells(cells, options, fine));
     drawSmall(this.preview, this.doc, SHOWN_SIDE);
     this.drawSource();
     this.showSwatches();
