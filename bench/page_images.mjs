@@ -112,6 +112,17 @@ test('what is transparent is background, apart from all colours that are drawn',
     assert.deepEqual(nothing.picture, ['..', '..']);
 });
 
+test('a cell has the colour that most of its part has', () => {
+    // A red square on white whose edges fall between cells: means would be pink, and green where half of it is green.
+    const fine = imageOf(['wwwwww', 'wwwwww', 'wwrrww', 'wrrrrw', 'wrrrrg', 'wrrrrg'], COLOURS);
+    const image = scaledTo(fine, whole(fine), 3, 3);
+    const doc = docOfCells(image, { colours: 3 }, fine);
+    const shown = doc.picture.map((row) => [...row].map((letter) => doc.colours['.ab'.indexOf(letter)]));
+    const red = ([r, g, b]) => r > g + 40 && r > b + 40;
+    assert.ok(red(shown[1][1]) && red(shown[2][1]), JSON.stringify(shown));
+    assert.deepEqual(doc.picture[0], '...');
+});
+
 test('dark and light by a threshold', () => {
     const greys = { a: [10, 10, 10], b: [60, 60, 60], c: [200, 200, 200], d: [250, 250, 250] };
     const image = imageOf(['abcd', 'd-ab'], greys);

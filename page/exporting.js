@@ -28,9 +28,9 @@ async function exportText(form) {
 }
 
 async function exportCertificate() {
-  const { state } = bench;
+  const before = docOf(bench.state);
   const text = await certificateText();
-  if (text && bench.state === state) exportAs('cert', text);
+  if (text && bench.state && sameDoc(before, bench.state)) exportAs('cert', text);
 }
 
 // ---- the printed sheet

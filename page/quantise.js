@@ -2,6 +2,7 @@
 // then a little k-means (Lloyd). Distances are taken in Oklab (Ottosson, 2020), where equal steps look equal.
 
 const KMEANS_ROUNDS = 8;
+const BIN = 0.03; // a side of the boxes of Oklab in which colours are taken as one
 
 function oklabOf(red, green, blue) {
   const [r, g, b] = [LIGHT_OF[red], LIGHT_OF[green], LIGHT_OF[blue]];
@@ -69,10 +70,23 @@ const meanOf = (spots, field) => {
   return [0, 1, 2].map((axis) => spots.reduce((sum, spot) => sum + spot.weight * spot[field][axis], 0) / weight);
 };
 
+// Like colours as one spot. Its weight grows more slowly than its pixels, so that a wide sky does not take all colours.
+function gatheredSpots(spots) {
+  const bins = new Map();
+  for (const spot of spots) {
+    const key = spot.lab.map((place) => Math.round(place / BIN)).join();
+    if (bins.has(key)) bins.get(key).push(spot);
+    else bins.set(key, [spot]);
+  }
+  return [...bins.values()].map((bin) => ({ lab: meanOf(bin, 'lab'), triple: meanOf(bin, 'triple'), weight: Math.sqrt(weightOf(bin)) }));
+}
+
 /** At most so many triples that stand well for an image's colours; its own ones where there are no more than that. */
 function paletteFor(image, most) {
-  const spots = spotsOf(image);
-  if (spots.length <= most) return spots.sort((a, b) => b.weight - a.weight).map((spot) => spot.triple);
+  const all = spotsOf(image);
+  if (all.length <= most) return all.sort((a, b) => b.weight - a.weight).map((spot) => spot.triple);
+  const gathered = gatheredSpots(all);
+  const spots = gathered.length > most ? gathered : all;
   let groups = cutBoxes(spots, most);
   for (let round = 0; round < KMEANS_ROUNDS; round++) {
     const centres = groups.map((group) => meanOf(group, 'lab'));
@@ -125,6 +139,20 @@ function thresholdFor(image) {
   return best;
 }
 
+// For each cell the number that most of its part has; of those that are even, that of its mean where it is one of them.
+function mostOf(fine, times, means, columns) {
+  return means.map((mean, index) => {
+    const counts = new Map();
+    const first = Math.floor(index / columns) * times * columns * times + (index % columns) * times;
+    for (let at = 0; at < times * times; at++) {
+      const one = fine[first + Math.floor(at / times) * columns * times + (at % times)];
+      counts.set(one, (counts.get(one) ?? 0) + 1);
+    }
+    const most = Math.max(...counts.values());
+    return counts.get(mean) === most ? mean : [...counts].find(([, count]) => count === most)[0];
+  });
+}
+
 // Which number most cells of the border have; -1 is transparent.
 function borderNumber(numbers, columns, rows) {
   const counts = new Map();
@@ -146,9 +174,10 @@ function apartFrom(palette) {
 /**
  * An image of cells as a document. `options`: `colours` 2 to 16 with the background; `threshold` 1 to 255 for dark and light
  * alone, where `inverted` makes light the drawn one; `background` a triple of the palette, or null to choose: what is
- * transparent, else what most of the border has.
+ * transparent, else what most of the border has. `fine` is the same image with some times as many pixels a side: a cell then
+ * has the colour that most of its part has, so that edges stay clean.
  */
-function docOfCells(image, options) {
+function docOfCells(image, options, fine = null) {
   const { width: columns, height: rows, data } = image;
   const clear = data.some((sample, at) => at % 4 === 3 && sample < 128);
   let [palette, numbers] = [[], null];
@@ -159,6 +188,7 @@ function docOfCells(image, options) {
   }
   palette = paletteFor(image, clear ? options.colours - 1 : options.colours);
   numbers = numbersFor(image, palette);
+  if (fine) numbers = mostOf(numbersFor(fine, palette), fine.width / columns, numbers, columns);
   let ground = options.background ? palette.findIndex((triple) => String(triple) === String(options.background)) : -1;
   if (clear || !palette.length) {
     const triple = ground < 0 && options.background && !palette.some((one) => String(one) === String(options.background)) ? options.background : apartFrom(palette);

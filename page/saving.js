@@ -37,7 +37,7 @@ async function textAs(form) {
 /** Saves where it was saved before, else asks where. */
 async function save() {
   if (!saving.handle) return saveAs();
-  const { state } = bench;
+  const doc = docOf(bench.state);
   const content = await textAs(saving.form);
   if (content === null) return false;
   try {
@@ -46,12 +46,12 @@ async function save() {
     say(`${saving.handle.name} was not written (${fault.message}).`, 'alarm');
     return false;
   }
-  saved(state, saving.handle.name);
+  saved(doc, saving.handle.name);
   return true;
 }
 
-function saved(state, file) {
-  if (bench.state === state) bench.isSaved = true;
+function saved(doc, file) {
+  if (bench.state && sameDoc(doc, bench.state)) bench.isSaved = true;
   keep.now();
   showFileName();
   say(`${file} saved.`);
@@ -59,7 +59,7 @@ function saved(state, file) {
 
 /** Saves under a name that is chosen; where the browser has no file access that is a download under the document's name. */
 async function saveAs() {
-  const { state } = bench;
+  const doc = docOf(bench.state);
   const { form } = saving;
   const content = await textAs(form);
   if (content === null) return false;
@@ -70,14 +70,14 @@ async function saveAs() {
       await writeHandle(handle, content);
       saving.handle = handle;
       bench.name = bareName(handle.name);
-      saved(state, handle.name);
+      saved(doc, handle.name);
       return true;
     } catch (fault) {
       if (fault.name === 'AbortError') return false;
     }
   }
   download(content, bench.name + ending, type);
-  saved(state, bench.name + ending);
+  saved(doc, bench.name + ending);
   return true;
 }
 

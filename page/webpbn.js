@@ -21,7 +21,7 @@ function webpbnColours(colours) {
     const hex = plainHexOf(triple);
     if (hex === 'ffffff') return { hex, name: 'white', sign: '.' };
     if (hex === '000000') return { hex, name: 'black', sign: 'X' };
-    return at === 0 ? { hex, name: 'background', sign: '-' } : { hex, name: `colour ${LETTERS[at]}`, sign: LETTERS[at] };
+    return at === 0 ? { hex, name: 'background', sign: '-' } : { hex, name: `colour-${LETTERS[at]}`, sign: LETTERS[at] };
   });
 }
 
