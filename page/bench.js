@@ -70,7 +70,7 @@ class Bench {
   stroke(lines) {
     if (!lines.length) return Promise.resolve([]);
     const before = this.expected();
-    return this.put({ way: 'new', lines, doc: lines.reduce(mirrored, before) });
+    return this.put({ way: 'new', lines, doc: docBehind(before, lines) });
   }
 
   /** Makes the document another one, as one stroke: by commands where they can, else it is opened anew. */
