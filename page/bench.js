@@ -1,36 +1,11 @@
 // The document at hand: strokes and questions go to the first worker as lines of a session, one text at a time, and what it
 // answers is all that is shown. Strokes are kept beside it, so that a worker that ended is replaced and nothing is lost.
 
-const HISTORY = 1000; // commands that the bench's history holds
 const MOST_LINES = 2000; // of one text
 const MOST_STROKES = 400; // that can be taken back
 const MOST_PAINTED = 400; // commands to paint a document back; where it takes more it is opened anew
 const FIRST_MS = 40; // what a verdict may take in the first worker: the rest is searched in the second
 const FIRST_SPLITS = 100;
-
-const clueText = (blocks) => blocks.map((block) => block.length + block.letter).join(' ') || '0';
-
-// The numbers of the lines whose clue is another one; where there are more or fewer lines, those between the lines at both
-// ends that are as before.
-function changedLines(before, after) {
-  const [old, now] = [before.map(clueText), after.map(clueText)];
-  if (old.length === now.length) return new Set([...now.keys()].filter((at) => now[at] !== old[at]));
-  const most = Math.min(old.length, now.length);
-  let front = 0;
-  while (front < most && old[front] === now[front]) front++;
-  let back = 0;
-  while (back < most - front && old[old.length - 1 - back] === now[now.length - 1 - back]) back++;
-  return new Set([...now.keys()].filter((at) => at >= front && at < now.length - back));
-}
-
-// What is shown: the last report, the verdict, and which clues changed.
-function stateOf(report, verdict, before) {
-  const changed = before
-    ? { rows: changedLines(before.clues.rows, report.clues.rows), columns: changedLines(before.clues.columns, report.clues.columns) }
-    : { rows: new Set(), columns: new Set() };
-  const givens = new Set(report.givens.map(([row, col]) => (row - 1) * report.columns + col - 1));
-  return { ...report, givens, changed, verdict };
-}
 
 class Bench {
   constructor(make = startEngine) {
@@ -39,7 +14,7 @@ class Bench {
     this.state = null; // what the bench reported last, or null where nothing is open
     this.name = 'picture'; // of the file, without an ending
     this.base = null; // {text, format, background, lines}: how the document is opened
-    this.past = []; // strokes: {lines, live, before, after}; `live` where the bench's own history holds it
+    this.past = []; // strokes: {lines, opens, live, before, after}; `live` where the bench's own history holds it
     this.future = [];
     this.queue = [];
     this.running = false;
@@ -51,16 +26,16 @@ class Bench {
 
   /**
    * Opens a document in place of the present one: `base` is {text, format, background, lines}. Rejects with an EngineFault
-   * or TextFault, and then the present one stays. `strokes` are those to be made again: {past: [[line]], future: [[line]]}.
+   * or TextFault, and then the present one stays. `strokes` are those that `kept` gave.
    */
   async open(base, { name = 'picture', strokes = { past: [], future: [] }, isSaved = true } = {}) {
     const engine = this.make();
     const opened = { lines: [], ...base };
     try {
-      const { state, past, future } = await this.opened(engine, opened, strokes);
+      const made = await openedIn(engine, opened, strokes);
       this.engine?.end();
       for (const item of this.queue.splice(0)) item.resolve([]);
-      Object.assign(this, { engine, base: opened, name, past, future, isSaved, state, running: false });
+      Object.assign(this, { engine, name, isSaved, running: false, ...made });
     } catch (fault) {
       engine.end();
       throw fault;
@@ -71,37 +46,10 @@ class Bench {
     return this.state;
   }
 
-  // Opens a base in an engine and makes strokes there. What they come to is worked out beside it.
-  async opened(engine, base, strokes) {
-    await engine.open(base.text, { history: HISTORY, background: base.background });
-    const first = [...base.lines, 'report'];
-    const start = answersTo(first, await engine.say(first), null).at(-1);
-    if (start.kind !== 'report') throw new EngineFault({ kind: 'open', text: start.name });
-    let state = stateOf(start, { kind: 'verdict', word: 'undecided' }, null);
-    const made = (list) => list.map((lines) => {
-      const before = docOf(state);
-      state = lines.reduce(mirrored, before);
-      return { lines, live: true, before, after: docOf(state) };
-    });
-    const past = made(strokes.past);
-    const kept = docOf(state);
-    const future = made(strokes.future).reverse();
-    const again = [...past, ...[...future].reverse()].flatMap((stroke) => stroke.lines);
-    const back = future.flatMap((stroke) => stroke.lines.map(() => 'undo'));
-    const lines = [...again, ...back, 'allow 0', 'report', 'verdict'];
-    const answers = answersTo(lines, await engine.say(lines), { rows: start.rows, columns: start.columns });
-    const [report, verdict] = answers.slice(-2);
-    if (report.kind !== 'report' || verdict.kind !== 'verdict') throw new EngineFault({ kind: 'memory', text: report.name ?? verdict.name });
-    state = stateOf(report, verdict, null);
-    const isWhole = sameDoc(kept, state) && answers.every((answer) => answer.kind !== 'refused');
-    if (!isWhole || again.length > HISTORY) for (const stroke of [...past, ...future]) stroke.live = false;
-    return { state, past, future };
-  }
-
-  /** What is to be kept so that the document comes back with its strokes. */
+  /** What is to be kept so that the document comes back with its strokes: as JSON takes it. */
   kept() {
-    const lines = (strokes) => strokes.map((stroke) => stroke.lines);
-    return { base: this.base, name: this.name, strokes: { past: lines(this.past), future: lines([...this.future].reverse()) } };
+    const entry = (stroke) => (stroke.opens ? { doc: { ...stroke.after, givens: [...stroke.after.givens] } } : stroke.lines);
+    return { base: this.base, name: this.name, strokes: { past: this.past.map(entry), future: [...this.future].reverse().map(entry) } };
   }
 
   close() {
@@ -122,7 +70,7 @@ class Bench {
   stroke(lines) {
     if (!lines.length) return Promise.resolve([]);
     const before = this.expected();
-    return this.put({ way: 'new', lines, doc: lines.reduce(mirrored, before) });
+    return this.put({ way: 'new', lines, doc: docBehind(before, lines) });
   }
 
   /** Makes the document another one, as one stroke: by commands where they can, else it is opened anew. */
@@ -303,7 +251,7 @@ class Bench {
   async sendBecome(item) {
     const before = docOf(this.state);
     for (const one of [...this.past, ...this.future]) one.live = false;
-    await this.makeDoc(item.doc, () => this.keep({ lines: [], live: false, before, after: item.doc }));
+    await this.makeDoc(item.doc, () => this.keep({ lines: [], opens: true, live: false, before, after: item.doc }));
     this.answer(item, [{ kind: 'ok' }]);
   }
 
@@ -316,7 +264,7 @@ class Bench {
       return this.took(answers, doc);
     }
     const base = baseOf(doc);
-    const { state } = await this.opened(this.engine, base, { past: [], future: [] });
+    const { state } = await openedIn(this.engine, base, { past: [], future: [] });
     done();
     return this.took({ report: { ...state, givens: [...state.givens].map((index) => [Math.floor(index / state.columns) + 1, (index % state.columns) + 1]) }, verdict: state.verdict }, doc);
   }
@@ -332,7 +280,7 @@ class Bench {
     this.engine.end();
     this.engine = this.make();
     try {
-      const { state } = await this.opened(this.engine, baseOf(docOf(this.state)), { past: [], future: [] });
+      const { state } = await openedIn(this.engine, baseOf(docOf(this.state)), { past: [], future: [] });
       for (const one of [...this.past, ...this.future]) one.live = false;
       this.state = state;
       tell('recovered', fault);

@@ -32,6 +32,7 @@ class Cells {
 
   /** Draws the cells whose look is another one; `clipped` where the room is set already. */
   changed(sheet, clipped = false) {
+    if (!this.fills) return;
     const { top, left, bottom, right } = sheet.geometry.seen();
     const { columns } = sheet.geometry;
     if (!clipped) this.clip(sheet);
@@ -51,6 +52,7 @@ class Cells {
 
   /** Draws some cells, given by their places. */
   some(sheet, places) {
+    if (!this.fills) return;
     const { top, left, bottom, right } = sheet.geometry.seen();
     const { columns } = sheet.geometry;
     this.clip(sheet);

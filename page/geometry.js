@@ -45,14 +45,14 @@ class Geometry {
     return Math.round((signs + (this.letters ? 1 : 0)) * font * 0.62 + font / 2);
   }
 
-  // How much room all clues want with a cell of this size, at most a part of what there is.
-  room(cell) {
+  // How much room all clues want with a cell of this size, at most a part of what there is. `spare` blocks more may come.
+  room(cell, spare = 1) {
     const font = this.fontFor(cell);
     const isTiny = cell < 7 * this.scale;
     const tick = 4 * this.scale;
     const one = (size) => (isTiny ? size.blocks * (tick + 2) : size.signs * font * 0.62 + size.blocks * ((this.letters ? 0.62 : 0) * font + font / 2 + 2));
-    const most = Math.max(0, ...this.rowSizes.map(one));
-    const tall = Math.max(0, ...this.columnSizes.map((size) => size.blocks)) * ((isTiny ? tick : this.pitchFor(cell)) + 1);
+    const most = Math.max(0, ...this.rowSizes.map(one)) + spare * one({ blocks: 1, signs: 1 });
+    const tall = (Math.max(0, ...this.columnSizes.map((size) => size.blocks)) + spare) * ((isTiny ? tick : this.pitchFor(cell)) + 1);
     const bound = isTiny ? 0.2 : this.width < 600 * this.scale ? 0.28 : 0.34;
     return {
       left: Math.ceil(clamp(most + 12 * this.scale, 26 * this.scale, this.width * bound)),
@@ -91,7 +91,7 @@ class Geometry {
 
   /** Makes room where clues have grown; what was there stays, or the picture would move under the pointer. */
   grow() {
-    const { left, top } = this.room(this.cell);
+    const { left, top } = this.room(this.cell, 0);
     const grows = left > this.left || top > this.top;
     if (!grows) return false;
     if (this.isFitted) this.fit();

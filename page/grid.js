@@ -101,11 +101,22 @@ function gridKey(event) {
   }
   if (event.ctrlKey || (event.key !== ' ' && event.key !== 'Enter')) return;
   event.preventDefault();
+  if (event.key === ' ') return; // at its end: held down it pans
   event.stopPropagation();
+  if (selection.rows && !tools.drag) setDown();
+  else useAtCursor();
+}
+
+// The tool at the cursor: a dot, or the beginning or end of a shape.
+function useAtCursor() {
   if (tools.drag) return void endDrag();
-  if (event.key === 'Enter' && selection.rows) return setDown();
   beginDrag({ ...cursor });
   if (tools.drag && (tools.name === 'pencil' || tools.name === 'pin')) endDrag();
+}
+
+function gridKeyUp(event) {
+  if (event.key === 'Shift' && tools.drag) endDrag();
+  if (event.key === ' ' && !space.pans && bench.state) useAtCursor();
 }
 
 /** Puts the grid over the sheet and hears its keys. */
@@ -114,10 +125,7 @@ function makeGrid() {
   gridCells[1].parentElement.hidden = true;
   sheet.placeCursor = () => sheet.place(gridCells[0], cursor.row, cursor.col);
   grid.addEventListener('keydown', gridKey);
-  grid.addEventListener('keyup', (event) => {
-    if (event.key === 'Shift' && tools.drag && tools.name !== 'select') endDrag();
-    else if (event.key === 'Shift' && tools.drag) endSelect();
-  });
+  grid.addEventListener('keyup', gridKeyUp);
   on('shown', () => moveCursor(cursor.row, cursor.col));
   on('judged', labelCursor);
   on('pointed', showWholes);

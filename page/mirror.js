@@ -83,6 +83,18 @@ function mirrored(doc, line) {
   return MIRRORED[word](doc, rest.map((one) => (/^[0-9]+$/.test(one) ? Number(one) : one)));
 }
 
+/** The document behind commands of which some may be refused: where they make no document, the one before. */
+function docBehind(doc, lines) {
+  try {
+    const made = lines.reduce(mirrored, doc);
+    const isWhole = made.rows > 0 && made.rows <= 120 && made.columns > 0 && made.columns <= 120 && made.colours.length <= 16
+      && made.picture.length === made.rows && made.picture.every((row) => row?.length === made.columns);
+    return isWhole ? made : doc;
+  } catch {
+    return doc;
+  }
+}
+
 /** The commands for cells: rectangles of `touched` cells that together have each cell that does not yet have the colour. */
 function coverOf(touched, picture, letter) {
   const columns = picture[0].length;

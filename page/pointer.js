@@ -4,9 +4,9 @@
 const pointers = new Map(); // that are down: id to {x, y}
 let pinch = null;
 let panning = null;
-let isSpace = false;
+const space = { isDown: false, pans: false };
 
-const near = (event) => ({ x: event.clientX, y: event.clientY });
+const placeOfEvent = (event) => ({ x: event.clientX, y: event.clientY });
 
 function twoFingers() {
   const [one, other] = [...pointers.values()];
@@ -47,7 +47,7 @@ function pointerDown(event) {
   event.preventDefault();
   document.activeElement?.blur?.();
   sheet.view.setPointerCapture(event.pointerId);
-  pointers.set(event.pointerId, near(event));
+  pointers.set(event.pointerId, placeOfEvent(event));
   if (pointers.size === 2) {
     dropDrag();
     sheet.held = null;
@@ -56,8 +56,9 @@ function pointerDown(event) {
     return;
   }
   if (pointers.size > 2) return;
-  if (isSpace || event.button === 1) {
-    panning = near(event);
+  if (space.isDown || event.button === 1) {
+    panning = placeOfEvent(event);
+    space.pans = true;
     sheet.view.classList.add('panning');
     return;
   }
@@ -80,11 +81,11 @@ function holdLine(at) {
 
 function pointerMove(event) {
   if (!bench.state) return;
-  if (pointers.has(event.pointerId)) pointers.set(event.pointerId, near(event));
+  if (pointers.has(event.pointerId)) pointers.set(event.pointerId, placeOfEvent(event));
   if (pinch) return pointers.size === 2 ? pinchTo() : undefined;
   if (panning) {
     panBy(panning.x - event.clientX, panning.y - event.clientY);
-    panning = near(event);
+    panning = placeOfEvent(event);
     return;
   }
   const at = sheet.under(event);
@@ -96,6 +97,7 @@ function pointerMove(event) {
     tools.drag.last = { row: at.row, col: at.col };
     alongDrag({ row: at.row, col: at.col });
     moveCursor(at.row, at.col);
+    tell('pointed', { ...at, part: 'cell' });
     return;
   }
   tell('pointed', at.part === 'none' ? null : at);
@@ -120,6 +122,7 @@ function pointerUp(event) {
     return;
   }
   const { held } = sheet;
+  if (event.pointerType === 'touch') tell('pointed', null);
   if (!held) return void endDrag();
   sheet.held = null;
   sheet.redrawAll();
@@ -153,12 +156,13 @@ function hearPointers() {
   }, { passive: false });
   addEventListener('keydown', (event) => {
     if (event.key !== ' ' || isTyping(event.target) || event.target.closest?.('button, summary, dialog')) return;
-    isSpace = true;
+    if (!event.repeat) Object.assign(space, { isDown: true, pans: false });
+    if (event.target === document.body) event.preventDefault();
     sheet.view.classList.add('may-pan');
   });
   addEventListener('keyup', (event) => {
     if (event.key !== ' ') return;
-    isSpace = false;
+    space.isDown = false;
     sheet.view.classList.remove('may-pan');
   });
 }

@@ -212,7 +212,10 @@ on('opened', () => {
   Object.assign(sheet, { state: null, overlay: new Map(), boxes: [], reason: null, other: false, held: null });
   sheet.resized();
 });
-on('shown', (state) => sheet.show(state));
+on('shown', (state) => {
+  sheet.show(state);
+  sheet.stage.dataset.drawn = Number(sheet.stage.dataset.drawn ?? 0) + 1;
+});
 on('judged', (state) => sheet.judge(state));
 on('stroke', () => {
   sheet.update();

@@ -28,6 +28,7 @@ class Strips {
 
   /** Draws some lines again. */
   some(sheet, rows, columns) {
+    if (!this.key) return;
     const { top, left, bottom, right } = sheet.geometry.seen();
     for (const row of rows) if (row >= top && row <= bottom) this.row(sheet, row, true);
     for (const col of columns) if (col >= left && col <= right) this.column(sheet, col, true);
