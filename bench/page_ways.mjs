@@ -38,6 +38,12 @@ async function fresh(browser, url, folder, name, { size = SIZES.small, before = 
 /** Nothing is kept from before. */
 const clean = (page) => page.run(async () => { await keep.ready(); for (const record of await keep.keeper.list()) await keep.keeper.drop(record.id); });
 
+/** Goes on with the first that the browser keeps. */
+async function goOn(page) {
+    await page.until(() => document.querySelector('#kept .kept'), 5000 * SLACK);
+    await page.click('#kept .kept');
+}
+
 /** The text of the first download with an ending. */
 async function downloaded(page, own, ending) {
     for (let tries = 0; tries < 200 * SLACK; tries++) {
@@ -183,9 +189,10 @@ export async function kept({ browser, page, trial, url, folder }) {
     const before = await trial.state();
     await trial.load();
     assert.ok(page.dialogs.includes('beforeunload'));
-    assert.match(await trial.text('#start .kept'), /picture.*20 by 15.*not in a file/);
+    await page.until(() => document.querySelector('#kept .kept'), 5000 * SLACK);
+    assert.match(await trial.text('#kept .kept'), /picture.*20 by 15.*not in a file/);
     await page.shot(join(folder, 'start.png'));
-    await page.click('#start .kept');
+    await goOn(page);
     await isOpen(page);
     const after = await trial.state();
     assert.deepEqual([after.picture, after.givens, after.colours, after.strokes], [before.picture, before.givens, before.colours, [3, 0]]);
@@ -193,7 +200,7 @@ export async function kept({ browser, page, trial, url, folder }) {
     await isKept(page);
     await page.close();
     const again = await Trial.start(browser, url, folder);
-    await again.page.click('#start .kept');
+    await goOn(again.page);
     await isOpen(again.page);
     assert.deepEqual((await again.state()).strokes, [1, 2]);
     await again.page.run(() => bench.redo());
@@ -216,11 +223,14 @@ export async function damaged({ page, trial }) {
         await shelf.put(key, { ...record, strokes: { past: [['paint 5 5 a']], future: [] } });
     });
     await trial.load();
-    await page.until(() => document.querySelectorAll('#start .kept').length > document.querySelectorAll('script[data-example]').length, 5000 * SLACK);
-    assert.equal(await page.run(() => document.querySelectorAll('#start .kept').length - document.querySelectorAll('script[data-example]').length), 1);
-    await page.click('#start .kept');
+    await page.until(() => document.querySelector('#kept .kept'), 5000 * SLACK);
+    assert.equal(await page.run(() => document.querySelectorAll('#kept .kept').length), 1);
+    await goOn(page);
     await isOpen(page);
     await page.until(() => bench.state.picture[1] === '.a..................', 5000 * SLACK);
+    await isKept(page);
+    assert.doesNotMatch(await said(page), /another tab/);
+    assert.equal(await page.run(async () => (await keep.keeper.list()).length), 1);
 }
 
 /** Two tabs have a picture each; where both would keep the same one the second says so. */
@@ -231,7 +241,7 @@ export async function twoTabs({ browser, page, trial, url, folder }) {
     await trial.drag([[2, 2]]);
     await isKept(page);
     const other = await Trial.start(browser, url, folder);
-    await other.page.click('#start .kept');
+    await goOn(other.page);
     await isOpen(other.page);
     await other.page.until(() => document.getElementById('said').textContent.includes('open in another tab'), 5000 * SLACK);
     await other.drag([[5, 5]]);

@@ -193,10 +193,12 @@ function docOfCells(image, options, { fine = null, points = image } = {}) {
   let ground = options.background ? palette.findIndex((triple) => String(triple) === String(options.background)) : -1;
   if (clear || !palette.length) {
     const triple = ground < 0 && options.background && !palette.some((one) => String(one) === String(options.background)) ? options.background : apartFrom(palette);
-    return docOfNumbers(numbers.map((one) => one + 1), [triple, ...palette], columns, rows);
+    const used = [...palette.keys()].filter((one) => numbers.includes(one));
+    return docOfNumbers(numbers.map((one) => used.indexOf(one) + 1), [triple, ...used.map((one) => palette[one])], columns, rows);
   }
   if (ground < 0) ground = borderNumber(numbers, columns, rows);
-  const order = [ground, ...palette.keys()].filter((one, at, all) => all.indexOf(one) === at);
+  const used = new Set(numbers);
+  const order = [ground, ...palette.keys()].filter((one, at, all) => all.indexOf(one) === at && (at === 0 || used.has(one)));
   return docOfNumbers(numbers.map((one) => order.indexOf(one)), order.map((one) => palette[one]), columns, rows);
 }
 
