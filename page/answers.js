@@ -74,19 +74,34 @@ const must = (holds, what) => {
   if (!holds) throw new TextFault(what);
 };
 
+// Clues by their text, so that those that a stroke leaves as they are need not be read again, and are the same arrays.
+const MOST_KNOWN = 5000;
+const knownClues = new Map();
+
 function blocksOf(text) {
-  if (text === '0') return [];
-  return text.split(' ').map((word) => {
+  const known = knownClues.get(text);
+  if (known) return known;
+  const blocks = text === '0' ? [] : text.split(' ').map((word) => {
     const found = BLOCK.exec(word);
     must(found, `'${word}' is no block`);
     return { length: Number(found[1]), letter: found[2] };
   });
+  if (knownClues.size >= MOST_KNOWN) knownClues.clear();
+  knownClues.set(text, blocks);
+  return blocks;
 }
 
 // Clue lines of one axis, numbered from 1; `count` where it is known.
 function readAxis(reader, letter, count) {
   const clues = [];
   while (count === undefined ? reader.peek().startsWith(`${letter} ${clues.length + 1}: `) : clues.length < count) {
+    const begin = `${letter} ${clues.length + 1}: `;
+    const text = reader.peek().slice(begin.length);
+    if (knownClues.has(text) && reader.peek().startsWith(begin)) {
+      clues.push(blocksOf(text));
+      reader.line();
+      continue;
+    }
     const found = reader.match(CLUE, 'a clue');
     must(found[1] === letter && Number(found[2]) === clues.length + 1, `clue ${letter} ${clues.length + 1} is missing`);
     clues.push(blocksOf(found[3]));

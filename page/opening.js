@@ -7,8 +7,9 @@ const clueText = (blocks) => blocks.map((block) => block.length + block.letter).
 // The numbers of the lines whose clue is another one; where there are more or fewer lines, those between the lines at both
 // ends that are as before.
 function changedLines(before, after) {
+  const isSame = (one, other) => one === other || clueText(one) === clueText(other);
+  if (before.length === after.length) return new Set([...after.keys()].filter((at) => !isSame(before[at], after[at])));
   const [old, now] = [before.map(clueText), after.map(clueText)];
-  if (old.length === now.length) return new Set([...now.keys()].filter((at) => now[at] !== old[at]));
   const most = Math.min(old.length, now.length);
   let front = 0;
   while (front < most && old[front] === now[front]) front++;
