@@ -17,6 +17,7 @@ sys.dont_write_bytecode = True
 ROOT = Path(__file__).resolve().parent.parent
 sys.path.insert(0, str(ROOT / 'bench'))
 from reference.certificates import check_cert, read_cert  # noqa: E402
+from reference.faults import Fault  # noqa: E402
 from reference.lines import clues_of, map_rows, settled  # noqa: E402
 from reference.runs import Run, work_run  # noqa: E402
 from reference.sessions import Disagreement, Output, agree, clue_lines, picture_rows  # noqa: E402
@@ -257,7 +258,7 @@ def main(programs):
             strokes = sum(all_strokes(programs, folder, *size) for size in STROKES)
             givens = sum(all_givens(programs, folder, *size) for size in GIVENS)
             puzzles = sum(all_puzzles(programs, folder, *size) for size in PUZZLES)
-        except (Disagreement, subprocess.TimeoutExpired) as wrong:
+        except (Disagreement, Fault, subprocess.TimeoutExpired) as wrong:
             print(wrong, file=sys.stderr)
             return 1
     print(f'{strokes} strokes, {givens} sets of givens and {puzzles} puzzles without a goal as a listing says')
