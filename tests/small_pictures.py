@@ -188,6 +188,7 @@ def all_strokes(programs, folder, height, width, colours):
             if colour != before:
                 talk.paint(row, col, colour)
                 talk.verdict()
+                talk.show()
                 talk.rows[row][col] = before
                 talk.edit('undo')
                 count += 1
