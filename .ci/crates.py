@@ -13,7 +13,7 @@ ROOT = Path(__file__).resolve().parent.parent
 README = ROOT / 'crates' / 'README.md'
 HEAD = '''# Crates
 
-For somebody who looks for a place in the code: the crates in reading order, each behind those that it stands on. Their doors stand in [ARCHITECTURE.md](../docs/ARCHITECTURE.md). This table is made by `.ci/crates.py --write` from `crates.txt` and the first words of each crate.
+For somebody who looks for a place in the code: the crates in reading order, each behind those that it stands on. The last column leaves out what these stand on themselves. Doors stand in [ARCHITECTURE.md](../docs/ARCHITECTURE.md). Made by `.ci/crates.py --write` from `crates.txt` and the first words of each crate.
 
 | crate | what it holds | stands on |
 |---|---|---|
@@ -28,6 +28,19 @@ def listed():
             name, _, deps = line.partition(':')
             crates[name.split()[0]] = [word for word in deps.split() if (ROOT / 'crates' / word).is_dir()]
     return crates
+
+
+def reached(crates, name):
+    """All crates of the repository that a crate stands on."""
+    found = set()
+    for dep in crates.get(name, ()):
+        found |= {dep} | reached(crates, dep)
+    return found
+
+
+def nearest(crates, name):
+    """Those that no other one of them stands on."""
+    return [dep for dep in crates[name] if not any(dep in reached(crates, other) for other in crates[name])]
 
 
 def told(crate):
@@ -70,7 +83,7 @@ def faults(crates, text):
 def main(words):
     """Writes the table where asked, and tells what is not in order."""
     crates = listed()
-    rows = [f'| [`{name}`]({name}) | {told(name)} | {", ".join(f"`{dep}`" for dep in deps) or "-"} |' for name, deps in crates.items()]
+    rows = [f'| [`{name}`]({name}) | {told(name)} | {", ".join(f"`{dep}`" for dep in nearest(crates, name)) or "-"} |' for name in crates]
     text = HEAD + '\n'.join(rows) + '\n'
     if words == ['--write']:
         README.write_text(text, encoding='utf-8')
