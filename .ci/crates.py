@@ -1,0 +1,100 @@
+#!/usr/bin/env python3
+"""Keeps the list of crates in one order: .ci/crates.py [--write]
+
+crates.txt must name each crate behind those that it stands on, in the order of the table in docs/ARCHITECTURE.md, and
+crates/README.md must be what this script makes of crates.txt and the first paragraph of each crate's root file. With --write
+that file is written.
+"""
+import re
+import sys
+from pathlib import Path
+
+ROOT = Path(__file__).resolve().parent.parent
+README = ROOT / 'crates' / 'README.md'
+HEAD = '''# Crates
+
+For somebody who looks for a place in the code: the crates in reading order, each behind those that it stands on. The last column leaves out what these stand on themselves. Doors stand in [ARCHITECTURE.md](../docs/ARCHITECTURE.md). Made by `.ci/crates.py --write` from `crates.txt` and the first words of each crate.
+
+| crate | what it holds | stands on |
+|---|---|---|
+'''
+
+
+def listed():
+    """Each crate of crates.txt with the crates of the repository that it stands on."""
+    crates = {}
+    for line in (ROOT / 'crates.txt').read_text(encoding='utf-8').splitlines():
+        if line.strip():
+            name, _, deps = line.partition(':')
+            crates[name.split()[0]] = [word for word in deps.split() if (ROOT / 'crates' / word).is_dir()]
+    return crates
+
+
+def reached(crates, name):
+    """All crates of the repository that a crate stands on."""
+    found = set()
+    for dep in crates.get(name, ()):
+        found |= {dep} | reached(crates, dep)
+    return found
+
+
+def nearest(crates, name):
+    """Those that no other one of them stands on."""
+    return [dep for dep in crates[name] if not any(dep in reached(crates, other) for other in crates[name])]
+
+
+def told(crate):
+    """The first paragraph of a crate's root file, without its last full stop."""
+    for name in ('lib.rt', 'main.rt'):
+        file = ROOT / 'crates' / crate / 'src' / name
+        if file.exists():
+            found = re.match(r'(?://!.*\n)+', file.read_text(encoding='utf-8'))
+            lines = [line[3:].strip() for line in found[0].splitlines()] if found else []
+            return ' '.join(lines[:lines.index('')] if '' in lines else lines).rstrip('.')
+    return ''
+
+
+def in_architecture():
+    """The crates of the table in docs/ARCHITECTURE.md, in its order."""
+    text = (ROOT / 'docs' / 'ARCHITECTURE.md').read_text(encoding='utf-8')
+    table = re.search(r'^\| crate \|.*\n\|[-| ]*\n((?:\|.*\n)*)', text, re.M)
+    return [name for row in table[1].splitlines() for name in re.findall(r'`(\w+)`', row.split('|')[1])]
+
+
+def faults(crates, text):
+    """What is not in order."""
+    seen = set()
+    for name, deps in crates.items():
+        for dep in deps:
+            if dep not in seen:
+                yield f'crates.txt: {name} stands in front of {dep}, which it needs'
+        seen.add(name)
+        if not told(name):
+            yield f'crates/{name}: its root file does not begin with what it holds'
+    order = in_architecture()
+    if order != list(crates):
+        at = next((i for i, pair in enumerate(zip(order, crates)) if pair[0] != pair[1]), min(len(order), len(crates)))
+        yield (f'docs/ARCHITECTURE.md: its table goes on with {" ".join(order[at:at + 1]) or "nothing"}, and crates.txt with '
+               f'{" ".join(list(crates)[at:at + 1]) or "nothing"}')
+    if not README.exists() or README.read_text(encoding='utf-8') != text:
+        yield 'crates/README.md is stale: run .ci/crates.py --write'
+
+
+def main(words):
+    """Writes the table where asked, and tells what is not in order."""
+    crates = listed()
+    rows = [f'| [`{name}`]({name}) | {told(name)} | {", ".join(f"`{dep}`" for dep in nearest(crates, name)) or "-"} |' for name in crates]
+    text = HEAD + '\n'.join(rows) + '\n'
+    if words == ['--write']:
+        README.write_text(text, encoding='utf-8')
+    elif words:
+        sys.exit('usage: .ci/crates.py [--write]')
+    found = list(faults(crates, text))
+    for fault in found:
+        print(fault)
+    print(f'crates: {len(found)} faults')
+    return 1 if found else 0
+
+
+if __name__ == '__main__':
+    sys.exit(main(sys.argv[1:]))
