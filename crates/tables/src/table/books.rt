@@ -183,7 +183,7 @@ fn run<E: LineEngine>(
     lines: &[LineId],
     text: &mut String,
 ) -> Result<Book>
-    requires { IsDerivation clues.now book.now }
+    requires { IsDerivation clues.now book }
     ensures { IfOk result (IsDerivation clues.now) }
 {
     are_lines(book.facts(), lines)?;
@@ -230,7 +230,7 @@ fn close_all<E: LineEngine, A: Agenda>(
     clues: &ClueBook,
     text: &mut String,
 ) -> Result<Book>
-    requires { IsDerivation clues.now book.now }
+    requires { IsDerivation clues.now book }
     ensures { IfOk result (IsDerivation clues.now) }
 {
     fits(engine, &book, clues)?;
@@ -251,9 +251,9 @@ fn keep_after(alloc: Global, desk: Desk, turn: &[&str], text: &mut String) -> Re
 
 // The desk behind an edit.
 fn gone_on(desk: Desk, prepared: Prepared, clues: ClueBook, book: Book) -> Desk
-    requires plan { IsPlanFor desk.studio.now prepared.now }
-    requires counted { clues.now ≡ clues_of prepared.now.document.rows }
-    requires follows { IsDerivation clues.now book.now }
+    requires plan { IsPlanFor desk.studio prepared }
+    requires counted { clues ≡ clues_of prepared.document.rows }
+    requires follows { IsDerivation clues book }
 {
     let Desk { mut studio, .. } = desk;
     studio.commit(prepared);

@@ -39,9 +39,9 @@ fn refused_text(alloc: Global, fault: &EditFault) -> Result<String, AllocError> 
 
 // Makes an edit and takes it back.
 fn made_text(alloc: Global, studio: &mut Studio, prepared: Prepared) -> Result<String>
-    requires plan { IsPlanFor studio.old prepared.now }
-    requires change { IsChangeOf prepared.now.change studio.old.document.rows
-        prepared.now.document.rows }
+    requires plan { IsPlanFor studio.old prepared }
+    requires change { IsChangeOf prepared.change studio.old.document.rows
+        prepared.document.rows }
 {
     let mut after = String::new(alloc);
     push_prepared(&mut after, studio, &prepared)?;
