@@ -1,0 +1,64 @@
+//! Tables of calls and answers.
+//!
+//! Each line of standard input names a call, with its arguments as words behind it, cut at spaces. A blank line, a comment
+//! (`#`) and what is expected (`=`) are passed over. The first word says which module answers, and that prints the answer. A
+//! line that no module can read, or that breaks what a call asks for, is told by `cannot read:` and the line.
+
+mod agendas;
+mod books;
+mod clueing;
+mod entries;
+mod lines;
+mod listing;
+mod plain;
+mod puzzles;
+mod reasons;
+mod said;
+mod searches;
+
+use anyhow::{Result, bail};
+
+/// Answers the lines of standard input one after the other.
+pub fn tell_table(rt: &(impl AllocGlobal + Input + Print)) -> Result<()> {
+    for line in rt.lines(rt.alloc()) {
+        tell_line(rt, line?.as_str())?;
+    }
+    Ok(())
+}
+
+// Answers a line, unless it is blank, a comment or an expectation.
+fn tell_line(rt: &(impl AllocGlobal + Print), line: &str) -> Result<()> {
+    let words: Vec<&str> = line
+        .split(' ')
+        .filter(|word| !word.is_empty())
+        .collect(rt.alloc())?;
+    let Some(first) = words.first() else {
+        return Ok(());
+    };
+    if first.starts_with('#') || first.starts_with('=') {
+        return Ok(());
+    }
+    if answer(rt, first, &words).is_err() {
+        println!(rt; "cannot read: {line}")?;
+    }
+    Ok(())
+}
+
+// Calls the module of the first word.
+fn answer(rt: &(impl AllocGlobal + Print), first: &str, words: &[&str]) -> Result<()> {
+    match first {
+        "clues" | "refresh" => clueing::tell(rt, words),
+        "draw" | "stands-for" | "drew" => reasons::tell(rt, words),
+        "steps" | "random-steps" => reasons::tell_of_many(rt, words),
+        "narrow" | "engine" | "leave-out" | "force" => lines::tell(rt, words),
+        "engines" | "random" | "leaving-out" | "random-leaving-out" => {
+            lines::tell_of_many(rt, words)
+        }
+        "agenda" => agendas::tell(rt, words),
+        "edit" => entries::tell(rt, words),
+        "go-on" => books::tell(rt, words),
+        "listing" => listing::tell(rt, words),
+        "settle" | "first" | "other" | "parts" | "judge" | "cost" => searches::tell(rt, words),
+        _ => bail!("no such call"),
+    }
+}

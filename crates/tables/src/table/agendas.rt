@@ -1,0 +1,62 @@
+//! Agendas, which say in what order lines are evaluated.
+//!
+//! `agenda inorder WORD ..` or `agenda newest WORD ..`: a line waits, or several that are joined by commas do at once; `clear`
+//! forgets them; `take` takes one, whose name is printed, and `-` where none waits.
+
+use super::said::{line_in, push_line};
+use anyhow::{Result, bail, ensure};
+use picture::{LineSet, MAX_SIDE};
+use propagate::{Agenda, InOrder, NewestFirst};
+use std::alloc::Global;
+
+/// Tells in what order an agenda gives lines.
+pub fn tell(rt: &(impl AllocGlobal + Print), words: &[&str]) -> Result<()> {
+    let taken = match words {
+        [_, "inorder", turns @ ..] => taken_by(rt.alloc(), &mut InOrder::make(), turns)?,
+        [_, "newest", turns @ ..] => taken_by(rt.alloc(), &mut NewestFirst::make(), turns)?,
+        _ => bail!("agenda inorder WORD .. or agenda newest WORD .."),
+    };
+    println!(rt; "{taken}")?;
+    Ok(())
+}
+
+// The names of the lines that an agenda gives.
+fn taken_by<A: Agenda>(alloc: Global, agenda: &mut A, turns: &[&str]) -> Result<String> {
+    let mut text = String::new(alloc);
+    for turn in turns {
+        match *turn {
+            "clear" => agenda.clear(),
+            "take" => take(agenda, &mut text)?,
+            lines if lines.contains(',') => agenda.put_all(&set_in(lines)?),
+            name => {
+                let line = line_in(name)?;
+                ensure!(line.at < MAX_SIDE, "no such line");
+                agenda.put(line);
+            }
+        }
+    }
+    Ok(text)
+}
+
+// Puts the name of the line that an agenda gives behind a text.
+fn take<A: Agenda>(agenda: &mut A, text: &mut String) -> Result<()> {
+    if !text.is_empty() {
+        text.push(' ')?;
+    }
+    match agenda.take() {
+        Some(line) => push_line(text, line)?,
+        None => text.push('-')?,
+    }
+    Ok(())
+}
+
+// The lines that a word names, joined by commas.
+fn set_in(word: &str) -> Result<LineSet> {
+    let mut lines = LineSet::empty();
+    for name in word.split(',') {
+        let line = line_in(name)?;
+        ensure!(line.at < MAX_SIDE, "no such line");
+        lines.put(line);
+    }
+    Ok(lines)
+}

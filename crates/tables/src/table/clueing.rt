@@ -1,0 +1,68 @@
+//! Calls on clues.
+//!
+//! `clues ROWS` prints the clues of a picture. `refresh ROWS EDIT ..` makes an edit and goes on with the clues from before it: the new
+//! picture, its clues and the lines of it that the edit touches are printed.
+
+ghost use Rattle.std.specs.Prelude.{◌≡◌, IfOk};
+ghost use Rattle.clues.specs.Change.{IsChangeOf};
+ghost use Rattle.clues.specs.ClueBook.{clues_of};
+
+use super::said::{document_in, edit_in, push_clues, push_rows, push_touched};
+use anyhow::{Result, bail};
+use clues::{Change, ClueBook, laws};
+use edits::Studio;
+use picture::{Document, Picture};
+use std::alloc::Global;
+
+/// Answers a call on clues.
+pub fn tell(rt: &(impl AllocGlobal + Print), words: &[&str]) -> Result<()> {
+    let alloc = rt.alloc();
+    let text = match words {
+        ["clues", rows] => clues_text(alloc, rows)?,
+        ["refresh", rows, edit @ ..] => refresh_text(alloc, rows, edit)?,
+        _ => bail!("no such call"),
+    };
+    println!(rt; "{text}")?;
+    Ok(())
+}
+
+// The clues of a picture.
+fn clues_text(alloc: Global, rows: &str) -> Result<String> {
+    let document = document_in(alloc, rows)?;
+    let mut text = String::new(alloc);
+    push_clues(&mut text, &ClueBook::of(alloc, &document.picture)?.copy()?)?;
+    Ok(text)
+}
+
+// The picture that an edit makes, its clues as they come from those before it, and the lines that it touches.
+fn refresh_text(alloc: Global, rows: &str, edit: &[&str]) -> Result<String> {
+    let edit = edit_in(edit)?;
+    let studio = Studio::start(alloc, document_in(alloc, rows)?, 1)?;
+    let prepared = studio.prepare(alloc, &edit)?;
+    let old = studio.document();
+    changed_text(alloc, old, prepared.document(), prepared.change())
+}
+
+// What a change to a document comes to.
+fn changed_text(alloc: Global, old: &Document, new: &Document, change: &Change) -> Result<String>
+    requires { IsChangeOf change.now old.now.picture new.now.picture }
+{
+    let clues = refreshed(alloc, &old.picture, &new.picture, change)?;
+    let mut text = String::new(alloc);
+    push_rows(&mut text, new)?;
+    text.push(' ')?;
+    push_clues(&mut text, &clues)?;
+    text.push_str(" touched")?;
+    push_touched(&mut text, &old.picture, &new.picture, change)?;
+    Ok(text)
+}
+
+// The clues of a picture from those of the one before, as a caller learns it from clauses alone.
+fn refreshed(alloc: Global, old: &Picture, new: &Picture, change: &Change) -> Result<ClueBook>
+    requires { IsChangeOf change.now old.now new.now }
+    ensures { IfOk result (λ book. book ≡ clues_of new.now) }
+{
+    laws::untouched_clues_stand();
+    let before = ClueBook::of(alloc, old)?;
+    Ok(before.refresh(new, change)?)
+}

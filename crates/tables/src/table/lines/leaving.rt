@@ -1,0 +1,129 @@
+//! What is left out is compared with a plain trial of each cell in turn.
+
+use super::chance::{clue_from, draw, draw_line};
+use super::drawing::draw_and_leave_out;
+use super::listing::{MOST, clue_by_number, left_by_number, power};
+use super::narrowing::narrow_by;
+use crate::table::said::ALL;
+use anyhow::{Result, ensure};
+use clues::Clue;
+use line_settle::{LineEngine, PlainEngine};
+use std::alloc::Global;
+
+/// Compares on all lines of one to so many cells, all clues whose blocks have at most one cell less, and every choice of `.`, `a`
+/// and `b` left in each cell.
+pub fn compare_all(alloc: Global, most: u32) -> Result<String> {
+    ensure!(0 < most && most <= MOST, "listed lines are short");
+    let mut engine = PlainEngine::make(alloc, 120)?;
+    let mut tally = Tally { lines: 0, kept: 0 };
+    for cells in 0..most {
+        for code in 0..power(3, cells) {
+            if let Some(clue) = clue_by_number(alloc, code, cells)? {
+                compare_lines(&mut engine, &clue, most, &mut tally)?;
+            }
+        }
+    }
+    tally.text(alloc)
+}
+
+/// On how many lines both agreed, and how many masks were kept on them.
+#[derive(Drop)]
+struct Tally {
+    lines: u32,
+    kept: usize,
+}
+
+impl Tally {
+    fn text(&self, alloc: Global) -> Result<String> {
+        let lines = self.lines;
+        let some = if self.kept > 100 { "many" } else { "few" };
+        Ok(format!(in alloc; "{lines} lines agree, {some} masks kept")?)
+    }
+
+    fn add(&mut self, kept: usize) {
+        self.lines = self.lines.saturating_add(1);
+        self.kept = self.kept.saturating_add(kept);
+    }
+}
+
+// Compares all lines of one to so many cells with a clue.
+fn compare_lines<E: LineEngine>(
+    engine: &mut E,
+    clue: &Clue,
+    most: u32,
+    tally: &mut Tally,
+) -> Result<()> {
+    for len in 1..most.saturating_add(1) {
+        ensure!(len <= MOST, "listed lines are short");
+        for code in 0..power(8, len) {
+            let left = left_by_number(code);
+            let left = &left[..len as usize];
+            tally.add(compare(engine, clue, left, &[ALL; 4][..len as usize])?);
+        }
+    }
+    Ok(())
+}
+
+// Compares both on a line; answers how many cells kept a mask.
+fn compare<E: LineEngine>(
+    engine: &mut E,
+    clue: &Clue,
+    left: &[u16],
+    among: &[u16],
+) -> Result<usize> {
+    let len = left.len();
+    ensure!(len <= 120, "a line has at most 120 cells");
+    let (drawn, kept) = draw_and_leave_out(engine, clue, left, among)?;
+    let mut tried = [0; 120];
+    tried[..len].copy_from_slice(left);
+    leave_out_by_trial(engine, clue, &drawn, &mut tried[..len])?;
+    ensure!(kept == tried, "a line where they differ");
+    Ok(kept[..len].iter().filter(|mask| **mask != ALL).count())
+}
+
+// Gives each cell in turn all its colours back, and puts its old mask back where a drawn colour is possible then.
+fn leave_out_by_trial<E: LineEngine>(
+    engine: &mut E,
+    clue: &Clue,
+    drawn: &[u16],
+    left: &mut [u16],
+) -> Result<()> {
+    for i in 0..left.len() {
+        let old = left[i];
+        left[i] = ALL;
+        let narrowed = narrow_by(engine, clue, left)?;
+        let mut cells = narrowed.left.iter().zip(drawn);
+        if cells.any(|(mask, colours)| *mask & *colours != 0) {
+            left[i] = old;
+        }
+    }
+    Ok(())
+}
+
+/// Compares on so many random lines of up to 40 cells, and some of the colours that they exclude.
+pub fn compare_random(alloc: Global, count: u32, seed: u32) -> Result<String> {
+    let mut engine = PlainEngine::make(alloc, 120)?;
+    let mut tally = Tally { lines: 0, kept: 0 };
+    let mut state = u64::from(seed);
+    for _ in 0..count {
+        let line = draw_line(&mut state, 40);
+        ensure!(line.len <= 120, "a line has at most 120 cells");
+        let share = 1 + draw(&mut state) % 4;
+        let among = draw_among(&mut state, share);
+        let clue = clue_from(alloc, &line.cells[..line.len])?;
+        let left = &line.left[..line.len];
+        tally.add(compare(&mut engine, &clue, left, &among[..line.len])?);
+    }
+    tally.text(alloc)
+}
+
+// Draws some colours in one of so many cells.
+fn draw_among(state: &mut u64, share: u64) -> [u16; 120] {
+    let mut among = [0; 120];
+    for mask in among.iter_mut() {
+        if draw(state) % share.max(1) == 0 {
+            *mask = (draw(state) % 65_536) as u16;
+        }
+    }
+    among
+}

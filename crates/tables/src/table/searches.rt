@@ -1,0 +1,180 @@
+//! Puzzles that are settled and searched.
+//!
+//! `settle ENGINE AGENDA PUZZLE` prints the evaluations and the facts, or `dead`. `first PUZZLE` prints a picture with the
+//! clues, and `other PICTURE` another one than this, where there is one. `parts FACTS` prints the cells of each part. `judge
+//! PICTURE [ALLOWANCE]` judges a picture by its parts, and once more under no allowance; `cost` does, and tells the evaluations.
+
+ghost use Rattle.second_search.specs.Parts.{IsScene};
+
+use super::puzzles::{Puzzle, puzzle_in};
+use super::said::{document_in, facts_in, push_facts, push_picture};
+use crate::search::{Said, Tally, judge, other, settled};
+use crate::settle::{Settled, settled_by};
+use anyhow::{Context, Result, bail, ensure};
+use clues::ClueBook;
+use line_settle::{Facts, LineEngine, MaskEngine};
+use picture::{CellSet, Document, MAX_SIDE};
+use second_search::{Keeper, Parts, Scene, find_first};
+use std::alloc::Global;
+
+/// Tells what settling or a search comes to.
+pub fn tell(rt: &(impl AllocGlobal + Print), words: &[&str]) -> Result<()> {
+    let alloc = rt.alloc();
+    let told = match words {
+        ["settle", engine, agenda, puzzle] => settle(
+            alloc,
+            engine,
+            agenda,
+            &puzzle_in(alloc, puzzle)?,
+        )?,
+        ["first", puzzle] => first(alloc, &puzzle_in(alloc, puzzle)?)?,
+        ["other", picture] => find_another(alloc, &document_in(alloc, picture)?)?,
+        ["parts", facts] => parts(alloc, &facts_in(alloc, facts)?)?,
+        ["judge", picture] => judge_twice(alloc, &document_in(alloc, picture)?, None, false)?,
+        ["judge", picture, most] => {
+            let most = most.parse().context("the allowance")?;
+            judge_twice(alloc, &document_in(alloc, picture)?, Some(most), false)?
+        }
+        ["cost", picture, most] => {
+            let most = most.parse().context("the allowance")?;
+            judge_twice(alloc, &document_in(alloc, picture)?, Some(most), true)?
+        }
+        _ => bail!("settle, first, other, parts, judge or cost"),
+    };
+    print!(rt; "{told}")?;
+    Ok(())
+}
+
+// What settling comes to.
+fn settle(alloc: Global, engine: &str, agenda: &str, puzzle: &Puzzle) -> Result<String> {
+    let mut text = String::new(alloc);
+    let Settled { evaluations, facts } = settled_by(
+        alloc,
+        engine,
+        agenda,
+        &puzzle.clues,
+        &puzzle.base,
+    )?;
+    match facts {
+        Some(facts) => {
+            writeln!(text, "{evaluations} evaluations")?;
+            push_facts(alloc, &mut text, &facts)?;
+        }
+        None => text.push_str("dead")?,
+    }
+    text.push('\n')?;
+    Ok(text)
+}
+
+// A picture with the clues.
+fn first(alloc: Global, puzzle: &Puzzle) -> Result<String> {
+    let mut engine = MaskEngine::make(alloc, MAX_SIDE)?;
+    let clues = &puzzle.clues;
+    ensure!(clues.height() <= engine.longest(), "too many rows");
+    ensure!(clues.width() <= engine.longest(), "too many columns");
+    let mut text = String::new(alloc);
+    match find_first(alloc, &mut engine, clues)? {
+        Some(picture) => push_picture(&mut text, &picture)?,
+        None => text.push_str("none")?,
+    }
+    text.push('\n')?;
+    Ok(text)
+}
+
+// Another picture with the clues and the givens of one.
+fn find_another(alloc: Global, document: &Document) -> Result<String> {
+    let mut engine = MaskEngine::make(alloc, MAX_SIDE)?;
+    let clues = ClueBook::of(alloc, &document.picture)?;
+    let facts = settled(alloc, &mut engine, &clues, document)?;
+    let mut text = String::new(alloc);
+    match other(alloc, &mut engine, &clues, document, &facts)?.said {
+        Said::Other(picture) => push_picture(&mut text, &picture)?,
+        said => text.push_str(said.name())?,
+    }
+    text.push('\n')?;
+    Ok(text)
+}
+
+// The cells of each part.
+fn parts(alloc: Global, facts: &Facts) -> Result<String> {
+    let parts = Parts::of(alloc, facts)?;
+    let mut text = String::new(alloc);
+    for i in 0..parts.len() {
+        push_cells(&mut text, parts.cells(i))?;
+    }
+    Ok(text)
+}
+
+// Puts the rows and columns of cells behind a text, as a line.
+fn push_cells(text: &mut String, cells: &CellSet) -> Result<()> {
+    for row in 0..MAX_SIDE {
+        for col in 0..MAX_SIDE {
+            if cells.has(row, col) {
+                let (row, col) = (u16::from(row) + 1, u16::from(col) + 1);
+                write!(text, " {row},{col}")?;
+            }
+        }
+    }
+    text.push('\n')?;
+    Ok(())
+}
+
+// Judges a picture under an allowance where there is one, and once more under none.
+fn judge_twice(
+    alloc: Global,
+    document: &Document,
+    allowance: Option<u32>,
+    is_counted: bool,
+) -> Result<String> {
+    let mut engine = MaskEngine::make(alloc, MAX_SIDE)?;
+    let clues = ClueBook::of(alloc, &document.picture)?;
+    let facts = settled(alloc, &mut engine, &clues, document)?;
+    let tallies = judged(alloc, &mut engine, &clues, document, &facts, allowance)?;
+    let mut text = String::new(alloc);
+    for tally in tallies {
+        push_tally(&mut text, &tally, is_counted)?;
+    }
+    Ok(text)
+}
+
+/// What a picture is judged under an allowance, and then under none, with the answers that were kept.
+pub fn judged<E: LineEngine>(
+    alloc: Global,
+    engine: &mut E,
+    clues: &ClueBook,
+    document: &Document,
+    facts: &Facts,
+    allowance: Option<u32>,
+) -> Result<[Tally; 2]>
+    requires { IsScene clues.now document.now.givens facts.now document.now.picture }
+{
+    let scene = Scene {
+        clues,
+        givens: &document.givens,
+        facts,
+        picture: &document.picture,
+    };
+    let mut keeper = Keeper::start(alloc, facts)?;
+    let first = judge(engine, &mut keeper, &scene, allowance)?;
+    let again = judge(engine, &mut keeper, &scene, None)?;
+    Ok([first, again])
+}
+
+// Puts what was judged behind a text, as a line.
+fn push_tally(text: &mut String, tally: &Tally, is_counted: bool) -> Result<()> {
+    text.push_str(tally.said.name())?;
+    write!(
+        text,
+        ", {} searched, {} splits",
+        tally.searched, tally.splits
+    )?;
+    if is_counted {
+        write!(text, ", {} evaluations", tally.evaluations)?;
+    }
+    if let Said::Other(picture) = &tally.said {
+        text.push_str(": ")?;
+        push_picture(text, picture)?;
+    }
+    text.push('\n')?;
+    Ok(())
+}
