@@ -5,6 +5,7 @@
 mod background;
 mod check;
 mod fault;
+pub mod laws;
 mod open;
 mod options;
 mod run;

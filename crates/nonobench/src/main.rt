@@ -3,6 +3,7 @@
 //! The clues and the check are calls of the crate `answers`, which other programs can make too.
 #![tactic(auto)]
 
+mod ending;
 mod input;
 mod words;
 mod work;
@@ -10,6 +11,7 @@ mod work;
 ghost use Rattle.nonobench.specs.Words.{IsLawfulTask};
 ghost use Rattle.answers.specs.Start.{IsLawful};
 
+use crate::ending::ending;
 use crate::input::read_input;
 use crate::words::{Task, read_words};
 use crate::work::run_work;
@@ -20,21 +22,7 @@ use std::rt::{Env, Files};
 use std::{env, fs, io};
 
 fn main(rt: HostRuntime) -> ExitCode {
-    match answer(&rt) {
-        Ok(()) => ExitCode::SUCCESS,
-        Err(fault) => {
-            say(&rt, &fault);
-            ExitCode::from(fault.status())
-        }
-    }
-}
-
-// Says why the program ends. What the parser of the words says is said as it is.
-fn say(rt: &impl Eprint, fault: &ProgramFault) {
-    let _unwritten = match fault {
-        ProgramFault::Words(text) => eprint!(rt; "{text}"),
-        _ => eprintln!(rt; "nonobench: {fault}"),
-    };
+    ending(&rt, answer(&rt))
 }
 
 // Does what the words ask for.
