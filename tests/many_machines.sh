@@ -1,7 +1,7 @@
 #!/usr/bin/env bash
 # Checks many pairs of picture and certificate over several hosts, ends one of them in the middle, and goes on: each pair must be
 # answered exactly once, as one process after another answers it. The hosts are network namespaces of this machine with an sshd
-# each, so times are those of one machine's processors. Nothing outside of the namespaces and a folder of its own is touched.
+# each, so times are those of one machine's processors. Besides the namespaces and a folder of its own it makes /run/sshd alone.
 #
 # Usage: tests/many_machines.sh PROGRAM [PAIRS [HOSTS [JOBS]]]: 120 pairs, 3 hosts, and 2 checks at once on each where nothing
 # is given. Needs root, iproute2, openssh-server, GNU parallel and rsync; without them it says so and ends with status 0.
