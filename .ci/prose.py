@@ -3,11 +3,7 @@
 
 For each *.md of the repository, or those that are named: a sentence above 40 words, a stiff phrase, a link or a path
 that does not exist. In README.md also a command that the gate does not run, and in docs/PROOF.md a line of a clause that
-<<<<<<< HEAD
-stands in no source. And the logic that the file KIT names is that of `rt version`, where there is one.
-=======
-stands in no source. And the file KIT has a line for the kit's version, as `rt version` tells it, where there is an rt.
->>>>>>> 17e7ad81b44b7b834b1b58201e719a5b3a349705
+stands in no source. And the file KIT has a line with the logic that `rt version` tells, where there is an rt.
 
 A block of README.md that begins with ```sh is run by .ci/tutorial, so its commands pass. A block that begins with
 ```sh build holds commands that only build or serve; each must begin as one of BUILDS. No other block may be named sh.
@@ -162,19 +158,13 @@ def kit_fault():
         return None
     told = subprocess.run(["rt", "version"], capture_output=True, text=True).stdout.strip()
     with open(os.path.join(ROOT, "KIT"), encoding="utf-8") as file:
-<<<<<<< HEAD
-        kept = file.read().strip()
-    if told == kept:
-        return None
-    difference = f"KIT says {kept!r}, and rt version says {told!r}"
-    if told.partition(" ")[2] == kept.partition(" ")[2]:
-        print(f"{difference}: another kit with the same logic")
-        return None
-    return difference
-=======
         kept = file.read().splitlines()
-    return None if told in kept else f"KIT has no line {told!r}, which rt version says"
->>>>>>> 17e7ad81b44b7b834b1b58201e719a5b3a349705
+    if told in kept:
+        return None
+    if told.partition(" ")[2] in [line.partition(" ")[2] for line in kept]:
+        print(f"KIT has no line {told!r}, which rt version says, and one with the same logic")
+        return None
+    return f"KIT has no line with the logic of {told!r}, which rt version says"
 
 
 def main():
