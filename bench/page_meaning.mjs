@@ -10,15 +10,12 @@ const AMBIGUOUS = ['a.....', '.a....', '......', '...aaa', '...aaa', '...aaa'];
 export const hard = () => ppmOf(noise(60, 60, '.a'));
 
 export async function drawing({ trial, page }) {
-    await trial.open(ppmOf(noise(8, 9, '....').map((row) => row)), 'blank');
+    await trial.open(ppmOf(noise(8, 9, '.')), 'blank');
     const shows = async (wanted, what) => {
         assert.deepEqual(await trial.picture(), wanted, what);
         await trial.check(what);
     };
-    await trial.action('colour-add').catch(() => {});
-    if ((await trial.state()).colours.length < 2) await page.run(() => bench.stroke(['colour add 0 0 0']).then(() => useColour?.('a')).catch(() => {}));
-    await trial.settled();
-    await page.run(() => { tools.colour = 'a'; });
+    await page.run(() => bench.stroke(['colour add 0 0 0']).then(() => useColour('a')));
     await page.press('p');
     await trial.drag([[1, 1], [1, 4], [3, 4]]);
     const dragged = ['aaaa.....', '...a.....', '...a.....', '.........', '.........', '.........', '.........', '.........'];
@@ -56,8 +53,7 @@ export async function stopping({ trial, page }) {
     assert.equal(await page.run(() => workers.filter((one) => !one.isEnded).length <= 1 && document.getElementById('task').hidden), true, 'the second worker is ended');
     assert.match(await trial.text('#verdict'), /Undecided/, 'it is undecided');
     // A certificate that does not come: it runs, a stroke ends it at once and is answered as ever.
-    page.run(() => certificateText?.()).catch(() => {});
-    await page.run(() => { window.found = searches.certify(); });
+    await page.run(() => { window.found = certificateText(); });
     await page.until(() => !document.getElementById('task').hidden, 2000 * SLACK);
     await pause(500);
     const spent = await page.run(async () => {
@@ -142,7 +138,6 @@ export async function playing({ trial, page }) {
     await page.drag([await at(3, 3)]);
     await page.run(() => document.getElementById('play-field').focus());
     await page.press('b');
-    await page.run(() => movePlay?.({ row: 1, col: 1 })).catch(() => {});
     await page.drag([await at(2, 2), await at(2, 3)]);
     assert.match(await trial.text('#play-said'), /^Solved/);
     assert.deepEqual(await trial.picture(), ['aa.', '.bb', 'a.a'], 'the picture stays as it was');

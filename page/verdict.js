@@ -44,18 +44,26 @@ const choiceOf = (id, values, change) => make('select', { id, onchange: (event) 
 
 function makeVerdictPanel() {
   $('audit').append(
-    make('h2', { id: 'verdict' }, '…'),
-    make('p', { id: 'verdict-why' }),
-    make('div', { id: 'verdict-do', class: 'group' }),
-    make('div', { id: 'fix', hidden: true }),
-    make('dl', {}, make('dt', {}, 'Need guessing'), make('dd', { id: 'open' }), make('dt', {}, 'Changed clues'), make('dd', { id: 'changed' })),
-    make('div', { class: 'group' },
-      make('label', {}, 'Hatching ', choiceOf('hatching', HATCHINGS, (value) => setHatching(value))), make('span', { id: 'legend', class: 'faint' })),
-    make('div', { class: 'group' },
-      make('label', {}, 'Search for ', choiceOf('seconds', TIMES, setSeconds)), make('span', { class: 'faint' }, 'after a stroke')),
+    make('div', { id: 'verdict-line' }, make('h2', { id: 'verdict' }, '…'), make('span', { id: 'verdict-short' }),
+      make('button', { type: 'button', id: 'verdict-open', 'aria-expanded': 'false', 'aria-controls': 'verdict-more', onclick: turnVerdictMore }, 'More')),
+    make('div', { id: 'verdict-more' },
+      make('p', { id: 'verdict-why' }),
+      make('div', { id: 'verdict-do', class: 'group' }),
+      make('div', { id: 'fix', hidden: true }),
+      make('dl', {}, make('dt', {}, 'Need guessing'), make('dd', { id: 'open' }), make('dt', {}, 'Changed clues'), make('dd', { id: 'changed' })),
+      make('p', {}, make('label', {}, 'Hatching ', choiceOf('hatching', HATCHINGS, (value) => setHatching(value)))),
+      make('p', { id: 'legend', class: 'faint' }),
+      make('p', {}, make('label', {}, 'Search after a stroke ', choiceOf('seconds', TIMES, setSeconds)))),
   );
   $('seconds').value = verdictView.seconds;
   $('task').append(make('span', { id: 'task-name' }), make('span', { id: 'task-time', 'aria-hidden': 'true' }), make('button', { type: 'button', id: 'stop', onclick: () => searches.stop() }, 'Stop'));
+}
+
+// On small screens the verdict stands in one line; the rest opens below it.
+function turnVerdictMore() {
+  const isOpen = $('audit').classList.toggle('open');
+  $('verdict-open').setAttribute('aria-expanded', isOpen);
+  $('verdict-open').textContent = isOpen ? 'Less' : 'More';
 }
 
 function setSeconds(value) {
@@ -94,6 +102,14 @@ const numbersOf = (letter, set) => {
 
 const differCount = ({ verdict, picture }) => (verdict.other ? cellsThatDiffer(picture, verdict.other).length : 0);
 
+// The verdict in a few words beside its title.
+function verdictShort(state) {
+  const { word } = state.verdict;
+  if (word === 'ambiguous') return `${many(differCount(state), 'cell')} differ${differCount(state) === 1 ? 's' : ''}`;
+  if (word === 'unique') return state.open ? `${number(state.open)} of ${number(state.rows * state.columns)} cells need guessing` : 'no guessing';
+  return '';
+}
+
 // The verdict as a title and a sentence.
 function verdictTexts(state) {
   const { verdict, givens, open } = state;
@@ -115,6 +131,7 @@ function showVerdict(state) {
   $('audit').dataset.word = word;
   $('verdict').textContent = title;
   $('verdict-why').textContent = told;
+  $('verdict-short').textContent = verdictShort(state);
   $('open').textContent = `${number(state.open)} of ${many(state.rows * state.columns, 'cell')}`;
   $('changed').textContent = [numbersOf('row', state.changed.rows), numbersOf('column', state.changed.columns)].filter(Boolean).join('; ') || 'none';
   if (word !== 'ambiguous') sheet.other = false;
