@@ -116,11 +116,10 @@ test('a cell has the colour that most of its part has', () => {
     // A red square on white whose edges fall between cells: means would be pink, and green where half of it is green.
     const fine = imageOf(['wwwwww', 'wwwwww', 'wwrrww', 'wrrrrw', 'wrrrrg', 'wrrrrg'], COLOURS);
     const image = scaledTo(fine, whole(fine), 3, 3);
-    const doc = docOfCells(image, { colours: 3 }, fine);
-    const shown = doc.picture.map((row) => [...row].map((letter) => doc.colours['.ab'.indexOf(letter)]));
-    const red = ([r, g, b]) => r > g + 40 && r > b + 40;
-    assert.ok(red(shown[1][1]) && red(shown[2][1]), JSON.stringify(shown));
-    assert.deepEqual(doc.picture[0], '...');
+    const doc = docOfCells(image, { colours: 3 }, { fine, points: fine });
+    assert.deepEqual(doc.colours.slice(0, 2), [COLOURS.w, COLOURS.r]); // no pink
+    assert.equal(doc.picture[0], '...');
+    assert.deepEqual([doc.picture[1][1], doc.picture[2][1]], ['a', 'a']);
 });
 
 test('dark and light by a threshold', () => {

@@ -34,7 +34,7 @@ class Importing {
     this.factor = factor;
     this.crop = { x: 0, y: 0, width: image.width, height: image.height }; // in pixels of the full image
     this.background = null;
-    this.scaled = new Map(); // by how many pixels a cell has: what was made last
+    this.scaled = new Map(); // by pixels a cell and whether they are sharp: what was made last
     this.doc = null;
     this.isWaiting = false;
     this.make();
@@ -149,17 +149,17 @@ class Importing {
     });
   }
 
-  cells(times = 1) {
+  cells(times = 1, sharp = this.sharp.checked) {
     const { x, y, width, height } = this.crop;
     const by = (value, most) => clamp(Math.round(value * this.factor), 0, most);
     const [left, top] = [by(x, this.image.width - 1), by(y, this.image.height - 1)];
     const part = { x: left, y: top, width: Math.max(1, by(x + width, this.image.width) - left), height: Math.max(1, by(y + height, this.image.height) - top) };
     const [columns, rows] = this.size ?? [1, 1];
-    const key = JSON.stringify([part, columns, rows, this.sharp.checked]);
-    const kept = this.scaled.get(times);
+    const key = JSON.stringify([part, columns, rows]);
+    const kept = this.scaled.get(`${times} ${sharp}`);
     if (kept?.key === key) return kept.image;
-    const scaled = scaledTo(this.image, part, columns * times, rows * times, this.sharp.checked);
-    this.scaled.set(times, { key, image: scaled });
+    const scaled = scaledTo(this.image, part, columns * times, rows * times, sharp);
+    this.scaled.set(`${times} ${sharp}`, { key, image: scaled });
     return scaled;
   }
 
@@ -170,7 +170,7 @@ class Importing {
     const times = this.size[0] * this.size[1] > 5000 ? 2 : 3;
     const fine = this.sharp.checked || this.two.checked ? null : this.cells(times);
     const cells = fine ? scaledTo(fine, { x: 0, y: 0, width: fine.width, height: fine.height }, ...this.size) : this.cells();
-    this.doc = this.grounded(docOfCells(cells, options, fine));
+    this.doc = this.grounded(docOfCells(cells, options, fine ? { fine, points: this.cells(times, true) } : {}));
     drawSmall(this.preview, this.doc, SHOWN_SIDE);
     this.drawSource();
     this.showSwatches();

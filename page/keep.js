@@ -109,13 +109,12 @@ class Keeper {
 
 // ---- the document at hand
 
-const keep = { keeper: null, id: null, free: null, about: {}, isKept: true, wasTold: false };
+const keep = { keeper: null, id: null, free: null, about: {}, isKept: true, wasTold: false, isAsked: false };
 
 /** Opens the shelf, once. */
 keep.ready = (home = globalThis) => {
   keep.opening ??= openShelf(home).then((shelf) => {
     keep.keeper = new Keeper(shelf, keep.said);
-    home.navigator?.storage?.persist?.().catch(() => {});
     return keep.keeper;
   });
   return keep.opening;
@@ -137,9 +136,10 @@ keep.said = ({ kind, why, record }) => {
  * blank is kept from the first stroke on.
  */
 keep.begin = async (id = null, about = {}, isBlank = false) => {
-  keep.end();
+  const own = id !== null && id === keep.id ? keep.free : null; // opened again in this tab
+  if (!own) keep.end();
   keep.about = about;
-  let free = id === null ? null : await claim(id, globalThis);
+  let free = own ?? (id === null ? null : await claim(id, globalThis));
   const isElsewhere = id !== null && !free;
   keep.id = isElsewhere || id === null ? newId() : id;
   free ??= await claim(keep.id, globalThis);
@@ -158,5 +158,9 @@ keep.end = () => {
 keep.now = () => {
   const { id } = keep;
   if (!id || !keep.keeper || !bench.state) return Promise.resolve();
+  if (bench.past.length && !keep.isAsked) {
+    keep.isAsked = true; // that the browser does not clear it away by itself
+    navigator.storage?.persist?.().catch(() => {});
+  }
   return keep.keeper.note(() => (keep.id === id && bench.state ? recordOf(bench, id, keep.about) : null));
 };

@@ -175,9 +175,10 @@ function apartFrom(palette) {
  * An image of cells as a document. `options`: `colours` 2 to 16 with the background; `threshold` 1 to 255 for dark and light
  * alone, where `inverted` makes light the drawn one; `background` a triple of the palette, or null to choose: what is
  * transparent, else what most of the border has. `fine` is the same image with some times as many pixels a side: a cell then
- * has the colour that most of its part has, so that edges stay clean.
+ * has the colour that most of its part has, so that edges stay clean. `points` are single pixels of it, whose colours are no
+ * means across edges: the palette is found for these.
  */
-function docOfCells(image, options, fine = null) {
+function docOfCells(image, options, { fine = null, points = image } = {}) {
   const { width: columns, height: rows, data } = image;
   const clear = data.some((sample, at) => at % 4 === 3 && sample < 128);
   let [palette, numbers] = [[], null];
@@ -186,16 +187,18 @@ function docOfCells(image, options, fine = null) {
     numbers = numbersFor(image, palette).map((one, index) => (one < 0 ? -1 : +((lightness([...data.subarray(index * 4, index * 4 + 3)]) < options.threshold) !== Boolean(options.inverted))));
     return docOfNumbers(numbers.map((one) => Math.max(0, one)), palette, columns, rows);
   }
-  palette = paletteFor(image, clear ? options.colours - 1 : options.colours);
+  palette = paletteFor(points, clear ? options.colours - 1 : options.colours);
   numbers = numbersFor(image, palette);
   if (fine) numbers = mostOf(numbersFor(fine, palette), fine.width / columns, numbers, columns);
   let ground = options.background ? palette.findIndex((triple) => String(triple) === String(options.background)) : -1;
   if (clear || !palette.length) {
     const triple = ground < 0 && options.background && !palette.some((one) => String(one) === String(options.background)) ? options.background : apartFrom(palette);
-    return docOfNumbers(numbers.map((one) => one + 1), [triple, ...palette], columns, rows);
+    const used = [...palette.keys()].filter((one) => numbers.includes(one));
+    return docOfNumbers(numbers.map((one) => used.indexOf(one) + 1), [triple, ...used.map((one) => palette[one])], columns, rows);
   }
   if (ground < 0) ground = borderNumber(numbers, columns, rows);
-  const order = [ground, ...palette.keys()].filter((one, at, all) => all.indexOf(one) === at);
+  const used = new Set(numbers);
+  const order = [ground, ...palette.keys()].filter((one, at, all) => all.indexOf(one) === at && (at === 0 || used.has(one)));
   return docOfNumbers(numbers.map((one) => order.indexOf(one)), order.map((one) => palette[one]), columns, rows);
 }
 

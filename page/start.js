@@ -94,9 +94,9 @@ function exampleItem(source) {
 /** Shows the start screen, over what is open. */
 function showStart() {
   const list = make('ul', { class: 'tiles' });
-  const kept = make('section', { class: 'card wide', 'aria-labelledby': 'kept-title', hidden: true }, make('h2', { id: 'kept-title' }, 'Go on'), list);
+  const kept = make('section', { id: 'kept', class: 'card wide', 'aria-labelledby': 'kept-title', hidden: true }, make('h2', { id: 'kept-title' }, 'Go on'), list);
   const examples = [...document.querySelectorAll('script[data-example]')].map(exampleItem).filter(Boolean);
-  const shown = make('section', { class: 'card wide', 'aria-labelledby': 'examples-title', hidden: examples.length === 0 }, make('h2', { id: 'examples-title' }, 'Examples'), make('ul', { class: 'tiles' }, ...examples));
+  const shown = make('section', { id: 'examples', class: 'card wide', 'aria-labelledby': 'examples-title', hidden: examples.length === 0 }, make('h2', { id: 'examples-title' }, 'Examples'), make('ul', { class: 'tiles' }, ...examples));
   const back = bench.state ? [make('p', {}, make('button', { type: 'button', id: 'start-back', onclick: hideStart }, `Back to ${bench.name}`))] : [];
   $('start').replaceChildren(make('p', { class: 'lead' }, 'Draw a picture, see its clues, and know whether it is the only solution.'), ...back, make('div', { class: 'cards' }, newCard(), openCard(), kept, shown));
   $('start').hidden = false;
