@@ -1,4 +1,4 @@
-// Tests in the browser of roles, labels and contrast, of large pictures, and how long strokes take; pictures of the page.
+// Tests in the browser of roles, labels and contrast, and of large pictures; pictures of the page for the documents.
 import assert from 'node:assert/strict';
 import { pause } from './page_browser.mjs';
 import { SIZES, SLACK, Trial, noise, ppmOf } from './page_trial.mjs';
@@ -90,35 +90,6 @@ export async function largePictures({ browser, url, folder }) {
         assert.deepEqual(page.faults, []);
         await page.shot(`${folder}/large-${size.width}.png`);
         await page.close();
-    }
-}
-
-const median = (list) => [...list].sort((a, b) => a - b)[Math.floor(list.length / 2)];
-
-export async function speed({ trial, page }) {
-    const k8 = '..aabbccddeeffgg';
-    const inks = Object.fromEntries([...'.abcdefghijklmno'].map((letter, at) => [letter, `${255 - at * 16} ${(at * 90) % 256} ${(at * 37 + (at ? 0 : 255)) % 256}`]));
-    const blobs = (side, letters) => Array.from({ length: side }, (_, row) => Array.from({ length: side }, (__, col) => letters[(Math.floor(row / 6) * 5 + Math.floor(col / 6) * 3 + Math.floor(row * col / 900)) % letters.length]).join(''));
-    for (const [name, rows, goal] of [['20 by 25', blobs(25, '.abc').map((row) => row.slice(0, 20)), 16], ['60 by 60, 8 colours', blobs(60, k8), 25], ['120 by 120, 16 colours', blobs(120, '.abcdefghijklmno'), 50], ['120 by 120 noise', noise(120, 120, '.abcdefghijklmno'), 60]]) {
-        await trial.open(ppmOf(rows, { ...inks, '.': '255 255 255' }), 'speed');
-        await trial.settled(20000);
-        const times = [];
-        for (let turn = 0; turn < 9; turn++) {
-            await page.run((letter) => useColour(letter), 'ab'[turn % 2]);
-            const [x, y] = await trial.cell(5, 5 + turn);
-            times.push(await page.run((a, b) => new Promise((done) => {
-                const { view } = sheet;
-                view.setPointerCapture = () => {};
-                const send = (kind) => view.dispatchEvent(new PointerEvent(kind, { clientX: a, clientY: b, pointerId: 1, bubbles: true, button: 0 }));
-                send('pointerdown');
-                const from = performance.now();
-                send('pointerup');
-                const look = () => (bench.queue.length || bench.running ? setTimeout(look, 0) : done(performance.now() - from));
-                look();
-            }), x, y));
-        }
-        console.log(`  ${name}: ${median(times).toFixed(0)} ms from mouse-up until drawn (median of ${times.length}; goal ${goal})`);
-        await trial.check(name);
     }
 }
 
