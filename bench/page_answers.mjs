@@ -1,11 +1,10 @@
-// Tests of the page's reader of answers, and of the commands that it makes of a drag. The texts are those of
-// docs/FORMATS.md and of small pictures worked by hand. Run: node bench/page_answers.mjs
+// Tests of the page's reader of answers. The texts are those of docs/FORMATS.md and of small pictures worked by hand.
+// Run: node --test bench/page_answers.mjs
 import assert from 'node:assert/strict';
 import { test } from 'node:test';
-import { TextFault, answersTo } from '../page/answers.js';
+import { load } from '../page/test/load.mjs';
 
-globalThis.fetch = () => { throw new Error('no request here'); };
-const { Bench, coverOf } = await import('../page/bench.js');
+const { TextFault, answersTo } = load(['answers.js'], ['TextFault', 'answersTo']);
 
 const REPORT = `size 2 2
 colours 2 maxval 255
@@ -130,129 +129,4 @@ test('clues without a known size', () => {
 
 test('blank lines ask for nothing', () => {
     assert.deepEqual(answersTo(['', ' \t', 'undo'], 'ok\n', size), [{ kind: 'ok' }]);
-});
-
-test('drags as rectangles', () => {
-    const picture = ['....', '....', '....'];
-    const cover = (...cells) => coverOf(new Set(cells), picture, 'a');
-    assert.deepEqual(cover(0), ['paint 1 1 a']);
-    assert.deepEqual(cover(0, 1, 2), ['fill 1 1 1 3 a']);
-    assert.deepEqual(cover(1, 5, 9), ['fill 1 2 3 2 a']);
-    assert.deepEqual(cover(0, 1, 4, 5), ['fill 1 1 2 2 a']);
-    assert.deepEqual(cover(0, 5, 10), ['paint 1 1 a', 'paint 2 2 a', 'paint 3 3 a']);
-    assert.deepEqual(coverOf(new Set([0, 1, 2, 3]), ['.aa.'], 'a'), ['fill 1 1 1 4 a']);
-    assert.deepEqual(coverOf(new Set([1, 2]), ['.aa.'], 'a'), []);
-});
-
-test('any drag paints exactly the touched cells', () => {
-    let seed = 7;
-    const chance = (below) => (seed = (seed * 48271) % 2147483647) % below;
-    for (let round = 0; round < 300; round++) {
-        const [rows, columns] = [1 + chance(7), 1 + chance(7)];
-        const picture = Array.from({ length: rows }, () => Array.from({ length: columns }, () => '.ab'[chance(3)]).join(''));
-        const touched = new Set(Array.from({ length: chance(20) }, () => chance(rows * columns)));
-        const painted = picture.map((row) => [...row]);
-        for (const line of coverOf(touched, picture, 'a')) {
-            const [word, top, left, ...rest] = line.split(' ');
-            const [bottom, right] = word === 'paint' ? [top, left] : rest;
-            for (let row = top - 1; row < bottom; row++) for (let col = left - 1; col < right; col++) painted[row][col] = 'a';
-        }
-        const wanted = picture.map((row, r) => [...row].map((letter, c) => (touched.has(r * columns + c) ? 'a' : letter)));
-        assert.deepEqual(painted, wanted);
-    }
-});
-
-// A service that answers from a list, and notes what is posted.
-function served(...texts) {
-    const posted = [];
-    globalThis.fetch = async (_, { body }) => {
-        posted.push(body);
-        const text = texts.shift();
-        return { ok: text !== undefined, status: text === undefined ? 500 : 200, text: async () => text ?? 'no more' };
-    };
-    const seen = [];
-    const bench = new Bench({ shown: (state) => seen.push(state), busy() {}, lost: (fault) => seen.push(fault) });
-    return { bench, posted, seen };
-}
-const settled = `ok\n${REPORT}ok\nunique\n`;
-
-test('strokes that wait go in one request, and undo takes back a stroke', async () => {
-    const { bench, posted, seen } = served(settled, settled, `ok\nrefused: NoChange\nok\n${settled.replace('history 0 1', 'history 2 0')}`, `ok\nok\n${settled.replace('history 0 1', 'history 0 2')}`);
-    await bench.stroke([]);
-    const first = bench.stroke([]);
-    const both = [bench.stroke(['paint 1 1 a', 'paint 1 2 a']), bench.stroke(['paint 2 1 a'])];
-    await first;
-    const [left, right] = await Promise.all(both);
-    assert.deepEqual(left.map((answer) => answer.kind), ['ok', 'refused']);
-    assert.deepEqual(right.map((answer) => answer.kind), ['ok']);
-    assert.equal(posted[2], 'paint 1 1 a\npaint 1 2 a\npaint 2 1 a\nallow 0\nreport\nallow 100\nverdict\n');
-    assert.deepEqual(bench.undone.past, [1, 1]);
-    bench.undone.past = [2];
-    await bench.undo();
-    assert.equal(posted[3], 'undo\nundo\nallow 0\nreport\nallow 100\nverdict\n');
-    assert.deepEqual(bench.undone, { past: [], future: [2] });
-    assert.equal(seen.at(-1).verdict.word, 'unique');
-});
-
-test('undos and redos that wait for an answer take back whole strokes', async () => {
-    const stands = (...history) => settled.replace('history 0 1', `history ${history.join(' ')}`);
-    const { bench, posted } = served(stands(0, 0), `ok\nok\nok\n${stands(3, 0)}`, `ok\nok\n${stands(5, 0)}`, `ok\nok\n${stands(3, 2)}`, `ok\nok\nok\n${stands(0, 5)}`, `ok\nok\nok\n${stands(3, 2)}`);
-    await bench.stroke([]);
-    await bench.stroke(['paint 1 1 a', 'paint 1 2 a', 'paint 2 1 a']);
-    await Promise.all([bench.stroke(['paint 1 1 .', 'paint 1 2 .']), bench.undo(), bench.undo(), bench.redo()]);
-    assert.deepEqual(posted.slice(3).map((body) => body.split('allow')[0]), ['undo\nundo\n', 'undo\nundo\nundo\n', 'redo\nredo\nredo\n']);
-    assert.deepEqual(bench.undone, { past: [3], future: [2] });
-});
-
-test('a history that is full loses its oldest commands', async () => {
-    const stands = (past) => settled.replace('history 0 1', `history ${past} 0`);
-    const { bench } = served(stands(0), `ok\nok\n${stands(2)}`, `ok\n${stands(2)}`);
-    await bench.stroke([]);
-    await bench.stroke(['paint 1 1 a', 'paint 1 2 a']);
-    await bench.stroke(['paint 2 1 a']);
-    assert.deepEqual(bench.undone, { past: [1, 1], future: [] });
-});
-
-test('an undecided verdict is searched on to the allowance, and further where it is raised', async () => {
-    const open = settled.replace('unique\n', 'undecided\n').replace(/unique\n$/, 'undecided 100\n');
-    const { bench, posted } = served(open, 'ok\nundecided 1000\n', 'ok\nundecided 10000\n', 'ok\nambiguous\n.a\naa\n');
-    await bench.stroke([]);
-    while (bench.running) await new Promise((go) => setTimeout(go, 1));
-    assert.deepEqual(posted.slice(1), ['allow 1000\nverdict\n', 'allow 10000\nverdict\n']);
-    assert.equal(bench.state.verdict.splits, 10000);
-    bench.allow(bench.more());
-    while (bench.running) await new Promise((go) => setTimeout(go, 1));
-    assert.equal(posted.at(-1), 'allow 30000\nverdict\n');
-    assert.deepEqual(bench.state.verdict.other, ['.a', 'aa']);
-});
-
-test('a search without a bound is for one picture', async () => {
-    const open = settled.replace('unique\n', 'undecided\n').replace(/unique\n$/, 'undecided 100\n');
-    const steps = [1000, 10000, 99999].map((splits) => `ok\nundecided ${splits}\n`);
-    const { bench, posted } = served(open, ...steps, 'ok\nunique\n', `ok\n${open}`, ...steps);
-    const rest = async () => { while (bench.running) await new Promise((go) => setTimeout(go, 1)); };
-    bench.allow(99999);
-    await bench.stroke([]);
-    await rest();
-    bench.allow(bench.more());
-    await rest();
-    assert.equal(posted.at(-1), 'allow off\nverdict\n');
-    await bench.stroke(['paint 1 1 .']);
-    await rest();
-    assert.equal(posted.at(-1), 'allow 99999\nverdict\n');
-    assert.equal(bench.state.verdict.word, 'undecided');
-});
-
-test('a failed request loses what waits, and says so', async () => {
-    const { bench, seen } = served();
-    await assert.rejects(bench.stroke(['paint 1 1 a']), /500/);
-    assert.match(seen[0].message, /500/);
-});
-
-test('which clues changed', async () => {
-    const more = settled.replace('size 2 2', 'size 3 2').replace('picture\n', 'picture\n..\n').replace('clues\nr 1: 2a\nr 2: 1a\n', 'clues\nr 1: 0\nr 2: 2a\nr 3: 1a\n').replace('map\n', 'map\n..\n');
-    const { bench } = served(settled, `ok\n${more}`);
-    await bench.stroke([]);
-    await bench.stroke(['insert row 1']);
-    assert.deepEqual([[...bench.state.changed.rows], [...bench.state.changed.columns]], [[0], []]);
 });

@@ -1,10 +1,11 @@
 // The texts that a session answers with, as docs/FORMATS.md tells them. No mark ends an answer: which lines are its own
 // follows from the line that asked and, for rows, from the picture's size. So a text is read beside the lines that asked.
 
+const { LETTERS, TextFault, answersTo } = (() => {
 /** A text that no session writes for the lines that asked. */
-export class TextFault extends Error {}
+class TextFault extends Error {}
 
-export const LETTERS = '.abcdefghijklmno';
+const LETTERS = '.abcdefghijklmno';
 const PICTURE_ROW = /^[.a-o]+$/;
 const MAP_ROW = /^[.a-o?]+$/;
 const NUMBER = '(0|[1-9][0-9]*)';
@@ -73,19 +74,34 @@ const must = (holds, what) => {
   if (!holds) throw new TextFault(what);
 };
 
+// Clues by their text, so that those that a stroke leaves as they are need not be read again, and are the same arrays.
+const MOST_KNOWN = 5000;
+const knownClues = new Map();
+
 function blocksOf(text) {
-  if (text === '0') return [];
-  return text.split(' ').map((word) => {
+  const known = knownClues.get(text);
+  if (known) return known;
+  const blocks = text === '0' ? [] : text.split(' ').map((word) => {
     const found = BLOCK.exec(word);
     must(found, `'${word}' is no block`);
     return { length: Number(found[1]), letter: found[2] };
   });
+  if (knownClues.size >= MOST_KNOWN) knownClues.clear();
+  knownClues.set(text, blocks);
+  return blocks;
 }
 
 // Clue lines of one axis, numbered from 1; `count` where it is known.
 function readAxis(reader, letter, count) {
   const clues = [];
   while (count === undefined ? reader.peek().startsWith(`${letter} ${clues.length + 1}: `) : clues.length < count) {
+    const begin = `${letter} ${clues.length + 1}: `;
+    const text = reader.peek().slice(begin.length);
+    if (knownClues.has(text) && reader.peek().startsWith(begin)) {
+      clues.push(blocksOf(text));
+      reader.line();
+      continue;
+    }
     const found = reader.match(CLUE, 'a clue');
     must(found[1] === letter && Number(found[2]) === clues.length + 1, `clue ${letter} ${clues.length + 1} is missing`);
     clues.push(blocksOf(found[3]));
@@ -209,7 +225,7 @@ function sizeBehind(words, answer, size) {
  * The answers in a text to the lines that asked, one for each line with a word. `size` is that of the picture before the
  * first line, or null where it is not known. Throws a TextFault where the text is not one for these lines.
  */
-export function answersTo(lines, text, size = null) {
+function answersTo(lines, text, size = null) {
   const reader = new Reader(text);
   const answers = [];
   for (const line of lines) {
@@ -225,3 +241,6 @@ export function answersTo(lines, text, size = null) {
   must(reader.at === reader.lines.length, 'the text goes on behind the last answer');
   return answers;
 }
+
+return { LETTERS, TextFault, answersTo };
+})();

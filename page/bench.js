@@ -1,236 +1,295 @@
-// The bench behind the page: strokes and questions go to it as lines of a session, one request at a time, and what it
-// answers is all that the page knows.
-import { answersTo } from './answers.js';
+// The document at hand: strokes and questions go to the first worker as lines of a session, one text at a time, and what it
+// answers is all that is shown. Strokes are kept beside it, so that a worker that ended is replaced and nothing is lost.
 
-const MOST_BYTES = 60000; // of a body; the service takes 65,536
-const MOST_LINES = 2000; // of one stroke, some 25 bytes each
-const FIRST_SPLITS = 100; // allowed in the request of a stroke; the rest is searched when nothing else waits
-export const SPLITS = 10000; // what a verdict may take unless it is raised
-export const MOST_SPLITS = 99999; // what a session can be told, but for `off`
+const MOST_LINES = 2000; // of one text
+const MOST_STROKES = 400; // that can be taken back
+const MOST_PAINTED = 400; // commands to paint a document back; where it takes more it is opened anew
+const FIRST_MS = 40; // what a verdict may take in the first worker: the rest is searched in the second
+const FIRST_SPLITS = 100;
 
-/** The commands for a drag: rectangles of touched cells that together have each cell that does not yet have the colour. */
-export function coverOf(touched, picture, letter) {
-  const columns = picture[0].length;
-  const has = (row, col) => row < picture.length && col < columns && touched.has(row * columns + col);
-  const covered = new Set();
-  const wanted = (row, col) => picture[row][col] !== letter && !covered.has(row * columns + col);
-  const each = function* ([top, left, bottom, right]) {
-    for (let row = top; row <= bottom; row++) for (let col = left; col <= right; col++) yield [row, col];
-  };
-  const all = (rectangle) => [...each(rectangle)].every(([row, col]) => has(row, col));
-  const grown = (row, col, across) => {
-    let [bottom, right] = [row, col];
-    const down = () => { while (all([bottom + 1, col, bottom + 1, right])) bottom++; };
-    const aside = () => { while (all([row, right + 1, bottom, right + 1])) right++; };
-    if (across) { aside(); down(); } else { down(); aside(); }
-    return [row, col, bottom, right];
-  };
-  const gain = (rectangle) => [...each(rectangle)].filter(([row, col]) => wanted(row, col)).length;
-  const lines = [];
-  for (const index of [...touched].sort((a, b) => a - b)) {
-    const row = Math.floor(index / columns);
-    const col = index % columns;
-    if (!wanted(row, col)) continue;
-    const [flat, tall] = [grown(row, col, true), grown(row, col, false)];
-    const best = gain(flat) >= gain(tall) ? flat : tall;
-    for (const [r, c] of each(best)) covered.add(r * columns + c);
-    const [top, left, bottom, right] = best.map((place) => place + 1);
-    lines.push(top === bottom && left === right ? `paint ${top} ${left} ${letter}` : `fill ${top} ${left} ${bottom} ${right} ${letter}`);
-  }
-  return lines;
-}
-
-const clueText = (blocks) => blocks.map((block) => block.length + block.letter).join(' ') || '0';
-
-// The numbers of the lines whose clue is another one; where there are more or fewer lines, those between the lines at both
-// ends that are as before.
-function changedLines(before, after) {
-  const [old, now] = [before.map(clueText), after.map(clueText)];
-  if (old.length === now.length) return new Set([...now.keys()].filter((at) => now[at] !== old[at]));
-  const most = Math.min(old.length, now.length);
-  let front = 0;
-  while (front < most && old[front] === now[front]) front++;
-  let back = 0;
-  while (back < most - front && old[old.length - 1 - back] === now[now.length - 1 - back]) back++;
-  return new Set([...now.keys()].filter((at) => at >= front && at < now.length - back));
-}
-
-/** What is shown: the last report, the verdict, and which clues changed. */
-function stateOf(report, verdict, before) {
-  const none = { rows: new Set(), columns: new Set() };
-  const changed = before
-    ? { rows: changedLines(before.clues.rows, report.clues.rows), columns: changedLines(before.clues.columns, report.clues.columns) }
-    : none;
-  const givens = new Set(report.givens.map(([row, col]) => (row - 1) * report.columns + col - 1));
-  return { ...report, givens, changed, verdict };
-}
-
-async function post(lines) {
-  const answer = await fetch('say', {
-    method: 'POST',
-    headers: { 'Content-Type': 'text/plain', 'X-Nonobench': 'say' },
-    body: lines.join('\n') + '\n',
-  });
-  const text = await answer.text();
-  if (!answer.ok) throw new Error(`the service answered ${answer.status}: ${text.trim().slice(0, 200)}`);
-  return text;
-}
-
-export class Bench {
-  /** `hooks.shown` is called with each new state, `hooks.busy` around requests, `hooks.lost` where a request failed. */
-  constructor(hooks) {
-    this.hooks = hooks;
-    this.state = null;
+class Bench {
+  constructor(make = startEngine) {
+    this.make = make;
+    this.engine = null;
+    this.state = null; // what the bench reported last, or null where nothing is open
+    this.name = 'picture'; // of the file, without an ending
+    this.base = null; // {text, format, background, lines}: how the document is opened
+    this.past = []; // strokes: {lines, opens, live, before, after}; `live` where the bench's own history holds it
+    this.future = [];
     this.queue = [];
     this.running = false;
-    this.allowance = SPLITS; // Infinity where there is no bound
-    this.searched = 0;
-    this.undone = { past: [], future: [] }; // how many commands each stroke took
+    this.splits = FIRST_SPLITS;
+    this.isSaved = true;
   }
+
+  // ---- opening
 
   /**
-   * Sends the commands of one stroke; resolves to their answers. No command: the state alone is asked for. `cells` are
-   * those that it paints, with their letters, where it does nothing else.
+   * Opens a document in place of the present one: `base` is {text, format, background, lines}. Rejects with an EngineFault
+   * or TextFault, and then the present one stays. `strokes` are those that `kept` gave.
    */
-  async stroke(lines, way = 'new', cells = null) {
-    const parts = [];
-    for (let at = 0; at === 0 || at < lines.length; at += MOST_LINES) parts.push(this.put({ lines: lines.slice(at, at + MOST_LINES), way, cells, asks: false }));
-    return (await Promise.all(parts)).flat();
+  async open(base, { name = 'picture', strokes = { past: [], future: [] }, isSaved = true } = {}) {
+    const engine = this.make();
+    const opened = { lines: [], ...base };
+    try {
+      const made = await openedIn(engine, opened, strokes);
+      this.engine?.end();
+      for (const item of this.queue.splice(0)) item.resolve([]);
+      Object.assign(this, { engine, name, isSaved, running: false, ...made });
+    } catch (fault) {
+      engine.end();
+      throw fault;
+    }
+    tell('opened', this);
+    this.show(this.state);
+    this.run();
+    return this.state;
   }
 
-  /** Asks something that changes nothing. */
-  ask(line) {
-    return this.put({ lines: [line], asks: true });
+  /** What is to be kept so that the document comes back with its strokes: as JSON takes it. */
+  kept() {
+    const entry = (stroke) => (stroke.opens ? { doc: { ...stroke.after, givens: [...stroke.after.givens] } } : stroke.lines);
+    return { base: this.base, name: this.name, strokes: { past: this.past.map(entry), future: [...this.future].reverse().map(entry) } };
   }
 
-  /** Takes back the last stroke. How many commands it took is known once all before it is answered: `sendStrokes`. */
+  close() {
+    this.engine?.end();
+    for (const item of this.queue.splice(0)) item.resolve([]);
+    Object.assign(this, { engine: null, state: null, base: null, past: [], future: [], running: false, isSaved: true });
+    tell('closed', null);
+  }
+
+  // ---- strokes
+
+  /** The document behind all strokes that wait. */
+  expected() {
+    return this.queue.reduce((doc, item) => item.doc ?? doc, docOf(this.state));
+  }
+
+  /** Sends the commands of one stroke: one undo takes it back. Resolves to their answers. */
+  stroke(lines) {
+    if (!lines.length) return Promise.resolve([]);
+    const before = this.expected();
+    return this.put({ way: 'new', lines, doc: docBehind(before, lines) });
+  }
+
+  /** Makes the document another one, as one stroke: by commands where they can, else it is opened anew. */
+  become(doc) {
+    const lines = linesTo(this.expected(), doc);
+    return lines && lines.length <= MOST_PAINTED ? this.stroke(lines) : this.put({ way: 'become', lines: [], doc: docOf(doc) });
+  }
+
   undo() {
-    return this.put({ lines: ['undo'], way: 'undo', cells: null, asks: false });
+    return this.put({ way: 'undo', lines: [] });
   }
 
   redo() {
-    return this.put({ lines: ['redo'], way: 'redo', cells: null, asks: false });
+    return this.put({ way: 'redo', lines: [] });
   }
 
-  /** Lets the verdict on the present picture take more splits, or as many as before. */
-  allow(splits) {
-    this.allowance = splits;
-    this.run();
+  /** Asks something that changes nothing; resolves to the answer. */
+  async ask(line) {
+    return (await this.put({ way: 'ask', lines: [line] }))[0];
   }
 
-  /** The allowance that the button raises to. */
-  more() {
-    if (this.allowance >= MOST_SPLITS) return Infinity;
-    return Math.min(MOST_SPLITS, this.allowance * 3);
+  /** Takes a verdict from elsewhere, where the picture is still that of `state`. */
+  judged(state, verdict) {
+    if (this.state !== state) return;
+    this.state = { ...state, verdict };
+    tell('judged', this.state);
   }
 
   put(item) {
+    if (!this.state) return Promise.resolve([]);
     const done = new Promise((resolve, reject) => Object.assign(item, { resolve, reject }));
     this.queue.push(item);
+    if (item.way !== 'ask') tell('stroke', item);
     this.run();
     return done;
   }
 
-  isUndecided() {
-    return this.state?.verdict.word === 'undecided' && this.searched < this.allowance;
-  }
+  // ---- sending
 
   async run() {
     if (this.running) return;
     this.running = true;
-    try {
-      while (this.queue.length || this.isUndecided()) {
-        this.hooks.busy(true);
-        if (!this.queue.length) await this.search();
-        else if (this.queue[0].asks) await this.sendQuestion();
-        else await this.sendStrokes();
+    const { engine } = this;
+    tell('busy', true);
+    while ((this.queue.length || this.isUnsearched()) && this.engine === engine) {
+      try {
+        await (this.queue.length ? this.next() : this.search());
+      } catch (fault) {
+        if (this.engine !== engine) return;
+        await this.recover(fault);
+        break;
       }
-    } catch (fault) {
-      for (const item of this.queue.splice(0)) item.reject(fault);
-      this.hooks.lost(fault);
     }
+    if (this.engine !== engine && this.queue.length === 0 && !this.state) return;
     this.running = false;
-    this.hooks.busy(false);
+    tell('busy', false);
+    if (this.queue.length) this.run();
   }
 
-  async sendQuestion() {
-    const item = this.queue[0];
-    const [answer] = answersTo(item.lines, await post(item.lines), this.state);
-    this.queue.shift();
-    item.resolve(answer);
+  isUnsearched() {
+    return this.state?.verdict.word === 'undecided' && this.searched !== this.state.picture;
   }
 
-  // All strokes that wait, as far as one body takes them, and then what is to be shown. The report would judge by itself:
-  // allowed no split it only tells what is known, and the verdict behind it searches a little.
+  // A verdict with as many splits as are made in a moment; more is searched elsewhere.
+  async search() {
+    const { state, splits } = this;
+    const begin = performance.now();
+    const [, verdict] = await this.said([`allow ${splits}`, 'verdict']);
+    const spent = performance.now() - begin;
+    if (verdict.kind === 'refused') throw new EngineFault({ kind: 'memory', text: verdict.name });
+    if (spent > FIRST_MS) this.splits = Math.max(1, Math.floor((splits * FIRST_MS) / spent));
+    else if (verdict.word === 'undecided') this.splits = Math.min(FIRST_SPLITS, splits * 2);
+    this.searched = state.picture;
+    this.judged(state, verdict);
+  }
+
+  async next() {
+    const [item] = this.queue;
+    if (item.way === 'ask') return this.answer(item, await this.said(item.lines));
+    if (item.way === 'new') return this.sendStrokes();
+    if (item.way === 'become') return this.sendBecome(item);
+    return this.sendUndo(item);
+  }
+
+  async said(lines) {
+    return answersTo(lines, await this.engine.say(lines), this.state);
+  }
+
+  answer(item, answers) {
+    const at = this.queue.indexOf(item);
+    if (at >= 0) this.queue.splice(at, 1);
+    item.resolve(answers);
+  }
+
+  // All strokes that wait, as far as one text takes them.
   async sendStrokes() {
     const items = [];
-    let bytes = 0;
+    let count = 0;
     for (const item of this.queue) {
-      bytes += item.lines.reduce((sum, line) => sum + line.length + 1, 0);
-      if (item.asks || (items.length && (bytes > MOST_BYTES || item.way !== 'new' || items.at(-1).way !== 'new'))) break;
+      count += item.lines.length;
+      if (item.way !== 'new' || (items.length && count > MOST_LINES)) break;
       items.push(item);
     }
-    const [{ way }] = items; // an undo or a redo stands alone
-    if (way !== 'new') items[0].lines = Array(this.undone[way === 'undo' ? 'past' : 'future'].at(-1) ?? 1).fill(way);
-    const asked = items.flatMap((item) => item.lines);
-    // A search without a bound holds up all else, so it is for the picture alone for which it was asked.
-    if (asked.length) this.allowance = Math.min(this.allowance, MOST_SPLITS);
-    const lines = [...asked, 'allow 0', 'report', `allow ${FIRST_SPLITS}`, 'verdict'];
-    const answers = answersTo(lines, await post(lines), this.state);
-    const [report, , verdict] = answers.slice(-3);
-    const refused = [report, verdict].find((answer) => answer.kind === 'refused');
-    if (refused) throw new Error(`refused: ${refused.name}`);
-    this.queue.splice(0, items.length);
+    const answers = await this.sent(items.flatMap((item) => item.lines));
     let at = 0;
+    let doc = docOf(this.state);
     for (const item of items) {
-      item.answers = answers.slice(at, (at += item.lines.length));
-      this.count(item);
+      const mine = answers.answers.slice(at, (at += item.lines.length));
+      const lines = item.lines.filter((_, index) => mine[index].kind === 'ok');
+      const before = doc;
+      doc = lines.reduce(mirrored, doc);
+      if (lines.length) this.keep({ lines, live: lines.length <= HISTORY, before, after: doc });
+      item.mine = mine;
     }
-    this.trim(report);
-    this.searched = FIRST_SPLITS;
-    this.state = stateOf(report, verdict, asked.length ? this.state : null);
-    this.hooks.shown(this.state);
-    for (const item of items) item.resolve(item.answers);
+    this.took(answers, doc);
+    for (const item of items) this.answer(item, item.mine);
   }
 
-  // How many commands a stroke took, so that undo takes back strokes and not commands.
-  count(item) {
-    const accepted = item.answers.filter((answer) => answer.kind === 'ok').length;
-    const { past, future } = this.undone;
-    if (!accepted) return;
-    if (item.way === 'undo') {
-      past.pop();
-      future.push(accepted);
-    } else if (item.way === 'redo') {
-      future.pop();
-      past.push(accepted);
-    } else {
-      past.push(accepted);
-      future.length = 0;
-    }
+  // Says commands and asks for what is to be shown; nothing is searched.
+  async sent(lines, way = 'new') {
+    const all = [...lines, 'allow 0', 'report', 'verdict'];
+    tell('sent', { way, lines });
+    const answers = await this.said(all);
+    const [report, verdict] = answers.slice(-2);
+    const refused = [report, verdict].find((one) => one.kind === 'refused');
+    if (refused) throw new EngineFault({ kind: 'memory', text: refused.name });
+    return { answers, report, verdict };
   }
 
-  // The history keeps so many commands and no more: strokes that it lost some of count for what is left.
-  trim(report) {
-    for (const [strokes, length] of [[this.undone.past, report.past], [this.undone.future, report.future]]) {
-      let sum = strokes.reduce((all, one) => all + one, 0);
-      while (sum > length) {
-        const over = Math.min(sum - length, strokes[0]);
-        strokes[0] -= over;
-        sum -= over;
-        if (strokes[0] === 0) strokes.shift();
-      }
+  keep(stroke) {
+    this.past.push(stroke);
+    this.future = [];
+    // The bench's history holds so many commands: older strokes are painted back.
+    let count = 0;
+    for (let at = this.past.length - 1; at >= 0; at--) {
+      count += this.past[at].lines.length;
+      if (count > HISTORY) this.past[at].live = false;
     }
+    while (this.past.length > MOST_STROKES) this.base = baseOf(this.past.shift().after);
   }
 
-  // The verdict alone, with ten times the splits, up to the allowance.
-  async search() {
-    const splits = Math.min(this.allowance, this.searched < MOST_SPLITS ? Math.min(MOST_SPLITS, this.searched * 10) : Infinity);
-    const lines = [`allow ${splits === Infinity ? 'off' : splits}`, 'verdict'];
-    const [, verdict] = answersTo(lines, await post(lines), this.state);
-    if (verdict.kind === 'refused') throw new Error(`refused: ${verdict.name}`);
-    this.searched = splits;
-    this.state = { ...this.state, verdict };
-    this.hooks.shown(this.state);
+  took({ report, verdict }, doc) {
+    const before = this.state;
+    this.state = stateOf(report, verdict, before);
+    if (!sameDoc(doc, this.state)) { // not what was worked out beside it: the report counts
+      for (const stroke of [...this.past, ...this.future]) stroke.live = false;
+      if (this.past.length) this.past.at(-1).after = docOf(this.state);
+    }
+    this.isSaved = false;
+    this.show(this.state);
+  }
+
+  show(state) {
+    tell('shown', state);
+  }
+
+  async sendUndo(item) {
+    const isUndo = item.way === 'undo';
+    const stroke = (isUndo ? this.past : this.future).at(-1);
+    if (!stroke) return this.answer(item, [{ kind: 'refused', name: isUndo ? 'UndoEmpty' : 'RedoEmpty' }]);
+    const doc = isUndo ? stroke.before : stroke.after;
+    if (stroke.live) {
+      const answers = await this.sent(stroke.lines.map(() => item.way), item.way);
+      this.turn(isUndo, stroke);
+      this.took(answers, doc);
+      return this.answer(item, answers.answers.slice(0, 1));
+    }
+    for (const one of [...this.past, ...this.future]) one.live = false;
+    await this.makeDoc(doc, () => this.turn(isUndo, stroke));
+    return this.answer(item, [{ kind: 'ok' }]);
+  }
+
+  turn(isUndo, stroke) {
+    (isUndo ? this.past : this.future).pop();
+    (isUndo ? this.future : this.past).push(stroke);
+  }
+
+  async sendBecome(item) {
+    const before = docOf(this.state);
+    for (const one of [...this.past, ...this.future]) one.live = false;
+    await this.makeDoc(item.doc, () => this.keep({ lines: [], opens: true, live: false, before, after: item.doc }));
+    this.answer(item, [{ kind: 'ok' }]);
+  }
+
+  // Makes the bench's document this one: by commands where a few do, else by opening it.
+  async makeDoc(doc, done) {
+    const lines = linesTo(docOf(this.state), doc);
+    if (lines && lines.length <= MOST_PAINTED) {
+      const answers = await this.sent(lines);
+      done();
+      return this.took(answers, doc);
+    }
+    const base = baseOf(doc);
+    const { state } = await openedIn(this.engine, base, { past: [], future: [] });
+    done();
+    return this.took({ report: { ...state, givens: [...state.givens].map((index) => [Math.floor(index / state.columns) + 1, (index % state.columns) + 1]) }, verdict: state.verdict }, doc);
+  }
+
+  // ---- a worker that ended
+
+  async recover(fault) {
+    const item = this.queue[0];
+    if (item.failed) { // it fails a second time: without it
+      this.queue.shift();
+      item.reject(fault);
+    } else item.failed = true;
+    this.engine.end();
+    this.engine = this.make();
+    try {
+      const { state } = await openedIn(this.engine, baseOf(docOf(this.state)), { past: [], future: [] });
+      for (const one of [...this.past, ...this.future]) one.live = false;
+      this.state = state;
+      tell('recovered', fault);
+      this.show(state);
+    } catch (again) {
+      for (const one of this.queue.splice(0)) one.reject(again);
+      tell('lost', again);
+    }
   }
 }
+
+const bench = new Bench();

@@ -1,0 +1,84 @@
+// The panel 'Fix it' of an ambiguous picture: cells to be given until it is unique, or single cells to be repainted.
+
+let fixPreview = false;
+
+function openFix() {
+  const { state } = bench;
+  if (!state?.verdict.other) return;
+  $('fix').hidden = false;
+  $('fix').replaceChildren(
+    make('h3', {}, 'Fix it'),
+    make('p', {}, 'Give cells: they are printed with the puzzle. Or repaint one cell.'),
+    make('div', { class: 'group' },
+      make('button', { type: 'button', id: 'fix-give', onclick: giveCells }, 'Give cells'),
+      make('button', { type: 'button', id: 'fix-paint', onclick: findRepaints }, 'Find cells to repaint'),
+      make('button', { type: 'button', id: 'fix-close', onclick: closeFix }, 'Close')),
+    make('p', { id: 'fix-said', role: 'status' }),
+    make('ul', { id: 'fix-list', 'aria-label': 'Cells to repaint' }),
+  );
+  $('fix-give').focus();
+}
+
+function closeFix() {
+  if ($('fix')) $('fix').hidden = true;
+  showPreview(null);
+}
+
+const fixSays = (text) => { if ($('fix-said')) $('fix-said').textContent = text; };
+
+// Gives cells in which the pictures differ, as one stroke.
+async function giveCells() {
+  const { state } = bench;
+  fixSays('');
+  const version = searches.version;
+  const given = await searches.job('Looking for cells to give', secondsChosen(), (copy) => givensFor(copy, state, state.verdict.other));
+  if (version !== searches.version) return;
+  if (!given) {
+    fixSays('No cells were found in this time. A longer time may find some.');
+    return;
+  }
+  await bench.stroke(given.map((index) => `pin ${placeOf(state, index)}`));
+  say(`${many(given.length, 'cell')} given. One undo takes ${given.length === 1 ? 'it' : 'them'} back.`);
+}
+
+// Lists single cells whose repaint makes the picture unique.
+async function findRepaints() {
+  const { state } = bench;
+  const version = searches.version;
+  $('fix-list').replaceChildren();
+  fixSays('');
+  const found = await searches.job('Looking for cells to repaint', secondsChosen(), (copy) => repaintsFor(copy, state, state.verdict.other, (one) => listRepaint(state, one)));
+  if (version !== searches.version) return;
+  fixSays(found?.length ? `${many(found.length, 'repaint')} found. Point at one to see it, choose it to paint it.` : 'No single repaint was found in this time.');
+}
+
+function listRepaint(state, one) {
+  const { index, letter } = one;
+  const [row, col] = [Math.floor(index / state.columns), index % state.columns];
+  const before = state.picture[row][col];
+  const show = () => showPreview(one);
+  const button = make('button', { type: 'button', onclick: () => paintRepaint(state, one), onpointerenter: show, onfocus: show, onpointerleave: () => showPreview(null), onblur: () => showPreview(null) },
+    `Row ${row + 1}, column ${col + 1}: `, fixChip(state, before), ' to ', fixChip(state, letter));
+  $('fix-list').append(make('li', {}, button));
+}
+
+function fixChip(state, letter) {
+  const triple = state.colours[LETTERS.indexOf(letter)];
+  const chip = make('span', { class: 'chip' }, letter === '.' ? 'background' : letter);
+  chip.style.background = cssOf(triple, state.maxval);
+  chip.style.color = inkOn(triple, state.maxval);
+  return chip;
+}
+
+/** Shows a cell with a colour that it does not have, or takes that back. */
+function showPreview(one) {
+  if (one) sheet.reveal(Math.floor(one.index / bench.state.columns), one.index % bench.state.columns);
+  if (one || fixPreview) sheet.preview(one ? new Map([[one.index, one.letter]]) : null);
+  fixPreview = one !== null;
+}
+
+async function paintRepaint(state, { index, letter }) {
+  showPreview(null);
+  await bench.stroke([`paint ${placeOf(state, index)} ${letter}`]);
+  say('Repainted. One undo takes it back.');
+}

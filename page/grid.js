@@ -1,0 +1,133 @@
+// The cell that the keyboard is at: a grid of one cell for screen readers, arrows that move and draw, and the clues of the
+// lines that are pointed at, whole, where the strips show them in part.
+
+const cursor = { row: 0, col: 0 };
+const gridCells = [0, 1].map((at) => make('div', { role: 'gridcell', class: 'cell', tabindex: at ? '-1' : '0', 'aria-describedby': 'row-clue column-clue' }));
+const grid = make('div', { id: 'grid', role: 'grid', 'aria-label': 'Picture' }, ...gridCells.map((cell) => make('div', { role: 'row' }, cell)));
+const wholes = { r: make('div', { class: 'whole clue', 'aria-hidden': 'true', hidden: true }), c: make('div', { class: 'whole clue', 'aria-hidden': 'true', hidden: true }) };
+const gridCell = () => gridCells[0];
+
+/** The clue of a line as chips behind a name. */
+function clueInto(element, name, blocks) {
+  const chips = blocks.map((block) => {
+    const chip = make('span', { class: 'chip' }, `${block.length}${sheet.geometry.letters ? block.letter : ''}`);
+    dress(chip, block.letter);
+    return chip;
+  });
+  element.replaceChildren(make('b', {}, name), ...chips, ...(blocks.length ? [] : ['0']));
+  element.setAttribute('aria-label', `${name}: ${blocks.map((block) => `${block.length} ${wordOf(block.letter)}`).join(', ') || 'empty'}`);
+}
+
+/** What is known of a cell, in words. */
+function cellText(row, col) {
+  const { state } = bench;
+  const index = row * state.columns + col;
+  const rival = sheet.rivalAt(row, col);
+  return [
+    `Row ${row + 1}, column ${col + 1}: ${colourText(sheet.letterAt(row, col))}`,
+    sheet.isOpen(row, col) ? 'needs guessing' : 'settled',
+    ...(state.givens.has(index) ? ['given'] : []),
+    ...(rival ? [`${sheet.other ? 'your' : 'the other'} picture has ${colourText(rival)}`] : []),
+  ].join('; ');
+}
+
+/** Moves the cursor; with `focus` the keyboard's focus goes along, to the other of two cells, so that each move is read out. */
+function moveCursor(row, col, focus = false) {
+  const { state } = bench;
+  Object.assign(cursor, { row: clamp(row, 0, state.rows - 1), col: clamp(col, 0, state.columns - 1) });
+  if (focus) {
+    gridCells.reverse();
+    sheet.reveal(cursor.row, cursor.col);
+  }
+  labelCursor();
+  tell('cursor', { ...cursor });
+  if (!focus) return;
+  gridCells[0].tabIndex = 0;
+  gridCells[0].parentElement.hidden = false;
+  gridCells[0].focus({ preventScroll: true });
+  gridCells[1].tabIndex = -1;
+  gridCells[1].parentElement.hidden = true;
+}
+
+function labelCursor() {
+  const { state } = bench;
+  if (!state) return;
+  const [cell, { row, col }] = [gridCells[0], cursor];
+  grid.setAttribute('aria-rowcount', state.rows);
+  grid.setAttribute('aria-colcount', state.columns);
+  cell.setAttribute('aria-label', cellText(row, col));
+  cell.setAttribute('aria-colindex', col + 1);
+  cell.parentElement.setAttribute('aria-rowindex', row + 1);
+  sheet.placeCursor();
+}
+
+// The clues of two lines stand whole beside them where the strips do not show them so.
+function showWholes(at) {
+  for (const [axis, line] of [['r', at?.row], ['c', at?.col]]) {
+    const box = wholes[axis];
+    const isShown = at !== null && sheet.state && (axis === 'r' ? at.part !== 'column' : at.part !== 'row') && sheet.strips.isCut(sheet, axis, line);
+    if (!isShown) {
+      box.hidden = true;
+      box.dataset.line = '';
+      continue;
+    }
+    const { geometry } = sheet;
+    const blocks = sheet.clues[axis === 'r' ? 'rows' : 'columns'][line];
+    const key = `${line} ${clueText(blocks)}`;
+    if (box.dataset.line !== key) clueInto(box, axis === 'r' ? `Row ${line + 1}` : `Column ${line + 1}`, blocks);
+    box.dataset.line = key;
+    box.hidden = false;
+    const place = axis === 'r' ? [4, clamp(geometry.y(line) / geometry.scale - 6, 4, geometry.height / geometry.scale - 40)]
+      : [clamp(geometry.x(line) / geometry.scale - 40, 4, geometry.width / geometry.scale - 260), 4];
+    box.style.transform = `translate(${place[0]}px, ${place[1]}px)`;
+    box.style.maxWidth = axis === 'r' ? `${Math.max(150, geometry.x(at.col) / geometry.scale - 30)}px` : '250px';
+  }
+}
+
+const STEPS = { ArrowUp: [-1, 0], ArrowDown: [1, 0], ArrowLeft: [0, -1], ArrowRight: [0, 1], PageUp: [-10, 0], PageDown: [10, 0], Home: [0, -120], End: [0, 120] };
+const DRAWING = new Set(['pencil', 'pin', 'line', 'rectangle', 'box', 'select']);
+
+function gridKey(event) {
+  if (!bench.state || event.altKey || event.metaKey) return;
+  const step = STEPS[event.key];
+  if (step) {
+    event.preventDefault();
+    const far = event.ctrlKey ? 120 : 1;
+    const isCorner = event.ctrlKey && (event.key === 'Home' || event.key === 'End');
+    if (event.shiftKey && DRAWING.has(tools.name) && !tools.drag) beginDrag({ ...cursor });
+    moveCursor(cursor.row + (isCorner ? step[1] : step[0]) * far, cursor.col + step[1] * far, true);
+    if (tools.drag) alongDrag({ ...cursor });
+    return;
+  }
+  if (event.ctrlKey || (event.key !== ' ' && event.key !== 'Enter')) return;
+  event.preventDefault();
+  if (event.key === ' ') return; // at its end: held down it pans
+  event.stopPropagation();
+  if (selection.rows && !tools.drag) setDown();
+  else useAtCursor();
+}
+
+// The tool at the cursor: a dot, or the beginning or end of a shape.
+function useAtCursor() {
+  if (tools.drag) return void endDrag();
+  beginDrag({ ...cursor });
+  if (tools.drag && (tools.name === 'pencil' || tools.name === 'pin')) endDrag();
+}
+
+function gridKeyUp(event) {
+  if (event.key === 'Shift' && tools.drag) endDrag();
+  if (event.key === ' ' && !space.pans && bench.state) useAtCursor();
+}
+
+/** Puts the grid over the sheet and hears its keys. */
+function makeGrid() {
+  sheet.view.append(grid, wholes.r, wholes.c);
+  gridCells[1].parentElement.hidden = true;
+  sheet.placeCursor = () => sheet.place(gridCells[0], cursor.row, cursor.col);
+  grid.addEventListener('keydown', gridKey);
+  grid.addEventListener('keyup', gridKeyUp);
+  on('shown', () => moveCursor(cursor.row, cursor.col));
+  on('judged', labelCursor);
+  on('pointed', showWholes);
+  on('moved', () => showWholes(null));
+}

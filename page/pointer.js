@@ -1,0 +1,168 @@
+// Pointers over the sheet: one paints, two pan and pinch, the wheel zooms, Space or the middle button pans, the right button
+// or Alt takes the colour of a cell, and a clue that is dragged to another one exchanges the two lines.
+
+const pointers = new Map(); // that are down: id to {x, y}
+let pinch = null;
+let panning = null;
+const space = { isDown: false, pans: false };
+
+const placeOfEvent = (event) => ({ x: event.clientX, y: event.clientY });
+
+function twoFingers() {
+  const [one, other] = [...pointers.values()];
+  return { x: (one.x + other.x) / 2, y: (one.y + other.y) / 2, far: Math.hypot(one.x - other.x, one.y - other.y) };
+}
+
+function panBy(dx, dy) {
+  sheet.geometry.isFitted = false;
+  sheet.geometry.pan(dx * sheet.geometry.scale, dy * sheet.geometry.scale);
+  sheet.redrawAll();
+}
+
+// Zooms at a point of the window.
+function zoomAt(cell, x, y) {
+  const box = sheet.view.getBoundingClientRect();
+  const { geometry } = sheet;
+  if (geometry.zoom(cell, (x - box.left) * geometry.scale, (y - box.top) * geometry.scale)) sheet.redrawAll();
+}
+
+/** Zooms by some steps, at the middle. */
+function zoomBy(steps) {
+  const { geometry } = sheet;
+  let { cell } = geometry;
+  for (let step = 0; step < Math.abs(steps); step++) cell += Math.sign(steps) * Math.max(1, Math.round(cell / 6));
+  if (geometry.zoom(cell)) sheet.redrawAll();
+}
+
+function pinchTo() {
+  const now = twoFingers();
+  panBy(pinch.x - now.x, pinch.y - now.y);
+  const wanted = (pinch.cell * now.far) / Math.max(1, pinch.from);
+  if (Math.abs(wanted - sheet.geometry.cell) >= 1) zoomAt(wanted, now.x, now.y);
+  Object.assign(pinch, { x: now.x, y: now.y });
+}
+
+function pointerDown(event) {
+  if (!bench.state || event.target.closest('button')) return;
+  event.preventDefault();
+  document.activeElement?.blur?.();
+  sheet.view.setPointerCapture(event.pointerId);
+  pointers.set(event.pointerId, placeOfEvent(event));
+  if (pointers.size === 2) {
+    dropDrag();
+    sheet.held = null;
+    const at = twoFingers();
+    pinch = { ...at, from: at.far, cell: sheet.geometry.cell };
+    return;
+  }
+  if (pointers.size > 2) return;
+  if (space.isDown || event.button === 1) {
+    panning = placeOfEvent(event);
+    space.pans = true;
+    sheet.view.classList.add('panning');
+    return;
+  }
+  const at = sheet.under(event);
+  if (at.part === 'none') return tools.name === 'select' && !event.shiftKey ? void setDown() : undefined;
+  if (at.part !== 'cell') return holdLine(at);
+  moveCursor(at.row, at.col);
+  gridCell().focus({ preventScroll: true, focusVisible: false });
+  if (event.button === 2 || event.altKey) return useColour(sheet.letterAt(at.row, at.col));
+  beginDrag({ row: at.row, col: at.col });
+}
+
+function holdLine(at) {
+  const isRow = at.part === 'row';
+  moveCursor(isRow ? at.row : cursor.row, isRow ? cursor.col : at.col);
+  const line = isRow ? at.row : at.col;
+  sheet.held = { axis: isRow ? 'r' : 'c', word: at.part, from: line, to: line };
+  sheet.redrawAll();
+}
+
+function pointerMove(event) {
+  if (!bench.state) return;
+  if (pointers.has(event.pointerId)) pointers.set(event.pointerId, placeOfEvent(event));
+  if (pinch) return pointers.size === 2 ? pinchTo() : undefined;
+  if (panning) {
+    panBy(panning.x - event.clientX, panning.y - event.clientY);
+    panning = placeOfEvent(event);
+    return;
+  }
+  const at = sheet.under(event);
+  sheet.view.classList.toggle('over-clue', at.part === 'row' || at.part === 'column');
+  if (sheet.held) return dragLine(at);
+  if (tools.drag) {
+    const last = tools.drag.last ?? tools.drag.from;
+    if (at.row === last.row && at.col === last.col) return;
+    tools.drag.last = { row: at.row, col: at.col };
+    alongDrag({ row: at.row, col: at.col });
+    moveCursor(at.row, at.col);
+    tell('pointed', { ...at, part: 'cell' });
+    return;
+  }
+  tell('pointed', at.part === 'none' ? null : at);
+}
+
+function dragLine(at) {
+  const line = sheet.held.axis === 'r' ? at.row : at.col;
+  if (line === sheet.held.to) return;
+  sheet.held.to = line;
+  sheet.redrawAll();
+}
+
+function pointerUp(event) {
+  pointers.delete(event.pointerId);
+  if (pinch) {
+    if (!pointers.size) pinch = null;
+    return;
+  }
+  if (panning) {
+    panning = null;
+    sheet.view.classList.remove('panning');
+    return;
+  }
+  const { held } = sheet;
+  if (event.pointerType === 'touch') tell('pointed', null);
+  if (!held) return void endDrag();
+  sheet.held = null;
+  sheet.redrawAll();
+  if (held.from !== held.to) sendStroke([`swap ${held.word} ${held.from + 1} ${held.to + 1}`]);
+}
+
+function pointerLost(event) {
+  pointers.delete(event.pointerId);
+  if (!pointers.size) pinch = panning = null;
+  sheet.held = null;
+  dropDrag();
+}
+
+/** Hears pointers, wheel and Space on the sheet. */
+function hearPointers() {
+  const { view } = sheet;
+  view.addEventListener('contextmenu', (event) => event.preventDefault());
+  view.addEventListener('pointerdown', pointerDown);
+  view.addEventListener('pointermove', pointerMove);
+  view.addEventListener('pointerup', pointerUp);
+  view.addEventListener('pointercancel', pointerLost);
+  view.addEventListener('pointerleave', () => tell('pointed', null));
+  view.addEventListener('wheel', (event) => {
+    if (!bench.state) return;
+    event.preventDefault();
+    if (event.shiftKey) return panBy(event.deltaY || event.deltaX, 0);
+    const { cell } = sheet.geometry;
+    const way = event.deltaY < 0 ? 1 : -1;
+    if (event.deltaX && !event.deltaY) return panBy(event.deltaX, 0);
+    zoomAt(cell + way * Math.max(1, Math.round(cell / 8)), event.clientX, event.clientY);
+  }, { passive: false });
+  addEventListener('keydown', (event) => {
+    if (event.key !== ' ' || isTyping(event.target) || event.target.closest?.('button, summary, dialog')) return;
+    if (!event.repeat) Object.assign(space, { isDown: true, pans: false });
+    if (event.target === document.body) event.preventDefault();
+    sheet.view.classList.add('may-pan');
+  });
+  addEventListener('keyup', (event) => {
+    if (event.key !== ' ') return;
+    space.isDown = false;
+    sheet.view.classList.remove('may-pan');
+  });
+}

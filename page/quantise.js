@@ -1,0 +1,208 @@
+// Few colours for an image of cells: boxes of colours cut where they spread most (Heckbert's median cut, 1982, cut at the mean),
+// then a little k-means (Lloyd). Distances are taken in Oklab (Ottosson, 2020), where equal steps look equal.
+
+const KMEANS_ROUNDS = 8;
+const BIN = 0.03; // a side of the boxes of Oklab in which colours are taken as one
+
+function oklabOf(red, green, blue) {
+  const [r, g, b] = [LIGHT_OF[red], LIGHT_OF[green], LIGHT_OF[blue]];
+  const l = Math.cbrt(0.4122214708 * r + 0.5363325363 * g + 0.0514459929 * b);
+  const m = Math.cbrt(0.2119034982 * r + 0.6806995451 * g + 0.1073969566 * b);
+  const s = Math.cbrt(0.0883024619 * r + 0.2817188376 * g + 0.6299787005 * b);
+  return [
+    0.2104542553 * l + 0.793617785 * m - 0.0040720468 * s,
+    1.9779984951 * l - 2.428592205 * m + 0.4505937099 * s,
+    0.0259040371 * l + 0.7827717662 * m - 0.8086757660 * s,
+  ];
+}
+
+const keyOf = (data, at) => (data[at] << 16) | (data[at + 1] << 8) | data[at + 2];
+const tripleOfKey = (key) => [key >> 16, (key >> 8) & 255, key & 255];
+
+/** The colours of the pixels that are not transparent, each with its place in Oklab and how many pixels have it. */
+function spotsOf({ data }) {
+  const spots = new Map();
+  for (let at = 0; at < data.length; at += 4) {
+    if (isTransparent(data, at)) continue;
+    const key = keyOf(data, at);
+    const spot = spots.get(key);
+    if (spot) spot.weight++;
+    else spots.set(key, { key, triple: tripleOfKey(key), lab: oklabOf(...tripleOfKey(key)), weight: 1 });
+  }
+  return [...spots.values()];
+}
+
+// The axis along which spots spread most, their mean there, and how much they spread, by weight.
+function spreadOf(spots) {
+  const weight = spots.reduce((sum, spot) => sum + spot.weight, 0);
+  let best = { spread: -1 };
+  for (let axis = 0; axis < 3; axis++) {
+    const mean = spots.reduce((sum, { lab, weight: many }) => sum + many * lab[axis], 0) / weight;
+    const spread = spots.reduce((sum, { lab, weight: many }) => sum + many * (lab[axis] - mean) ** 2, 0);
+    if (spread > best.spread) best = { axis, mean, spread };
+  }
+  return best;
+}
+
+function cutBoxes(spots, most) {
+  const boxes = [{ spots, ...spreadOf(spots) }];
+  while (boxes.length < most) {
+    const at = boxes.reduce((best, box, index) => (box.spots.length > 1 && (best < 0 || box.spread > boxes[best].spread) ? index : best), -1);
+    if (at < 0) break;
+    const { spots: all, axis, mean } = boxes[at];
+    let sides = [all.filter(({ lab }) => lab[axis] < mean), all.filter(({ lab }) => lab[axis] >= mean)];
+    if (!sides[0].length || !sides[1].length) sides = [all.slice(0, 1), all.slice(1)]; // alike but for rounding
+    boxes.splice(at, 1, ...sides.map((side) => ({ spots: side, ...spreadOf(side) })));
+  }
+  return boxes.map((box) => box.spots);
+}
+
+const farness = (one, two) => (one[0] - two[0]) ** 2 + (one[1] - two[1]) ** 2 + (one[2] - two[2]) ** 2;
+
+function nearestOf(labs, lab) {
+  let best = 0;
+  for (let at = 1; at < labs.length; at++) if (farness(labs[at], lab) < farness(labs[best], lab)) best = at;
+  return best;
+}
+
+const meanOf = (spots, field) => {
+  const weight = spots.reduce((sum, spot) => sum + spot.weight, 0);
+  return [0, 1, 2].map((axis) => spots.reduce((sum, spot) => sum + spot.weight * spot[field][axis], 0) / weight);
+};
+
+// Like colours as one spot. Its weight grows more slowly than its pixels, so that a wide sky does not take all colours.
+function gatheredSpots(spots) {
+  const bins = new Map();
+  for (const spot of spots) {
+    const key = spot.lab.map((place) => Math.round(place / BIN)).join();
+    if (bins.has(key)) bins.get(key).push(spot);
+    else bins.set(key, [spot]);
+  }
+  return [...bins.values()].map((bin) => ({ lab: meanOf(bin, 'lab'), triple: meanOf(bin, 'triple'), weight: Math.sqrt(weightOf(bin)) }));
+}
+
+/** At most so many triples that stand well for an image's colours; its own ones where there are no more than that. */
+function paletteFor(image, most) {
+  const all = spotsOf(image);
+  if (all.length <= most) return all.sort((a, b) => b.weight - a.weight).map((spot) => spot.triple);
+  const gathered = gatheredSpots(all);
+  const spots = gathered.length > most ? gathered : all;
+  let groups = cutBoxes(spots, most);
+  for (let round = 0; round < KMEANS_ROUNDS; round++) {
+    const centres = groups.map((group) => meanOf(group, 'lab'));
+    const next = centres.map(() => []);
+    for (const spot of spots) next[nearestOf(centres, spot.lab)].push(spot);
+    const kept = next.filter((group) => group.length);
+    const still = kept.length === groups.length && kept.every((group, at) => group.length === groups[at].length);
+    groups = kept;
+    if (still) break;
+  }
+  const triples = new Map();
+  for (const group of groups.sort((a, b) => weightOf(b) - weightOf(a))) {
+    const triple = meanOf(group, 'triple').map(Math.round);
+    triples.set(triple.join(), triple);
+  }
+  return [...triples.values()];
+}
+const weightOf = (spots) => spots.reduce((sum, spot) => sum + spot.weight, 0);
+
+/** For each pixel the number of the nearest triple, or -1 where it is transparent. */
+function numbersFor({ data }, palette) {
+  const labs = palette.map((triple) => oklabOf(...triple));
+  const known = new Map();
+  return Int8Array.from({ length: data.length / 4 }, (_, index) => {
+    const at = index * 4;
+    if (isTransparent(data, at)) return -1;
+    const key = keyOf(data, at);
+    if (!known.has(key)) known.set(key, nearestOf(labs, oklabOf(...tripleOfKey(key))));
+    return known.get(key);
+  });
+}
+
+/** How light a triple looks, from 0 to 255. */
+const lightness = ([red, green, blue]) => 255 * oklabOf(red, green, blue)[0];
+
+/** The lightness at which an image falls best into dark and light (Otsu, 1979), from 1 to 255. */
+function thresholdFor(image) {
+  const counts = Array(256).fill(0);
+  for (const { triple, weight } of spotsOf(image)) counts[Math.min(255, Math.floor(lightness(triple)))] += weight;
+  const all = counts.reduce((sum, count) => sum + count, 0);
+  const total = counts.reduce((sum, count, at) => sum + at * count, 0);
+  let [best, most, below, sum] = [128, -1, 0, 0];
+  for (let at = 1; at < 256; at++) {
+    below += counts[at - 1];
+    sum += (at - 1) * counts[at - 1];
+    if (!below || below === all) continue;
+    const between = below * (all - below) * (sum / below - (total - sum) / (all - below)) ** 2;
+    if (between > most) [best, most] = [at, between];
+  }
+  return best;
+}
+
+// For each cell the number that most of its part has; of those that are even, that of its mean where it is one of them.
+function mostOf(fine, times, means, columns) {
+  return means.map((mean, index) => {
+    const counts = new Map();
+    const first = Math.floor(index / columns) * times * columns * times + (index % columns) * times;
+    for (let at = 0; at < times * times; at++) {
+      const one = fine[first + Math.floor(at / times) * columns * times + (at % times)];
+      counts.set(one, (counts.get(one) ?? 0) + 1);
+    }
+    const most = Math.max(...counts.values());
+    return counts.get(mean) === most ? mean : [...counts].find(([, count]) => count === most)[0];
+  });
+}
+
+// Which number most cells of the border have; -1 is transparent.
+function borderNumber(numbers, columns, rows) {
+  const counts = new Map();
+  numbers.forEach((one, index) => {
+    const [row, col] = [Math.floor(index / columns), index % columns];
+    if (row === 0 || col === 0 || row === rows - 1 || col === columns - 1) counts.set(one, (counts.get(one) ?? 0) + 1);
+  });
+  return [...counts].sort((a, b) => b[1] - a[1])[0][0];
+}
+
+// A background for what is transparent: the first of some plain colours that stands well apart from all others.
+function apartFrom(palette) {
+  const labs = palette.map((triple) => oklabOf(...triple));
+  const tries = [[255, 255, 255], [224, 224, 224], [0, 0, 0], [160, 200, 230], [120, 120, 120], [230, 210, 170], [60, 60, 90]];
+  const gap = (triple) => Math.min(...labs.map((lab) => farness(lab, oklabOf(...triple))), 9);
+  return tries.find((triple) => gap(triple) > 0.005) ?? tries.reduce((best, triple) => (gap(triple) > gap(best) ? triple : best));
+}
+
+/**
+ * An image of cells as a document. `options`: `colours` 2 to 16 with the background; `threshold` 1 to 255 for dark and light
+ * alone, where `inverted` makes light the drawn one; `background` a triple of the palette, or null to choose: what is
+ * transparent, else what most of the border has. `fine` is the same image with some times as many pixels a side: a cell then
+ * has the colour that most of its part has, so that edges stay clean. `points` are single pixels of it, whose colours are no
+ * means across edges: the palette is found for these.
+ */
+function docOfCells(image, options, { fine = null, points = image } = {}) {
+  const { width: columns, height: rows, data } = image;
+  const clear = data.some((sample, at) => at % 4 === 3 && sample < 128);
+  let [palette, numbers] = [[], null];
+  if (options.threshold) {
+    palette = options.inverted ? [[0, 0, 0], [255, 255, 255]] : [[255, 255, 255], [0, 0, 0]];
+    numbers = numbersFor(image, palette).map((one, index) => (one < 0 ? -1 : +((lightness([...data.subarray(index * 4, index * 4 + 3)]) < options.threshold) !== Boolean(options.inverted))));
+    return docOfNumbers(numbers.map((one) => Math.max(0, one)), palette, columns, rows);
+  }
+  palette = paletteFor(points, clear ? options.colours - 1 : options.colours);
+  numbers = numbersFor(image, palette);
+  if (fine) numbers = mostOf(numbersFor(fine, palette), fine.width / columns, numbers, columns);
+  let ground = options.background ? palette.findIndex((triple) => String(triple) === String(options.background)) : -1;
+  if (clear || !palette.length) {
+    const triple = ground < 0 && options.background && !palette.some((one) => String(one) === String(options.background)) ? options.background : apartFrom(palette);
+    const used = [...palette.keys()].filter((one) => numbers.includes(one));
+    return docOfNumbers(numbers.map((one) => used.indexOf(one) + 1), [triple, ...used.map((one) => palette[one])], columns, rows);
+  }
+  if (ground < 0) ground = borderNumber(numbers, columns, rows);
+  const used = new Set(numbers);
+  const order = [ground, ...palette.keys()].filter((one, at, all) => all.indexOf(one) === at && (at === 0 || used.has(one)));
+  return docOfNumbers(numbers.map((one) => order.indexOf(one)), order.map((one) => palette[one]), columns, rows);
+}
+
+function docOfNumbers(numbers, colours, columns, rows) {
+  const picture = Array.from({ length: rows }, (_, row) => Array.from(numbers.subarray(row * columns, (row + 1) * columns), (one) => LETTERS[one]).join(''));
+  return { rows, columns, maxval: 255, colours, picture, givens: new Set() };
+}

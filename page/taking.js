@@ -1,0 +1,156 @@
+// Files that come in by choice, drop or paste: read by the browser alone, bounded, and opened as documents. A picture with too
+// many cells or colours goes through the dialog of importing.js.
+
+const TAKEN_KINDS = '.ppm,.pnm,.non,.xml,.png,.jpg,.jpeg,.gif,.webp,image/png,image/jpeg,image/gif,image/webp';
+const bareName = (name) => (name ?? '').replace(/\.[A-Za-z0-9]{1,5}$/, '').replace(/[\u0000-\u001f\\/:*?"<>|]/g, ' ').trim().slice(0, 80) || 'picture';
+
+/**
+ * Opens what is kept or made, in place of the present document, and keeps it under a name of its own. `base` is how the
+ * bench opens it. Answers whether it is open; what is refused is told.
+ */
+async function openBase(base, { name, isSaved = true, id = null, about = {}, strokes, handle = null, form = 'ppm', isBlank = false }) {
+  keep.isPaused = true;
+  try {
+    await bench.open(base, { name, strokes, isSaved });
+  } catch (fault) {
+    say(`${name} is not opened: ${faultText(fault)}`, 'alarm');
+    return false;
+  } finally {
+    keep.isPaused = false;
+  }
+  if (base.format === 'non') bench.base = baseOf(docOf(bench.state)); // what was searched for once is not searched for again
+  saving.handle = handle;
+  saving.form = form;
+  await keep.begin(id, about, isBlank);
+  showFileName();
+  return true;
+}
+
+const openDoc = (doc, how) => openBase(baseOf(doc), how);
+const OPEN_FAULTS = { BadSize: 'its width or height is not from 1 to 120', BadCount: 'it has too few or too many clues', BadClue: 'a clue is no list of numbers', ClueTooLong: 'a clue is longer than its line', BadGoal: 'its goal does not fit its size', GoalDisagrees: 'its goal has other clues', MissingSize: 'it has no width or height', Repeated: 'a part of it stands there twice' };
+
+/** What a fault says to the user, without names of the bench's own. */
+function faultText(fault) {
+  if (fault instanceof FileFault) return fault.message;
+  const text = String(fault?.text ?? fault?.message ?? fault);
+  if (/memory/i.test(text) || fault?.kind === 'memory') return 'there is not enough memory for it';
+  if (/no picture has these clues/.test(text)) return 'no picture has these clues';
+  const name = Object.keys(OPEN_FAULTS).find((one) => text.includes(one));
+  return name ? OPEN_FAULTS[name] : text.replace(/^nonobench: /, '').slice(0, 200);
+}
+
+/** Takes a file (or a blob that was pasted); `handle` is the browser's own for writing it again. */
+async function takeFile(file, handle = null) {
+  try {
+    if (file.size > MOST_BYTES_READ) throw new FileFault('it has more than 16 MiB');
+    if (bench.state && !keep.isKept && !bench.isSaved && !(await confirmDialog('Open another picture', `${bench.name} is in no file, and the browser does not keep it. It would be lost.`, 'Open'))) return false;
+    const bytes = new Uint8Array(await file.arrayBuffer());
+    return await takeBytes(bytes, file, handle);
+  } catch (fault) {
+    say(`${file.name ?? 'What was pasted'} is not opened: ${faultText(fault)}`, 'alarm');
+    return false;
+  }
+}
+
+async function takeBytes(bytes, file, handle) {
+  const kind = kindOfFile(bytes);
+  const name = bareName(file.name);
+  if (kind === 'ppm') return takePpm(bytes, name, handle);
+  if (kind === 'xml') return takeXml(new TextDecoder().decode(bytes), name, handle);
+  if (kind === 'non') return takeNon(bytes, name, handle);
+  if (kind === null) throw new FileFault('It is no picture and no puzzle that this page reads.');
+  return importImage(await imageOfFile(file, bytes, kind), name);
+}
+
+async function takePpm(bytes, name, handle) {
+  const image = readPpm(bytes);
+  const text = bytes[1] === 51 ? new TextDecoder('latin1').decode(bytes) : '';
+  const doc = docOfNotes(text, image) ?? docOfImage(image);
+  return doc ? openDoc(doc, { name, handle: text ? handle : null }) : importImage(image, name);
+}
+
+async function takeXml(text, name, handle) {
+  const { doc, non, about } = readWebpbn(text);
+  if (non) return openNon(non, name, about);
+  return openDoc(doc, { name, about, handle, form: 'xml' });
+}
+
+function takeNon(bytes, name, handle) {
+  const text = new TextDecoder().decode(bytes);
+  const title = /^[ \t]*title[ \t]+"?([^"\n\r]*)/m.exec(text)?.[1].trim() ?? '';
+  return openNon(bytes, name, { title }, handle);
+}
+
+async function openNon(text, name, about, handle = null) {
+  say(`Opening ${name} …`);
+  const isOpen = await openBase({ text, format: 'non', background: null, lines: [] }, { name, about, handle, form: 'non' });
+  if (isOpen) say('');
+  return isOpen;
+}
+
+/** The pixels of an image file, after the size in its head was looked at. */
+async function imageOfFile(file, bytes, kind) {
+  const size = sizeOfImage(bytes, kind);
+  if (!size) throw new FileFault('Its head tells no size.');
+  boundSides(...size);
+  let bitmap;
+  try {
+    bitmap = await createImageBitmap(file instanceof Blob && file.type ? file : new Blob([bytes], { type: `image/${kind}` }));
+  } catch {
+    throw new FileFault('The browser does not read this picture.');
+  }
+  boundSides(bitmap.width, bitmap.height); // a photo that was turned has its sides the other way round
+  const pen = penOf(bitmap.width, bitmap.height);
+  pen.drawImage(bitmap, 0, 0);
+  bitmap.close();
+  const { data } = pen.getImageData(0, 0, pen.canvas.width, pen.canvas.height);
+  return { width: pen.canvas.width, height: pen.canvas.height, data };
+}
+
+const penOf = (width, height) => Object.assign(document.createElement('canvas'), { width, height }).getContext('2d', { willReadFrequently: true });
+
+/** Lets the user choose a file, with a handle to write it again where the browser gives one. */
+async function chooseFile() {
+  if (globalThis.showOpenFilePicker) {
+    try {
+      const [handle] = await showOpenFilePicker();
+      return takeFile(await handle.getFile(), handle);
+    } catch (fault) {
+      if (fault.name === 'AbortError') return false;
+    }
+  }
+  const input = make('input', { type: 'file', accept: TAKEN_KINDS });
+  input.addEventListener('change', () => input.files[0] && takeFile(input.files[0]));
+  input.click();
+  return true;
+}
+
+/** Hears files that are dropped or pasted anywhere. A text that is pasted is a puzzle where it begins like one. */
+function hearFiles() {
+  addEventListener('dragover', (event) => {
+    if (![...event.dataTransfer.types].includes('Files')) return;
+    event.preventDefault();
+    event.dataTransfer.dropEffect = 'copy';
+    document.body.classList.add('dropping');
+  });
+  addEventListener('dragleave', (event) => { if (!event.relatedTarget) document.body.classList.remove('dropping'); });
+  addEventListener('drop', async (event) => {
+    document.body.classList.remove('dropping');
+    const item = [...event.dataTransfer.items].find((one) => one.kind === 'file');
+    if (!item) return;
+    event.preventDefault(); // else the browser would leave the page for the file
+    if (document.querySelector('dialog[open]')) return;
+    const file = item.getAsFile();
+    const handle = await item.getAsFileSystemHandle?.().catch(() => null);
+    takeFile(file, handle?.kind === 'file' ? handle : null);
+  });
+  addEventListener('paste', (event) => {
+    if (isTyping(event.target) || document.querySelector('dialog[open]')) return;
+    const file = [...event.clipboardData.files][0];
+    const text = event.clipboardData.getData('text/plain');
+    if (file) takeFile(file);
+    else if (/^\s*(P3\s|<\?xml|<puzzle)/.test(text) || /^width [0-9]/m.test(text)) takeFile(new File([text], 'pasted'));
+    else return;
+    event.preventDefault();
+  });
+}
