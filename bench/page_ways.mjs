@@ -359,7 +359,7 @@ export async function exportsAndPrint({ browser, url, folder }) {
 }
 
 /** Nothing is wider than the window of a phone. */
-export async function phone({ browser, url, folder }) {
+export async function narrowStart({ browser, url, folder }) {
     const { page, own } = await fresh(browser, url, folder, 'phone', { size: SIZES.phone });
     const wide = () => page.run(() => [...document.querySelectorAll('#start *, dialog *')].filter((one) => one.getBoundingClientRect().right > innerWidth + 1).map((one) => one.outerHTML.slice(0, 80)));
     assert.deepEqual(await wide(), []);

@@ -23,8 +23,11 @@ function exportEmpty() {
 }
 
 async function exportText(form) {
+  const doc = docOf(bench.state);
   const text = await textAs(form);
-  if (text !== null) exportAs(form, text);
+  if (text === null) return;
+  exportAs(form, text);
+  if (form !== 'non') saved(doc, bench.name + SAVE_TYPES[form].ending); // it holds all of the document
 }
 
 async function exportCertificate() {
@@ -80,6 +83,7 @@ async function askAbout() {
   content.append(make('label', {}, 'Name of the file', file));
   if (!(await openDialog({ title: 'About the puzzle', content, buttons: [{ name: 'OK', value: true, main: true }] }))) return;
   keep.about = Object.fromEntries(fields.map(([name, input]) => [name, input.value.trim()]));
+  if (bareName(file.value) !== bench.name) saving.handle = null;
   bench.name = bareName(file.value);
   keep.now();
   showFileName();

@@ -1,7 +1,7 @@
 // A picture into a puzzle: a dialog with the image, the part that is taken, the size in cells, the colours, and what comes of it,
 // drawn anew at each change.
 
-const MOST_WORKED = 1024; // pixels a side that the dialog works on; larger images are made smaller first
+const MOST_WORKED = 640; // pixels a side that the dialog works on; a larger part is made smaller first
 const SHOWN_SIDE = 320; // pixels of the two pictures in the dialog
 
 /** What the dialog proposes for an image: one cell a dot of a pixel picture, else 40 cells on the longer side. */
@@ -13,25 +13,19 @@ function proposalFor(image) {
   return { columns: Math.max(1, Math.round(image.width * scale)), rows: Math.max(1, Math.round(image.height * scale)), sharp: false, colours: 6 };
 }
 
-/** An image no larger than the dialog works on, and how much smaller it is. */
-function workedImage(image) {
-  const factor = Math.min(1, MOST_WORKED / Math.max(image.width, image.height));
-  if (factor === 1) return { image, factor };
-  const from = penOf(image.width, image.height);
-  from.putImageData(new ImageData(image.data, image.width, image.height), 0, 0);
-  const to = penOf(Math.max(1, Math.round(image.width * factor)), Math.max(1, Math.round(image.height * factor)));
-  to.imageSmoothingQuality = 'high';
-  to.drawImage(from.canvas, 0, 0, to.canvas.width, to.canvas.height);
-  return { image: { width: to.canvas.width, height: to.canvas.height, data: to.getImageData(0, 0, to.canvas.width, to.canvas.height).data }, factor };
+/** An image as points of a canvas. */
+function canvasOfImage({ width, height, data }) {
+  const pen = penOf(width, height);
+  pen.putImageData(new ImageData(data, width, height), 0, 0);
+  return pen.canvas;
 }
 
 class Importing {
   constructor(image) {
     this.proposal = proposalFor(image);
-    const { image: worked, factor } = this.proposal.sharp ? { image, factor: 1 } : workedImage(image);
     this.full = image;
-    this.image = worked;
-    this.factor = factor;
+    this.canvas = canvasOfImage(image);
+    this.worked = null; // the part that is taken, no larger than the dialog works on
     this.crop = { x: 0, y: 0, width: image.width, height: image.height }; // in pixels of the full image
     this.background = null;
     this.scaled = new Map(); // by pixels a cell and whether they are sharp: what was made last
@@ -144,26 +138,44 @@ class Importing {
     if (this.isWaiting) return;
     this.isWaiting = true;
     requestAnimationFrame(() => {
-      this.isWaiting = false;
-      this.show();
+      if (this.isWaiting) this.show();
     });
   }
 
-  cells(times = 1, sharp = this.sharp.checked) {
+  /** The document as the fields have it now, also where the next frame has not come yet. */
+  finished() {
+    if (this.isWaiting) this.show();
+    return this.doc;
+  }
+
+  // The part that is taken, as an image and a box in it; a large one is made smaller by the browser.
+  part() {
     const { x, y, width, height } = this.crop;
-    const by = (value, most) => clamp(Math.round(value * this.factor), 0, most);
-    const [left, top] = [by(x, this.image.width - 1), by(y, this.image.height - 1)];
-    const part = { x: left, y: top, width: Math.max(1, by(x + width, this.image.width) - left), height: Math.max(1, by(y + height, this.image.height) - top) };
+    const factor = MOST_WORKED / Math.max(width, height);
+    if (factor >= 1) return { image: this.full, box: this.crop };
+    const key = JSON.stringify(this.crop);
+    if (this.worked?.key === key) return this.worked;
+    const box = { x: 0, y: 0, width: Math.max(1, Math.round(width * factor)), height: Math.max(1, Math.round(height * factor)) };
+    const pen = penOf(box.width, box.height);
+    pen.imageSmoothingQuality = 'high';
+    pen.drawImage(this.canvas, x, y, width, height, 0, 0, box.width, box.height);
+    this.worked = { key, box, image: { width: box.width, height: box.height, data: pen.getImageData(0, 0, box.width, box.height).data } };
+    return this.worked;
+  }
+
+  cells(times = 1, sharp = this.sharp.checked) {
+    const { image, box } = this.part();
     const [columns, rows] = this.size ?? [1, 1];
-    const key = JSON.stringify([part, columns, rows]);
+    const key = JSON.stringify([this.crop, columns, rows]);
     const kept = this.scaled.get(`${times} ${sharp}`);
     if (kept?.key === key) return kept.image;
-    const scaled = scaledTo(this.image, part, columns * times, rows * times, sharp);
+    const scaled = scaledTo(image, box, columns * times, rows * times, sharp);
     this.scaled.set(`${times} ${sharp}`, { key, image: scaled });
     return scaled;
   }
 
   show() {
+    this.isWaiting = false;
     const begun = performance.now();
     const options = { colours: Number(this.colours.value), background: this.background };
     if (this.two.checked) Object.assign(options, { threshold: Number(this.threshold.value), inverted: this.inverted.checked });
@@ -188,14 +200,12 @@ class Importing {
 
   drawSource() {
     if (!this.small) {
-      const scale = Math.min(1, SHOWN_SIDE / Math.max(this.image.width, this.image.height));
-      const from = penOf(this.image.width, this.image.height);
-      from.putImageData(new ImageData(this.image.data, this.image.width, this.image.height), 0, 0);
-      const larger = Math.max(1, Math.floor(SHOWN_SIDE / Math.max(this.image.width, this.image.height)));
-      const side = scale < 1 ? scale : larger;
-      this.small = penOf(Math.max(1, Math.round(this.image.width * side)), Math.max(1, Math.round(this.image.height * side)));
+      const scale = SHOWN_SIDE / Math.max(this.full.width, this.full.height);
+      const side = scale < 1 ? scale : Math.floor(scale);
+      this.small = penOf(Math.max(1, Math.round(this.full.width * side)), Math.max(1, Math.round(this.full.height * side)));
       this.small.imageSmoothingEnabled = scale < 1;
-      this.small.drawImage(from.canvas, 0, 0, this.small.canvas.width, this.small.canvas.height);
+      this.small.imageSmoothingQuality = 'high';
+      this.small.drawImage(this.canvas, 0, 0, this.small.canvas.width, this.small.canvas.height);
     }
     const { width, height } = this.small.canvas;
     Object.assign(this.source, { width, height });
@@ -228,7 +238,6 @@ class Importing {
 /** Lets the user make a puzzle of an image; answers whether one was opened. */
 async function importImage(image, name) {
   const importing = new Importing(image);
-  const wrong = () => (importing.doc ? '' : 'Wait for the picture.');
-  const doc = await openDialog({ title: `${name}: a picture into a puzzle`, content: importing.content, wide: true, buttons: [{ name: 'Make the puzzle', value: () => importing.doc, main: true, test: wrong }] });
+  const doc = await openDialog({ title: `${name}: a picture into a puzzle`, content: importing.content, wide: true, buttons: [{ name: 'Make the puzzle', value: () => importing.finished(), main: true }] });
   return doc ? openDoc(doc, { name, isSaved: false }) : false;
 }

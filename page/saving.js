@@ -34,8 +34,16 @@ async function textAs(form) {
   return null;
 }
 
+// A .non text has no place for givens and for colours other than black on white: what has some is saved as a P3 text.
+function checkForm() {
+  const { colours, givens } = eightBitDoc(bench.state);
+  if (saving.form !== 'non' || (String(colours) === '255,255,255,0,0,0' && givens.size === 0)) return;
+  Object.assign(saving, { form: 'ppm', handle: null });
+}
+
 /** Saves where it was saved before, else asks where. */
 async function save() {
+  checkForm();
   if (!saving.handle) return saveAs();
   const doc = docOf(bench.state);
   const content = await textAs(saving.form);
@@ -59,6 +67,7 @@ function saved(doc, file) {
 
 /** Saves under a name that is chosen; where the browser has no file access that is a download under the document's name. */
 async function saveAs() {
+  checkForm();
   const doc = docOf(bench.state);
   const { form } = saving;
   const content = await textAs(form);

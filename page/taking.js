@@ -138,7 +138,8 @@ function hearFiles() {
     document.body.classList.remove('dropping');
     const item = [...event.dataTransfer.items].find((one) => one.kind === 'file');
     if (!item) return;
-    event.preventDefault();
+    event.preventDefault(); // else the browser would leave the page for the file
+    if (document.querySelector('dialog[open]')) return;
     const file = item.getAsFile();
     const handle = await item.getAsFileSystemHandle?.().catch(() => null);
     takeFile(file, handle?.kind === 'file' ? handle : null);

@@ -48,7 +48,7 @@ Says handle lines old new status = SaysAt (place_of old.seats.items handle) line
 abbrev pub Tells : ProgramFault → List ℕ → ℕ → Type 0
 Tells fault text status = (text ≡ fault_text fault) × (status ≡ status_of fault)
 
--- Memory was wanting, or there is a fault for which this holds, and text and status are its.
+-- Memory was refused, or there is a fault for which this holds, and text and status are its.
 abbrev pub IsRefused : (ProgramFault → Type 0) → List ℕ → ℕ → Type 0
 IsRefused Is text status = (status ≡ 4) ⊎ ((fault : ProgramFault) × (Is fault × Tells fault text status))
 

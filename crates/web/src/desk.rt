@@ -115,7 +115,7 @@ impl Desk {
         Ok(handle)
     }
 
-    // Takes why a call was refused as the text, and tells its status. Where the text cannot grow, memory is wanting.
+    // Takes why a call was refused as the text, and tells its status. Where the text cannot grow, memory is refused.
     fn refuse(&mut self, fault: &ProgramFault) -> u32
         ensures tells { (result ≡ 4) ⊎ Tells fault.now self.new.text.items result }
         ensures memory { fault.now ≡ Memory → result ≡ 4 }

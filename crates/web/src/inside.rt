@@ -11,7 +11,8 @@ use std::mem::replace;
 /// Opens a bench: the status and the handle.
 pub fn open_in(held: Held, asked: Asked<'_>) -> (Held, (u32, u32))
     requires { IsLawful asked.options }
-    ensures { Opens asked.entry.file.now asked.entry.options held.desk result.0.desk result.1.0 result.1.1 }
+    ensures { Opens asked.entry.file.now asked.entry.options held.desk
+        result.0.desk result.1.0 result.1.1 }
 {
     let mut desk = held.into_box();
     let answer = desk.open(asked.file, &asked.options);
