@@ -80,11 +80,11 @@ class Bench {
   }
 
   undo() {
-    return this.put({ way: 'undo', lines: [] });
+    return this.put({ way: 'undo', lines: [], doc: strokesBehind(this).past.at(-1)?.before });
   }
 
   redo() {
-    return this.put({ way: 'redo', lines: [] });
+    return this.put({ way: 'redo', lines: [], doc: strokesBehind(this).future.at(-1)?.after });
   }
 
   /** Asks something that changes nothing; resolves to the answer. */
