@@ -21,7 +21,15 @@ async function drop(page, folder, name, content) {
     writeFileSync(path, content);
     const data = { items: [], files: [path], dragOperationsMask: 1 };
     const [x, y] = await page.run(() => [innerWidth / 2, innerHeight / 2]);
-    for (const type of ['dragEnter', 'dragOver', 'drop']) await page.send('Input.dispatchDragEvent', { type, x, y, data });
+    const send = (type) => page.send('Input.dispatchDragEvent', { type, x, y, data });
+    await page.send('Page.bringToFront');
+    await send('dragEnter');
+    for (let tries = 0; tries < 100; tries++) { // until the page has heard that a file is over it
+        await send('dragOver');
+        if (await page.run(() => document.body.classList.contains('dropping'))) break;
+        await new Promise((go) => setTimeout(go, 30));
+    }
+    await send('drop');
 }
 
 /** A tab of its own without file access, in a folder of its own for downloads. */
