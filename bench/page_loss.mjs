@@ -1,8 +1,7 @@
-// Tests in the browser that nothing is lost: a worker that ends in the middle of a drag, a reload, a storage that is full, two
-// tabs; and the way in from the start screen by mouse and by keys.
+// Tests in the browser that nothing is lost where a worker ends in the middle of a drag or the page is loaded again, and of the
+// way in from the start screen by mouse, finger and keys.
 import assert from 'node:assert/strict';
 import { SIZES, SLACK, Trial, ppmOf } from './page_trial.mjs';
-import { pause } from './page_browser.mjs';
 
 const SMALL = ['.....', '.aaa.', '.aba.', '.aaa.', '.....'];
 
@@ -82,35 +81,4 @@ export async function reloading({ trial, page }) {
     assert.deepEqual(await trial.picture(), SMALL, 'its strokes too');
     await trial.press('Control+y');
     assert.equal((await trial.picture())[0], 'aaa..');
-}
-
-export async function fullStorage({ trial, page }) {
-    await page.run((text) => takeFile(new File([text], 'full.ppm')), ppmOf(SMALL));
-    await kept(page);
-    await page.run(() => {
-        IDBObjectStore.prototype.put = () => { throw new DOMException('full', 'QuotaExceededError'); };
-        Storage.prototype.setItem = () => { throw new DOMException('full', 'QuotaExceededError'); };
-    });
-    await trial.drag([[1, 1], [1, 3]]);
-    await page.until(() => /storage is full/.test(document.getElementById('said').textContent), 5000 * SLACK);
-    assert.equal((await trial.picture())[0], 'aaa..', 'painting goes on');
-}
-
-export async function twoTabs({ browser, trial, page, url, folder }) {
-    await page.run((text) => takeFile(new File([text], 'tabs.ppm')), ppmOf(SMALL));
-    await trial.drag([[1, 1], [1, 3]]);
-    await kept(page);
-    const second = await Trial.start(browser, url, folder);
-    await second.page.until(() => [...document.querySelectorAll('#start button.kept b')].some((one) => one.textContent === 'tabs'), 5000 * SLACK);
-    await second.page.run(() => [...document.querySelectorAll('#start button.kept')].find((one) => one.querySelector('b').textContent === 'tabs').click());
-    await second.page.until(() => bench.state !== null, 5000 * SLACK);
-    await second.page.until(() => /another tab/.test(document.getElementById('said').textContent), 5000 * SLACK);
-    await second.drag([[5, 1], [5, 5]]);
-    await pause(200);
-    assert.equal((await trial.picture())[4], '.....', 'the first tab has its own');
-    assert.equal((await second.picture())[4], 'aaaaa');
-    await kept(second.page);
-    const ids = [await page.run(() => keep.id), await second.page.run(() => keep.id)];
-    assert.notEqual(ids[0], ids[1], 'each is kept under its own name');
-    await second.page.close();
 }

@@ -1,5 +1,8 @@
 // Tests in the browser: drawing, searches that are stopped, what the verdict panel tells, Fix it, Play and Why.
 import assert from 'node:assert/strict';
+import { spawnSync } from 'node:child_process';
+import { writeFileSync } from 'node:fs';
+import { join } from 'node:path';
 import { SIZES, SLACK, Trial, noise, ppmOf } from './page_trial.mjs';
 import { pause } from './page_browser.mjs';
 
@@ -157,7 +160,7 @@ export async function reasons({ trial, page }) {
     await page.press('p');
 }
 
-export async function phone({ browser, url, folder }) {
+export async function onAPhone({ browser, url, folder }) {
     const trial = await Trial.start(browser, url, folder, SIZES.phone);
     const { page } = trial;
     await trial.open(ppmOf(AMBIGUOUS), 'pair');
@@ -173,4 +176,23 @@ export async function phone({ browser, url, folder }) {
     assert.ok(await page.run(() => document.documentElement.scrollWidth <= innerWidth), 'nothing stands out to the side');
     assert.deepEqual(page.faults, []);
     await page.close();
+}
+
+/** A certificate that is found in the second worker is told as the verdict, and the program accepts it. */
+export async function certificates({ trial, page, folder }) {
+    const text = ppmOf(['.aa..', 'abba.', 'abba.', '.aa.c', '....c']);
+    await trial.open(text, 'certified');
+    const cert = await page.run(() => certificateText());
+    assert.match(cert, /^nonocert 1\n[^]*done\n$/);
+    assert.equal((await trial.state()).verdict.word, 'unique');
+    if (process.env.NONOBENCH) {
+        writeFileSync(join(folder, 'certified.ppm'), text);
+        writeFileSync(join(folder, 'certified.cert'), cert);
+        const done = spawnSync(process.env.NONOBENCH, ['check', join(folder, 'certified.ppm'), join(folder, 'certified.cert')], { encoding: 'utf8' });
+        assert.equal(done.stdout, 'certificate accepted\n', done.stderr);
+    }
+    await trial.open(ppmOf(AMBIGUOUS), 'pair');
+    await trial.judged();
+    assert.equal(await page.run(() => certificateText()), null);
+    assert.match(await trial.text('#said'), /another picture has these clues/);
 }

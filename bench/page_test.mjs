@@ -3,13 +3,14 @@ import { resolve } from 'node:path';
 import { Browser } from './page_browser.mjs';
 import { Trial, hookedPage } from './page_trial.mjs';
 import * as drawing from './page_drawing.mjs';
+import * as looks from './page_looks.mjs';
 import * as loss from './page_loss.mjs';
 import * as meaning from './page_meaning.mjs';
 import * as ways from './page_ways.mjs';
 
 const [folder, ...only] = [resolve(process.argv[2]), ...process.argv.slice(3)];
 const url = hookedPage(process.env.PAGE, folder);
-const tests = Object.entries({ ...drawing, ...loss, ...meaning, ...ways })
+const tests = Object.entries({ ...drawing, ...loss, ...meaning, ...ways, ...looks })
     .filter(([name, test]) => typeof test === 'function' && name !== 'hard' && (!only.length || only.includes(name)));
 const browser = new Browser();
 let failed = 0;

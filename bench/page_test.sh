@@ -1,24 +1,25 @@
 #!/usr/bin/env bash
-# Tries the page in a real browser. What the page shows is compared with a session of `nonobench work` given the same lines.
-# Usage: bench/page_test.sh [FOLDER [TEST ..]], where FOLDER gets the pictures of the page (none: a scratch folder).
-# NONOBENCH is the program (crates/nonobench/out/nonobench), PAGE the service with its words before FILE: page/serve, or,
-# where PAGE is stand-in, bench/page_stand_in.py over that program.
+# Tries the built page in headless Chromium: by mouse, keys and fingers, at three sizes of the window. What is shown is
+# compared with sessions of `nonobench work` on the same picture. It is no part of the gate, which has no browser.
+# Usage: bench/page_test.sh [FOLDER [TEST ..]], where FOLDER gets pictures of the page (none: a scratch folder).
+# PAGE is the built page (dist/nonobench.html), NONOBENCH the program (none: nothing is compared), SLACK a factor for the
+# bounds of time, CHROMIUM the browser.
 set -euo pipefail
 cd "$(dirname "$0")/.."
-export NONOBENCH="${NONOBENCH:-$PWD/crates/nonobench/out/nonobench}"
-PAGE="${PAGE:-$PWD/page/serve}"
-if [ "$PAGE" = stand-in ]; then PAGE=; fi
-export PAGE
-python=/usr/bin/python3
-if ! command -v chromium >/dev/null || ! command -v chromedriver >/dev/null || ! "$python" -c 'import selenium' 2>/dev/null; then
-    echo "this test wants Debian's packages: apt-get install -y chromium chromium-driver python3-selenium" >&2
-    exit 2
-fi
-[ -x "$NONOBENCH" ] || { echo "no program at $NONOBENCH: build it as README says, or set NONOBENCH" >&2; exit 2; }
-if command -v node >/dev/null; then
-    node bench/page_answers.mjs >/dev/null || { echo "FAILED: bench/page_answers.mjs" >&2; exit 1; }
-    echo "passed: the reader of answers (by node)"
-fi
+export PAGE="${PAGE:-$PWD/dist/nonobench.html}"
+program="$PWD/crates/nonobench/out/nonobench"
+if [ -z "${NONOBENCH+set}" ] && [ -x "$program" ]; then NONOBENCH=$program; fi
+export NONOBENCH="${NONOBENCH:-}"
+for tool in node "${CHROMIUM:-chromium}"; do
+    command -v "$tool" >/dev/null || { echo "this test wants $tool: apt-get install -y nodejs chromium" >&2; exit 2; }
+done
+[ -f "$PAGE" ] || { echo "no page at $PAGE: build it with web/build, or set PAGE" >&2; exit 2; }
+[ -n "$NONOBENCH" ] || echo "no program: what is shown is not compared with a session (set NONOBENCH)"
+for test in bench/page_*.mjs; do
+    grep -q "from 'node:test'" "$test" || continue
+    node --test "$test" >/dev/null || { echo "FAILED: $test" >&2; exit 1; }
+    echo "passed: $test"
+done
 folder=${1:-$(mktemp -d)}
 mkdir -p "$folder"
-exec "$python" bench/page_test.py "$folder" "${@:2}"
+exec node bench/page_test.mjs "$folder" "${@:2}"

@@ -1,7 +1,7 @@
 // What Play draws: the marks on the field, and the clues beside it with what is crossed off. The clues stay in view where
 // they leave room enough.
 
-const PLAY_SIDES = [8, 10, 12, 14, 16, 18, 20, 24, 28, 32, 40];
+const PLAY_SIDES = [8, 10, 12, 14, 16, 18, 20, 24, 28, 32, 40, 48];
 
 const playFont = () => clamp(Math.round(play.side * 0.58), 8, 17);
 const playChip = (block) => Math.max(playFont() * 1.25, String(block.length).length * playFont() * 0.62 + 7);
