@@ -38,6 +38,20 @@ test('an undo takes back a stroke, not a command', async () => {
   assert.deepEqual(words(await bench.redo()), ['RedoEmpty']);
 });
 
+test('a stroke behind an undo that waits is made on what the undo leaves', async () => {
+  const { bench } = await opened();
+  await bench.stroke(['paint 1 1 a']);
+  await bench.stroke(['paint 1 1 b', 'paint 1 2 b']);
+  const waits = [bench.undo(), bench.undo(), bench.redo()];
+  assert.equal(bench.expected().picture[0], 'a...');
+  waits.push(bench.stroke(['recolour a b']));
+  assert.equal(bench.expected().picture[0], 'b...');
+  waits.push(bench.undo(), bench.undo());
+  assert.equal(bench.expected().picture[0], '....');
+  await Promise.all(waits);
+  assert.deepEqual([bench.state.picture[0], bench.past.length, bench.future.length], ['....', 0, 2]);
+});
+
 test('strokes made at once go in one text, and what is refused counts for nothing', async () => {
   const { bench, made } = await opened();
   const answers = await Promise.all([bench.stroke(['paint 1 1 a']), bench.stroke(['paint 1 1 a']), bench.stroke(['paint 1 2 b', 'paint 1 2 b'])]);

@@ -157,7 +157,11 @@ export async function zooming({ trial, page }) {
     await page.run(() => new Promise((go) => requestAnimationFrame(go)));
     await page.mouse('mouseMoved', x + 3, y + 3);
     await page.until(() => [...document.querySelectorAll('.whole')].every((one) => !one.hidden && /(Row|Column) \d+/.test(one.textContent)), 2000 * SLACK);
-    await page.press('z');
+    const down = await page.run(() => sheet.geometry.panY);
+    await page.press('s');
+    await page.drag([[x, y], [x, 200], [x, 60]]);
+    await page.until((from) => sheet.geometry.panY < from, 2000 * SLACK, down);
+    await page.press('Escape', 'z');
     await page.until(() => document.getElementById('minimap').hidden, 2000 * SLACK);
 }
 

@@ -10,7 +10,8 @@ const DUCK = ['...aa.....', '..aaaa....', 'bbaacaa...', '..aaaa....', '...aa....
 const NO_PICKERS = 'delete window.showSaveFilePicker; delete window.showOpenFilePicker;';
 const frames = (page) => page.run(() => new Promise((go) => requestAnimationFrame(() => requestAnimationFrame(() => setTimeout(go, 0)))));
 const said = (page) => page.run(() => document.getElementById('said').textContent);
-const isOpen = (page, ms = 5000) => page.until(() => !document.body.classList.contains('starting') && bench.state !== null, ms * SLACK);
+const isOpen = (page, ms = 8000) => page.until(() => !document.body.classList.contains('starting') && bench.state !== null, ms * SLACK)
+    .catch(async () => { throw new Error(`nothing is open: ${await said(page)} ${page.faults.join('; ')}`); });
 const isKept = (page) => page.until(() => keep.keeper.isDone && keep.isKept, 5000 * SLACK);
 
 /** Writes a file to the folder and drops it on the middle of the window. */
@@ -20,7 +21,15 @@ async function drop(page, folder, name, content) {
     writeFileSync(path, content);
     const data = { items: [], files: [path], dragOperationsMask: 1 };
     const [x, y] = await page.run(() => [innerWidth / 2, innerHeight / 2]);
-    for (const type of ['dragEnter', 'dragOver', 'drop']) await page.send('Input.dispatchDragEvent', { type, x, y, data });
+    const send = (type) => page.send('Input.dispatchDragEvent', { type, x, y, data });
+    await page.send('Page.bringToFront');
+    await send('dragEnter');
+    for (let tries = 0; tries < 100; tries++) { // until the page has heard that a file is over it
+        await send('dragOver');
+        if (await page.run(() => document.body.classList.contains('dropping'))) break;
+        await new Promise((go) => setTimeout(go, 30));
+    }
+    await send('drop');
 }
 
 /** A tab of its own without file access, in a folder of its own for downloads. */
@@ -234,7 +243,7 @@ export async function damaged({ page, trial }) {
 }
 
 /** Two tabs have a picture each; where both would keep the same one the second says so. */
-export async function twoTabs({ browser, page, trial, url, folder }) {
+export async function tabsApart({ browser, page, trial, url, folder }) {
     await clean(page);
     await page.click('#new-go');
     await isOpen(page);
@@ -254,7 +263,7 @@ export async function twoTabs({ browser, page, trial, url, folder }) {
 }
 
 /** A storage that is full is told once, and the work goes on. */
-export async function fullStorage({ browser, url, folder }) {
+export async function toldFull({ browser, url, folder }) {
     const { page, trial } = await fresh(browser, url, folder, 'full', { before: `IDBObjectStore.prototype.put = () => { throw new DOMException('full', 'QuotaExceededError'); };` });
     await page.click('#new-go');
     await isOpen(page);

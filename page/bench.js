@@ -31,6 +31,7 @@ class Bench {
   async open(base, { name = 'picture', strokes = { past: [], future: [] }, isSaved = true } = {}) {
     const engine = this.make();
     const opened = { lines: [], ...base };
+    tell('opening', { engine, name });
     try {
       const made = await openedIn(engine, opened, strokes);
       this.engine?.end();
@@ -39,6 +40,8 @@ class Bench {
     } catch (fault) {
       engine.end();
       throw fault;
+    } finally {
+      tell('opening', null);
     }
     tell('opened', this);
     this.show(this.state);
@@ -80,11 +83,11 @@ class Bench {
   }
 
   undo() {
-    return this.put({ way: 'undo', lines: [] });
+    return this.put({ way: 'undo', lines: [], doc: strokesBehind(this).past.at(-1)?.before });
   }
 
   redo() {
-    return this.put({ way: 'redo', lines: [] });
+    return this.put({ way: 'redo', lines: [], doc: strokesBehind(this).future.at(-1)?.after });
   }
 
   /** Asks something that changes nothing; resolves to the answer. */

@@ -141,7 +141,8 @@ function hearFiles() {
     event.preventDefault(); // else the browser would leave the page for the file
     if (document.querySelector('dialog[open]')) return;
     const file = item.getAsFile();
-    const handle = await item.getAsFileSystemHandle?.().catch(() => null);
+    const late = new Promise((go) => setTimeout(go, 1000, null)); // the file itself is at hand already
+    const handle = await Promise.race([late, item.getAsFileSystemHandle?.().catch(() => null)]);
     takeFile(file, handle?.kind === 'file' ? handle : null);
   });
   addEventListener('paste', (event) => {
