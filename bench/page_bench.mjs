@@ -136,6 +136,32 @@ test('a stroke that ends each worker is left out, and the rest goes on', async (
   assert.deepEqual(bench.state.picture, ['a...', '....', '..a.']);
 });
 
+test('of strokes sent together only the one that ends each worker is left out', async () => {
+  const { bench } = await opened(empty(3, 4), { fails: (text) => text.includes('paint 2 2') });
+  const made = await Promise.allSettled([bench.stroke(['paint 1 1 a']), bench.stroke(['paint 2 2 b']), bench.stroke(['paint 3 3 a'])]);
+  assert.deepEqual(made.map((one) => one.status), ['fulfilled', 'rejected', 'fulfilled']);
+  assert.deepEqual(bench.state.picture, ['a...', '....', '..a.']);
+});
+
+test('a search that ends each worker is not made again and again', async () => {
+  const { bench, made } = await opened(empty(3, 4), { fails: (text) => /^allow [1-9]/.test(text), judge: 'undecided 0' });
+  await bench.stroke(['paint 1 1 a']);
+  while (bench.running) await new Promise((go) => setImmediate(go));
+  assert.deepEqual([bench.state.picture[0], bench.state.verdict.word, bench.running], ['a...', 'undecided', false]);
+  assert.ok(made.length <= 4);
+});
+
+test('a document that is opened while another one waits is the one that counts', async () => {
+  const { bench } = await opened();
+  const waits = bench.stroke(['paint 1 1 a']);
+  await bench.open(baseOf(empty(2, 2)));
+  await waits;
+  await bench.stroke(['paint 2 2 b']);
+  assert.deepEqual([bench.state.picture, bench.past.length, bench.running], [['..', '.b'], 1, false]);
+  bench.close();
+  assert.deepEqual([bench.state, await bench.stroke(['paint 1 1 a'])], [null, []]);
+});
+
 test('a text that no session writes is not taken', async () => {
   const { bench, made } = await opened();
   const worker = made[0];
