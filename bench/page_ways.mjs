@@ -186,6 +186,22 @@ export async function refusedFiles({ page, folder }) {
     }
 }
 
+/** Clues without a goal open, and a search that would not end is stopped. */
+export async function cluesAlone({ browser, url, folder }) {
+    const { page, trial, own } = await fresh(browser, url, folder, 'clues');
+    await drop(page, own, 'three.non', 'width 3\nheight 2\nrows\n3\n1\ncolumns\n1\n2\n1\n');
+    await isOpen(page);
+    assert.deepEqual(await trial.picture(), ['aaa', '.a.']);
+    // Two cells in each line of 60 by 60 but the last, which has three: no picture has as many cells by rows as by columns.
+    const lines = (last) => [...Array(59).fill('1,1'), last].join('\n');
+    await drop(page, own, 'none.non', `width 60\nheight 60\nrows\n${lines('1,1')}\ncolumns\n${lines('1,1,1')}\n`);
+    await page.until(() => document.querySelector('dialog[open]')?.textContent.includes('searched for'), 8000 * SLACK);
+    await page.press('Enter');
+    await page.until(() => document.getElementById('said').textContent.includes('stopped'), 2000 * SLACK);
+    assert.deepEqual(await trial.picture(), ['aaa', '.a.']);
+    await page.close();
+}
+
 /** A reload and a closed tab lose nothing: strokes come back with their undo, and the start screen offers to go on. */
 export async function kept({ browser, page, trial, url, folder }) {
     await clean(page);

@@ -57,6 +57,7 @@ async function goOn(record) {
   const how = { name: record.name, isSaved: record.isSaved, id: record.id, about: record.about ?? {} };
   const isOpen = await openBase(record.base, { ...how, strokes: record.strokes });
   if (isOpen && sameDoc(docOf(bench.state), record.now)) return true;
+  say('');
   return openDoc(record.now, how);
 }
 
