@@ -196,20 +196,3 @@ export async function certificates({ trial, page, folder }) {
     assert.equal(await page.run(() => certificateText()), null);
     assert.match(await trial.text('#said'), /another picture has these clues/);
 }
-
-/** A .non text without a goal whose picture is not found soon: what is open stays, and Stop ends it. */
-export async function stoppedOpening({ trial, page }) {
-    await trial.open(ppmOf(AMBIGUOUS), 'pair');
-    const rows = noise(60, 60, '.a');
-    const clue = (cells) => cells.split('.').filter(Boolean).map((run) => run.length).join(',') || '0';
-    const lines = (list) => list.map((cells) => `${clue(cells)}\n`).join('');
-    const text = `width 60\nheight 60\nrows\n${lines(rows)}columns\n${lines([...rows[0]].map((_, at) => rows.map((row) => row[at]).join('')))}`;
-    await page.run((one) => { window.taken = takeFile(new File([one], 'clues.non')); }, text);
-    await page.until(() => /Opening clues/.test(document.getElementById('task-name').textContent) && !document.getElementById('task').hidden, 10000 * SLACK);
-    await trial.drag([[1, 6]]);
-    assert.equal((await trial.picture())[0][5], 'a', 'what is open is edited meanwhile');
-    await page.click('#stop');
-    assert.equal(await page.run(() => window.taken), false);
-    assert.match(await trial.text('#said'), /not opened: it was stopped/);
-    assert.equal(await page.run(() => document.getElementById('task').hidden), true);
-}

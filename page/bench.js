@@ -32,7 +32,6 @@ class Bench {
   async open(base, { name = 'picture', strokes = { past: [], future: [] }, isSaved = true } = {}) {
     const engine = this.make();
     const opened = { lines: [], ...base };
-    tell('opening', { engine, name });
     try {
       const made = await openedIn(engine, opened, strokes);
       this.engine?.end();
@@ -41,8 +40,6 @@ class Bench {
     } catch (fault) {
       engine.end();
       throw fault;
-    } finally {
-      tell('opening', null);
     }
     tell('opened', this);
     this.show(this.state);

@@ -56,7 +56,7 @@ function makeVerdictPanel() {
       make('p', {}, make('label', {}, 'Search after a stroke ', choiceOf('seconds', TIMES, setSeconds)))),
   );
   $('seconds').value = verdictView.seconds;
-  $('task').append(make('span', { id: 'task-name' }), make('span', { id: 'task-time', 'aria-hidden': 'true' }), make('button', { type: 'button', id: 'stop', onclick: stopTask }, 'Stop'));
+  $('task').append(make('span', { id: 'task-name' }), make('span', { id: 'task-time', 'aria-hidden': 'true' }), make('button', { type: 'button', id: 'stop', onclick: () => searches.stop() }, 'Stop'));
 }
 
 // On small screens the verdict stands in one line; the rest opens below it.
@@ -165,24 +165,6 @@ function showTask(task) {
   if (task.elapsed < 0.01) showVerdict(bench.state);
 }
 
-// A file of clues alone is searched for a picture while it is opened: that is told and stopped as other searches are.
-let opening = null;
-on('opening', (one) => {
-  if (opening) {
-    clearInterval(opening.clock);
-    if (!searches.running) showTask(null);
-  }
-  opening = one;
-  if (!one) return;
-  const from = performance.now();
-  one.clock = setInterval(() => showTask({ name: `Opening ${one.name}`, elapsed: (performance.now() - from) / 1000, seconds: Infinity, note: '' }), 500);
-});
-
-function stopTask() {
-  if (opening) opening.engine.end('it was stopped');
-  else searches.stop();
-}
-
 function showOther(other) {
   sheet.other = other;
   showVerdict(bench.state);
@@ -203,7 +185,7 @@ for (const action of [
   { id: 'other', name: 'Show the other picture', key: 'x', run: () => showOther(!sheet.other), can: () => isWord('ambiguous') },
   { id: 'fix', name: 'Fix it …', run: () => openFix(), can: () => isWord('ambiguous') },
   { id: 'search', name: 'Search for another picture', run: () => searches.judge(), can: () => isWord('undecided') && !searches.running },
-  { id: 'stop', name: 'Stop the search', run: stopTask, needs: false, can: () => searches.running !== null || opening !== null },
+  { id: 'stop', name: 'Stop the search', run: () => searches.stop(), can: () => searches.running !== null },
   { id: 'hatching', name: 'Hatching: off, differing, open', key: 'h', run: nextHatching },
 ]) addAction({ place: 'check', ...action });
 
