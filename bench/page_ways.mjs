@@ -286,6 +286,11 @@ export async function toldFull({ browser, url, folder }) {
     await trial.drag([[2, 2]]);
     await page.until(() => /storage is full/.test(document.getElementById('said').textContent), 5000 * SLACK);
     assert.match(await trial.text('#title'), /not kept/);
+    const own = join(folder, 'full');
+    await drop(page, own, 'flower.ppm', readFileSync(new URL('flower.ppm', examples)));
+    await page.until(() => document.querySelector('dialog[open]')?.textContent.includes('would be lost'), 5000 * SLACK);
+    await page.press('Escape');
+    assert.equal((await trial.state()).columns, 20);
     await page.close();
 }
 
