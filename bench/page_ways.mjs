@@ -278,6 +278,28 @@ export async function tabsApart({ browser, page, trial, url, folder }) {
     await other.page.close();
 }
 
+/** Where there is no database, the browser's local storage keeps the work; where there is neither, that is told. */
+export async function otherShelves({ browser, url, folder }) {
+    const hidden = (name) => `Object.defineProperty(window, '${name}', { get() { throw new DOMException('hidden', 'SecurityError'); } });`;
+    const { page, trial } = await fresh(browser, url, folder, 'local', { before: hidden('indexedDB') });
+    await page.click('#new-go');
+    await isOpen(page);
+    await trial.drag([[2, 2]]);
+    await isKept(page);
+    await trial.load();
+    await goOn(page);
+    await isOpen(page);
+    assert.equal((await trial.picture())[1], '.a..................');
+    await clean(page);
+    await page.close();
+    const { page: bare, trial: other } = await fresh(browser, url, folder, 'bare', { before: hidden('indexedDB') + hidden('localStorage') });
+    await bare.click('#new-go');
+    await isOpen(bare);
+    await other.drag([[2, 2]]);
+    await bare.until(() => /keeps nothing/.test(document.getElementById('said').textContent), 5000 * SLACK);
+    await bare.close();
+}
+
 /** A storage that is full is told once, and the work goes on. */
 export async function toldFull({ browser, url, folder }) {
     const { page, trial } = await fresh(browser, url, folder, 'full', { before: `IDBObjectStore.prototype.put = () => { throw new DOMException('full', 'QuotaExceededError'); };` });
