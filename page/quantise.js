@@ -20,7 +20,7 @@ const keyOf = (data, at) => (data[at] << 16) | (data[at + 1] << 8) | data[at + 2
 const tripleOfKey = (key) => [key >> 16, (key >> 8) & 255, key & 255];
 
 const EXACT = 0xffffff; // which bits of a colour count
-const ALIKE = 0xfcfcfc; // colours whose samples differ in the last two bits count as one
+const ALIKE = 0xf8f8f8; // colours whose samples differ in the last three bits alone count as one
 
 /** The colours of the pixels that are not transparent, each with its place in Oklab and how many pixels have it. */
 function spotsOf({ data }, bits = EXACT) {
