@@ -1,4 +1,4 @@
-//! Judging a picture by its parts and looking for another one in the whole, with the work of it.
+//! Judging a picture by its parts, with the work of it.
 
 ghost use Rattle.std.specs.Prelude.{◌≡◌, ◌≤◌, IfOk, OnOk};
 ghost use Rattle.clues.specs.ClueBook.{clues_of};
@@ -12,7 +12,7 @@ use clues::ClueBook;
 use line_settle::{Facts, LineEngine};
 use picture::{Document, Picture};
 use propagate::{InOrder, settle_afresh};
-use second_search::{Judged, Keeper, Scene, find_other, laws};
+use second_search::{Judged, Keeper, Scene, laws};
 use std::alloc::Global;
 
 /// What a picture was said to be.
@@ -121,31 +121,5 @@ pub fn judge<E: LineEngine>(
         searched,
         splits,
         evaluations: meter.evaluations,
-    })
-}
-
-/// Looks for another picture in the whole.
-pub fn other<E: LineEngine>(
-    alloc: Global,
-    engine: &mut E,
-    book: &ClueBook,
-    document: &Document,
-    facts: &Facts,
-) -> Result<Tally>
-    requires scene { IsScene book.now document.now.givens facts.now document.now.picture }
-{
-    ensure!(book.height() <= engine.longest(), "too many rows");
-    ensure!(book.width() <= engine.longest(), "too many columns");
-    let before = engine.calls();
-    let (givens, picture) = (&document.givens, &document.picture);
-    let said = match find_other(alloc, engine, book, givens, facts, picture)? {
-        Some(other) => Said::Other(other),
-        None => Said::Unique,
-    };
-    Ok(Tally {
-        said,
-        searched: 0,
-        splits: 0,
-        evaluations: engine.calls().saturating_sub(before),
     })
 }

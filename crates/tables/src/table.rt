@@ -9,8 +9,6 @@ mod books;
 mod clueing;
 mod entries;
 mod lines;
-mod listing;
-mod plain;
 mod puzzles;
 mod reasons;
 mod said;
@@ -47,18 +45,14 @@ fn tell_line(rt: &(impl AllocGlobal + Print), line: &str) -> Result<()> {
 // Calls the module of the first word.
 fn answer(rt: &(impl AllocGlobal + Print), first: &str, words: &[&str]) -> Result<()> {
     match first {
-        "clues" | "refresh" => clueing::tell(rt, words),
+        "refresh" => clueing::tell(rt, words),
         "draw" | "stands-for" | "drew" => reasons::tell(rt, words),
-        "steps" | "random-steps" => reasons::tell_of_many(rt, words),
         "narrow" | "engine" | "leave-out" | "force" => lines::tell(rt, words),
-        "engines" | "random" | "leaving-out" | "random-leaving-out" => {
-            lines::tell_of_many(rt, words)
-        }
+        "engines" | "random" | "leaving-out" => lines::tell_of_many(rt, words),
         "agenda" => agendas::tell(rt, words),
         "edit" => entries::tell(rt, words),
         "go-on" => books::tell(rt, words),
-        "listing" => listing::tell(rt, words),
-        "settle" | "first" | "other" | "parts" | "judge" | "cost" => searches::tell(rt, words),
+        "settle" | "first" | "parts" | "judge" | "cost" => searches::tell(rt, words),
         _ => bail!("no such call"),
     }
 }

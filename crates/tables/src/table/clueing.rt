@@ -1,6 +1,6 @@
-//! Calls on clues.
+//! Clues over an edit.
 //!
-//! `clues ROWS` prints the clues of a picture. `refresh ROWS EDIT ..` makes an edit and goes on with the clues from before it: the new
+//! `refresh ROWS EDIT ..` makes an edit and goes on with the clues from before it: the new
 //! picture, its clues and the lines of it that the edit touches are printed.
 
 ghost use Rattle.std.specs.Prelude.{◌≡◌, IfOk};
@@ -14,24 +14,15 @@ use edits::Studio;
 use picture::{Document, Picture};
 use std::alloc::Global;
 
-/// Answers a call on clues.
+/// Tells how clues go on.
 pub fn tell(rt: &(impl AllocGlobal + Print), words: &[&str]) -> Result<()> {
     let alloc = rt.alloc();
-    let text = match words {
-        ["clues", rows] => clues_text(alloc, rows)?,
-        ["refresh", rows, edit @ ..] => refresh_text(alloc, rows, edit)?,
-        _ => bail!("no such call"),
+    let ["refresh", rows, edit @ ..] = words else {
+        bail!("refresh ROWS EDIT ..");
     };
+    let text = refresh_text(alloc, rows, edit)?;
     println!(rt; "{text}")?;
     Ok(())
-}
-
-// The clues of a picture.
-fn clues_text(alloc: Global, rows: &str) -> Result<String> {
-    let document = document_in(alloc, rows)?;
-    let mut text = String::new(alloc);
-    push_clues(&mut text, &ClueBook::of(alloc, &document.picture)?.copy()?)?;
-    Ok(text)
 }
 
 // The picture that an edit makes, its clues as they come from those before it, and the lines that it touches.

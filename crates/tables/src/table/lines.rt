@@ -6,7 +6,7 @@
 //! where it changed.
 //!
 //! `engines LENGTH` compares both engines with a listing, on all clues and masks in two colours, `random COUNT SEED` one with the
-//! other on random lines, `leaving-out LENGTH` and `random-leaving-out COUNT SEED` what is left out with a trial of each cell.
+//! other on random lines, `leaving-out LENGTH` what is left out with a trial of each cell.
 
 mod chance;
 mod drawing;
@@ -16,10 +16,8 @@ mod narrowing;
 
 use super::said::{clue_in, facts_in, line_in, masks_in, push_facts, push_line, push_masks};
 use anyhow::{Context, Result, bail, ensure};
-pub use chance::{RandomLine, clue_from, draw};
+use clues::Clue;
 use line_settle::{Facts, Forced, LineEngine, MaskEngine, Outcome, PlainEngine, force_crossing};
-pub use listing::{clue_by_number, left_by_number, power};
-pub use narrowing::narrow_by;
 use narrowing::{Engines, Narrowed};
 use picture::{Axis, LineId, LineSet};
 use std::alloc::{AllocError, Global};
@@ -45,9 +43,6 @@ pub fn tell_of_many(rt: &(impl AllocGlobal + Print), words: &[&str]) -> Result<(
         ["engines", most] => listing::compare_all(alloc, number_in(most)?)?,
         ["random", count, seed] => chance::compare_all(alloc, number_in(count)?, number_in(seed)?)?,
         ["leaving-out", most] => leaving::compare_all(alloc, number_in(most)?)?,
-        ["random-leaving-out", count, seed] => {
-            leaving::compare_random(alloc, number_in(count)?, number_in(seed)?)?
-        }
         _ => bail!("no such call"),
     };
     println!(rt; "{text}")?;
@@ -106,8 +101,13 @@ fn leave_out_text(alloc: Global, clue: &str, masks: &str, among: &str) -> Result
     let clue = clue_in(alloc, clue)?;
     let left = masks_in(alloc, masks)?;
     let among = masks_in(alloc, among)?;
+    left_out_text(alloc, &clue, &left, &among)
+}
+
+// The same of masks.
+fn left_out_text(alloc: Global, clue: &Clue, left: &[u16], among: &[u16]) -> Result<String> {
     let mut engine = MaskEngine::make(alloc, 120)?;
-    let (drawn, kept) = drawing::draw_and_leave_out(&mut engine, &clue, &left, &among)?;
+    let (drawn, kept) = drawing::draw_and_leave_out(&mut engine, clue, left, among)?;
     ensure!(left.len() <= 120, "a line has at most 120 cells");
     let mut text = String::new(alloc);
     text.push_str("drawn ")?;

@@ -4,11 +4,8 @@
 //! is left, and the evaluations, the trials and the calls of the engine. `stands-for OTHER ROWS LINE ..` prints whether that book
 //! stands for the clues of another picture, and how many calls that took. `drew ROW COL COLOUR ROWS LINE ..` prints which step drew
 //! that a colour is not in a cell, and for which reason. Both engines are asked; where they differ, `differ` is printed.
-//!
-//! `steps LENGTH` and `random-steps COUNT SEED` compare the steps of lines with a trial of each cell.
 
 mod drawing;
-mod trying;
 
 use super::said::{document_in, mask_in, push_facts, push_line, push_premises, push_steps};
 use anyhow::{Context, Result, bail, ensure};
@@ -31,21 +28,6 @@ pub fn tell(rt: &(impl AllocGlobal + Print), words: &[&str]) -> Result<()> {
     } else {
         println!(rt; "differ: {first} - {second}")?;
     }
-    Ok(())
-}
-
-/// Answers a call that goes over many lines.
-pub fn tell_of_many(rt: &(impl AllocGlobal + Print), words: &[&str]) -> Result<()> {
-    let alloc = rt.alloc();
-    let text = match words {
-        ["steps", most] => trying::compare_all(alloc, most.parse().context("a number")?)?,
-        ["random-steps", count, seed] => {
-            let count = count.parse().context("a number")?;
-            trying::compare_random(alloc, count, seed.parse().context("a number")?)?
-        }
-        _ => bail!("no such call"),
-    };
-    println!(rt; "{text}")?;
     Ok(())
 }
 

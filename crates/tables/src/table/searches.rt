@@ -1,14 +1,14 @@
 //! Puzzles that are settled and searched.
 //!
 //! `settle ENGINE AGENDA PUZZLE` prints the evaluations and the facts, or `dead`. `first PUZZLE` prints a picture with the
-//! clues, and `other PICTURE` another one than this, where there is one. `parts FACTS` prints the cells of each part. `judge
-//! PICTURE [ALLOWANCE]` judges a picture by its parts, and once more under no allowance; `cost` does, and tells the evaluations.
+//! clues. `parts FACTS` prints the cells of each part. `judge PICTURE [ALLOWANCE]` judges a picture by its parts, and once more
+//! under no allowance; `cost` does, and tells the evaluations.
 
 ghost use Rattle.second_search.specs.Parts.{IsScene};
 
 use super::puzzles::{Puzzle, puzzle_in};
 use super::said::{document_in, facts_in, push_facts, push_picture};
-use crate::search::{Said, Tally, judge, other, settled};
+use crate::search::{Said, Tally, judge, settled};
 use crate::settle::{Settled, settled_by};
 use anyhow::{Context, Result, bail, ensure};
 use clues::ClueBook;
@@ -19,30 +19,39 @@ use std::alloc::Global;
 
 /// Tells what settling or a search comes to.
 pub fn tell(rt: &(impl AllocGlobal + Print), words: &[&str]) -> Result<()> {
-    let alloc = rt.alloc();
-    let told = match words {
-        ["settle", engine, agenda, puzzle] => settle(
-            alloc,
-            engine,
-            agenda,
-            &puzzle_in(alloc, puzzle)?,
-        )?,
-        ["first", puzzle] => first(alloc, &puzzle_in(alloc, puzzle)?)?,
-        ["other", picture] => find_another(alloc, &document_in(alloc, picture)?)?,
-        ["parts", facts] => parts(alloc, &facts_in(alloc, facts)?)?,
-        ["judge", picture] => judge_twice(alloc, &document_in(alloc, picture)?, None, false)?,
-        ["judge", picture, most] => {
-            let most = most.parse().context("the allowance")?;
-            judge_twice(alloc, &document_in(alloc, picture)?, Some(most), false)?
-        }
-        ["cost", picture, most] => {
-            let most = most.parse().context("the allowance")?;
-            judge_twice(alloc, &document_in(alloc, picture)?, Some(most), true)?
-        }
-        _ => bail!("settle, first, other, parts, judge or cost"),
-    };
+    let told = told_of(rt.alloc(), words)?;
     print!(rt; "{told}")?;
     Ok(())
+}
+
+// What words come to.
+fn told_of(alloc: Global, words: &[&str]) -> Result<String> {
+    match words {
+        ["settle", engine, agenda, puzzle] => settle_text(alloc, engine, agenda, puzzle),
+        ["first", puzzle] => first(alloc, &puzzle_in(alloc, puzzle)?),
+        ["parts", facts] => parts(alloc, &facts_in(alloc, facts)?),
+        ["judge", picture] => judge_text(alloc, picture, None, false),
+        ["judge", picture, most] => judge_text(alloc, picture, Some(splits_in(most)?), false),
+        ["cost", picture, most] => judge_text(alloc, picture, Some(splits_in(most)?), true),
+        _ => bail!("settle, first, parts, judge or cost"),
+    }
+}
+
+fn splits_in(word: &str) -> Result<u32> {
+    Ok(word.parse().context("the allowance")?)
+}
+
+fn settle_text(alloc: Global, engine: &str, agenda: &str, puzzle: &str) -> Result<String> {
+    settle(alloc, engine, agenda, &puzzle_in(alloc, puzzle)?)
+}
+
+fn judge_text(
+    alloc: Global,
+    picture: &str,
+    allowance: Option<u32>,
+    is_counted: bool,
+) -> Result<String> {
+    judge_twice(alloc, &document_in(alloc, picture)?, allowance, is_counted)
 }
 
 // What settling comes to.
@@ -76,20 +85,6 @@ fn first(alloc: Global, puzzle: &Puzzle) -> Result<String> {
     match find_first(alloc, &mut engine, clues)? {
         Some(picture) => push_picture(&mut text, &picture)?,
         None => text.push_str("none")?,
-    }
-    text.push('\n')?;
-    Ok(text)
-}
-
-// Another picture with the clues and the givens of one.
-fn find_another(alloc: Global, document: &Document) -> Result<String> {
-    let mut engine = MaskEngine::make(alloc, MAX_SIDE)?;
-    let clues = ClueBook::of(alloc, &document.picture)?;
-    let facts = settled(alloc, &mut engine, &clues, document)?;
-    let mut text = String::new(alloc);
-    match other(alloc, &mut engine, &clues, document, &facts)?.said {
-        Said::Other(picture) => push_picture(&mut text, &picture)?,
-        said => text.push_str(said.name())?,
     }
     text.push('\n')?;
     Ok(text)
@@ -137,8 +132,8 @@ fn judge_twice(
     Ok(text)
 }
 
-/// What a picture is judged under an allowance, and then under none, with the answers that were kept.
-pub fn judged<E: LineEngine>(
+// What a picture is judged under an allowance, and then under none, with the answers that were kept.
+fn judged<E: LineEngine>(
     alloc: Global,
     engine: &mut E,
     clues: &ClueBook,

@@ -8,16 +8,16 @@ use line_settle::Outcome;
 use picture::{Axis, LineId, Picture};
 use std::alloc::Global;
 
-/// The next number of a small generator.
-pub fn draw(state: &mut u64) -> u64 {
+// The next number of a small generator.
+fn draw(state: &mut u64) -> u64 {
     *state = state
         .wrapping_mul(6_364_136_223_846_793_005)
         .wrapping_add(1_442_695_040_888_963_407);
     *state >> 33
 }
 
-/// The clue of a line of these cells.
-pub fn clue_from(alloc: Global, cells: &[u8]) -> Result<Clue> {
+// The clue of a line of these cells.
+fn clue_from(alloc: Global, cells: &[u8]) -> Result<Clue> {
     ensure!(0 < cells.len() && cells.len() <= 120, "1 to 120 cells");
     let mut picture = Picture::blank(alloc, 1, cells.len() as u8)?;
     for (i, cell) in cells.iter().enumerate() {

@@ -1,6 +1,5 @@
 //! What is left out is compared with a plain trial of each cell in turn.
 
-use super::chance::{clue_from, draw, draw_line};
 use super::drawing::draw_and_leave_out;
 use super::listing::{MOST, clue_by_number, left_by_number, power};
 use super::narrowing::narrow_by;
@@ -98,32 +97,4 @@ fn leave_out_by_trial<E: LineEngine>(
         }
     }
     Ok(())
-}
-
-/// Compares on so many random lines of up to 40 cells, and some of the colours that they exclude.
-pub fn compare_random(alloc: Global, count: u32, seed: u32) -> Result<String> {
-    let mut engine = PlainEngine::make(alloc, 120)?;
-    let mut tally = Tally { lines: 0, kept: 0 };
-    let mut state = u64::from(seed);
-    for _ in 0..count {
-        let line = draw_line(&mut state, 40);
-        ensure!(line.len <= 120, "a line has at most 120 cells");
-        let share = 1 + draw(&mut state) % 4;
-        let among = draw_among(&mut state, share);
-        let clue = clue_from(alloc, &line.cells[..line.len])?;
-        let left = &line.left[..line.len];
-        tally.add(compare(&mut engine, &clue, left, &among[..line.len])?);
-    }
-    tally.text(alloc)
-}
-
-// Draws some colours in one of so many cells.
-fn draw_among(state: &mut u64, share: u64) -> [u16; 120] {
-    let mut among = [0; 120];
-    for mask in among.iter_mut() {
-        if draw(state) % share.max(1) == 0 {
-            *mask = (draw(state) % 65_536) as u16;
-        }
-    }
-    among
 }
