@@ -14,7 +14,7 @@ use Rattle.nonobench.specs.Words.{Given, IsAsked, IsCheck, IsUntaken, IsWork, gi
 
 -- ---- values
 
-made : Option Text → Option Text → Option Text → Option Text → Option Text → Given
+abbrev made : Option Text → Option Text → Option Text → Option Text → Option Text → Given
 made file cert format background history = record { file = file; cert = cert; format = format; background = background; history = history }
 
 -- the values of a parse's entries are those of its rows
@@ -43,16 +43,17 @@ mapped g (Some x) = refl
 pub name_is : (m : ArgMatches) → subcommand_name_of m ≡ option_map (λ p. p.0) (subcommand_rows_of m)
 name_is m = mapped _ _
 
-name_in : Option (Text × List Row) → Option Text
+abbrev name_in : Option (Text × List Row) → Option Text
 name_in = option_map (λ p. p.0)
 
-rows_in : Option (Text × List Row) → Option (List Row)
+abbrev rows_in : Option (Text × List Row) → Option (List Row)
 rows_in = option_map (λ p. p.1)
 
+five_not_four : (a b : ℕ) → a ≡ 5 → b ≡ 4 → a ≡ b → ⊥
+five_not_four a b x y e = absurd (omega (arith, x, y, e))
+
 not_check : codes "check" ≡ codes "work" → ⊥
-not_check e =
-    let bad : 5 ≡ 4 = ap (λ (t : Text). length t) e in
-    absurd (omega arith)
+not_check e = five_not_four (length (codes "check")) (length (codes "work")) refl refl (ap (λ (t : Text). length t) e)
 
 some_text : (a b : Text) → Some a ≡ Some b → a ≡ b
 some_text a b e = cc
