@@ -1,6 +1,8 @@
 -- The words of the command line, as the parser's contract has them.
-use Rattle.std.proofs.Common.{◌≡◌, ◌⊎◌, ℕ, true, List, [], ◌∷◌, length, codes, Option, None, Some, Result, Ok, Err, option_map, inl, inr, refl, sym, ap, subst, ◌∙◌, arith}
-use Rattle.clap.specs.Words.{Row, Text, first_of, first_value, found_of, one_of, one_text, rows_of, subcommand_name_of, subcommand_rows, subcommand_rows_of}
+use Rattle.std.proofs.Common.{◌≡◌, ◌≤◌, ◌⊎◌, ℕ, decimal, true, List, [], ◌∷◌, length, codes, Option, None, Some, Result, Ok, Err, option_map, inl, inr, refl, sym, ap, subst, ◌∙◌, arith}
+use Rattle.std.proofs.lemmas.Fmt.{parse-decimal}
+use Rattle.std.specs.Str.Parse.{ParsesUnsigned}
+use Rattle.clap.specs.Words.{ReadsOne, Row, Text, first_of, first_value, found_of, one_of, one_text, rows_of, subcommand_name_of, subcommand_rows, subcommand_rows_of}
 use Rattle.clap.specs.declared.parser.matches.ArgMatches.{ArgMatches}
 use Rattle.clap.specs.declared.parser.matches.Found.{Found}
 use Rattle.clap.proofs.WalkLemmas.{first_value-rows, one_text-rows}
@@ -12,7 +14,7 @@ use Rattle.nonobench.specs.Words.{Given, IsAsked, IsCheck, IsUntaken, IsWork, gi
 
 -- ---- values
 
-made : Option Text → Option Text → Option Text → Option Text → Option Text → Given
+abbrev made : Option Text → Option Text → Option Text → Option Text → Option Text → Given
 made file cert format background history = record { file = file; cert = cert; format = format; background = background; history = history }
 
 -- the values of a parse's entries are those of its rows
@@ -37,16 +39,21 @@ mapped : {X : Type 0} (g : X → Text × List Row) (o : Option X) → option_map
 mapped g None = refl
 mapped g (Some x) = refl
 
-name_in : Option (Text × List Row) → Option Text
+-- the name and the rows of the subcommand that a parse entered are of one subcommand
+pub name_is : (m : ArgMatches) → subcommand_name_of m ≡ option_map (λ p. p.0) (subcommand_rows_of m)
+name_is m = mapped _ _
+
+abbrev name_in : Option (Text × List Row) → Option Text
 name_in = option_map (λ p. p.0)
 
-rows_in : Option (Text × List Row) → Option (List Row)
+abbrev rows_in : Option (Text × List Row) → Option (List Row)
 rows_in = option_map (λ p. p.1)
 
+five_not_four : (a b : ℕ) → a ≡ 5 → b ≡ 4 → a ≡ b → ⊥
+five_not_four a b x y e = absurd (omega (arith, x, y, e))
+
 not_check : codes "check" ≡ codes "work" → ⊥
-not_check e =
-    let bad : 5 ≡ 4 = ap (λ (t : Text). length t) e in
-    absurd (omega arith)
+not_check e = five_not_four (length (codes "check")) (length (codes "work")) refl refl (ap (λ (t : Text). length t) e)
 
 some_text : (a b : Text) → Some a ≡ Some b → a ≡ b
 some_text a b e = cc
@@ -66,28 +73,19 @@ asked_check entered rows r name is asked = record {
   check = λ there e. subst (λ (x : List Row). IsCheck (given_in x) r) (some_rows rows there (sym is ∙ ap rows_in e)) asked;
 }
 
-pub asked_none : (entered : Option (Text × List Row)) (r : Result Task ProgramFault) → (option_map (λ p. p.0) entered ≡ Some (codes "work") → ⊥) → (option_map (λ p. p.0) entered ≡ Some (codes "check") → ⊥) → IsAsked entered r
-asked_none entered r work check = record {
-  work = λ rows e. absurd (work (ap name_in e));
-  check = λ rows e. absurd (check (ap name_in e));
-}
+-- ---- the history
 
--- what is not taken for one reason is not taken for one that follows
-pub untaken_as : (P Q : Type 0) (r : Result Task ProgramFault) → (P → Q) → IsUntaken P r → IsUntaken Q r
-untaken_as P Q (Ok Clues) f u = u
-untaken_as P Q (Ok (Work file options)) f u = u
-untaken_as P Q (Ok (Check file cert background)) f u = u
-untaken_as P Q (Ok (Help text)) f u = f u
-untaken_as P Q (Err (fault.Words text)) f u = f u
-untaken_as P Q (Err fault.Memory) f u = u
-untaken_as P Q (Err (fault.Ppm x)) f u = u
-untaken_as P Q (Err (fault.Non x)) f u = u
-untaken_as P Q (Err (fault.Edit x)) f u = u
-untaken_as P Q (Err fault.NoPicture) f u = u
-untaken_as P Q (Err (fault.Cert x)) f u = u
-untaken_as P Q (Err fault.TooLong) f u = u
-untaken_as P Q (Err fault.NotText) f u = u
-untaken_as P Q (Err fault.Background) f u = u
-untaken_as P Q (Err fault.BackgroundOfNon) f u = u
-untaken_as P Q (Err fault.Read) f u = u
-untaken_as P Q (Err fault.Write) f u = u
+same_number : {E : Type 0} (a b : ℕ) (r : Result ℕ E) → r ≡ Ok a → r ≡ Ok b → Some a ≡ Some b
+same_number a b r e f = cc
+
+no_error : {E : Type 0} (e : E) (b : ℕ) (r : Result ℕ E) → r ≡ Err e → r ≡ Ok b → ⊥
+no_error e b r h f = absurd cc
+
+-- a number that a text reads as, where the text is that number in decimal digits
+pub depth_read : {E : Type 0} (n : ℕ) (text : Text) (found : Option ℕ) (gives : List ℕ → Result ℕ E → Type 0) → ((t : List ℕ) (r : Result ℕ E) → gives t r → ParsesUnsigned 16 10 t r) → n ≤ 1000 → text ≡ decimal n → ReadsOne gives text found → found ≡ Some n
+depth_read {E} n text (Some m) gives parses few is reads =
+    let r : Result ℕ E = Ok m in
+    same_number m n r refl (parse-decimal 16 n text r (omega (arith, few)) (omega (arith, few)) is (parses text r reads))
+depth_read {E} n text None gives parses few is reads =
+    let r : Result ℕ E = Err reads.0 in
+    absurd (no_error reads.0 n r refl (parse-decimal 16 n text r (omega (arith, few)) (omega (arith, few)) is (parses text r reads.1)))

