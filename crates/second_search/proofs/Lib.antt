@@ -2,6 +2,7 @@ pub mod GridLemmas
 pub mod NoteLemmas
 pub mod LookLemmas
 pub mod WeightLemmas
+pub mod TreeLemmas
 pub mod FindLemmas
 pub mod SoundLemmas
 pub mod ChainLemmas

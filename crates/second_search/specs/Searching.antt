@@ -12,7 +12,7 @@ use Rattle.line_settle.specs.FactSets.{IsFacts, IsLeast, SameShape}
 use Rattle.line_settle.specs.Branches.{branches}
 use Rattle.propagate.specs.Closing.{EachFits, HasDeadLine}
 use Rattle.propagate.specs.Filling.{only}
-use Rattle.second_search.specs.declared.cell.Cell.{Cell}
+use Rattle.split_choice.specs.declared.cell.Cell.{Cell}
 use Rattle.second_search.specs.declared.coming.Coming.{Coming}
 use Rattle.second_search.specs.declared.coming.Coming.TheVariants.{Dies, Ends, Splits}
 use Rattle.second_search.specs.declared.counting.Ending.{Ending}

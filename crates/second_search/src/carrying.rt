@@ -6,7 +6,7 @@ ghost use Rattle.picture.specs.Rows.{lines_along, width_of, HasLine};
 ghost use Rattle.second_search.specs.Carrying.{HoldsCells, LieInside, NamesAlong, NamesThrough, PutsRowOn, carried};
 ghost use Rattle.second_search.specs.Parts.{GoesThrough, picked};
 
-use crate::cell::Cell;
+use split_choice::Cell;
 use crate::keeper::Answer;
 use crate::parts::cell_on;
 use line_settle::Facts;

@@ -5,7 +5,7 @@ ghost use Rattle.picture.specs.Rows.{width_of};
 ghost use Rattle.propagate.specs.LineNames.{AreLinesOf};
 ghost use Rattle.second_search.specs.Through.{NamesBoth, PutsBoth};
 
-use crate::cell::Cell;
+use split_choice::Cell;
 use line_settle::Facts;
 use picture::{Axis, LineId, LineSet, MAX_SIDE};
 

@@ -9,7 +9,7 @@ ghost use Rattle.propagate.specs.LineNames.{AreLinesOf};
 ghost use Rattle.second_search.specs.Looking.{AreRowsSettled, Shows};
 ghost use Rattle.second_search.specs.Searching.{Comes, ComesClosed, CountsSome};
 
-use crate::cell::Cell;
+use split_choice::Cell;
 use crate::looking::{first_unsettled, shown_picture};
 use clues::ClueBook;
 use line_settle::{Facts, LineEngine, Meter, Outcome};

@@ -30,7 +30,7 @@ ghost use Rattle.second_search.specs.Judging.{
 };
 
 use crate::carrying::{answer_for, are_named, first_cell};
-use crate::cell::Cell;
+use split_choice::Cell;
 use crate::counting::Ending;
 use crate::laws::{fillings_are_of_facts, fillings_stay, parts_decide};
 use crate::part_search::search_part;

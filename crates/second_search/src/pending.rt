@@ -6,7 +6,7 @@ ghost use Rattle.line_settle.specs.FactSets.{SameShape};
 ghost use Rattle.line_settle.specs.Branches.{branches};
 ghost use Rattle.second_search.specs.Branching.{place, places, search_of, AreInside, AreSameAbove, GoesOn, IsInside, IsRowTaken, PutsBack};
 
-use crate::cell::Cell;
+use split_choice::Cell;
 use crate::note::{CellMask, Note};
 use line_settle::Facts;
 use std::alloc::{AllocError, Global};

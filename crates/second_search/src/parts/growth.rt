@@ -8,7 +8,7 @@ ghost use Rattle.line_settle.specs.FactSets.{col_on, row_on};
 ghost use Rattle.second_search.specs.Growing.{HasOpenCellsOf, IsGrown, Leaves, TakesIn};
 ghost use Rattle.second_search.specs.Parts.{IsChained, IsOpenCell};
 
-use crate::cell::Cell;
+use split_choice::Cell;
 use crate::parts::open_cells::is_open;
 use line_settle::Facts;
 use picture::{Axis, CellSet, LineId, LineSet, MAX_SIDE};

@@ -5,7 +5,7 @@ ghost use Rattle.picture.specs.Rows.{width_of};
 ghost use Rattle.second_search.specs.Growing.{HasNoOpenCell, IsFirstOpen};
 ghost use Rattle.second_search.specs.Parts.{HasTwoColours, IsOpenCell};
 
-use crate::cell::Cell;
+use split_choice::Cell;
 use line_settle::Facts;
 
 // The first open cell of a row.
