@@ -23,6 +23,7 @@ use Rattle.second_search.specs.Other.{AreSound, FindsFirst, FindsOther, HasClues
 use Rattle.line_settle.specs.GridLaws.{shape_refl, shape_sym, shape_trans, at_with_cell, off_with_cell, shape_with_cell}
 use Rattle.picture.specs.BitLaws.{bit_below, bit_is_set, power_has, set_bit}
 use Rattle.clues.specs.Solution.{Solves}
+use Rattle.line_settle.specs.SolutionLaws.{solved_shape}
 use Rattle.line_settle.specs.Branches.{branches, colours_of, held}
 
 -- ---- a cell held to each of its colours

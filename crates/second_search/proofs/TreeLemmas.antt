@@ -43,7 +43,8 @@ use Rattle.second_search.specs.declared.tree.Written.TheVariants.{Whole}
 use Rattle.second_search.specs.declared.tree_step.TreeStep.{TreeStep}
 use Rattle.second_search.specs.declared.tree_step.TreeStep.TheVariants.{Ends, Splits, Other}
 use Rattle.second_search.specs.declared.ladder.Decided.TheVariants.{Tree}
-use Rattle.second_search.specs.Branching.{FillsSome, Search, branches, colours_of, held, places, search_of}
+use Rattle.second_search.specs.Branching.{FillsSome, Search, places, search_of}
+use Rattle.line_settle.specs.Branches.{branches, colours_of, held}
 use Rattle.second_search.specs.Looking.{FindsFilling, Shows}
 use Rattle.second_search.specs.Trees.{Adds, Advances, AreNone, AreTree, Continues, Decides, EachFitsAlong, ForcesMore, HasCellNumber, HasLineNumber, IsComparedTo, IsDeadLine, IsOtherIn, Says, Settles, ShowsOnly, Stands, Turns, TurnsOn, Walks, Writes, line_id, split_at}
 use Rattle.second_search.proofs.FindLemmas.{Among, AreAlike, alike_both, among_kept, each_colour, held_alike, held_some, some_behind, some_both, some_front, some_held}

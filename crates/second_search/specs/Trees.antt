@@ -26,7 +26,7 @@ use Rattle.second_search.specs.declared.tree.Written.{Written}
 use Rattle.second_search.specs.declared.tree.Written.TheVariants.{Whole, Another, BrokenOff}
 use Rattle.second_search.specs.declared.ladder.Decided.{Decided}
 use Rattle.second_search.specs.declared.ladder.Decided.TheVariants.{Tree, OtherPicture}
-use Rattle.second_search.specs.Branching.{branches}
+use Rattle.line_settle.specs.Branches.{branches}
 use Rattle.second_search.specs.Weighing.{load}
 
 -- ---- places by number

@@ -121,6 +121,7 @@ impl Growing {
         ensures counts { (evaluations : ℕ) × Counts evaluations 0 meter.old meter.new (E.calls engine.old) (E.calls engine.new) }
         ensures same_longest { E.longest engine.new ≡ E.longest engine.old }
     {
+        counts_add();
         let _ = engine.calls();
         let _evaluations = meter.evaluations;
         let _trials = meter.trials;

@@ -13,3 +13,9 @@ loop-preserved g c = record {
   counts = counts_more c.counts_add.ensures _ _ _ _ _ _ c.loop.invariant.counts c.try_both.ensures.counts;
   same_longest = c.try_both.ensures.same_longest ∙ c.loop.invariant.same_longest;
 }
+
+pub returns-in_err-last-clause-counts : goal.returns-in_err-last-clause-counts
+returns-in_err-last-clause-counts g c = counts_more c.counts_add.ensures _ _ _ _ _ _ c.loop.invariant.counts c.write.ensures.counts
+
+pub returns-clause-counts : goal.returns-clause-counts
+returns-clause-counts g c = counts_more c.counts_add.ensures _ _ _ _ _ _ c.loop.invariant.counts c.write.ensures.counts

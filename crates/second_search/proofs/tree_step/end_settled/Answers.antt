@@ -1,4 +1,5 @@
 use Rattle.std.proofs.Common.{List, ℕ, Option, refl, subst}
+use Rattle.std.proofs.lemmas.Bool.{false≢true}
 use Rattle.std.specs.Prelude.{MatchOption}
 use Rattle.picture.specs.declared.line_id.LineId.{LineId}
 use Rattle.propagate.specs.Closing.{EachFits}
@@ -11,8 +12,14 @@ returns-then-has_clues-clause-continues g c =
     let s = c.args.scene.now in
     compare_continues s.clues.now s.picture.now c.args.facts.now c.in_ok-picture.picture c.compared.result c.height.ensures.facts c.in_ok-picture.ensures (c.if-has_clues.ensures.0 refl) c.compared.ensures
 
-pub returns-in-Some-clause-continues : goal.returns-in-Some-clause-continues
-returns-in-Some-clause-continues g c =
+pub returns-clause-continues : goal.returns-clause-continues
+returns-clause-continues g c =
     let s = c.args.scene.now in
     let P : Option LineId → Type 0 = λ o. MatchOption o (EachFits s.clues.now c.args.facts.now) (IsDeadLine s.clues.now c.args.facts.now) in
     dead_continues s.clues.now s.picture.now c.args.facts.now c.in-Some.line c.line_number.result (subst P c.in-Some.is c.in_ok-dead.ensures.dead) c.line_number.ensures.axis c.line_number.ensures.number
+
+pub unreachable-requires : goal.unreachable-requires
+unreachable-requires g c =
+    let s = c.args.scene.now in
+    let P : Option LineId → Type 0 = λ o. MatchOption o (EachFits s.clues.now c.args.facts.now) (IsDeadLine s.clues.now c.args.facts.now) in
+    false≢true (c.if-has_clues.ensures.1 (none_dead c.clues_are_of_lines.ensures c.books_are_their_clues.ensures s.clues.now (g.E.LineEngine.longest c.args.engine.now) c.args.facts.now c.in_ok-picture.picture c.height.ensures.facts c.requires.closable (subst P c.in-None.is c.in_ok-dead.ensures.dead) c.in_ok-picture.ensures))
