@@ -20,6 +20,7 @@ pub mod JudgeLemmas
 pub mod OneListLemmas
 pub mod VerdictLemmas
 pub mod EndLemmas
+pub mod WithinLemmas
 pub mod TruthLemmas
 pub mod AnswerLemmas
 pub mod CarryLemmas

@@ -8,7 +8,7 @@ ghost use Rattle.second_search.specs.Other.{AreSound, FindsFirst, FindsOther};
 ghost use Rattle.second_search.specs.Looking.{FindsFilling};
 
 use crate::ladder::{Decided, FIRST_BOUND, Ladder, MOST_CELLS, climb};
-use crate::near::find_near;
+use crate::near::find_in_parts;
 use crate::scene::Scene;
 use clues::ClueBook;
 use clues::laws::clues_are_of_lines;
@@ -73,7 +73,11 @@ pub fn find_other<E: LineEngine>(
         facts,
         picture,
     };
-    let near = find_near(alloc, engine, &scene)?;
+    let mut meter = Meter {
+        evaluations: 0,
+        trials: 0,
+    };
+    let near = find_in_parts(alloc, engine, &scene, &mut meter)?;
     if near.is_some() {
         return Ok(near);
     }

@@ -33,7 +33,7 @@ use crate::carrying::{answer_for, are_named, first_cell};
 use split_choice::Cell;
 use crate::counting::Ending;
 use crate::laws::{fillings_are_of_facts, fillings_stay, parts_decide};
-use crate::part_search::search_part;
+use crate::part_decision::decide_part;
 use crate::parts::Parts;
 use crate::same_lines::same_lines;
 use crate::scene::Scene;
@@ -428,7 +428,7 @@ impl Keeper {
         match part.answer {
             Answer::Unknown => {
                 *searched = searched.saturating_add(1);
-                search_part(
+                decide_part(
                     *self.kept.allocator(),
                     engine,
                     scene,

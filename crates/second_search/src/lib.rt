@@ -12,6 +12,7 @@ pub mod laws;
 mod looking;
 mod near;
 mod note;
+mod part_decision;
 mod part_search;
 mod parts;
 mod pending;
