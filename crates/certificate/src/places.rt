@@ -3,7 +3,7 @@
 ghost use Rattle.std.specs.Prelude.{◌≡◌, ◌-◌, MatchOption};
 ghost use Rattle.picture.specs.Picture.{IsPicture};
 ghost use Rattle.picture.specs.Rows.{lines_along};
-ghost use Rattle.certificate.specs.Making.{numbered};
+ghost use Rattle.certificate.specs.Puzzle.{numbered};
 ghost use Rattle.certificate.specs.Puzzle.{HasCellNumber, HasLineNumber, line_id};
 
 use second_search::{CellNumber, LineNumber};
