@@ -11,7 +11,7 @@ use Rattle.line_settle.specs.FactSets.{Leaves, SameShape, nothing_excluded}
 use Rattle.line_settle.specs.GridLaws.{shape_sym, shape_trans}
 use Rattle.second_search.specs.declared.tree_line.CellNumber.{CellNumber}
 use Rattle.second_search.specs.declared.tree_line.CertLine.{CertLine}
-use Rattle.certificate.specs.Cert.{Certificate}
+use Rattle.certificate.specs.Cert.{Certificate, IsCert}
 use Rattle.certificate.specs.FirstFault.{CertFirstFault, FirstFaultBehind}
 use Rattle.certificate.specs.Making.{EachExcludes, HasNoFault, IsMade, Makes, NamesGivens, WritesTree}
 use Rattle.certificate.specs.Puzzle.{IsNamed, IsUnique, base_of, blank_for, with_givens}
@@ -51,8 +51,8 @@ unique_has_no_other : (picture : List (List ℕ)) (givens : List ℕ) (cells : L
 unique_has_no_other picture givens cells names unique other o =
     o.differs (unique other (solves_fewer (clues_of picture) (HasCell givens) (IsNamed cells) picture other (λ row col named. (names.named row col).1 named) o.solves))
 
-pub some_made : (picture start : List (List ℕ)) (givens : List ℕ) (cells : List CellNumber) (lines : List CertLine) (cert : Certificate) → IsPicture picture → NamesGivens picture givens cells → GivesBase picture (blank_for picture) cells (Ok tt) start → start ≡ with_givens picture cells (blank_for picture) → HasNoFault picture (start ∷ []) lines → EachExcludes picture (start ∷ []) lines → cert.givens ≡ cells → cert.lines ≡ lines → (cert.version ≡ 1) ↔ (cells ≡ []) → IsMade picture givens cert
-some_made picture start givens cells lines cert is names base root none each g l v =
+pub some_made : (picture start : List (List ℕ)) (givens : List ℕ) (cells : List CellNumber) (lines : List CertLine) (cert : Certificate) → IsPicture picture → NamesGivens picture givens cells → GivesBase picture (blank_for picture) cells (Ok tt) start → start ≡ with_givens picture cells (blank_for picture) → HasNoFault picture (start ∷ []) lines → EachExcludes picture (start ∷ []) lines → IsCert cert → cert.givens ≡ cells → cert.lines ≡ lines → (cert.version ≡ 1) ↔ (cells ≡ []) → IsMade picture givens cert
+some_made picture start givens cells lines cert is names base root none each c g l v =
     let P : List CellNumber → Type 0 = λ cs. FirstFaultBehind picture (blank_for picture) 2 cs cert.lines None in
     let Q : List CertLine → Type 0 = λ ls. FirstFaultBehind picture (blank_for picture) 2 cells ls None in
     let accepted : CertFirstFault picture cert None = subst P (sym g) (subst Q (sym l) (base.1 lines None (none (2 + length cells)))) in
@@ -64,6 +64,7 @@ some_made picture start givens cells lines cert is names base root none each g l
     let B : List CellNumber → Type 0 = λ cs. EachExcludes picture (base_of picture cs ∷ []) lines in
     let C : List CertLine → Type 0 = λ ls. EachExcludes picture (base_of picture cert.givens ∷ []) ls in
     record {
+      is_cert = c;
       accepted = accepted;
       proof = proof;
       unique = unique;
@@ -81,9 +82,9 @@ pub makes_none : (picture blank start : List (List ℕ)) (givens : List ℕ) (ce
 makes_none picture blank start givens cells height width is inside names h w b base e t =
     none_made picture start givens cells is inside names base.0 (e ∙ ap (with_givens picture cells) (root_is picture blank start cells height width h w b)) t
 
-pub makes_some : (picture blank start : List (List ℕ)) (givens : List ℕ) (cells : List CellNumber) (lines : List CertLine) (cert : Certificate) (height width : ℕ) → IsPicture picture → NamesGivens picture givens cells → height ≡ length picture → width ≡ width_of picture → blank ≡ nothing_excluded height width → GivesBase picture blank cells (Ok tt) start → start ≡ with_givens picture cells blank → WritesTree picture start (Some lines) → cert.givens ≡ cells → cert.lines ≡ lines → (cert.version ≡ 1) ↔ (cells ≡ []) → Makes picture givens (Some cert)
-makes_some picture blank start givens cells lines cert height width is names h w b base e t g l v =
+pub makes_some : (picture blank start : List (List ℕ)) (givens : List ℕ) (cells : List CellNumber) (lines : List CertLine) (cert : Certificate) (height width : ℕ) → IsPicture picture → NamesGivens picture givens cells → height ≡ length picture → width ≡ width_of picture → blank ≡ nothing_excluded height width → GivesBase picture blank cells (Ok tt) start → start ≡ with_givens picture cells blank → WritesTree picture start (Some lines) → IsCert cert → cert.givens ≡ cells → cert.lines ≡ lines → (cert.version ≡ 1) ↔ (cells ≡ []) → Makes picture givens (Some cert)
+makes_some picture blank start givens cells lines cert height width is names h w b base e t c g l v =
     let P : List (List ℕ) → Type 0 = λ f. GivesBase picture f cells (Ok tt) start in
-    some_made picture start givens cells lines cert is names (subst P (root_is picture blank start cells height width h w b) base) (e ∙ ap (with_givens picture cells) (root_is picture blank start cells height width h w b)) t.1 t.2 g l v
+    some_made picture start givens cells lines cert is names (subst P (root_is picture blank start cells height width h w b) base) (e ∙ ap (with_givens picture cells) (root_is picture blank start cells height width h w b)) t.1 t.2 c g l v
 
 pub ruleset making = (makes_none, makes_some)

@@ -10,7 +10,7 @@ use Rattle.propagate.specs.Filling.{Fills}
 use Rattle.second_search.specs.declared.tree_line.CellNumber.{CellNumber}
 use Rattle.second_search.specs.declared.tree_line.CertLine.{CertLine}
 use Rattle.second_search.specs.declared.tree_line.CertLine.TheVariants.{Line, Split, Dead, Done}
-use Rattle.certificate.specs.Cert.{AreOrdered, AreWritable, Certificate}
+use Rattle.certificate.specs.Cert.{AreOrdered, AreWritable, Certificate, IsCert}
 use Rattle.certificate.specs.FirstFault.{CertFirstFault, FirstFault, Leads}
 use Rattle.certificate.specs.Puzzle.{HasCellNumbers, IsAmong, IsForced, IsUnique, base_of, line_id, numbered}
 use Rattle.certificate.specs.Tree.{IsProof}
@@ -64,8 +64,10 @@ pub record NamesUpTo (givens : List ℕ) (row col : ℕ) (cells : List CellNumbe
   pub real : (cell : CellNumber) → IsAmong cell cells → (r : ℕ) × ((c : ℕ) × (cell ≡ numbered r c))
 
 -- A certificate with exactly these givens that has no fault: so it proves the picture, and there is no other with its givens or,
--- which is the same, those of the set. It has version 1 exactly where there are none, and each `line` excludes something.
+-- which is the same, those of the set. It can be written and is read as itself. It has version 1 exactly where there are no
+-- givens, and each `line` excludes something.
 pub record IsMade (picture : List (List ℕ)) (givens : List ℕ) (cert : Certificate) : Type 0 where
+  pub is_cert : IsCert cert
   pub accepted : CertFirstFault picture cert None
   pub proof : IsProof picture cert
   pub unique : IsUnique picture cert.givens

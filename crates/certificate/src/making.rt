@@ -3,7 +3,7 @@
 ghost use Rattle.std.specs.Prelude.{◌≡◌, ◌≤◌, ◌<◌, ◌↔◌, [], length, IfErr, IfOk, OnOk};
 ghost use Rattle.picture.specs.Document.{AreInside};
 ghost use Rattle.picture.specs.Rows.{width_of};
-ghost use Rattle.certificate.specs.Cert.{AreOrdered, AreWritable};
+ghost use Rattle.certificate.specs.Cert.{AreOrdered, AreWritable, IsCert};
 ghost use Rattle.certificate.specs.Making.{Makes, NamesGivens, NamesUpTo, WritesTree, lines_seen};
 ghost use Rattle.certificate.specs.Walk.{CanCheck};
 ghost use Rattle.line_settle.specs.FactSets.{SameShape};
@@ -104,6 +104,7 @@ fn given_cells(
 fn with_version(givens: Vec<CellNumber>, lines: Vec<CertLine>) -> Cert
     requires givens { AreOrdered 0 givens.items }
     requires lines { AreWritable lines.items }
+    ensures cert { IsCert result }
     ensures givens { result.givens ≡ givens.items }
     ensures lines { result.lines ≡ lines.items }
     ensures version { (result.version ≡ 1) ↔ (givens.items ≡ []) }

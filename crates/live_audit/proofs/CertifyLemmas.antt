@@ -30,6 +30,7 @@ MadeFor d (Some cert) = IsCertificateFor d cert
 made_for : (d : Design) (givens : List ℕ) (made : Option Certificate) → ((row col : ℕ) → HasCell givens row col ↔ IsGiven d row col) → Makes d.rows givens made → MadeFor d made
 made_for d givens None g m = (m.0, other_made d givens m.0 g m.1)
 made_for d givens (Some cert) g m = record {
+  is_cert = m.is_cert;
   accepted = m.accepted;
   proof = m.proof;
   no_other = λ other o. m.no_other other (other_seen d givens other g o);
@@ -38,6 +39,7 @@ made_for d givens (Some cert) g m = record {
     named = λ row col. (λ h. (m.names.named row col).0 ((g row col).1 h), λ h. (g row col).0 ((m.names.named row col).1 h));
   };
   version = m.version;
+  excludes = m.excludes;
 }
 
 -- a certificate of the ordered document is one of the document's ordered form

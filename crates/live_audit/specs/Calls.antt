@@ -1,5 +1,6 @@
 -- What a stroke comes to on a bench, and lists of strokes.
-use Rattle.std.specs.Prelude.{◌≡◌, ℕ, List, [], ◌∷◌, Option, Some, None}
+use Rattle.std.specs.Prelude.{◌≡◌, ◌≤◌, ℕ, List, [], ◌∷◌, Option, Some, None}
+use Rattle.certificate.specs.Cert.{Certificate}
 use Rattle.clues.specs.Change.{Moves}
 use Rattle.kept_audit.specs.Audit.{GoesOn}
 use Rattle.second_search.specs.Carrying.{Carries}
@@ -7,6 +8,7 @@ use Rattle.edits.specs.declared.fault.EditFault.{EditFault}
 use Rattle.edits.specs.History.{History, or_memory}
 use Rattle.live_audit.specs.declared.verdict.Verdict.{Verdict}
 use Rattle.live_audit.specs.Bench.{Seen, IsAudited, nothing_done}
+use Rattle.live_audit.specs.Certify.{Certifies}
 use Rattle.live_audit.specs.Stroke.{Stroke, after_stroke, stroke_fault, stroke_moves}
 use Rattle.live_audit.specs.Verdict.{IsVerdictOn, Tells}
 
@@ -39,11 +41,12 @@ pub record Refuses (stroke : Stroke) (fault : EditFault) (old new : Seen) : Type
 -- ---- lists
 
 -- A stroke, with the fault that refused it, none where it was accepted; or a verdict, none where it was refused for want of memory;
--- or an allowance that is set.
+-- or an allowance that is set; or a certificate with what was found, none where it was refused for want of memory.
 pub data Call : Type 0 where
   Strokes : Stroke → Option EditFault → Call
   Asks : Option Verdict → Call
   Allows : Option ℕ → Call
+  Proves : Option (Option Certificate) → Call
 
 -- what a call comes to
 abbrev pub Answers : Call → Seen → Seen → Type 0
@@ -52,11 +55,13 @@ Answers (Strokes stroke (Some fault)) old new = Refuses stroke fault old new
 Answers (Asks None) old new = IsAsBefore old new
 Answers (Asks (Some verdict)) old new = Tells old new verdict × (IsAudited new × IsVerdictOn old.history.document old.allowance verdict)
 Answers (Allows allowance) old new = new ≡ record old { allowance = allowance }
+Answers (Proves None) old new = IsAsBefore old new
+Answers (Proves (Some found)) old new = Certifies old.history.document found × IsAsBefore old new
 
--- calls lead from one state to another, one behind the other
+-- Calls lead from one state to another, one behind the other, and the engine's calls never fall.
 abbrev pub Lead : List Call → Seen → Seen → Type 0
 Lead [] old new = new ≡ old
-Lead (call ∷ calls) old new = (between : Seen) × Answers call old between × Lead calls between new
+Lead (call ∷ calls) old new = (between : Seen) × (Answers call old between × ((old.calls ≤ between.calls) × Lead calls between new))
 
 -- the machine: a history, and the allowance
 pub record Machine : Type 0 where
@@ -72,19 +77,22 @@ after_call m (Strokes stroke None) = machine (after_stroke m.history stroke) m.a
 after_call m (Strokes stroke (Some fault)) = m
 after_call m (Asks verdict) = m
 after_call m (Allows allowance) = machine m.history allowance
+after_call m (Proves found) = m
 
 abbrev pub after_calls : Machine → List Call → Machine
 after_calls m [] = m
 after_calls m (call ∷ calls) = after_calls (after_call m call) calls
 
 -- The answer is right: a stroke is accepted only where no fault holds, and refused by the first that does, or for memory; a verdict
--- is true of the machine's document, and Undecided names the machine's allowance.
+-- is true of the machine's document, and Undecided names the machine's allowance; a certificate fits that document.
 abbrev pub IsRight : Machine → Call → Type 0
 IsRight m (Strokes stroke None) = stroke_fault m.history stroke ≡ None
 IsRight m (Strokes stroke (Some fault)) = fault ≡ or_memory (stroke_fault m.history stroke)
 IsRight m (Asks None) = Unit {0}
 IsRight m (Asks (Some verdict)) = IsVerdictOn m.history.document m.allowance verdict
 IsRight m (Allows allowance) = Unit {0}
+IsRight m (Proves None) = Unit {0}
+IsRight m (Proves (Some found)) = Certifies m.history.document found
 
 abbrev pub AreRight : Machine → List Call → Type 0
 AreRight m [] = Unit {0}

@@ -1,10 +1,11 @@
 -- Certificates of a document.
-use Rattle.std.specs.Prelude.{◌≡◌, ℕ, ◌↔◌, List, [], Option, None, Some}
+use Rattle.std.specs.Prelude.{◌≡◌, ℕ, ◌↔◌, List, [], ◌∷◌, Option, None, Some}
 use Rattle.picture.specs.Document.{ordered_triples, renumbered_rows}
 use Rattle.certificate.specs.declared.line.CellNumber.{CellNumber}
-use Rattle.certificate.specs.Cert.{AreOrdered, Certificate}
+use Rattle.certificate.specs.Cert.{AreOrdered, Certificate, IsCert}
 use Rattle.certificate.specs.FirstFault.{CertFirstFault}
-use Rattle.certificate.specs.Puzzle.{IsAmong, numbered}
+use Rattle.certificate.specs.Making.{EachExcludes}
+use Rattle.certificate.specs.Puzzle.{IsAmong, base_of, numbered}
 use Rattle.certificate.specs.Tree.{IsProof}
 use Rattle.edits.specs.Design.{Design, design}
 use Rattle.live_audit.specs.Bench.{IsGiven}
@@ -22,13 +23,16 @@ pub record NamesMarks (d : Design) (cells : List CellNumber) : Type 0 where
   pub named : (row col : ℕ) → IsGiven d row col ↔ IsAmong (numbered row col) cells
 
 -- A certificate of a document with exactly its givens: the checker finds no fault, so the lines prove the picture, and there is no
--- other. It has version 1 exactly where there are no givens.
+-- other. It can be written and is read as itself. It has version 1 exactly where there are no givens, and each `line` excludes
+-- something.
 pub record IsCertificateFor (d : Design) (cert : Certificate) : Type 0 where
+  pub is_cert : IsCert cert
   pub accepted : CertFirstFault d.rows cert None
   pub proof : IsProof d.rows cert
   pub no_other : (other : List (List ℕ)) → IsOtherFor d other → ⊥
   pub givens : NamesMarks d cert.givens
   pub version : (cert.version ≡ 1) ↔ (cert.givens ≡ [])
+  pub excludes : EachExcludes d.rows (base_of d.rows cert.givens ∷ []) cert.lines
 
 -- a certificate of the ordered document, or there is another picture for it
 abbrev pub CertifiesOrdered : Design → Option Certificate → Type 0

@@ -40,7 +40,7 @@ const NOTHING_DONE: Meter = Meter {
 
 /// A document with its history, and all that follows from its picture: the clues, the book of reasons, the settled map and
 /// the verdict. They are true of the present picture after every call; a refused call changes nothing. Only where memory was
-/// wanting may the engine and the agenda have been used, and `calls` have risen.
+/// wanting may the engine and the agenda have been used, and `calls` have risen. `calls` never falls.
 #[derive(Drop)]
 pub struct Bench<E: LineEngine, A: Agenda> {
     alloc: Global,
@@ -113,6 +113,7 @@ impl<E: LineEngine + Drop, A: Agenda + Drop> Bench<E, A> {
     pub fn apply(&mut self, edit: &Edit) -> Result<(), EditFault>
         ensures accepted { OnOk result (Accepts (Edits edit.now) self.old self.new) }
         ensures refused { IfErr result (λ fault. Refuses (Edits edit.now) fault self.old self.new) }
+        ensures calls { self.old.calls ≤ self.new.calls }
         ensures audited { IsAudited self.new }
     {
         let _ = &self.audit;
@@ -124,6 +125,7 @@ impl<E: LineEngine + Drop, A: Agenda + Drop> Bench<E, A> {
     pub fn undo(&mut self) -> Result<(), EditFault>
         ensures accepted { OnOk result (Accepts Undoes self.old self.new) }
         ensures refused { IfErr result (λ fault. Refuses Undoes fault self.old self.new) }
+        ensures calls { self.old.calls ≤ self.new.calls }
         ensures audited { IsAudited self.new }
     {
         let _ = &self.audit;
@@ -135,6 +137,7 @@ impl<E: LineEngine + Drop, A: Agenda + Drop> Bench<E, A> {
     pub fn redo(&mut self) -> Result<(), EditFault>
         ensures accepted { OnOk result (Accepts Redoes self.old self.new) }
         ensures refused { IfErr result (λ fault. Refuses Redoes fault self.old self.new) }
+        ensures calls { self.old.calls ≤ self.new.calls }
         ensures audited { IsAudited self.new }
     {
         let _ = &self.audit;
@@ -152,6 +155,7 @@ impl<E: LineEngine + Drop, A: Agenda + Drop> Bench<E, A> {
         ensures book { OnOk result (CarriesOn prepared.change.moves self.old self.new) }
         ensures memory { IfErr result (λ fault. fault ≡ Memory) }
         ensures as_before { OnErr result (IsAsBefore self.old self.new) }
+        ensures calls { self.old.calls ≤ self.new.calls }
         ensures audited { IsAudited self.new }
     {
         let mut edit = NOTHING_DONE;
@@ -189,7 +193,8 @@ impl<E: LineEngine + Drop, A: Agenda + Drop> Bench<E, A> {
         ensures* keeps { sem 𝓛 (follows_so (the_row E.row A.row E.LineEngine A.Agenda)
             (the_row E.row A.row E.LineEngine A.Agenda)
             self.entry.ghost_name none (λ _ _. ⊤) (λ last. IsAudited last
-            × MatchResult result (Tells self.old last) (λ _. IsAsBefore self.old last))) }
+            × (self.old.calls ≤ last.calls
+            × MatchResult result (Tells self.old last) (λ _. IsAsBefore self.old last)))) }
         ensures headline { IfOk result (IsVerdictOn self.old.history.document self.old.allowance) }
     {
         let ruling = self.decide()?;
@@ -202,6 +207,7 @@ impl<E: LineEngine + Drop, A: Agenda + Drop> Bench<E, A> {
         ensures ruling { IfOk result
             (IsRulingOn self.new.history.document self.new.allowance self.new.kept) }
         ensures as_before { OnErr result (IsAsBefore self.old self.new) }
+        ensures calls { self.old.calls ≤ self.new.calls }
         ensures audited { IsAudited self.new }
     {
         let mut search = NOTHING_DONE;
@@ -334,7 +340,8 @@ impl<E: LineEngine + Drop, A: Agenda + Drop> Bench<E, A> {
         requires in_rows { row < length self.now.history.document.rows }
         requires in_columns { col < width_of self.now.history.document.rows }
         requires in_colours { colour < 16 }
-        ensures { IfOk result (Explains self.now row col colour) }
+        ensures explains { IfOk result (Explains self.now row col colour) }
+        ensures audited { IsAudited self.now }
     {
         let book = &self.audit.book;
         if book.base().excluded(row, col, colour) {

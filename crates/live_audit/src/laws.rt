@@ -5,8 +5,9 @@ ghost use Rattle.live_audit.specs.Laws.{ListsStayAudited, OthersAreColoured};
 use clues::laws::clues_are_of_lines;
 
 #[tactic(auto, using(crate::proofs::CallLemmas::lists))]
-/// After any list of edits, undos and redos, verdicts and allowances, accepted or refused, the state is audited, history and
-/// allowance are the machine's, and each answer was right: each verdict was true of the picture that was then present.
+/// After any list of edits, undos and redos, verdicts, allowances and certificates, accepted or refused, the state is
+/// audited, history and allowance are the machine's, and each answer was right: each verdict was true of the picture that
+/// was then present, and each certificate fits it. The engine's calls never fall.
 pub fn lists_stay_audited()
     ensures { ListsStayAudited }
 {}

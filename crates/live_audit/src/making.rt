@@ -78,10 +78,11 @@ pub(crate) fn audit_next<E: LineEngine, A: Agenda>(
     ensures goes_on { IfOk result
         (λ audit. GoesOn change.now.moves before.now.clues audit.clues before.now.book audit.book
         meter.old meter.new (E.calls engine.old) (E.calls engine.new)) }
+    ensures calls { E.calls engine.old ≤ E.calls engine.new }
     ensures same_longest { E.longest engine.new ≡ E.longest engine.old }
 {
     let base = base_of(alloc, new)?;
-    let _ = new.picture.height();
+    let _ = (new.picture.height(), engine.calls());
     let Ok(audit) = audit_again(
         alloc,
         engine,
@@ -183,12 +184,13 @@ pub(crate) fn rule<E: LineEngine>(
     ensures answers { AreAnswersOf (design_of document.now) audit.now.clues audit.now.book.facts
         keeper.new }
     ensures refused { OnErr result (keeper.new ≡ keeper.old) }
+    ensures calls { E.calls engine.old ≤ E.calls engine.new }
     ensures same_longest { E.longest engine.new ≡ E.longest engine.old }
 {
     same_cells_are_equal();
     clues_are_of_lines();
     allowances_break_off();
-    let _ = document.picture.height();
+    let _ = (document.picture.height(), engine.calls());
     let scene = scene_of(document, audit);
     let judged = keeper.judge(engine, &scene, allowance, search, parts, splits)?;
     Ok(ruling_of(&judged, allowance))

@@ -1,2 +1,2 @@
-pub mod OpenLemmas
+pub mod WordLemmas
 pub mod WorkLemmas

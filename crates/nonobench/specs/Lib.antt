@@ -1,4 +1,3 @@
-pub mod Background
-pub mod Open
+pub mod Ending
 pub mod Work
 pub mod Words

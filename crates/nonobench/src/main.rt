@@ -3,41 +3,26 @@
 //! The clues and the check are calls of the crate `answers`, which other programs can make too.
 #![tactic(auto)]
 
+mod ending;
 mod input;
-mod open;
-mod options;
 mod words;
 mod work;
 
 ghost use Rattle.nonobench.specs.Words.{IsLawfulTask};
-ghost use Rattle.nonobench.specs.Work.{IsLawful};
+ghost use Rattle.answers.specs.Start.{IsLawful};
 
+use crate::ending::ending;
 use crate::input::read_input;
-use crate::options::Options;
 use crate::words::{Task, read_words};
 use crate::work::run_work;
-pub use answers::{ProgramFault, run_check, run_clues};
+pub use answers::{Options, ProgramFault, run_check, run_clues};
 use picture::{Rgb, send};
 use std::process::ExitCode;
 use std::rt::{Env, Files};
 use std::{env, fs, io};
 
 fn main(rt: HostRuntime) -> ExitCode {
-    match answer(&rt) {
-        Ok(()) => ExitCode::SUCCESS,
-        Err(fault) => {
-            say(&rt, &fault);
-            ExitCode::from(fault.status())
-        }
-    }
-}
-
-// Says why the program ends. What the parser of the words says is said as it is.
-fn say(rt: &impl Eprint, fault: &ProgramFault) {
-    let _unwritten = match fault {
-        ProgramFault::Words(text) => eprint!(rt; "{text}"),
-        _ => eprintln!(rt; "nonobench: {fault}"),
-    };
+    ending(&rt, answer(&rt))
 }
 
 // Does what the words ask for.

@@ -1,17 +1,16 @@
 //! The words of the command line.
 
-ghost use Rattle.std.specs.Prelude.{◌≡◌, ◌<◌, ◌≤◌, [], IfOk, option_map, position};
+ghost use Rattle.std.specs.Prelude.{◌≡◌, ◌↔◌, ◌<◌, ◌≤◌, ◌≢◌, ℕ, Some, [], codes, decimal, false, map, option_map, true, IfOk};
+ghost use Rattle.clap.specs.Words.{app_of, fields_of, first_value, found_of, kind_of, one_text, rule_of, subcommand_rows_of};
+ghost use Rattle.clap.specs.declared.builder.value_parser.ValueParser.{ValueParser};
 ghost use Rattle.nonobench.specs.declared.words.Task.TheVariants.{Clues};
-ghost use Rattle.nonobench.specs.Background.{background_of, is_comma, sample_before, sample_seen};
-ghost use Rattle.nonobench.specs.Words.{IsLawfulTask};
+ghost use Rattle.nonobench.specs.Words.{AreRead, IsAsked, IsCheck, IsLawfulTask, IsUntaken, IsWork, background_asked, background_rule, check_app, format_rule, given_of, history_rule, named_app, place_rule, work_app, words_app};
 
-use crate::options::Options;
-use answers::ProgramFault;
+use answers::{Options, ProgramFault, background_in};
 use clap::error::ErrorKind;
 use clap::{Arg, ArgMatches, Command, Error, value_parser};
 use edits::MAX_DEPTH;
 use picture::Rgb;
-use session::sample_in;
 use std::alloc::{AllocError, Global};
 
 /// What the words ask the program for. Paths are as they were given.
@@ -45,6 +44,7 @@ const DEPTH: u16 = 100;
 /// Words that the parser refuses are a fault that carries the parser's text.
 pub fn read_words<'a>(alloc: Global, words: &'a [&str]) -> Result<Task<'a>, ProgramFault>
     ensures none { words.entry.now ≡ [] → result ≡ Ok Clues }
+    ensures reads { words.entry.now ≢ [] → AreRead (map (λ word. word.now) words.entry.now) result }
     ensures lawful { IfOk result IsLawfulTask }
 {
     if words.is_empty() {
@@ -58,26 +58,36 @@ pub fn read_words<'a>(alloc: Global, words: &'a [&str]) -> Result<Task<'a>, Prog
 
 // The task that words ask for.
 fn task_of<'a>(matches: &ArgMatches<'a>) -> Result<Task<'a>, ProgramFault>
-    ensures { IfOk result IsLawfulTask }
+    ensures asked { IsAsked (subcommand_rows_of matches.now) result }
+    ensures lawful { IfOk result IsLawfulTask }
 {
     if let Some(matches) = matches.subcommand_matches("work") {
         return work_of(matches);
     }
     if let Some(matches) = matches.subcommand_matches("check") {
-        return Ok(Task::Check {
-            file: matches.get_str("file").unwrap_or(""),
-            cert: matches.get_str("cert").unwrap_or(""),
-            background: background_of(matches)?,
-        });
+        return check_of(matches);
     }
     Ok(Task::Clues)
 }
 
+// The check that words ask for.
+fn check_of<'a>(matches: &ArgMatches<'a>) -> Result<Task<'a>, ProgramFault>
+    ensures check { IsCheck (given_of (found_of matches.now)) result }
+    ensures lawful { IfOk result IsLawfulTask }
+{
+    Ok(Task::Check {
+        file: matches.get_str("file").unwrap_or(""),
+        cert: matches.get_str("cert").unwrap_or(""),
+        background: background_of(matches)?,
+    })
+}
+
 // The session that words ask for.
 fn work_of<'a>(matches: &ArgMatches<'a>) -> Result<Task<'a>, ProgramFault>
-    ensures { IfOk result IsLawfulTask }
+    ensures work { IsWork (given_of (found_of matches.now)) result }
+    ensures lawful { IfOk result IsLawfulTask }
 {
-    let non = matches.get_str("format") == Some("non");
+    let non = is_non(matches);
     let background = background_of(matches)?;
     if non && background.is_some() {
         return Err(ProgramFault::BackgroundOfNon);
@@ -92,8 +102,20 @@ fn work_of<'a>(matches: &ArgMatches<'a>) -> Result<Task<'a>, ProgramFault>
     })
 }
 
+// Whether the format is that of .non texts.
+fn is_non(matches: &ArgMatches<'_>) -> bool
+    ensures { (result ≡ true) ↔ (first_value (found_of matches.now) (codes "format") ≡ Some (codes "non")) }
+{
+    match matches.get_str("format") {
+        Some(format) => format == "non",
+        None => false,
+    }
+}
+
 // The colour of the background, where one is given.
-fn background_of(matches: &ArgMatches<'_>) -> Result<Option<Rgb>, ProgramFault> {
+fn background_of(matches: &ArgMatches<'_>) -> Result<Option<Rgb>, ProgramFault>
+    ensures { result ≡ background_asked (first_value (found_of matches.now) (codes "background")) }
+{
     match matches.get_str("background") {
         None => Ok(None),
         Some(text) => match background_in(text.as_bytes()) {
@@ -107,6 +129,8 @@ fn background_of(matches: &ArgMatches<'_>) -> Result<Option<Rgb>, ProgramFault> 
 fn history_of(matches: &ArgMatches<'_>) -> u16
     ensures some { 0 < result }
     ensures fits { result ≤ MAX_DEPTH }
+    ensures read { (n : ℕ) → 0 < n → n ≤ 1000
+        → one_text (found_of matches.now) (codes "history") ≡ Some (decimal n) → result ≡ n }
 {
     match matches.get_one::<u16>("history") {
         Some(depth) if (1..=MAX_DEPTH).contains(&depth) => depth,
@@ -116,7 +140,8 @@ fn history_of(matches: &ArgMatches<'_>) -> u16
 
 // What the parser says where it takes no words: why it refuses them, or the help that they ask for.
 fn untaken<'a>(alloc: Global, error: &Error) -> Result<Task<'a>, ProgramFault>
-    ensures { IfOk result IsLawfulTask }
+    ensures said { IsUntaken (kind_of error.now ≢ ErrorKind.OutOfMemory) result }
+    ensures lawful { IfOk result IsLawfulTask }
 {
     if error.kind() == ErrorKind::OutOfMemory {
         return Err(ProgramFault::Memory);
@@ -130,13 +155,17 @@ fn untaken<'a>(alloc: Global, error: &Error) -> Result<Task<'a>, ProgramFault>
 }
 
 // The words that are taken. Each stands in a function of its own, since the parser's values are long to prove about.
-fn command<'a>(alloc: Global) -> Result<Command<'a>, AllocError> {
+fn command<'a>(alloc: Global) -> Result<Command<'a>, AllocError>
+    ensures { IfOk result (λ c. (p : ValueParser) × (app_of c ≡ words_app p)) }
+{
     named(alloc)?
         .subcommand(work_command(alloc)?)?
         .subcommand(check_command(alloc)?)
 }
 
-fn named<'a>(alloc: Global) -> Result<Command<'a>, AllocError> {
+fn named<'a>(alloc: Global) -> Result<Command<'a>, AllocError>
+    ensures app { IfOk result (λ c. app_of c ≡ named_app) }
+{
     let command = Command::new(alloc, "nonobench")
         .about(
             "Multicolour nonograms. Without words: the clues of the P3 picture on standard input.",
@@ -149,7 +178,10 @@ fn named<'a>(alloc: Global) -> Result<Command<'a>, AllocError> {
 }
 
 // The words of a session.
-fn work_command<'a>(alloc: Global) -> Result<Command<'a>, AllocError> {
+fn work_command<'a>(alloc: Global) -> Result<Command<'a>, AllocError>
+    ensures app { IfOk result (λ c. (p : ValueParser) × (app_of c ≡ work_app p)) }
+    ensures local { IfOk result (λ c. (fields_of c).has_globals ≡ false) }
+{
     Command::new(alloc, "work")
         .about("Opens a picture or a puzzle, and answers each line of standard input")
         .after_help("Example: echo verdict | nonobench work heart.ppm")
@@ -160,7 +192,10 @@ fn work_command<'a>(alloc: Global) -> Result<Command<'a>, AllocError> {
 }
 
 // The words of the check.
-fn check_command<'a>(alloc: Global) -> Result<Command<'a>, AllocError> {
+fn check_command<'a>(alloc: Global) -> Result<Command<'a>, AllocError>
+    ensures app { IfOk result (λ c. app_of c ≡ check_app) }
+    ensures local { IfOk result (λ c. (fields_of c).has_globals ≡ false) }
+{
     Command::new(alloc, "check")
         .about("Checks a certificate: whether the picture is the only one with its clues")
         .after_help("Example: nonobench check heart.ppm heart.cert")
@@ -169,14 +204,20 @@ fn check_command<'a>(alloc: Global) -> Result<Command<'a>, AllocError> {
         .arg(background(alloc))
 }
 
-fn opened<'a>(alloc: Global) -> Arg<'a> {
+fn opened<'a>(alloc: Global) -> Arg<'a>
+    ensures rule { rule_of result ≡ place_rule (codes "file") }
+    ensures local { result.global ≡ false }
+{
     Arg::new(alloc, "file")
         .value_name("FILE")
         .required(true)
         .help("The picture, as a P3 text, or the puzzle, as a .non text")
 }
 
-fn format<'a>(alloc: Global) -> Arg<'a> {
+fn format<'a>(alloc: Global) -> Arg<'a>
+    ensures rule { (p : ValueParser) × (rule_of result ≡ format_rule p) }
+    ensures local { result.global ≡ false }
+{
     Arg::new(alloc, "format")
         .long("format")
         .value_name("FORMAT")
@@ -185,7 +226,10 @@ fn format<'a>(alloc: Global) -> Arg<'a> {
         .help("The format of FILE")
 }
 
-fn history<'a>(alloc: Global) -> Arg<'a> {
+fn history<'a>(alloc: Global) -> Arg<'a>
+    ensures rule { rule_of result ≡ history_rule }
+    ensures local { result.global ≡ false }
+{
     Arg::new(alloc, "history")
         .long("history")
         .value_name("N")
@@ -194,54 +238,32 @@ fn history<'a>(alloc: Global) -> Arg<'a> {
         .help("How many edits can be undone, 1 to 1000")
 }
 
-fn picture<'a>(alloc: Global) -> Arg<'a> {
+fn picture<'a>(alloc: Global) -> Arg<'a>
+    ensures rule { rule_of result ≡ place_rule (codes "file") }
+    ensures local { result.global ≡ false }
+{
     Arg::new(alloc, "file")
         .value_name("FILE")
         .required(true)
         .help("The picture, as a P3 text")
 }
 
-fn cert<'a>(alloc: Global) -> Arg<'a> {
+fn cert<'a>(alloc: Global) -> Arg<'a>
+    ensures rule { rule_of result ≡ place_rule (codes "cert") }
+    ensures local { result.global ≡ false }
+{
     Arg::new(alloc, "cert")
         .value_name("CERT")
         .required(true)
         .help("Its certificate")
 }
 
-fn background<'a>(alloc: Global) -> Arg<'a> {
+fn background<'a>(alloc: Global) -> Arg<'a>
+    ensures rule { rule_of result ≡ background_rule }
+    ensures local { result.global ≡ false }
+{
     Arg::new(alloc, "background")
         .long("background")
         .value_name("R,G,B")
         .help("The colour of the background in a P3 text, white where it is not given")
-}
-
-// The colour that three samples with commas between them name.
-fn background_in(text: &[u8]) -> Option<Rgb>
-    ensures { result ≡ background_of text.now }
-{
-    let (r, rest) = sample_before(text)?;
-    let (g, rest) = sample_before(rest)?;
-    let b = sample_in(rest)?;
-    Some(Rgb { r, g, b })
-}
-
-#[tactic(auto, using(std::proofs::lemmas::List::take_rest))]
-// The sample before the first comma, and what stands behind that.
-fn sample_before(text: &[u8]) -> Option<(u16, &[u8])>
-    ensures { option_map sample_seen result ≡ sample_before text.now }
-{
-    let Some(end) = comma_place(text) else {
-        return None;
-    };
-    let Some(sample) = sample_in(&text[..end]) else {
-        return None;
-    };
-    Some((sample, &text[end + 1..]))
-}
-
-// The place of the first comma.
-fn comma_place(text: &[u8]) -> Option<usize>
-    ensures { result ≡ position is_comma text.now }
-{
-    text.iter().position(|b| *b == b',')
 }

@@ -41,86 +41,92 @@ pub says_stroke : (stroke : Stroke) (old new : Seen) (outcome : Result (Unit {0}
 says_stroke stroke old new (Ok done) accepted refused audited = inl (refl, (accepted, audited))
 says_stroke stroke old new (Err fault) accepted refused audited = inr (fault, (refl, refused))
 
-pub replies_edit : (e : Edit) (old new : Seen) (outcome : Result (Unit {0}) EditFault) → OnOk outcome (Accepts (Edits e) old new) → IfErr outcome (λ fault. Refuses (Edits e) fault old new) → IsAudited new
+pub replies_edit : (e : Edit) (old new : Seen) (outcome : Result (Unit {0}) EditFault) → OnOk outcome (Accepts (Edits e) old new) → IfErr outcome (λ fault. Refuses (Edits e) fault old new) → IsAudited new → old.calls ≤ new.calls
     → Replies (command.Edit e) old (answer_text (stroke_said outcome)) new
 unfolding Replies
-replies_edit e old new outcome accepted refused audited = inl (says_stroke (Edits e) old new outcome accepted refused audited)
+replies_edit e old new outcome accepted refused audited calls = (inl (says_stroke (Edits e) old new outcome accepted refused audited), calls)
 
-pub replies_undo : (old new : Seen) (outcome : Result (Unit {0}) EditFault) → OnOk outcome (Accepts Undoes old new) → IfErr outcome (λ fault. Refuses Undoes fault old new) → IsAudited new
+pub replies_undo : (old new : Seen) (outcome : Result (Unit {0}) EditFault) → OnOk outcome (Accepts Undoes old new) → IfErr outcome (λ fault. Refuses Undoes fault old new) → IsAudited new → old.calls ≤ new.calls
     → Replies command.Undo old (answer_text (stroke_said outcome)) new
 unfolding Replies
-replies_undo old new outcome accepted refused audited = inl (says_stroke Undoes old new outcome accepted refused audited)
+replies_undo old new outcome accepted refused audited calls = (inl (says_stroke Undoes old new outcome accepted refused audited), calls)
 
-pub replies_redo : (old new : Seen) (outcome : Result (Unit {0}) EditFault) → OnOk outcome (Accepts Redoes old new) → IfErr outcome (λ fault. Refuses Redoes fault old new) → IsAudited new
+pub replies_redo : (old new : Seen) (outcome : Result (Unit {0}) EditFault) → OnOk outcome (Accepts Redoes old new) → IfErr outcome (λ fault. Refuses Redoes fault old new) → IsAudited new → old.calls ≤ new.calls
     → Replies command.Redo old (answer_text (stroke_said outcome)) new
 unfolding Replies
-replies_redo old new outcome accepted refused audited = inl (says_stroke Redoes old new outcome accepted refused audited)
+replies_redo old new outcome accepted refused audited calls = (inl (says_stroke Redoes old new outcome accepted refused audited), calls)
+
+-- a count that stays
+same_count : (n : ℕ) → n ≤ n
+same_count n = omega arith
 
 -- a text of the state, or want of memory
 pub replies_clues : {E : Type 0} (s : Seen) (clues : Clues) (outcome : Result (Vec ℕ Global) E) → clues ≡ s.clues → IsAudited s → IfOk outcome (λ text. text.items ≡ clues_text clues)
     → Replies command.Clues s (answer_text (text_said outcome)) s
 unfolding Replies
-replies_clues s clues (Ok text) is audited same = inl (audited, (same ∙ ap (λ (k : Clues). clues_text k) is, refl))
-replies_clues s clues (Err e) is audited same = inr (refl, refl)
+replies_clues s clues (Ok text) is audited same = (inl (audited, (same ∙ ap (λ (k : Clues). clues_text k) is, refl)), same_count s.calls)
+replies_clues s clues (Err e) is audited same = (inr (refl, refl), same_count s.calls)
 
 pub replies_map : {E : Type 0} (s : Seen) (facts : List (List ℕ)) (outcome : Result (Vec ℕ Global) E) → facts ≡ s.book.facts → IsAudited s → IfOk outcome (λ text. text.items ≡ map_text facts)
     → Replies command.Map s (answer_text (text_said outcome)) s
 unfolding Replies
-replies_map s facts (Ok text) is audited same = inl (audited, (same ∙ ap (λ (f : List (List ℕ)). map_text f) is, refl))
-replies_map s facts (Err e) is audited same = inr (refl, refl)
+replies_map s facts (Ok text) is audited same = (inl (audited, (same ∙ ap (λ (f : List (List ℕ)). map_text f) is, refl)), same_count s.calls)
+replies_map s facts (Err e) is audited same = (inr (refl, refl), same_count s.calls)
 
 pub replies_ppm : (s : Seen) (d : Document) (outcome : Result (Vec ℕ Global) Refusal) → design_of d ≡ s.history.document → IfOk outcome (λ text. text.items ≡ ppm_text (content_of d)) → IfErr outcome (λ e. e ≡ refusal.Memory)
     → Replies command.WritePpm s (answer_text (written_said outcome)) s
 unfolding Replies
-replies_ppm s d (Ok text) is same short = inl (same ∙ ap (λ (e : Design). ppm_text (content e)) is, refl)
-replies_ppm s d (Err e) is same short = inr (ap refusal_line short, refl)
+replies_ppm s d (Ok text) is same short = (inl (same ∙ ap (λ (e : Design). ppm_text (content e)) is, refl), same_count s.calls)
+replies_ppm s d (Err e) is same short = (inr (ap refusal_line short, refl), same_count s.calls)
 
 pub replies_non : (s : Seen) (d : Document) (outcome : Result (Vec ℕ Global) Refusal) → design_of d ≡ s.history.document → GivesNon d.picture outcome → Replies command.WriteNon s (answer_text (written_said outcome)) s
 unfolding Replies
 replies_non s d (Ok text) is gives =
     let rows : d.picture ≡ s.history.document.rows = ap (λ (e : Design). e.rows) is in
-    inl (inl (sym (ap is_two_colour rows) ∙ gives.0, (gives.1 ∙ ap non_text_of rows, refl)))
+    (inl (inl (sym (ap is_two_colour rows) ∙ gives.0, (gives.1 ∙ ap non_text_of rows, refl))), same_count s.calls)
 replies_non s d (Err e) is (inl two) =
     let rows : d.picture ≡ s.history.document.rows = ap (λ (e : Design). e.rows) is in
-    inl (inr (sym (ap is_two_colour rows) ∙ two.1, (ap refusal_line two.0, refl)))
+    (inl (inr (sym (ap is_two_colour rows) ∙ two.1, (ap refusal_line two.0, refl))), same_count s.calls)
 replies_non s d (Err e) is (inr short) =
     let rows : d.picture ≡ s.history.document.rows = ap (λ (e : Design). e.rows) is in
-    inr (sym (ap is_two_colour rows) ∙ short.1, (ap refusal_line short.0, refl))
+    (inr (sym (ap is_two_colour rows) ∙ short.1, (ap refusal_line short.0, refl)), same_count s.calls)
 
 -- a verdict, and what shows it
 pub replies_verdict : {E : Type 0} (old new : Seen) (outcome : Result (Vec ℕ Global) E) → IsAsked verdict_text old new outcome → Replies command.Verdict old (answer_text (text_said outcome)) new
 unfolding Replies
-replies_verdict old new (Ok text) asked = inl asked
-replies_verdict old new (Err e) before = inr (refl, before)
+replies_verdict old new (Ok text) asked = (inl asked.1, asked.0)
+replies_verdict old new (Err e) before = (inr (refl, before.1), before.0)
 
 pub replies_report : {E : Type 0} (old new : Seen) (outcome : Result (Vec ℕ Global) E) → IsAsked (report_on old) old new outcome → Replies command.Report old (answer_text (text_said outcome)) new
 unfolding Replies
-replies_report old new (Ok text) asked = inl asked
-replies_report old new (Err e) before = inr (refl, before)
+replies_report old new (Ok text) asked = (inl asked.1, asked.0)
+replies_report old new (Err e) before = (inr (refl, before.1), before.0)
 
 -- a reason
 pub replies_why : {E : Type 0} (s : Seen) (row col colour : ℕ) (outcome : Result (Vec ℕ Global) E) → has_cell s.history.document.rows row col ≡ true → IsAudited s
     → IfOk outcome (λ text. (why : Why) × (Explains s row col colour why × (text.items ≡ why_text why))) → Replies (command.Why row col colour) s (answer_text (text_said outcome)) s
 unfolding Replies
-replies_why s row col colour (Ok text) inside audited found = inl (inr (inside, (found.0, (found.1.0, (audited, (found.1.1, refl))))))
-replies_why s row col colour (Err e) inside audited found = inr (inside, (refl, refl))
+replies_why s row col colour (Ok text) inside audited found = (inl (inr (inside, (found.0, (found.1.0, (audited, (found.1.1, refl)))))), same_count s.calls)
+replies_why s row col colour (Err e) inside audited found = (inr (inside, (refl, refl)), same_count s.calls)
 
 pub replies_outside : (s : Seen) (row col colour : ℕ) → has_cell s.history.document.rows row col ≡ false → Replies (command.Why row col colour) s (edit_line Place) s
 unfolding Replies
-replies_outside s row col colour outside = inl (inl (outside, (refl, refl)))
+replies_outside s row col colour outside = (inl (inl (outside, (refl, refl))), same_count s.calls)
 
 -- a certificate
-pub replies_certify : (old new : Seen) (outcome : Result (Vec ℕ Global) Refusal) → IsAsBefore old new
+pub replies_certify : (old new : Seen) (outcome : Result (Vec ℕ Global) Refusal) → IsAsBefore old new → old.calls ≤ new.calls
     → IfOk outcome (λ text. (found : Option Certificate) × (Certifies old.history.document found × (text.items ≡ certified_text found))) → IfErr outcome (λ e. e ≡ refusal.Memory)
     → Replies command.Certify old (answer_text (written_said outcome)) new
 unfolding Replies
-replies_certify old new (Ok text) before found short = inl (found.0, (found.1.0, (found.1.1, before)))
-replies_certify old new (Err e) before found short = inr (ap refusal_line short, before)
+replies_certify old new (Ok text) before calls found short = (inl (found.0, (found.1.0, (found.1.1, before))), calls)
+replies_certify old new (Err e) before calls found short = (inr (ap refusal_line short, before), calls)
 
 -- an allowance
 pub replies_allow : (old new : Seen) (allowance : Option ℕ) → new ≡ record old { allowance = allowance } → Replies (command.Allow allowance) old done_text new
 unfolding Replies
-replies_allow old new allowance is = inl (refl, is)
+replies_allow old new allowance is =
+    let c : new.calls ≡ old.calls = ap (λ (s : Seen). s.calls) is in
+    (inl (refl, is), omega arith)
 
 -- an allowance of at most five digits can be set
 pub allowed : (allowance : Option ℕ) → IfSome allowance (λ splits. splits < 100000) → IfSome allowance (λ splits. splits ≤ 99999)
@@ -129,16 +135,16 @@ allowed (Some splits) few = omega (arith, few)
 
 -- ---- where a verdict was asked for
 
-pub judged_now : {E : Type 0} (old last : Seen) (outcome : Result Verdict E) (verdict : Verdict) → outcome ≡ Ok verdict → IsAudited last × MatchResult outcome (Tells old last) (λ _. IsAsBefore old last)
+pub judged_now : {E : Type 0} (old last : Seen) (outcome : Result Verdict E) (verdict : Verdict) → outcome ≡ Ok verdict → IsAudited last × ((old.calls ≤ last.calls) × MatchResult outcome (Tells old last) (λ _. IsAsBefore old last))
     → IsVerdictOn old.history.document old.allowance verdict → Judges old last verdict
 judged_now {E} old last outcome verdict is told right =
     let M : Result Verdict E → Type 0 = λ x. MatchResult x (Tells old last) (λ _. IsAsBefore old last) in
-    (subst M is told.1, (told.0, right))
+    (subst M is told.1.1, (told.0, right))
 
-pub unjudged_now : {E : Type 0} (old last : Seen) (outcome : Result Verdict E) (e : E) → outcome ≡ Err e → IsAudited last × MatchResult outcome (Tells old last) (λ _. IsAsBefore old last) → IsAsBefore old last
+pub unjudged_now : {E : Type 0} (old last : Seen) (outcome : Result Verdict E) (e : E) → outcome ≡ Err e → IsAudited last × ((old.calls ≤ last.calls) × MatchResult outcome (Tells old last) (λ _. IsAsBefore old last)) → (old.calls ≤ last.calls) × IsAsBefore old last
 unjudged_now {E} old last outcome e is told =
     let M : Result Verdict E → Type 0 = λ x. MatchResult x (Tells old last) (λ _. IsAsBefore old last) in
-    subst M is told.1
+    (told.1.0, subst M is told.1.1)
 
 -- nothing that a report shows changes where its verdict is asked for
 pub reported : (old new : Seen) (word front text : List ℕ) (past future : ℕ) → (asked : (verdict : Verdict) × (Judges old new verdict × (word ≡ verdict_word verdict)))

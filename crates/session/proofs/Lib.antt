@@ -1,6 +1,7 @@
 pub mod AnswerLemmas
 pub mod CountLemmas
 pub mod LineLemmas
+pub mod MachineLemmas
 pub mod NumberLemmas
 pub mod ReportLemmas
 pub mod RoomLemmas

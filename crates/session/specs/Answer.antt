@@ -1,5 +1,5 @@
 -- What is answered to a line, as the bytes that are written.
-use Rattle.std.specs.Prelude.{◌≡◌, ℕ, List, [], codes, Result, Ok, Err}
+use Rattle.std.specs.Prelude.{◌≡◌, ◌≤◌, ℕ, List, [], codes, Result, Ok, Err}
 use Rattle.std.specs.declared.vec.Vec.{Vec}
 use Rattle.std.specs.declared.alloc.Global.{Global}
 use Rattle.std.specs.Borrow.{Bor}
@@ -37,12 +37,12 @@ written_said (Err refusal) = Refused refusal
 
 -- ---- where a verdict was asked for
 
--- a text that the verdict decides; where memory is wanting for either, nothing changes
+-- A text that the verdict decides; where memory is wanting for either, nothing changes but the engine's calls, which do not fall.
 abbrev pub IsAsked : {E : Type 0} → (Verdict → List ℕ) → Seen → Seen → Result (Vec ℕ Global) E → Type 0
-IsAsked shown old new (Ok text) = (verdict : Verdict) × (Judges old new verdict × (text.items ≡ shown verdict))
-IsAsked shown old new (Err e) = IsAsBefore old new
+IsAsked shown old new (Ok text) = (old.calls ≤ new.calls) × ((verdict : Verdict) × (Judges old new verdict × (text.items ≡ shown verdict)))
+IsAsked shown old new (Err e) = (old.calls ≤ new.calls) × IsAsBefore old new
 
 -- the verdict's word
 abbrev pub IsAskedWord : {E : Type 0} → Seen → Seen → Result (Bor (List ℕ)) E → Type 0
-IsAskedWord old new (Ok word) = (verdict : Verdict) × (Judges old new verdict × (word.now ≡ verdict_word verdict))
-IsAskedWord old new (Err e) = IsAsBefore old new
+IsAskedWord old new (Ok word) = (old.calls ≤ new.calls) × ((verdict : Verdict) × (Judges old new verdict × (word.now ≡ verdict_word verdict)))
+IsAskedWord old new (Err e) = (old.calls ≤ new.calls) × IsAsBefore old new

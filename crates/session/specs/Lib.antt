@@ -1,6 +1,7 @@
 pub mod Answer
 pub mod ClueText
 pub mod Faults
+pub mod Laws
 pub mod Lines
 pub mod Numbers
 pub mod Parse

@@ -1,7 +1,7 @@
 -- What a session says: a relation of the state of the bench, a line's request, the text that is written, and the state after it.
 -- The text is fixed by the request and the state, but for the other picture that is shown, the premises of a reason, and a
 -- refusal for want of memory.
-use Rattle.std.specs.Prelude.{◌≡◌, ◌⊎◌, ℕ, true, false, List, [], ◌∷◌, ◌++◌, length, codes, decimal, take, Option, Some, None, Result, Ok, Err}
+use Rattle.std.specs.Prelude.{◌≡◌, ◌≤◌, ◌⊎◌, ℕ, true, false, List, [], ◌∷◌, ◌++◌, length, codes, decimal, take, Option, Some, None, Result, Ok, Err}
 use Rattle.std.specs.Io.KnownBytes.{Appends, Consumes, IsAtEnd}
 use Rattle.picture.specs.Document.{Content}
 use Rattle.ppm_text.specs.Text.{ppm_text}
@@ -138,9 +138,9 @@ SaysTo old command.Certify text new =
     (found : Option Certificate) × (Certifies old.history.document found × ((text ≡ certified_text found) × IsAsBefore old new))
 SaysTo old (command.Allow allowance) text new = (text ≡ done_text) × (new ≡ record old { allowance = allowance })
 
--- that, or memory was wanting
+-- that, or memory was wanting; and the engine's calls do not fall
 unfoldable pub Replies : Command → Seen → List ℕ → Seen → Type 0
-Replies c old text new = SaysTo old c text new ⊎ IsShort c old text new
+Replies c old text new = (SaysTo old c text new ⊎ IsShort c old text new) × (old.calls ≤ new.calls)
 
 -- a line's request: a blank line says nothing, and a line that is no command the name of its first fault
 unfoldable pub Says : Seen → Request → List ℕ → Seen → Type 0

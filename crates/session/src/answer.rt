@@ -349,6 +349,7 @@ fn certificate_text<E: LineEngine + Drop, A: Agenda + Drop>(
         × (Certifies bench.old.history.document found × (text.items ≡ certified_text found))) }
     ensures err { IfErr result (λ e. e ≡ refusal.Memory) }
     ensures as_before { IsAsBefore bench.old bench.new }
+    ensures calls { bench.old.calls ≤ bench.new.calls }
 {
     match bench.certify() {
         Ok(found) => found_text(alloc, &found),

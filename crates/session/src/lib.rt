@@ -7,6 +7,7 @@ mod command;
 mod draft;
 mod fault;
 mod fields;
+pub mod laws;
 mod lines;
 mod numbers;
 mod parse;

@@ -11,4 +11,4 @@ returns-in_err-verdict g c =
 pub returns : goal.returns
 returns g c =
     let last = c.verdict.follows.lender-at-none in
-    (c.in_ok-verdict.verdict, (judged_now c.args.bench.now last c.verdict.result c.in_ok-verdict.verdict c.in_ok-verdict.was c.verdict.follows.holds-at-none c.in_ok-verdict.ensures.headline, c.verdict_word.ensures))
+    (c.verdict.follows.holds-at-none.1.0, (c.in_ok-verdict.verdict, (judged_now c.args.bench.now last c.verdict.result c.in_ok-verdict.verdict c.in_ok-verdict.was c.verdict.follows.holds-at-none c.in_ok-verdict.ensures.headline, c.verdict_word.ensures)))

@@ -6,15 +6,16 @@ use Rattle.session.proofs.answer.report_text.Goals as goal
 -- there was room for the ending
 pub returns-in_err-push_ending : goal.returns-in_err-push_ending
 returns-in_err-push_ending g c =
-    let asked = c.in_ok-word.ensures in
+    let asked = c.in_ok-word.ensures.1 in
     absurd (omega (arith, c.in_err-push_ending.ensures.room.short, c.in_ok-text.ensures.room, word_fits c.in_ok-word.word.now asked.0 asked.1.1))
 
 pub returns : goal.returns
 returns g c =
-    let asked = c.in_ok-word.ensures in (
-      asked.0,
+    let asked = c.in_ok-word.ensures.1 in (
+      c.in_ok-word.ensures.0,
+      (asked.0,
       (
         asked.1.0,
         reported c.args.bench.now c.asked_word.new.bench c.in_ok-word.word.now c.in_ok-text.text.items _ c.past_len.result c.future_len.result asked c.in_ok-text.ensures.front c.in_ok-push_ending.ensures.items c.past_len.ensures.value c.future_len.ensures.value,
-      ),
+      )),
     )

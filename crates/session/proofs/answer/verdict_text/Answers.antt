@@ -23,9 +23,10 @@ returns-in_err-push_verdict g c =
 pub returns : goal.returns
 returns g c =
     let v = c.in_ok-verdict in (
-      v.verdict,
+      c.verdict.follows.holds-at-none.1.0,
+      (v.verdict,
       (
         judged_now c.args.bench.now c.verdict.follows.lender-at-none c.verdict.result v.verdict v.was c.verdict.follows.holds-at-none v.ensures.headline,
         from_nothing _ _ _ c.in_ok-push_verdict.ensures.items c.in_ok-text.ensures.empty,
-      ),
+      )),
     )

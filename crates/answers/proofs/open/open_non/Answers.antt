@@ -1,6 +1,6 @@
 use Rattle.std.proofs.Common.{rules}
-use Rattle.nonobench.proofs.OpenLemmas.{found_is_low, goal_is_low}
-use Rattle.nonobench.proofs.open.open_non.Goals as goal
+use Rattle.answers.proofs.OpenLemmas.{found_is_low, goal_is_low}
+use Rattle.answers.proofs.open.open_non.Goals as goal
 
 -- src/open.rt:46:23
 pub in_black-requires : goal.in_black-requires

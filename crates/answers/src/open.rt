@@ -1,18 +1,21 @@
-//! A file opened as a document.
+//! A file opened as a document, and a bench that starts with it.
 
 ghost use Rattle.std.specs.Prelude.{◌≡◌, ◌≤◌, ℕ, IfErr, IfOk};
 ghost use Rattle.picture.specs.Rows.{cell_at};
 ghost use Rattle.edits.specs.Design.{design_of};
 ghost use Rattle.answers.specs.declared.fault.ProgramFault.TheVariants.{Memory};
-ghost use Rattle.nonobench.specs.Open.{FindsPicture, Opened, OpensFile, OpensNon, black_on_white, two_colours};
+ghost use Rattle.answers.specs.Open.{FindsPicture, Opened, OpensFile, OpensNon, black_on_white, two_colours};
+ghost use Rattle.answers.specs.Start.{IsLawful, Starts};
 
+use crate::fault::ProgramFault;
 use crate::options::Options;
-use answers::ProgramFault;
 use clues::ClueBook;
 use line_settle::MaskEngine;
+use live_audit::Bench;
 use non_text::{NonPuzzle, puzzles_are_in_two_colours, read_non};
 use picture::{CellSet, Document, MAX_SIDE, Palette, PaletteFault, Picture, Rgb};
 use ppm_text::read_ppm;
+use propagate::InOrder;
 use second_search::find_first;
 use std::alloc::Global;
 
@@ -24,9 +27,25 @@ const WHITE: Rgb = Rgb {
 
 const BLACK: Rgb = Rgb { r: 0, g: 0, b: 0 };
 
-/// The document that a file is opened as: what its P3 text gives, or, of a .non text, the goal in black on white, and
-/// without a goal the first picture found that has the clues.
-pub fn open_file(alloc: Global, file: &[u8], options: &Options) -> Result<Document, ProgramFault>
+/// A bench with the document that a file is opened as, and an empty history of the depth that the options ask for.
+///
+/// A file that is refused is answered with its fault.
+pub fn start_bench(
+    alloc: Global,
+    file: &[u8],
+    options: &Options,
+) -> Result<Bench<MaskEngine, InOrder>, ProgramFault>
+    requires { IsLawful options.now }
+    ensures { Starts file.now options.now result }
+{
+    let document = open_file(alloc, file, options)?;
+    let engine = MaskEngine::make(alloc, MAX_SIDE)?;
+    Ok(Bench::start(alloc, document, options.history, engine, InOrder::make())?)
+}
+
+// The document that a file is opened as: what its P3 text gives, or, of a .non text, the goal in black on white, and
+// without a goal the first picture found that has the clues.
+fn open_file(alloc: Global, file: &[u8], options: &Options) -> Result<Document, ProgramFault>
     ensures { Opened (OpensFile file.now options.now) result }
 {
     if options.non {

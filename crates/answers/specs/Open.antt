@@ -14,8 +14,8 @@ use Rattle.second_search.specs.Other.{FindsFirst}
 use Rattle.edits.specs.Design.{Design, design, design_of, marks_of}
 use Rattle.answers.specs.declared.fault.ProgramFault.{ProgramFault}
 use Rattle.answers.specs.declared.fault.ProgramFault.TheVariants.{Memory, NoPicture}
-use Rattle.nonobench.specs.declared.options.Options.{Options}
-use Rattle.nonobench.specs.Background.{rgb}
+use Rattle.answers.specs.declared.options.Options.{Options}
+use Rattle.answers.specs.Background.{rgb}
 use Rattle.answers.specs.Faults.{non_fault_of}
 use Rattle.answers.specs.Run.{after_edit}
 
