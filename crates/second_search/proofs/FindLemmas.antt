@@ -1,10 +1,9 @@
 -- What is searched while facts wait: nothing that fills the first facts gets lost.
-use Rattle.std.proofs.Common.{◌≡◌, ℕ, zero, suc, ◌+◌, ◌*◌, ◌^◌, ◌<◌, ◌≤◌, ◌⊎◌, ◌↔◌, ◌==◌, Bool, true, false, cond, eq-eqb, eqb-true, Option, None, Some, List, [], ◌∷◌, ◌++◌, length, replicate, refl, sym, ap, subst, ◌∙◌, arith, inl, inr}
+use Rattle.std.proofs.Common.{◌≡◌, ℕ, zero, suc, ◌+◌, ◌^◌, ◌<◌, ◌≤◌, ◌⊎◌, ◌↔◌, ◌==◌, Bool, true, false, cond, eq-eqb, eqb-true, Option, None, Some, List, [], ◌∷◌, ◌++◌, length, replicate, refl, sym, ap, subst, ◌∙◌, arith, inl, inr}
 use Rattle.std.specs.Prelude.{IsBitSet}
 use Rattle.std.specs.List.{filter, range_with_len}
 use Rattle.std.specs.Int.{bit_at}
 use Rattle.std.proofs.lemmas.Bool.{cases_eq, cases_lt}
-use Rattle.std.proofs.Math.Pow.{pow_mono, pow_pos}
 use Rattle.std.proofs.lemmas.List.{get_or_past, get_or-replicate, length-replicate}
 use Rattle.picture.specs.declared.line_id.Axis.{Axis}
 use Rattle.picture.specs.declared.line_id.Axis.TheVariants.{Across, Down}
@@ -16,7 +15,6 @@ use Rattle.line_settle.specs.FactSets.{IsFacts, IsWithin, Leaves, SameShape}
 use Rattle.propagate.specs.Closing.{AreClosable}
 use Rattle.propagate.specs.FillingLaws.{fills_fewer}
 use Rattle.propagate.specs.Filling.{Fills}
-use Rattle.split_choice.specs.declared.cell.Cell.{Cell}
 use Rattle.second_search.specs.Branching.{FillsSome}
 use Rattle.second_search.specs.Looking.{FindsFilling}
 use Rattle.second_search.specs.Other.{AreSound, FindsFirst, FindsOther, HasClues}

@@ -1,5 +1,5 @@
 -- Trees written line by line: where lines lead, what fills the branches that wait, and what they weigh.
-use Rattle.std.proofs.Common.{◌≡◌, ℕ, zero, suc, ◌+◌, ◌-◌, ◌*◌, ◌^◌, ◌<◌, ◌≤◌, ◌==◌, ◌⊎◌, ◌↔◌, eq-eqb, Bool, true, false, Option, None, List, [], ◌∷◌, ◌++◌, length, append_assoc, get_or, refl, sym, ap, subst, ◌∙◌, arith, inl, inr}
+use Rattle.std.proofs.Common.{◌≡◌, ℕ, ◌+◌, ◌-◌, ◌*◌, ◌^◌, ◌<◌, ◌≤◌, ◌==◌, ◌↔◌, eq-eqb, Bool, true, false, Option, None, List, [], ◌∷◌, ◌++◌, length, append_assoc, get_or, refl, sym, ap, subst, ◌∙◌, arith, inl, inr}
 use Rattle.std.specs.Prelude.{IsBitSet}
 use Rattle.std.specs.Int.{bit_at}
 use Rattle.std.proofs.lemmas.Bool.{cases_eq, cases_lt, false≢true}
@@ -12,7 +12,7 @@ use Rattle.picture.specs.BitLaws.{same_bits, no_bit, set_bit}
 use Rattle.picture.specs.Crossing.{crossing}
 use Rattle.picture.specs.LineSet.{Lines as Names, HasName, no_names}
 use Rattle.picture.specs.Picture.{IsPicture}
-use Rattle.picture.specs.Rows.{width_of, row_at, cell_at, line_of, lines_along, with_cell, HasLine}
+use Rattle.picture.specs.Rows.{width_of, row_at, cell_at, line_of, lines_along, HasLine}
 use Rattle.clues.specs.declared.block.Block.{Block}
 use Rattle.clues.specs.ClueBook.{Clues, clue_at, clues_of}
 use Rattle.clues.specs.Laws.{BooksAreTheirClues, CluesAreOfLines}
@@ -20,12 +20,12 @@ use Rattle.line_settle.specs.declared.line_engine.Outcome.{Outcome}
 use Rattle.line_settle.specs.declared.line_engine.Outcome.TheVariants.{Narrowed, Dead as NoneFits}
 use Rattle.line_settle.specs.Crossing.{CrossesChange}
 use Rattle.line_settle.specs.Fitting.{CanFit}
-use Rattle.line_settle.specs.FactSets.{Gains, IsClosedLine, IsFacts, IsOn, IsWithin, Leaves, SameShape, col_on, row_on}
+use Rattle.line_settle.specs.FactSets.{Gains, IsClosedLine, IsFacts, IsWithin, Leaves, SameShape, row_on}
 use Rattle.line_settle.specs.FitLaws.{tighter_can_fit, within_tighter}
 use Rattle.line_settle.specs.ForceLaws.{gains_grows, gains_inside, on_or_not}
 use Rattle.line_settle.specs.GridLaws.{cell_on, same_has_line, shape_refl, shape_sym, shape_trans, shape_with_cell}
 use Rattle.propagate.specs.Closing.{AreClosable, EachFits}
-use Rattle.propagate.specs.Filling.{Fills, LeavesPicture, only}
+use Rattle.propagate.specs.Filling.{Fills, only}
 use Rattle.propagate.specs.FillingLaws.{fills_fewer}
 use Rattle.propagate.specs.Laws.{ClosingKeepsFillings, OnlyIsClosed}
 use Rattle.split_choice.specs.declared.cell.Cell.{Cell}
@@ -474,8 +474,7 @@ starts_said clues known facts first start g f e l =
 pub goes_said : (clues : Clues) (known facts : List (List ℕ)) (start : Lines) (old mid new : Growing) → Said clues known facts start old → TurnsOn clues known old mid → Advances mid new true → Said clues known facts start new
 goes_said clues known facts start old mid new s t a =
     let P : Lines → Type 0 = λ x. Adds start x (s.0 ++ t.lines) in
-    let Q : List (List (List ℕ)) → Type 0 = λ x. Walks clues known (s.0 ++ t.lines) (facts ∷ []) x in
-    (
+    let Q : List (List (List ℕ)) → Type 0 = λ x. Walks clues known (s.0 ++ t.lines) (facts ∷ []) x in (
       s.0 ++ t.lines,
       (
         subst P (sym a.1) (adds_on start old.lines mid.lines s.0 t.lines s.1.0 t.adds),
@@ -486,8 +485,7 @@ goes_said clues known facts start old mid new s t a =
 pub ends_said : (clues : Clues) (known facts : List (List ℕ)) (start end : Lines) (until : Option ℕ) (old mid new : Growing) → Said clues known facts start old → TurnsOn clues known old mid → Advances mid new false → end ≡ new.lines → Writes clues known facts start until (Whole end)
 ends_said clues known facts start end until old mid new s t a e =
     let P : Lines → Type 0 = λ x. Adds start x (s.0 ++ t.lines) in
-    let Q : List (List (List ℕ)) → Type 0 = λ x. Walks clues known (s.0 ++ t.lines) (facts ∷ []) x in
-    (
+    let Q : List (List (List ℕ)) → Type 0 = λ x. Walks clues known (s.0 ++ t.lines) (facts ∷ []) x in (
       s.0 ++ t.lines,
       (
         subst P (sym (e ∙ a.1)) (adds_on start old.lines mid.lines s.0 t.lines s.1.0 t.adds),

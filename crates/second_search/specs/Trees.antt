@@ -9,7 +9,6 @@ use Rattle.line_settle.specs.declared.line_engine.Outcome.TheVariants.{Narrowed,
 use Rattle.line_settle.specs.Fitting.{CanFit}
 use Rattle.line_settle.specs.FactSets.{Gains, IsWithin, Leaves}
 use Rattle.propagate.specs.Filling.{Fills}
-use Rattle.split_choice.specs.declared.cell.Cell.{Cell}
 use Rattle.split_choice.specs.Choosing.{IsUnsettled}
 use Rattle.second_search.specs.declared.tree_line.CellNumber.{CellNumber}
 use Rattle.second_search.specs.declared.tree_line.LineNumber.{LineNumber}

@@ -30,7 +30,6 @@ ghost use Rattle.second_search.specs.Judging.{
 };
 
 use crate::carrying::{answer_for, are_named, first_cell};
-use split_choice::Cell;
 use crate::counting::Ending;
 use crate::laws::{fillings_are_of_facts, fillings_stay, parts_decide};
 use crate::part_decision::decide_part;
@@ -43,6 +42,7 @@ use line_settle::{Facts, LineEngine, Meter};
 use picture::laws::same_cells_are_equal;
 use picture::{CellSet, LineSet, MAX_SIDE, Picture};
 use propagate::laws::{closing_keeps_fillings, only_is_closed};
+use split_choice::Cell;
 use std::alloc::{AllocError, Global};
 use std::marker::Model;
 

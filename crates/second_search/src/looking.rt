@@ -6,9 +6,9 @@ ghost use Rattle.line_settle.specs.Masks.{IsOnly};
 ghost use Rattle.line_settle.specs.FactSets.{SameShape};
 ghost use Rattle.second_search.specs.Looking.{AreRowsSettled, AreSettled, IsFirstUnsettled, Shows, ShowsRow};
 
-use split_choice::Cell;
 use line_settle::Facts;
 use picture::Picture;
+use split_choice::Cell;
 use std::alloc::{AllocError, Global};
 
 // The first cell in row order in which not just one colour is left, where there is none above a row.

@@ -54,7 +54,15 @@ pub(crate) fn decide_part<E: LineEngine>(
     match allowance {
         Some(most) => search_part(alloc, engine, scene, cells, Some(most), meter, splits),
         None => {
-            let ending = search_part(alloc, engine, scene, cells, Some(FIXED_SPLITS), meter, splits)?;
+            let ending = search_part(
+                alloc,
+                engine,
+                scene,
+                cells,
+                Some(FIXED_SPLITS),
+                meter,
+                splits,
+            )?;
             match ending {
                 Ending::Nothing => Ok(Ending::Nothing),
                 Ending::Found(picture) => Ok(Ending::Found(picture)),

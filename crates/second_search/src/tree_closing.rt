@@ -86,7 +86,13 @@ fn take_line<E: LineEngine>(
     forcing_closes_a_line();
     let _ = (facts.height(), engine.calls());
     let _trials = meter.trials;
-    let forced = force_crossing(engine, facts, clues.clue(line), line, &mut meter.evaluations);
+    let forced = force_crossing(
+        engine,
+        facts,
+        clues.clue(line),
+        line,
+        &mut meter.evaluations,
+    );
     match forced.outcome {
         Outcome::Dead => {
             lines.add(CertLine::Dead(line_number(line)))?;

@@ -85,7 +85,13 @@ fn some_fits<E: LineEngine>(
     let _evaluations = meter.evaluations;
     let _trials = meter.trials;
     let mut trial = facts.copy()?;
-    match force(engine, &mut trial, clues.clue(line), line, &mut meter.evaluations) {
+    match force(
+        engine,
+        &mut trial,
+        clues.clue(line),
+        line,
+        &mut meter.evaluations,
+    ) {
         Outcome::Dead => Ok(false),
         Outcome::Narrowed => Ok(true),
     }

@@ -81,11 +81,7 @@ pub(crate) fn next_step<E: LineEngine>(
 fn node_at<'a>(scene: &Scene<'a>, facts: &'a Facts, way: Way) -> Node<'a>
     ensures { result.facts.now ≡ facts.now }
 {
-    let held = if way.holds {
-        Some(scene.picture)
-    } else {
-        None
-    };
+    let held = if way.holds { Some(scene.picture) } else { None };
     Node {
         puzzle: Puzzle {
             clues: scene.clues,
@@ -106,11 +102,7 @@ fn plan_of(way: Way) -> Plan {
 }
 
 // Another picture on a branch, where the held picture's colours fill its open cells.
-fn other_here(
-    alloc: Global,
-    scene: &Scene,
-    node: &Node,
-) -> Result<Option<Picture>, AllocError>
+fn other_here(alloc: Global, scene: &Scene, node: &Node) -> Result<Option<Picture>, AllocError>
     ensures { IfOk result (λ found. IfSome found (IsOtherIn scene.now.clues.now scene.now.picture.now node.now.facts.now)) }
 {
     if node.own || !fills_all(&node.puzzle, node.facts) {

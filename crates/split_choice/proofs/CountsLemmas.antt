@@ -1,5 +1,5 @@
 -- Work counted in two parts.
-use Rattle.std.proofs.Common.{◌≡◌, ℕ, ◌+◌}
+use Rattle.std.proofs.Common.{ℕ, ◌+◌}
 use Rattle.line_settle.specs.declared.meter.Meter.{Meter}
 use Rattle.line_settle.specs.Counting.{Counts}
 use Rattle.line_settle.specs.Laws.{CountsAdd}

@@ -1,5 +1,4 @@
-use Rattle.std.proofs.Common.{◌≡◌, ◌∙◌, Bool, true, false, arith, refl, subst, sym}
-use Rattle.propagate.specs.Closing.{AreClosable}
+use Rattle.std.proofs.Common.{◌∙◌, Bool, arith, refl, subst}
 use Rattle.second_search.specs.declared.tree.Turn.{Turn}
 use Rattle.second_search.specs.Trees.{Advances, Turns}
 use Rattle.second_search.proofs.CountLemmas.{counts_more, counts_none}

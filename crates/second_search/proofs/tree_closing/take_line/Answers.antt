@@ -1,4 +1,4 @@
-use Rattle.std.proofs.Common.{List, ℕ, refl, subst, sym}
+use Rattle.std.proofs.Common.{refl, subst, sym}
 use Rattle.std.proofs.lemmas.Bool.{false≢true}
 use Rattle.line_settle.specs.declared.line_engine.Outcome.{Outcome}
 use Rattle.line_settle.specs.FactSets.{Gains}

@@ -1,4 +1,4 @@
-use Rattle.std.proofs.Common.{◌∙◌, ◌≡◌, ℕ, refl}
+use Rattle.std.proofs.Common.{◌∙◌}
 use Rattle.picture.specs.Rows.{line_of}
 use Rattle.clues.specs.ClueBook.{clue_at}
 use Rattle.line_settle.specs.Fitting.{CanFit}

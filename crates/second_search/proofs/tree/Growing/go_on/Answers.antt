@@ -1,9 +1,7 @@
-use Rattle.std.proofs.Common.{List, ℕ, arith, refl, subst, sym}
+use Rattle.std.proofs.Common.{List, ℕ, refl, subst}
 use Rattle.line_settle.specs.FactSets.{IsFacts}
-use Rattle.propagate.specs.Closing.{AreClosable}
-use Rattle.split_choice.specs.Choosing.{IsUnsettled}
 use Rattle.second_search.specs.declared.tree_step.TreeStep.{TreeStep}
-use Rattle.second_search.specs.Trees.{Continues, Stands}
+use Rattle.second_search.specs.Trees.{Continues}
 use Rattle.second_search.proofs.TreeLemmas.{ends_turn, splits_turn}
 use Rattle.second_search.proofs.tree.Growing.go_on.Goals as goal
 
