@@ -8,7 +8,7 @@ use Rattle.picture.specs.Writing.{AppendsFront}
 use Rattle.ppm_text.specs.declared.fault.PpmFault.{PpmFault}
 use Rattle.ppm_text.specs.Ppm.{ppm_of}
 use Rattle.certificate.specs.declared.fault.CertFault.{CertFault}
-use Rattle.certificate.specs.declared.line.CellNumber.{CellNumber}
+use Rattle.second_search.specs.declared.tree_line.CellNumber.{CellNumber}
 use Rattle.certificate.specs.Cert.{Certificate}
 use Rattle.certificate.specs.FirstFault.{CertFirstFault}
 use Rattle.certificate.specs.Puzzle.{IsUnique}

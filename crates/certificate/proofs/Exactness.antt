@@ -11,10 +11,10 @@ use Rattle.line_settle.specs.ForceLaws.{on_or_not}
 use Rattle.line_settle.specs.FitLaws.{one_line, same_facts}
 use Rattle.certificate.specs.declared.fault.CertFault.{CertFault}
 use Rattle.certificate.specs.declared.fault.CertFault.TheVariants.{Memory}
-use Rattle.certificate.specs.declared.line.LineNumber.{LineNumber}
-use Rattle.certificate.specs.declared.line.CellNumber.{CellNumber}
-use Rattle.certificate.specs.declared.line.CertLine.{CertLine}
-use Rattle.certificate.specs.declared.line.CertLine.TheVariants.{Line, Split, Dead, Done}
+use Rattle.second_search.specs.declared.tree_line.LineNumber.{LineNumber}
+use Rattle.second_search.specs.declared.tree_line.CellNumber.{CellNumber}
+use Rattle.second_search.specs.declared.tree_line.CertLine.{CertLine}
+use Rattle.second_search.specs.declared.tree_line.CertLine.TheVariants.{Line, Split, Dead, Done}
 use Rattle.certificate.specs.Cert.{Certificate}
 use Rattle.certificate.specs.Puzzle.{HasCellNumber, HasCellNumbers, HasLineNumber, IsDead, IsForced, IsUnique, ShowsOnly, base_of, blank_for, line_id, split_at, with_givens}
 use Rattle.certificate.specs.Tree.{Tree, Trees, done, dead, forced, split, none, more, written, each_written, Proves, EachProves, IsProof}

@@ -4,8 +4,8 @@ use Rattle.line_settle.specs.FactSets.{with_given}
 use Rattle.std.proofs.lemmas.List.{drop_all}
 use Rattle.certificate.specs.declared.fault.CertFault.{CertFault}
 use Rattle.certificate.specs.declared.fault.CertFault.TheVariants.{Place}
-use Rattle.certificate.specs.declared.line.CellNumber.{CellNumber}
-use Rattle.certificate.specs.declared.line.CertLine.{CertLine}
+use Rattle.second_search.specs.declared.tree_line.CellNumber.{CellNumber}
+use Rattle.second_search.specs.declared.tree_line.CertLine.{CertLine}
 use Rattle.certificate.specs.Cert.{AreOrdered}
 use Rattle.certificate.specs.Puzzle.{HasCellNumber, HasCellNumbers, with_givens}
 use Rattle.certificate.specs.FirstFault.{FirstFaultBehind}

@@ -1,12 +1,10 @@
 pub mod BaseLemmas
-pub mod ChoiceLemmas
 pub mod ColourLemmas
 pub mod Exactness
 pub mod GivenLemmas
 pub mod MadeLemmas
 pub mod MakeLemmas
 pub mod NumberLemmas
-pub mod OtherLemmas
 pub mod PendingLemmas
 pub mod ReadLemmas
 pub mod RoundTrip

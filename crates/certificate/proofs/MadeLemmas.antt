@@ -5,13 +5,12 @@ use Rattle.picture.specs.Document.{AreInside}
 use Rattle.picture.specs.Picture.{IsPicture}
 use Rattle.picture.specs.Rows.{width_of, cell_at}
 use Rattle.clues.specs.ClueBook.{clues_of}
-use Rattle.clues.specs.Laws.{BooksAreTheirClues, CluesAreOfLines}
 use Rattle.clues.specs.Solution.{IsOther}
 use Rattle.clues.specs.SolutionLaws.{solves_fewer}
-use Rattle.line_settle.specs.FactSets.{IsFacts, Leaves, SameShape, nothing_excluded}
-use Rattle.picture.specs.BitLaws.{bit_below}
-use Rattle.certificate.specs.declared.line.CellNumber.{CellNumber}
-use Rattle.certificate.specs.declared.line.CertLine.{CertLine}
+use Rattle.line_settle.specs.FactSets.{Leaves, SameShape, nothing_excluded}
+use Rattle.line_settle.specs.GridLaws.{shape_sym, shape_trans}
+use Rattle.second_search.specs.declared.tree_line.CellNumber.{CellNumber}
+use Rattle.second_search.specs.declared.tree_line.CertLine.{CertLine}
 use Rattle.certificate.specs.Cert.{Certificate, IsCert}
 use Rattle.certificate.specs.FirstFault.{CertFirstFault, FirstFaultBehind}
 use Rattle.certificate.specs.Making.{EachExcludes, HasNoFault, IsMade, Makes, NamesGivens, WritesTree}
@@ -19,33 +18,30 @@ use Rattle.certificate.specs.Puzzle.{IsNamed, IsUnique, base_of, blank_for, with
 use Rattle.certificate.specs.Walk.{GivesBase}
 use Rattle.certificate.proofs.BaseLemmas.{given_left}
 use Rattle.certificate.proofs.Exactness.{none_is_proof}
-use Rattle.certificate.proofs.OtherLemmas.{other_is_shown}
 use Rattle.certificate.proofs.Soundness.{proof_is_unique}
 
-pub none_made : CluesAreOfLines → BooksAreTheirClues → (picture start : List (List ℕ)) (givens : List ℕ) (cells : List CellNumber) → IsPicture picture → AreInside givens picture → NamesGivens picture givens cells → SameShape picture start → IsFacts start → start ≡ with_givens picture cells (blank_for picture) → WritesTree picture start None → Makes picture givens None
-none_made clues books picture start givens cells is inside names shape are e w =
-    let facts = w.0 in
-    let within = w.1.0 in
-    let same : SameShape picture facts = record { rows = shape.rows ∙ within.same_shape.rows; each = λ i. shape.each i ∙ within.same_shape.each i } in
-    let few : (row col k : ℕ) → Leaves facts row col k → k < 16 = λ row col k l. bit_below (cell_at start row col) 16 k (are.masks row col) (within.leaves row col k l) in
-    let s = other_is_shown clues books picture facts is same few w.1.1 in (
-      s.other,
+pub none_made : (picture start : List (List ℕ)) (givens : List ℕ) (cells : List CellNumber) → IsPicture picture → AreInside givens picture → NamesGivens picture givens cells → SameShape picture start → start ≡ with_givens picture cells (blank_for picture) → WritesTree picture start None → Makes picture givens None
+none_made picture start givens cells is inside names shape e w =
+    let other = w.0 in
+    let fills = w.1.0 in
+    let same : SameShape picture other = shape_trans shape (shape_sym fills.same_shape) in
+    (
+      other,
       record {
         solves = record {
-          is_picture = s.is_picture;
-          rows = sym s.same_shape.rows;
-          columns = λ row. sym (s.same_shape.each row);
-          has_clues = s.same_clues;
+          is_picture = fills.is_picture;
+          rows = sym same.rows;
+          columns = λ row. sym (same.each row);
+          has_clues = fills.has_clues;
           keeps_givens = λ row col has.
               let i = inside row col has in
-              let r = s.same_shape.rows in
-              let c = s.same_shape.each row in
+              let c = same.each row in
               let q = is.rectangular row i.0 in
-              let l : Leaves start row col (cell_at s.other row col) = within.leaves row col (cell_at s.other row col) (s.leaves row col (let h = i.0 in omega arith) (let h = i.1 in omega arith)) in
-              let P : List (List ℕ) → Type 0 = λ f. Leaves f row col (cell_at s.other row col) in
-              given_left picture (blank_for picture) cells row col (cell_at s.other row col) ((names.named row col).0 has) (subst P e l);
+              let l : Leaves start row col (cell_at other row col) = fills.leaves row col (let h = i.1 in omega arith) in
+              let P : List (List ℕ) → Type 0 = λ f. Leaves f row col (cell_at other row col) in
+              given_left picture (blank_for picture) cells row col (cell_at other row col) ((names.named row col).0 has) (subst P e l);
         };
-        differs = s.differs;
+        differs = w.1.1;
       },
     )
 
@@ -82,9 +78,9 @@ some_made picture start givens cells lines cert is names base root none each c g
 root_is : (picture blank start : List (List ℕ)) (cells : List CellNumber) (height width : ℕ) → height ≡ length picture → width ≡ width_of picture → blank ≡ nothing_excluded height width → blank ≡ blank_for picture
 root_is picture blank start cells height width h w b = b ∙ (ap (λ (n : ℕ). nothing_excluded n width) h ∙ ap (nothing_excluded (length picture)) w)
 
-pub makes_none : CluesAreOfLines → BooksAreTheirClues → (picture blank start : List (List ℕ)) (givens : List ℕ) (cells : List CellNumber) (height width : ℕ) → IsPicture picture → AreInside givens picture → NamesGivens picture givens cells → height ≡ length picture → width ≡ width_of picture → blank ≡ nothing_excluded height width → GivesBase picture blank cells (Ok tt) start → IsFacts start → start ≡ with_givens picture cells blank → WritesTree picture start None → Makes picture givens None
-makes_none clues books picture blank start givens cells height width is inside names h w b base are e t =
-    none_made clues books picture start givens cells is inside names base.0 are (e ∙ ap (with_givens picture cells) (root_is picture blank start cells height width h w b)) t
+pub makes_none : (picture blank start : List (List ℕ)) (givens : List ℕ) (cells : List CellNumber) (height width : ℕ) → IsPicture picture → AreInside givens picture → NamesGivens picture givens cells → height ≡ length picture → width ≡ width_of picture → blank ≡ nothing_excluded height width → GivesBase picture blank cells (Ok tt) start → start ≡ with_givens picture cells blank → WritesTree picture start None → Makes picture givens None
+makes_none picture blank start givens cells height width is inside names h w b base e t =
+    none_made picture start givens cells is inside names base.0 (e ∙ ap (with_givens picture cells) (root_is picture blank start cells height width h w b)) t
 
 pub makes_some : (picture blank start : List (List ℕ)) (givens : List ℕ) (cells : List CellNumber) (lines : List CertLine) (cert : Certificate) (height width : ℕ) → IsPicture picture → NamesGivens picture givens cells → height ≡ length picture → width ≡ width_of picture → blank ≡ nothing_excluded height width → GivesBase picture blank cells (Ok tt) start → start ≡ with_givens picture cells blank → WritesTree picture start (Some lines) → IsCert cert → cert.givens ≡ cells → cert.lines ≡ lines → (cert.version ≡ 1) ↔ (cells ≡ []) → Makes picture givens (Some cert)
 makes_some picture blank start givens cells lines cert height width is names h w b base e t c g l v =

@@ -1,26 +1,37 @@
--- A tree written line by line: what is written so far, and what waits.
-use Rattle.std.proofs.Common.{◌≡◌, ℕ, suc, ◌+◌, ◌-◌, ◌^◌, ◌<◌, List, [], ◌∷◌, ◌++◌, Bool, true, false, None, Some, Ok, Err, append_assoc, length, get_or, eqb, eqb-true, refl, sym, ap, subst, ◌∙◌, arith, inl, inr}
+-- The lines of a tree that a search writes are those of a certificate without fault.
+use Rattle.std.proofs.Common.{◌≡◌, ℕ, suc, ◌+◌, ◌-◌, ◌^◌, ◌<◌, ◌≤◌, List, [], ◌∷◌, ◌++◌, true, None, Some, length, get_or, eqb, eqb-true, refl, sym, ap, subst, ◌∙◌, arith, inl, inr}
 use Rattle.std.specs.Prelude.{IsBitSet}
 use Rattle.std.specs.Int.{bit_at}
 use Rattle.std.specs.List.{All, range_with_len}
 use Rattle.std.proofs.lemmas.Bool.{cases_eq, cases_lt}
-use Rattle.std.proofs.lemmas.List.{append-nil, get_or_past}
+use Rattle.std.proofs.lemmas.List.{get_or_past}
 use Rattle.std.proofs.lemmas.List.Elements.{filter_passes}
-use Rattle.picture.specs.Rows.{row_at, cell_at, with_cell}
-use Rattle.line_settle.specs.FactSets.{IsWithin, Leaves}
-use Rattle.line_settle.specs.Laws.{ForcingClosesALine}
-use Rattle.line_settle.specs.GridLaws.{at_with_cell, off_with_cell, shape_with_cell}
+use Rattle.picture.specs.declared.line_id.Axis.{Axis}
+use Rattle.picture.specs.declared.line_id.Axis.TheVariants.{Across, Down}
 use Rattle.picture.specs.BitLaws.{bit_is_set, no_bit, power_has}
+use Rattle.picture.specs.Picture.{IsPicture}
+use Rattle.picture.specs.Rows.{width_of, row_at, cell_at, with_cell, line_of, lines_along}
+use Rattle.clues.specs.declared.block.Block.{Block}
+use Rattle.clues.specs.ClueBook.{Clues, clue_at, clues_of}
+use Rattle.clues.specs.Laws.{CluesAreOfLines}
+use Rattle.line_settle.specs.declared.line_engine.Outcome.{Outcome}
+use Rattle.line_settle.specs.FactSets.{IsWithin, Leaves, SameShape}
+use Rattle.line_settle.specs.Laws.{ForcingClosesALine, OneLineDecides}
+use Rattle.line_settle.specs.GridLaws.{at_with_cell, off_with_cell, shape_refl, shape_trans, shape_with_cell}
+use Rattle.line_settle.specs.Narrowing.{Narrows}
+use Rattle.propagate.specs.Closing.{AreClosable}
+use Rattle.propagate.specs.Filling.{Fills}
+use Rattle.second_search.specs.declared.tree_line.CellNumber.{CellNumber}
+use Rattle.second_search.specs.declared.tree_line.LineNumber.{LineNumber}
+use Rattle.second_search.specs.declared.tree_line.CertLine.{CertLine}
+use Rattle.second_search.specs.declared.tree_line.CertLine.TheVariants.{Line, Split, Dead, Done}
+use Rattle.second_search.specs.Trees.{IsOtherIn, Stands, Walks}
 use Rattle.line_settle.specs.Branches.{colours_of, held}
-use Rattle.certificate.specs.declared.fault.CertFault.{CertFault}
-use Rattle.certificate.specs.declared.fault.CertFault.TheVariants.{Memory}
-use Rattle.certificate.specs.declared.line.CertLine.{CertLine}
-use Rattle.certificate.specs.declared.line.CertLine.TheVariants.{Line, Split, Dead, Done}
-use Rattle.certificate.specs.declared.notes.Note.{Note}
-use Rattle.certificate.specs.Cert.{AreWritable}
-use Rattle.certificate.specs.FirstFault.{HasFault, Leads}
-use Rattle.certificate.specs.Making.{CanWrite, EachExcludes, HasNoFault, ShowsOther, WritesTree}
-use Rattle.certificate.specs.Walk.{Takes, pending, waiting}
+use Rattle.certificate.specs.Cert.{AreWritable, IsWritable}
+use Rattle.certificate.specs.FirstFault.{FirstFault, Leads}
+use Rattle.certificate.specs.Making.{EachExcludes, Excludes, WritesTree}
+use Rattle.certificate.specs.Puzzle.{HasCellNumber, HasLineNumber, line_id}
+use Rattle.certificate.specs.Walk.{CanCheck}
 
 -- ---- what waits excludes no less than the facts at the root
 
@@ -100,68 +111,95 @@ led_within law picture start facts (Split cell) next l w =
 led_within law picture start facts (Dead number) next l w = let P : List (List (List ℕ)) → Type 0 = EachWithin start in subst P (sym l.2) tt
 led_within law picture start facts Done next l w = let P : List (List (List ℕ)) → Type 0 = EachWithin start in subst P (sym l.1) tt
 
--- ---- what is written so far
+-- ---- the lines of a tree are those of a certificate
 
--- lines without fault behind those written so far are without fault from the root on
-pub record SoFar (picture start : List (List ℕ)) (waits : List (List (List ℕ))) (lines : List CertLine) : Type 0 where
-  pub goes : (behind : List CertLine) → HasNoFault picture waits behind → HasNoFault picture (start ∷ []) (lines ++ behind)
-  pub writable : (behind : List CertLine) → AreWritable behind → AreWritable (lines ++ behind)
-  pub excludes : (behind : List CertLine) → EachExcludes picture waits behind → EachExcludes picture (start ∷ []) (lines ++ behind)
-  pub within : EachWithin start waits
+narrowed_masks : OneLineDecides → (clue : List Block) (left one other : List ℕ) (first second : Outcome) → Narrows clue left first one → Narrows clue left second other → one ≡ other
+narrowed_masks law clue left one other first second n m = (law clue left one other first second n m).0
 
-pub start_so_far : (picture start : List (List ℕ)) → SoFar picture start (start ∷ []) []
-start_so_far picture start = record {
-  goes = λ behind h. h;
-  writable = λ behind w. w;
-  excludes = λ behind h. h;
-  within = (record { same_shape = record { rows = refl; each = λ i. refl }; leaves = λ row col k l. l }, tt);
-}
+line_number : (picture facts : List (List ℕ)) (number : LineNumber) → SameShape picture facts → HasLineNumber facts number → HasLineNumber picture number
+line_number picture facts number s h = by number.axis h
+  where
+    by : (axis : Axis) → (0 < number.number) × (number.number ≤ lines_along axis facts) → (0 < number.number) × (number.number ≤ lines_along axis picture)
+    by Across q = (q.0, (let e = s.rows in omega arith))
+    by Down q = (q.0, (let e = s.each 0 in omega arith))
 
--- one line more
-pub more_so_far : ForcingClosesALine → (picture start facts : List (List ℕ)) (others next : List (List (List ℕ))) (lines new : List CertLine) (line : CertLine) → new ≡ lines ++ (line ∷ []) → CanWrite picture facts line → Leads picture facts line next → SoFar picture start (facts ∷ others) lines → SoFar picture start (next ++ others) new
-more_so_far law picture start facts others next lines new line e can leads so_far =
-    let P : List CertLine → Type 0 = SoFar picture start (next ++ others) in
-    subst P (sym e) (record {
-      goes = λ behind h.
-          let Q : List CertLine → Type 0 = HasNoFault picture (start ∷ []) in
-          subst Q (sym (append_assoc lines (line ∷ []) behind)) (so_far.goes (line ∷ behind) (λ n. inr (next, (leads, h (n + 1)))));
-      writable = λ behind w. subst AreWritable (sym (append_assoc lines (line ∷ []) behind)) (so_far.writable (line ∷ behind) (can.1, w));
-      excludes = λ behind h.
-          let Q : List CertLine → Type 0 = EachExcludes picture (start ∷ []) in
-          subst Q (sym (append_assoc lines (line ∷ []) behind)) (so_far.excludes (line ∷ behind) (can.2, (next, (leads, h))));
-      within = both_within start next others (led_within law picture start facts line next leads so_far.within.0) so_far.within.1;
-    })
+few_lines : (axis : Axis) (picture : List (List ℕ)) → IsPicture picture → lines_along axis picture ≤ 120
+few_lines Across picture is = is.rows_fit
+few_lines Down picture is = is.columns_fit
 
--- a line taken by the checker
-pub taken_so_far : ForcingClosesALine → (picture start facts gained : List (List ℕ)) (notes left : List Note) (lines new : List CertLine) (line : CertLine) (n : ℕ) (going : Bool) → new ≡ lines ++ (line ∷ []) → CanWrite picture facts line → Takes picture facts notes line n (Ok going) gained left → SoFar picture start (waiting true facts notes) lines → SoFar picture start (waiting going gained left) new
-taken_so_far law picture start facts gained notes left lines new line n going e can t so_far =
-    let P : List (List (List ℕ)) → Type 0 = λ fs. SoFar picture start fs new in
-    subst P (sym t.1.1.1) (more_so_far law picture start facts (pending facts notes) t.1.0 lines new line e can t.1.1.0 so_far)
+cell_inside : (picture facts : List (List ℕ)) (cell : CellNumber) → SameShape picture facts → HasCellNumber facts cell → HasCellNumber picture cell
+cell_inside picture facts cell s h =
+    let rows = s.rows in
+    let columns = s.each 0 in
+    ((let a : 0 < cell.row = h.0 in a), (let a : cell.row ≤ length picture = omega arith in a), (let a : 0 < cell.col = h.2 in a), (let a : cell.col ≤ width_of picture = omega arith in a))
 
--- the whole tree
-pub whole_tree : (picture start facts : List (List ℕ)) (notes : List Note) (lines : List CertLine) (going : Bool) → going ≡ false → SoFar picture start (waiting going facts notes) lines → WritesTree picture start (Some lines)
-whole_tree picture start facts notes lines going e so_far =
-    let P : Bool → Type 0 = λ b. SoFar picture start (waiting b facts notes) lines in
-    let s = subst P e so_far in (
-      subst AreWritable (append-nil lines) (s.writable [] tt),
-      (let Q : List CertLine → Type 0 = HasNoFault picture (start ∷ []) in subst Q (append-nil lines) (s.goes [] (λ n. refl))),
-      (let Q : List CertLine → Type 0 = EachExcludes picture (start ∷ []) in subst Q (append-nil lines) (s.excludes [] tt)),
-    )
+leads : (picture facts : List (List ℕ)) (line : CertLine) (next : List (List (List ℕ))) → SameShape picture facts → Stands (clues_of picture) picture facts line next → Leads picture facts line next
+leads picture facts (Line number) next s h = (line_number picture facts number s h.0, (h.1.0, ((h.1.1.0.outcome, h.1.1.0.gains), h.1.1.1)))
+leads picture facts (Split cell) next s h = (cell_inside picture facts cell s h.0, h.1)
+leads picture facts (Dead number) next s h = (line_number picture facts number s h.0, h.1.0, h.1.1)
+leads picture facts Done next s h = h
 
--- another picture
-pub no_tree : (picture start facts : List (List ℕ)) (notes : List Note) (lines : List CertLine) → SoFar picture start (waiting true facts notes) lines → ShowsOther picture facts → WritesTree picture start None
-no_tree picture start facts notes lines so_far shows = (facts, (so_far.within.0, shows))
+writable : (picture facts : List (List ℕ)) (line : CertLine) (next : List (List (List ℕ))) → IsPicture picture → SameShape picture facts → Stands (clues_of picture) picture facts line next → IsWritable line
+writable picture facts (Line number) next is s h = let q = line_number picture facts number s h.0 in let few = few_lines number.axis picture is in (let l : number.number < 1000 = omega (arith, q.1, few) in l)
+writable picture facts (Split cell) next is s h =
+    let q = cell_inside picture facts cell s h.0 in
+    let r = is.rows_fit in
+    let c = is.columns_fit in
+    ((let l : cell.row < 1000 = omega (arith, q.1, r) in l), (let l : cell.col < 1000 = omega (arith, q.3, c) in l))
+writable picture facts (Dead number) next is s h = let q = line_number picture facts number s h.0 in let few = few_lines number.axis picture is in (let l : number.number < 1000 = omega (arith, q.1, few) in l)
+writable picture facts Done next is s h = tt
 
--- a line that stands has no fault
-pub no_fault : (picture facts : List (List ℕ)) (line : CertLine) (n : ℕ) (fault : CertFault) → CanWrite picture facts line → HasFault picture facts line n fault → ⊥
-no_fault picture facts (Line number) n fault can h = h.0 can.0
-no_fault picture facts (Split cell) n fault can h = h.0 can.0
-no_fault picture facts (Dead number) n fault can (inl h) = h.0 can.0.0
-no_fault picture facts (Dead number) n fault can (inr h) = h.1 can.0.1
-no_fault picture facts Done n fault can h = h.0 can.0
+excludes : OneLineDecides → (picture facts : List (List ℕ)) (line : CertLine) (next : List (List (List ℕ))) → Stands (clues_of picture) picture facts line next → Excludes picture facts line
+excludes law picture facts (Line number) next h = λ gained forced same.
+    let mine = h.1.1.0 in
+    mine.more (ap (λ (fs : List (List ℕ)). line_of fs (line_id number)) (sym same) ∙ narrowed_masks law (clue_at (clues_of picture) (line_id number)) (line_of facts (line_id number)) (line_of gained (line_id number)) (line_of h.1.0 (line_id number)) forced.0 mine.outcome forced.1.narrows mine.gains.narrows)
+excludes law picture facts (Split cell) next h = tt
+excludes law picture facts (Dead number) next h = tt
+excludes law picture facts Done next h = tt
 
-pub refused_memory : (picture facts new : List (List ℕ)) (notes left : List Note) (line : CertLine) (n : ℕ) (e : CertFault) → CanWrite picture facts line → Takes picture facts notes line n (Err e) new left → e ≡ Memory
-refused_memory picture facts new notes left line n e can (inl m) = m
-refused_memory picture facts new notes left line n e can (inr h) = absurd (no_fault picture facts line n e can h)
+record IsWhole (picture : List (List ℕ)) (waits : List (List (List ℕ))) (lines : List CertLine) : Type 0 where
+  writes : AreWritable lines
+  goes : (n : ℕ) → FirstFault picture waits n lines None
+  each : EachExcludes picture waits lines
 
-pub ruleset writing_trees = (start_so_far, no_tree, whole_tree, refused_memory)
+no_cons : (facts : List (List ℕ)) (others : List (List (List ℕ))) → facts ∷ others ≡ [] → ⊥
+no_cons facts others e = let n : length (facts ∷ others) ≡ 0 = ap length e in absurd (omega arith)
+
+whole : ForcingClosesALine → OneLineDecides → (picture start : List (List ℕ)) → IsPicture picture → SameShape picture start → (lines : List CertLine) (waits : List (List (List ℕ))) → EachWithin start waits → Walks (clues_of picture) picture lines waits [] → IsWhole picture waits lines
+whole law once picture start is s [] [] w h = record { writes = tt; goes = λ n. refl; each = tt }
+whole law once picture start is s [] (facts ∷ others) w h = absurd (no_cons facts others h)
+whole law once picture start is s (line ∷ lines) [] w h = absurd h
+whole law once picture start is s (line ∷ lines) (facts ∷ others) w h =
+    let next = h.0 in
+    let shape = shape_trans s w.0.same_shape in
+    let stands = h.1.0 in
+    let lead = leads picture facts line next shape stands in
+    let rest = whole law once picture start is s lines (next ++ others) (both_within start next others (led_within law picture start facts line next lead w.0) w.1) h.1.1 in
+    record {
+      writes = (writable picture facts line next is shape stands, rest.writes);
+      goes = λ n. inr (next, (lead, rest.goes (n + 1)));
+      each = (excludes once picture facts line next stands, (next, (lead, rest.each)));
+    }
+
+pub whole_tree : ForcingClosesALine → OneLineDecides → (picture start : List (List ℕ)) (clues : Clues) (longest : ℕ) (lines : List CertLine) → CanCheck picture clues longest → SameShape picture start → Walks clues picture lines (start ∷ []) [] → WritesTree picture start (Some lines)
+whole_tree law once picture start clues longest lines can s h =
+    let P : Clues → Type 0 = λ c. Walks c picture lines (start ∷ []) [] in
+    let w = whole law once picture start can.is_picture s lines (start ∷ []) (record { same_shape = shape_refl start; leaves = λ row col k l. l }, tt) (subst P can.clues_are h) in
+    (w.writes, w.goes, w.each)
+
+pub other_tree : (picture start other : List (List ℕ)) (clues : Clues) (longest : ℕ) → CanCheck picture clues longest → IsOtherIn clues picture start other → WritesTree picture start None
+other_tree picture start other clues longest can h =
+    let P : Clues → Type 0 = λ c. Fills c start other in
+    (other, (subst P can.clues_are h.0, h.1))
+
+pub can_close : CluesAreOfLines → (picture start : List (List ℕ)) (clues : Clues) (longest : ℕ) → CanCheck picture clues longest → SameShape picture start → AreClosable clues longest start
+can_close law picture start clues longest can s =
+    let rows : length clues.rows ≡ length picture = ap (λ (c : Clues). length c.rows) can.clues_are ∙ law.sizes picture Across in
+    let columns : length clues.columns ≡ width_of picture = ap (λ (c : Clues). length c.columns) can.clues_are ∙ law.sizes picture Down in
+    let high = s.rows in
+    let each = s.each 0 in
+    let w = can.wide in
+    let t = can.tall in
+    record { rows = omega arith; columns = omega arith; wide = omega arith; tall = omega arith }
+
+pub ruleset writing_trees = (whole_tree, other_tree, can_close)

@@ -7,8 +7,8 @@ use Rattle.std.proofs.lemmas.List.{append-nil}
 use Rattle.picture.specs.Reading.{◌>>=◌}
 use Rattle.certificate.specs.declared.fault.CertFault.{CertFault}
 use Rattle.certificate.specs.declared.fault.CertFault.TheVariants.{BadLine}
-use Rattle.certificate.specs.declared.line.CellNumber.{CellNumber}
-use Rattle.certificate.specs.declared.line.CertLine.{CertLine}
+use Rattle.second_search.specs.declared.tree_line.CellNumber.{CellNumber}
+use Rattle.second_search.specs.declared.tree_line.CertLine.{CertLine}
 use Rattle.certificate.specs.Cert.{AreOrdered, AreWritable, IsShort, IsWritable, rank}
 use Rattle.certificate.specs.Text.{cert_line, given_line, given_lines, or_bad, take_given, tree_lines, with_given_before}
 

@@ -11,9 +11,9 @@ use Rattle.picture.specs.declared.line_id.Axis.{Axis}
 use Rattle.picture.specs.declared.line_id.Axis.TheVariants.{Across, Down}
 use Rattle.certificate.specs.declared.fault.CertFault.{CertFault}
 use Rattle.certificate.specs.declared.fault.CertFault.TheVariants.{BadLine}
-use Rattle.certificate.specs.declared.line.CellNumber.{CellNumber}
-use Rattle.certificate.specs.declared.line.CertLine.{CertLine}
-use Rattle.certificate.specs.declared.line.CertLine.TheVariants.{Line, Split, Dead, Done}
+use Rattle.second_search.specs.declared.tree_line.CellNumber.{CellNumber}
+use Rattle.second_search.specs.declared.tree_line.CertLine.{CertLine}
+use Rattle.second_search.specs.declared.tree_line.CertLine.TheVariants.{Line, Split, Dead, Done}
 use Rattle.certificate.specs.Cert.{Certificate, certificate, AreOrdered, AreWritable, IsCert, IsShort, IsWritable, rank}
 use Rattle.certificate.specs.Text.{below_givens, cell_named, cert_line, cert_of_lines, digit_of, given_line, given_lines, given_of_three, leading_digit, line_named, line_number, line_with, cell_number, cell_with, line_of_three, lines_of, number_of, or_bad, take_given, three_of, tree_lines, with_digit, with_given_before, words_of}
 use Rattle.certificate.specs.Writing.{IsReadAgain, cell_text, given_text, givens_text, line_text, lines_text, named_text, number_text}

@@ -1,32 +1,21 @@
--- Certificates that are made: which line may come next, and what is made.
+-- Certificates that are made.
 use Rattle.std.specs.Prelude.{◌≡◌, ◌⊎◌, ℕ, ◌+◌, ◌*◌, ◌<◌, ◌↔◌, List, [], ◌∷◌, ◌++◌, length, Option, None, Some}
 use Rattle.std.proofs.Common.{Vec, Global}
-use Rattle.picture.specs.declared.line_id.Axis.{Axis}
-use Rattle.picture.specs.declared.line_id.LineId.{LineId}
 use Rattle.picture.specs.CellSet.{HasCell}
 use Rattle.picture.specs.Picture.{IsPicture}
-use Rattle.picture.specs.Rows.{width_of, line_of, lines_along, HasLine}
-use Rattle.clues.specs.ClueBook.{clue_at, clues_of}
+use Rattle.clues.specs.ClueBook.{clues_of}
 use Rattle.clues.specs.Solution.{IsOther}
-use Rattle.line_settle.specs.Fitting.{CanFit}
-use Rattle.line_settle.specs.FactSets.{IsBase, IsWithin, Leaves}
-use Rattle.certificate.specs.declared.line.CellNumber.{CellNumber}
-use Rattle.certificate.specs.declared.line.LineNumber.{LineNumber}
-use Rattle.certificate.specs.declared.line.CertLine.{CertLine}
-use Rattle.certificate.specs.declared.line.CertLine.TheVariants.{Line, Split, Dead, Done}
-use Rattle.certificate.specs.Cert.{AreOrdered, AreWritable, Certificate, IsCert, IsWritable}
+use Rattle.line_settle.specs.FactSets.{IsBase}
+use Rattle.propagate.specs.Filling.{Fills}
+use Rattle.second_search.specs.declared.tree_line.CellNumber.{CellNumber}
+use Rattle.second_search.specs.declared.tree_line.CertLine.{CertLine}
+use Rattle.second_search.specs.declared.tree_line.CertLine.TheVariants.{Line, Split, Dead, Done}
+use Rattle.certificate.specs.Cert.{AreOrdered, AreWritable, Certificate, IsCert}
 use Rattle.certificate.specs.FirstFault.{CertFirstFault, FirstFault, Leads}
-use Rattle.certificate.specs.Puzzle.{HasCellNumber, HasCellNumbers, HasLineNumber, IsAmong, IsDead, IsForced, IsUnique, ShowsOnly, base_of, line_id, numbered}
+use Rattle.certificate.specs.Puzzle.{HasCellNumbers, IsAmong, IsForced, IsUnique, base_of, line_id, numbered}
 use Rattle.certificate.specs.Tree.{IsProof}
 
--- ---- the next line
-
--- a line stands
-abbrev pub Stands : List (List ℕ) → List (List ℕ) → CertLine → Type 0
-Stands picture facts (Line number) = HasLineNumber picture number
-Stands picture facts (Split cell) = HasCellNumber picture cell
-Stands picture facts (Dead number) = HasLineNumber picture number × IsDead picture facts (line_id number)
-Stands picture facts Done = ShowsOnly picture facts
+-- ---- the lines
 
 -- a `line` excludes something: the facts with all that it forces are others
 abbrev pub Excludes : List (List ℕ) → List (List ℕ) → CertLine → Type 0
@@ -34,38 +23,6 @@ Excludes picture facts (Line number) = (gained : List (List ℕ)) → IsForced p
 Excludes picture facts (Split cell) = Unit {0}
 Excludes picture facts (Dead number) = Unit {0}
 Excludes picture facts Done = Unit {0}
-
--- a line that may come next
-abbrev pub CanWrite : List (List ℕ) → List (List ℕ) → CertLine → Type 0
-CanWrite picture facts line = Stands picture facts line × IsWritable line × Excludes picture facts line
-
--- no cell of a row has two colours left
-abbrev pub IsSingleRow : List (List ℕ) → ℕ → Type 0
-IsSingleRow facts row = (col j k : ℕ) → col < width_of facts → Leaves facts row col j → Leaves facts row col k → j ≡ k
-
--- no cell has two colours left
-abbrev pub AreSingle : List (List ℕ) → Type 0
-AreSingle facts = (row : ℕ) → row < length facts → IsSingleRow facts row
-
--- a line as a certificate names it: by its number from 1
-abbrev pub Numbers : LineId → LineNumber → Type 0
-Numbers line number = (number.axis ≡ line.axis) × (number.number ≡ line.at + 1)
-
--- some list fits a line, by the clues of a picture
-abbrev pub IsAlive : List (List ℕ) → List (List ℕ) → LineId → Type 0
-IsAlive picture facts line = CanFit (clue_at (clues_of picture) line) (line_of facts line)
-
-abbrev pub AreAlive : List (List ℕ) → List (List ℕ) → Axis → Type 0
-AreAlive picture facts axis = (at : ℕ) → at < lines_along axis picture → IsAlive picture facts (record { axis = axis; at = at })
-
--- No cell has two colours left, some list fits each line, and some cell has another colour left than the picture's: what is
--- left is another picture.
-pub record ShowsOther (picture facts : List (List ℕ)) : Type 0 where
-  pub single : AreSingle facts
-  pub alive : (line : LineId) → HasLine picture line → IsAlive picture facts line
-  pub differs : ShowsOnly picture facts → ⊥
-
--- ---- the lines
 
 -- the lines have no fault where branches with these facts wait
 abbrev pub HasNoFault : List (List ℕ) → List (List (List ℕ)) → List CertLine → Type 0
@@ -83,9 +40,9 @@ abbrev pub lines_seen : Option (Vec CertLine Global) → Option (List CertLine)
 lines_seen None = None
 lines_seen (Some lines) = Some lines.items
 
--- The lines of a tree that proves the picture from facts; or facts that exclude no less and show another picture.
+-- the lines of a tree that proves the picture from facts; or another picture fills these
 abbrev pub WritesTree : List (List ℕ) → List (List ℕ) → Option (List CertLine) → Type 0
-WritesTree picture start None = (facts : List (List ℕ)) × (IsWithin start facts × ShowsOther picture facts)
+WritesTree picture start None = (other : List (List ℕ)) × (Fills (clues_of picture) start other × (other ≡ picture → ⊥))
 WritesTree picture start (Some lines) = AreWritable lines × HasNoFault picture (start ∷ []) lines × EachExcludes picture (start ∷ []) lines
 
 -- ---- the certificate

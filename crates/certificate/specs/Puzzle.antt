@@ -1,29 +1,18 @@
 -- What a certificate speaks of: a picture, its clues, and facts on its cells.
-use Rattle.std.specs.Prelude.{◌≡◌, ◌⊎◌, ℕ, ◌+◌, ◌-◌, ◌<◌, ◌≤◌, List, [], ◌∷◌, length}
+use Rattle.std.specs.Prelude.{◌≡◌, ◌⊎◌, ℕ, ◌+◌, ◌-◌, List, [], ◌∷◌, length}
 use Rattle.picture.specs.declared.line_id.LineId.{LineId}
-use Rattle.picture.specs.Rows.{width_of, cell_at, line_of, lines_along}
+use Rattle.picture.specs.Rows.{width_of, cell_at, line_of}
 use Rattle.clues.specs.ClueBook.{clue_at, clues_of}
 use Rattle.clues.specs.Solution.{IsOnlySolution}
 use Rattle.line_settle.specs.declared.line_engine.Outcome.{Outcome}
 use Rattle.line_settle.specs.Fitting.{CanFit}
-use Rattle.line_settle.specs.Branches.{branches}
-use Rattle.line_settle.specs.FactSets.{Gains, Leaves, nothing_excluded, with_given}
-use Rattle.certificate.specs.declared.line.LineNumber.{LineNumber}
-use Rattle.certificate.specs.declared.line.CellNumber.{CellNumber}
+use Rattle.line_settle.specs.FactSets.{Gains, nothing_excluded, with_given}
+use Rattle.second_search.specs.declared.tree_line.CellNumber.{CellNumber}
+pub use Rattle.second_search.specs.Trees.{HasCellNumber, HasLineNumber, ShowsOnly, line_id, split_at}
 
 -- ---- places by number
 
--- the picture has a line with that number
-abbrev pub HasLineNumber : List (List ℕ) → LineNumber → Type 0
-HasLineNumber picture line = (0 < line.number) × (line.number ≤ lines_along line.axis picture)
-
-abbrev pub line_id : LineNumber → LineId
-line_id line = record { axis = line.axis; at = line.number - 1 }
-
--- the picture has a cell with these numbers
-abbrev pub HasCellNumber : List (List ℕ) → CellNumber → Type 0
-HasCellNumber picture cell = (0 < cell.row) × (cell.row ≤ length picture) × (0 < cell.col) × (cell.col ≤ width_of picture)
-
+-- the picture has the cells with these numbers
 abbrev pub HasCellNumbers : List (List ℕ) → List CellNumber → Type 0
 HasCellNumbers picture [] = Unit {0}
 HasCellNumbers picture (cell ∷ cells) = HasCellNumber picture cell × HasCellNumbers picture cells
@@ -40,12 +29,6 @@ IsAmong cell (first ∷ cells) = (cell ≡ first) ⊎ IsAmong cell cells
 abbrev pub IsNamed : List CellNumber → ℕ → ℕ → Type 0
 IsNamed cells row col = IsAmong (numbered row col) cells
 
--- ---- branches
-
--- the branches of a cell: one for each colour left in it
-abbrev pub split_at : List (List ℕ) → CellNumber → List (List (List ℕ))
-split_at facts cell = branches facts (cell.row - 1) (cell.col - 1) (cell_at facts (cell.row - 1) (cell.col - 1))
-
 -- ---- what lines say of facts, for the clues of a picture
 
 -- the facts gain all that a line forces
@@ -55,10 +38,6 @@ IsForced picture facts line more = (outcome : Outcome) × Gains (clue_at (clues_
 -- no list fits a line
 abbrev pub IsDead : List (List ℕ) → List (List ℕ) → LineId → Type 0
 IsDead picture facts line = CanFit (clue_at (clues_of picture) line) (line_of facts line) → ⊥
-
--- no colour is left anywhere but the picture's
-abbrev pub ShowsOnly : List (List ℕ) → List (List ℕ) → Type 0
-ShowsOnly picture facts = (row col k : ℕ) → Leaves facts row col k → k ≡ cell_at picture row col
 
 -- ---- givens
 

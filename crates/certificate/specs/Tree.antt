@@ -1,9 +1,9 @@
 -- Trees of lines, and what it is that a tree proves.
 use Rattle.std.specs.Prelude.{◌≡◌, ℕ, List, [], ◌∷◌, ◌++◌}
-use Rattle.certificate.specs.declared.line.LineNumber.{LineNumber}
-use Rattle.certificate.specs.declared.line.CellNumber.{CellNumber}
-use Rattle.certificate.specs.declared.line.CertLine.{CertLine}
-use Rattle.certificate.specs.declared.line.CertLine.TheVariants.{Line, Split, Dead, Done}
+use Rattle.second_search.specs.declared.tree_line.LineNumber.{LineNumber}
+use Rattle.second_search.specs.declared.tree_line.CellNumber.{CellNumber}
+use Rattle.second_search.specs.declared.tree_line.CertLine.{CertLine}
+use Rattle.second_search.specs.declared.tree_line.CertLine.TheVariants.{Line, Split, Dead, Done}
 use Rattle.certificate.specs.Cert.{Certificate}
 use Rattle.certificate.specs.Puzzle.{HasCellNumber, HasCellNumbers, HasLineNumber, IsDead, IsForced, ShowsOnly, base_of, line_id, split_at}
 

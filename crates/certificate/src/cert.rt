@@ -3,7 +3,7 @@
 ghost use Rattle.std.specs.Prelude.{◌≡◌, ◌<◌, ◌+◌, length};
 ghost use Rattle.certificate.specs.Cert.{certificate, IsCert};
 
-use crate::line::{CellNumber, CertLine};
+use second_search::{CellNumber, CertLine};
 use std::marker::Model;
 
 /// A certificate: the lines of a text of version 1 or 2, as they are written. A text of version 1 has no givens.

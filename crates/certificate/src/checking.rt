@@ -4,7 +4,7 @@ ghost use Rattle.std.specs.Prelude.{◌≡◌, ℕ, ◌≤◌, ◌<◌, ◌+◌,
 ghost use Rattle.picture.specs.Picture.{IsPicture};
 ghost use Rattle.picture.specs.Rows.{width_of};
 ghost use Rattle.line_settle.specs.FactSets.{SameShape};
-ghost use Rattle.certificate.specs.declared.line.CertLine.{CertLine};
+ghost use Rattle.second_search.specs.declared.tree_line.CertLine.{CertLine};
 ghost use Rattle.certificate.specs.FirstFault.{AnswersFirst, CertFirstFault, FirstFault, FirstFaultBehind};
 ghost use Rattle.certificate.specs.Puzzle.{HasCellNumbers, IsUnique, with_givens};
 ghost use Rattle.certificate.specs.Tree.{IsProof};
@@ -12,7 +12,7 @@ ghost use Rattle.certificate.specs.Walk.{GivesBase};
 
 use crate::cert::Cert;
 use crate::fault::CertFault;
-use crate::line::CellNumber;
+use second_search::CellNumber;
 use crate::places::cell_in;
 use crate::walk::walk;
 use clues::ClueBook;

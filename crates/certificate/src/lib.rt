@@ -3,12 +3,9 @@
 
 mod cert;
 mod checking;
-mod choosing;
-mod due;
 mod fault;
 mod forcing;
 pub mod laws;
-mod line;
 mod making;
 mod notes;
 mod places;
@@ -21,7 +18,7 @@ mod writing;
 pub use cert::Cert;
 pub use checking::check_cert;
 pub use fault::CertFault;
-pub use line::{CellNumber, CertLine, LineNumber};
+pub use second_search::{CellNumber, CertLine, LineNumber};
 pub use making::make_cert;
 pub use reading::read_cert;
 pub use writing::write_cert;

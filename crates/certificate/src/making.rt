@@ -5,54 +5,58 @@ ghost use Rattle.picture.specs.Document.{AreInside};
 ghost use Rattle.picture.specs.Rows.{width_of};
 ghost use Rattle.certificate.specs.Cert.{AreOrdered, AreWritable, IsCert};
 ghost use Rattle.certificate.specs.Making.{Makes, NamesGivens, NamesUpTo, WritesTree, lines_seen};
-ghost use Rattle.certificate.specs.Walk.{CanCheck, IsWalk};
+ghost use Rattle.certificate.specs.Walk.{CanCheck};
+ghost use Rattle.line_settle.specs.FactSets.{SameShape};
 
 use crate::cert::Cert;
 use crate::checking::set_givens;
-use crate::choosing::{cell_number, choose};
-use crate::due::{all_due, axis_behind, renew};
 use crate::fault::CertFault;
-use crate::line::{CellNumber, CertLine};
-use crate::walk::take_line;
+use crate::places::cell_number;
 use clues::ClueBook;
-use clues::laws::{books_are_their_clues, clues_are_of_lines};
-use line_settle::laws::forcing_closes_a_line;
-use line_settle::{Facts, LineEngine};
-use picture::{Axis, CellSet, MAX_SIDE, Picture};
+use clues::laws::clues_are_of_lines;
+use line_settle::laws::{forcing_closes_a_line, one_line_decides};
+use line_settle::{Facts, LineEngine, Meter};
+use picture::{CellSet, MAX_SIDE, Picture};
+use second_search::{CellNumber, CertLine, Decided, FIRST_BOUND, Ladder, Lines, MOST_CELLS, Scene, climb};
 use std::alloc::{AllocError, Global};
 
+// The picture is held on to, and the lines are kept.
+const LADDER: Ladder = Ladder {
+    most: MOST_CELLS,
+    first_bound: FIRST_BOUND,
+    holds: true,
+    keeps: true,
+};
+
+const NOTHING_DONE: Meter = Meter {
+    evaluations: 0,
+    trials: 0,
+};
+
 #[tactic(auto, using(crate::proofs::MakeLemmas::writing_trees))]
-// Writes a tree for a picture from facts on, line by line as the checker takes them. There is none exactly where facts that
-// exclude no less show another picture.
+// The lines of a tree that proves the picture of a scene from its facts on. There is none exactly where another picture fills the
+// facts.
 fn write_tree<E: LineEngine>(
     alloc: Global,
     engine: &mut E,
-    picture: &Picture,
-    book: &ClueBook,
-    facts: &mut Facts,
+    scene: &Scene,
 ) -> Result<Option<Vec<CertLine>>, CertFault>
-    requires can { CanCheck picture.now book.now (E.longest engine.old) }
-    requires walk { IsWalk picture.now facts.old [] }
-    ensures writes { IfOk result (λ lines. WritesTree picture.now facts.old (lines_seen lines)) }
+    requires can { CanCheck scene.now.picture.now scene.now.clues.now (E.longest engine.old) }
+    requires same_shape { SameShape scene.now.picture.now scene.now.facts.now }
+    ensures writes { IfOk result (λ lines. WritesTree scene.now.picture.now scene.now.facts.now (lines_seen lines)) }
     ensures err { IfErr result (λ e. e ≡ CertFault.Memory) }
     ensures same_longest { E.longest engine.new ≡ E.longest engine.old }
     ensures calls { E.calls engine.old ≤ E.calls engine.new }
 {
     forcing_closes_a_line();
-    let mut notes = Vec::new(alloc);
-    let mut lines = Vec::new(alloc);
-    let mut due = all_due();
-    let mut first = Axis::Across;
-    loop {
-        let Some(line) = choose(engine, picture, book, facts, &notes, &mut due, first) else {
-            return Ok(None);
-        };
-        first = axis_behind(line, first);
-        lines.push(line)?;
-        if !take_line(engine, picture, book, facts, &mut notes, line, 0)? {
-            return Ok(Some(lines));
-        }
-        renew(&mut due, line, &notes);
+    one_line_decides();
+    clues_are_of_lines();
+    let _ = engine.calls();
+    let mut meter = NOTHING_DONE;
+    match climb(alloc, engine, scene, LADDER, &mut meter)? {
+        Decided::Tree(Lines::Kept(lines)) => Ok(Some(lines)),
+        Decided::Tree(Lines::Dropped) => unreachable!(),
+        Decided::OtherPicture(_) => Ok(None),
     }
 }
 
@@ -125,14 +129,18 @@ fn made<E: LineEngine>(
     ensures same_longest { E.longest engine.new ≡ E.longest engine.old }
     ensures calls { E.calls engine.old ≤ E.calls engine.new }
 {
-    clues_are_of_lines();
-    books_are_their_clues();
     let cells = given_cells(alloc, picture, givens)?;
     let mut facts = Facts::none(alloc, picture.height(), picture.width())?;
     let book = ClueBook::of(alloc, picture)?;
     set_givens(picture, &mut facts, &cells)?;
     let _ = facts.height();
-    let Some(lines) = write_tree(alloc, engine, picture, &book, &mut facts)? else {
+    let scene = Scene {
+        clues: &book,
+        givens,
+        facts: &facts,
+        picture,
+    };
+    let Some(lines) = write_tree(alloc, engine, &scene)? else {
         return Ok(None);
     };
     Ok(Some(with_version(cells, lines)))

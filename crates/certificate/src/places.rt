@@ -3,9 +3,10 @@
 ghost use Rattle.std.specs.Prelude.{◌≡◌, ◌-◌, MatchOption};
 ghost use Rattle.picture.specs.Picture.{IsPicture};
 ghost use Rattle.picture.specs.Rows.{lines_along};
+ghost use Rattle.certificate.specs.Puzzle.{numbered};
 ghost use Rattle.certificate.specs.Puzzle.{HasCellNumber, HasLineNumber, line_id};
 
-use crate::line::{CellNumber, LineNumber};
+use second_search::{CellNumber, LineNumber};
 use picture::{Axis, LineId, Picture};
 
 // How many lines a picture has along an axis.
@@ -50,4 +51,14 @@ pub(crate) fn cell_in(picture: &Picture, cell: CellNumber) -> Option<(u8, u8)>
         return None;
     }
     Some(((cell.row - 1) as u8, (cell.col - 1) as u8))
+}
+
+// A cell as a certificate names it.
+pub(crate) fn cell_number(row: u8, col: u8) -> CellNumber
+    ensures { result ≡ numbered row col }
+{
+    CellNumber {
+        row: u16::from(row) + 1,
+        col: u16::from(col) + 1,
+    }
 }

@@ -7,7 +7,7 @@ ghost use Rattle.certificate.specs.Text.{axis_of, cell_named, cert_line, cert_of
 
 use crate::cert::Cert;
 use crate::fault::CertFault;
-use crate::line::{CellNumber, CertLine, LineNumber};
+use second_search::{CellNumber, CertLine, LineNumber};
 use crate::words::{first_line, is_word, number_in, three_words};
 use picture::Axis;
 use std::alloc::Global;

@@ -4,6 +4,7 @@ pub mod VerdictLemmas
 pub mod CarryLemmas
 pub mod DepthLemmas
 pub mod CertifyLemmas
+pub mod LearnLemmas
 pub mod ColourLemmas
 pub mod RenumberLemmas
 pub mod OrderLemmas

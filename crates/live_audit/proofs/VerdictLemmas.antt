@@ -178,3 +178,21 @@ verdict_was old new verdict j d v =
     let a : new.allowance ≡ old.allowance = ap (λ (s : Seen). s.allowance) d.same in
     let there : IsVerdictOn old.history.document new.allowance verdict = subst (λ (x : History). IsVerdictOn x.document new.allowance verdict) h v in
     subst (λ (x : Option ℕ). IsVerdictOn old.history.document x verdict) a there
+
+-- ---- what is known once all was searched
+
+-- what a judgement without an allowance keeps is what a verdict without one keeps, on the bench before
+pub searched_so : (d : Document) (h : History) (clues : Clues) (book : Account) (kept next : List KeptPart) (allowance : Option ℕ) (work : Work) (calls : ℕ) (s : Seen) (j : Judgement) (sb sa pb pa : ℕ) (mb ma : Meter) (cb ca : ℕ)
+    → design_of d ≡ h.document → seen h clues book kept allowance work calls ≡ s → Done sb sa pb pa mb ma cb ca (Judges clues book.facts d.picture None kept next j) → (x : Judgement) × ((m : ℕ) × ((n : ℕ) × Judges s.clues s.book.facts s.history.document.rows None s.kept next x m n))
+searched_so d h clues book kept next allowance work calls s j sb sa pb pa mb ma cb ca e v done =
+    let here : Judges clues book.facts h.document.rows None kept next j done.searched done.splits = subst (λ (x : Design). Judges clues book.facts x.rows None kept next j done.searched done.splits) e done.is in
+    (j, (done.searched, (done.splits, subst (λ (x : Seen). Judges x.clues x.book.facts x.history.document.rows None x.kept next j done.searched done.splits) v here)))
+
+-- only what is known of the parts changes, and the calls
+pub learnt_so : (h : History) (clues : Clues) (book : Account) (kept next : List KeptPart) (allowance : Option ℕ) (work : Work) (before after : ℕ) (s : Seen)
+    → seen h clues book kept allowance work before ≡ s → seen h clues book next allowance work after ≡ record s { kept = next; calls = after }
+learnt_so h clues book kept next allowance work before after s v = subst (λ (x : Seen). seen h clues book next allowance work after ≡ record x { kept = next; calls = after }) v refl
+
+-- a ruling on the document of the bench before
+pub ruled_so : (d now : Design) (kept : List KeptPart) (r : Ruling) → d ≡ now → IsRulingOn d None kept r → IsRulingOn now None kept r
+ruled_so d now kept r e h = subst (λ (x : Design). IsRulingOn x None kept r) e h

@@ -1,9 +1,11 @@
 -- What a stroke comes to on a bench, and lists of strokes.
-use Rattle.std.specs.Prelude.{◌≡◌, ◌≤◌, ℕ, List, [], ◌∷◌, Option, Some, None}
+use Rattle.std.specs.Prelude.{◌≡◌, ◌⊎◌, ◌≤◌, ℕ, List, [], ◌∷◌, Option, Some, None}
 use Rattle.certificate.specs.Cert.{Certificate}
 use Rattle.clues.specs.Change.{Moves}
 use Rattle.kept_audit.specs.Audit.{GoesOn}
+use Rattle.second_search.specs.declared.keeper.Verdict.{Verdict as Judgement}
 use Rattle.second_search.specs.Carrying.{Carries}
+use Rattle.second_search.specs.Judging.{Judges}
 use Rattle.edits.specs.declared.fault.EditFault.{EditFault}
 use Rattle.edits.specs.History.{History, or_memory}
 use Rattle.live_audit.specs.declared.verdict.Verdict.{Verdict}
@@ -24,6 +26,16 @@ pub record CarriesOn (moves : Moves) (old new : Seen) : Type 0 where
 -- all is as before, but that the engine may have been called
 abbrev pub IsAsBefore : Seen → Seen → Type 0
 IsAsBefore old new = new ≡ record old { calls = new.calls }
+
+-- What is known of the parts is what a verdict without an allowance keeps of them.
+abbrev pub IsSearched : Seen → Seen → Type 0
+IsSearched old new = (j : Judgement) × ((searched : ℕ) × ((splits : ℕ) × Judges old.clues old.book.facts old.history.document.rows None old.kept new.kept j searched splits))
+
+-- All is as before, but that the engine may have been called, and that what is known of the parts may be what a verdict without
+-- an allowance keeps of them.
+pub record Learns (old new : Seen) : Type 0 where
+  pub same : new ≡ record old { kept = new.kept; calls = new.calls }
+  pub kept : (new.kept ≡ old.kept) ⊎ IsSearched old new
 
 -- A stroke is accepted: no fault refuses it, the history goes on by it, and the book from the one before.
 pub record Accepts (stroke : Stroke) (old new : Seen) : Type 0 where
@@ -55,8 +67,8 @@ Answers (Strokes stroke (Some fault)) old new = Refuses stroke fault old new
 Answers (Asks None) old new = IsAsBefore old new
 Answers (Asks (Some verdict)) old new = Tells old new verdict × (IsAudited new × IsVerdictOn old.history.document old.allowance verdict)
 Answers (Allows allowance) old new = new ≡ record old { allowance = allowance }
-Answers (Proves None) old new = IsAsBefore old new
-Answers (Proves (Some found)) old new = Certifies old.history.document found × IsAsBefore old new
+Answers (Proves None) old new = Learns old new × IsAudited new
+Answers (Proves (Some found)) old new = Certifies old.history.document found × ((Learns old new × IsSearched old new) × IsAudited new)
 
 -- Calls lead from one state to another, one behind the other, and the engine's calls never fall.
 abbrev pub Lead : List Call → Seen → Seen → Type 0

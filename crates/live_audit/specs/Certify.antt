@@ -1,7 +1,7 @@
 -- Certificates of a document.
 use Rattle.std.specs.Prelude.{◌≡◌, ℕ, ◌↔◌, List, [], ◌∷◌, Option, None, Some}
 use Rattle.picture.specs.Document.{ordered_triples, renumbered_rows}
-use Rattle.certificate.specs.declared.line.CellNumber.{CellNumber}
+use Rattle.second_search.specs.declared.tree_line.CellNumber.{CellNumber}
 use Rattle.certificate.specs.Cert.{AreOrdered, Certificate, IsCert}
 use Rattle.certificate.specs.FirstFault.{CertFirstFault}
 use Rattle.certificate.specs.Making.{EachExcludes}

@@ -1,5 +1,5 @@
 -- A search is broken off only where an allowance is set.
-use Rattle.std.proofs.Common.{◌≡◌, ℕ, List, Option, Some}
+use Rattle.std.proofs.Common.{◌≡◌, ℕ, List, Option, None, Some, refl, inl, inr}
 use Rattle.clues.specs.ClueBook.{Clues}
 use Rattle.second_search.specs.declared.counting.Ending.TheVariants as ending
 use Rattle.second_search.specs.declared.keeper.Answer.{Answer}
@@ -8,7 +8,11 @@ use Rattle.second_search.specs.Judging.{EndsBy, kept_at}
 use Rattle.second_search.specs.Laws.{AllowancesBreakOff}
 
 stopped : (clues : Clues) (facts picture : List (List ℕ)) (allowance : Option ℕ) (cells : List ℕ) (answer : Answer) (searched splits : ℕ) → EndsBy clues facts picture allowance cells answer ending.BrokenOff searched splits → (most : ℕ) × (allowance ≡ Some most)
-stopped clues facts picture allowance cells Unknown searched splits h = (splits, h.1.0)
+stopped clues facts picture (Some most) cells Unknown searched splits h = (most, refl)
+stopped clues facts picture None cells Unknown searched splits h = elim h.1 [
+  | inl e ↦ absurd (e.1 refl)
+  | inr e ↦ absurd e.1
+]
 stopped clues facts picture allowance cells Nothing searched splits h = let e = h.0 in absurd cc
 stopped clues facts picture allowance cells (Filling other) searched splits h = let e = h.0 in absurd cc
 

@@ -13,7 +13,7 @@ use Rattle.line_settle.specs.declared.line_engine.Outcome.{Outcome}
 use Rattle.line_settle.specs.declared.line_engine.Outcome.TheVariants.{Narrowed}
 use Rattle.line_settle.specs.Branches.{branches}
 use Rattle.propagate.specs.Closing.{Closes, HasDeadLine}
-use Rattle.second_search.specs.declared.cell.Cell.{Cell}
+use Rattle.split_choice.specs.declared.cell.Cell.{Cell}
 use Rattle.second_search.specs.declared.coming.Coming.{Coming}
 use Rattle.second_search.specs.declared.coming.Coming.TheVariants.{Dies, Ends, Splits}
 use Rattle.second_search.specs.Looking.{IsFirstUnsettled, Shows}

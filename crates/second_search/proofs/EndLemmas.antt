@@ -52,7 +52,7 @@ shown_line clues settled picture line own is s has len keeps =
     let P : ℕ → Type 0 = λ m. IsBitSet m (get_or own i 0) in
     (only (get_or own i 0)).0 (subst P (cell_on settled line i) (keeps i (omega arith))) ∙ sym (cell_on picture line i))
 
-shown_clues : CluesAreOfLines → BooksAreTheirClues → (clues : Clues) (settled picture : List (List ℕ)) → IsFacts settled → EachFits clues settled → Shows settled picture → IsSized clues settled → clues_of picture ≡ clues
+pub shown_clues : CluesAreOfLines → BooksAreTheirClues → (clues : Clues) (settled picture : List (List ℕ)) → IsFacts settled → EachFits clues settled → Shows settled picture → IsSized clues settled → clues_of picture ≡ clues
 shown_clues law books clues settled picture is fits s sized = books (clues_of picture) clues
     (λ axis. law.sizes picture axis ∙ sizes_along clues picture settled axis s.same_shape sized)
     (λ line has.

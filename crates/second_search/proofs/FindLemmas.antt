@@ -1,10 +1,9 @@
 -- What is searched while facts wait: nothing that fills the first facts gets lost.
-use Rattle.std.proofs.Common.{◌≡◌, ℕ, zero, suc, ◌+◌, ◌*◌, ◌^◌, ◌<◌, ◌≤◌, ◌⊎◌, ◌↔◌, ◌==◌, Bool, true, false, cond, eq-eqb, eqb-true, Option, None, Some, List, [], ◌∷◌, ◌++◌, length, replicate, refl, sym, ap, subst, ◌∙◌, arith, inl, inr}
+use Rattle.std.proofs.Common.{◌≡◌, ℕ, zero, suc, ◌+◌, ◌^◌, ◌<◌, ◌≤◌, ◌⊎◌, ◌↔◌, ◌==◌, Bool, true, false, cond, eq-eqb, eqb-true, Option, None, Some, List, [], ◌∷◌, ◌++◌, length, replicate, refl, sym, ap, subst, ◌∙◌, arith, inl, inr}
 use Rattle.std.specs.Prelude.{IsBitSet}
 use Rattle.std.specs.List.{filter, range_with_len}
 use Rattle.std.specs.Int.{bit_at}
 use Rattle.std.proofs.lemmas.Bool.{cases_eq, cases_lt}
-use Rattle.std.proofs.Math.Pow.{pow_mono, pow_pos}
 use Rattle.std.proofs.lemmas.List.{get_or_past, get_or-replicate, length-replicate}
 use Rattle.picture.specs.declared.line_id.Axis.{Axis}
 use Rattle.picture.specs.declared.line_id.Axis.TheVariants.{Across, Down}
@@ -16,20 +15,14 @@ use Rattle.line_settle.specs.FactSets.{IsFacts, IsWithin, Leaves, SameShape}
 use Rattle.propagate.specs.Closing.{AreClosable}
 use Rattle.propagate.specs.FillingLaws.{fills_fewer}
 use Rattle.propagate.specs.Filling.{Fills}
-use Rattle.second_search.specs.declared.cell.Cell.{Cell}
-use Rattle.second_search.specs.declared.looking.Look.{Look}
-use Rattle.second_search.specs.declared.looking.Look.TheVariants.{Nothing, Found, Split}
-use Rattle.second_search.specs.Branching.{AreSameAbove, FillsSome, Search, places, search_of}
-use Rattle.second_search.specs.Looking.{AreRowsSettled, FindsFilling, Looks, Narrows}
+use Rattle.second_search.specs.Branching.{FillsSome}
+use Rattle.second_search.specs.Looking.{FindsFilling}
 use Rattle.second_search.specs.Other.{AreSound, FindsFirst, FindsOther, HasClues}
-use Rattle.line_settle.specs.SolutionLaws.{solved_shape}
 use Rattle.line_settle.specs.GridLaws.{shape_refl, shape_sym, shape_trans, at_with_cell, off_with_cell, shape_with_cell}
 use Rattle.picture.specs.BitLaws.{bit_below, bit_is_set, power_has, set_bit}
 use Rattle.clues.specs.Solution.{Solves}
+use Rattle.line_settle.specs.SolutionLaws.{solved_shape}
 use Rattle.line_settle.specs.Branches.{branches, colours_of, held}
-use Rattle.second_search.proofs.KeepLemmas.{EachQuiet, above_first, each_branch}
-use Rattle.second_search.proofs.LookLemmas.{rows_same}
-use Rattle.second_search.proofs.WeightLemmas.{branches_lighter, load, load_append, no_load, load_more, weight, weight_within}
 
 -- ---- a cell held to each of its colours
 
@@ -54,7 +47,7 @@ held_fills clues facts picture row col k h l f e = record {
   ];
 }
 
-held_within : (facts : List (List ℕ)) (row col k : ℕ) → row < length facts → col < length (row_at facts row) → Leaves facts row col k → IsWithin facts (with_cell facts row col (2 ^ k))
+pub held_within : (facts : List (List ℕ)) (row col k : ℕ) → row < length facts → col < length (row_at facts row) → Leaves facts row col k → IsWithin facts (with_cell facts row col (2 ^ k))
 held_within facts row col k h l s = record {
   same_shape = shape_with_cell facts row col (2 ^ k);
   leaves = λ r c x t. elim (cases_eq r row) [
@@ -77,22 +70,22 @@ held_within facts row col k h l s = record {
 }
 
 -- a number in a list of numbers
-abbrev Among : List ℕ → ℕ → Type 0
+abbrev pub Among : List ℕ → ℕ → Type 0
 Among [] x = ⊥
 Among (y ∷ ys) x = (x ≡ y) ⊎ Among ys x
 
-some_held : (clues : Clues) (facts picture : List (List ℕ)) (row col : ℕ) → row < length facts → col < length (row_at facts row) → Fills clues facts picture → (ks : List ℕ) → Among ks (cell_at picture row col) → FillsSome clues (held facts row col ks) picture
+pub some_held : (clues : Clues) (facts picture : List (List ℕ)) (row col : ℕ) → row < length facts → col < length (row_at facts row) → Fills clues facts picture → (ks : List ℕ) → Among ks (cell_at picture row col) → FillsSome clues (held facts row col ks) picture
 some_held clues facts picture row col h l f [] a = absurd a
 some_held clues facts picture row col h l f (k ∷ ks) a = elim a [
   | inl e ↦ inl (held_fills clues facts picture row col k h l f e)
   | inr m ↦ inr (some_held clues facts picture row col h l f ks m)
 ]
 
-abbrev Each : (ℕ → Type 0) → List ℕ → Type 0
+abbrev pub Each : (ℕ → Type 0) → List ℕ → Type 0
 Each P [] = Unit {0}
 Each P (x ∷ xs) = P x × Each P xs
 
-held_some : (clues : Clues) (facts picture : List (List ℕ)) (row col : ℕ) → row < length facts → col < length (row_at facts row) → (ks : List ℕ) → Each (Leaves facts row col) ks → FillsSome clues (held facts row col ks) picture → Fills clues facts picture
+pub held_some : (clues : Clues) (facts picture : List (List ℕ)) (row col : ℕ) → row < length facts → col < length (row_at facts row) → (ks : List ℕ) → Each (Leaves facts row col) ks → FillsSome clues (held facts row col ks) picture → Fills clues facts picture
 held_some clues facts picture row col h l [] a s = absurd s
 held_some clues facts picture row col h l (k ∷ ks) a s = elim s [
   | inl f ↦ fills_fewer clues facts (with_cell facts row col (2 ^ k)) picture (held_within facts row col k h l a.0) f
@@ -108,7 +101,7 @@ among_step : (p : ℕ → Bool) (k n x : ℕ) (b : Bool) → p k ≡ b → Among
 among_step p k n x true e r = let P : List ℕ → Type 0 = λ xs. Among xs x in subst P (sym (tested p k n true e)) (inr r)
 among_step p k n x false e r = let P : List ℕ → Type 0 = λ xs. Among xs x in subst P (sym (tested p k n false e)) r
 
-among_kept : (p : ℕ → Bool) (k n x : ℕ) → k ≤ x → x < k + n → p x ≡ true → Among (filter p (range_with_len k n)) x
+pub among_kept : (p : ℕ → Bool) (k n x : ℕ) → k ≤ x → x < k + n → p x ≡ true → Among (filter p (range_with_len k n)) x
 among_kept p k zero x l m e = absurd (omega arith)
 among_kept p k (suc n) x l m e = elim (cases_eq x k) [
   | inl same ↦
@@ -135,7 +128,7 @@ among_colours : (mask x : ℕ) → mask < 2 ^ 16 → IsBitSet mask x → Among (
 unfolding colours_of
 among_colours mask x small s = among_kept (λ k. bit_at mask k == 1) 0 16 x (omega arith) (let l = bit_below mask 16 x small s in omega arith) (eq-eqb (bit_at mask x) 1 (set_bit mask x s))
 
-each_colour : (mask : ℕ) → Each (λ k. IsBitSet mask k) (colours_of mask)
+pub each_colour : (mask : ℕ) → Each (λ k. IsBitSet mask k) (colours_of mask)
 unfolding colours_of
 each_colour mask = each_kept (λ k. bit_at mask k == 1) (λ k. IsBitSet mask k) (λ x e. bit_is_set mask x (eqb-true (bit_at mask x) 1 e)) (range_with_len 0 16)
 
@@ -153,91 +146,15 @@ split_fills clues facts picture row col is h l =
 -- ---- the search
 
 -- facts of one shape with the first
-abbrev AreAlike : List (List ℕ) → List (List (List ℕ)) → Type 0
+abbrev pub AreAlike : List (List ℕ) → List (List (List ℕ)) → Type 0
 AreAlike first [] = Unit {0}
 AreAlike first (facts ∷ others) = SameShape first facts × AreAlike first others
 
--- What waits while a picture is looked for: what fills the first facts and is not known fills some that wait, and what fills
--- some that wait fills the first.
-pub record Finding (clues : Clues) (first known : List (List ℕ)) (s : Search) : Type 0 where
-  pub alike : AreAlike first (s.at_hand ∷ s.behind)
-  pub there : (picture : List (List ℕ)) → (picture ≡ known → ⊥) → Fills clues first picture → FillsSome clues (s.at_hand ∷ s.behind) picture
-  pub back : (picture : List (List ℕ)) → FillsSome clues (s.at_hand ∷ s.behind) picture → Fills clues first picture
-
--- The facts at hand are done with: others stand before those that wait, which weigh less and are filled by the same pictures
--- but for the known one.
-pub record IsLookedAt (clues : Clues) (known : List (List ℕ)) (s t : Search) : Type 0 where
-  pub front : List (List (List ℕ))
-  pub behind : t.behind ≡ front ++ s.behind
-  pub lighter : load front < 2 ^ (5 * weight s.at_hand)
-  pub alike : AreAlike s.at_hand front
-  pub there : (picture : List (List ℕ)) → (picture ≡ known → ⊥) → Fills clues s.at_hand picture → FillsSome clues front picture
-  pub back : (picture : List (List ℕ)) → FillsSome clues front picture → Fills clues s.at_hand picture
-  pub quiet : (first : List (List ℕ)) → SameShape first s.at_hand → EachQuiet clues first s.behind s.cells → EachQuiet clues first t.behind t.cells
-
-pub finding_starts : (clues : Clues) (first known : List (List ℕ)) (s : Search) → s ≡ search_of first [] [] → Finding clues first known s
-finding_starts clues first known s e =
-    let P : Search → Type 0 = Finding clues first known in
-    subst P (sym e) (record {
-      alike = (shape_refl first, tt);
-      there = λ picture d f. inl f;
-      back = λ picture f. elim f [ inl x ↦ x | inr y ↦ absurd y ];
-    })
-
--- what a look at the facts at hand found
-pub seen : (clues : Clues) (known facts : List (List ℕ)) (s : Search) (look found : Look) → facts ≡ s.at_hand → look ≡ found → Looks clues known facts look → Looks clues known s.at_hand found
-seen clues known facts s look found e f h =
-    let P : List (List ℕ) → Type 0 = λ x. Looks clues known x look in
-    let Q : Look → Type 0 = Looks clues known s.at_hand in
-    subst Q f (subst P e h)
-
-pub nothing_looked_at : (clues : Clues) (known : List (List ℕ)) (s t : Search) → Looks clues known s.at_hand Nothing → t ≡ s → IsLookedAt clues known s t
-nothing_looked_at clues known s t h e = record {
-  front = [];
-  behind = ap (λ (x : Search). x.behind) e;
-  lighter = let p = pow_pos (5 * weight s.at_hand) in let n = no_load in omega arith;
-  alike = tt;
-  there = λ picture d f. absurd (h picture f d);
-  back = λ picture f. absurd f;
-  quiet = λ first shape q. let P : Search → Type 0 = λ x. EachQuiet clues first x.behind x.cells in subst P (sym e) q;
-}
-
-held_alike : (first facts : List (List ℕ)) (row col : ℕ) → SameShape first facts → (ks : List ℕ) → AreAlike first (held facts row col ks)
+pub held_alike : (first facts : List (List ℕ)) (row col : ℕ) → SameShape first facts → (ks : List ℕ) → AreAlike first (held facts row col ks)
 held_alike first facts row col s [] = tt
 held_alike first facts row col s (k ∷ ks) = (shape_trans s (shape_with_cell facts row col (2 ^ k)), held_alike first facts row col s ks)
 
-pub split_looked_at : (clues : Clues) (known settled : List (List ℕ)) (cell : Cell) (s t u : Search) → Narrows clues s.at_hand settled cell → t ≡ search_of settled s.behind s.cells → u ≡ search_of t.at_hand (branches t.at_hand cell.row cell.col (cell_at t.at_hand cell.row cell.col) ++ t.behind) (places cell.row cell.col (cell_at t.at_hand cell.row cell.col) ++ t.cells) → IsLookedAt clues known s u
-split_looked_at clues known settled cell s t u h et eu =
-    let is = h.are_facts in
-    let front = branches settled cell.row cell.col (cell_at settled cell.row cell.col) in
-    let at = h.splits.is in
-    let rect = is.rectangular cell.row at.in_rows in
-    let inside = at.in_columns in
-    let wide : cell.col < length (row_at settled cell.row) = omega arith in
-    let same : (picture : List (List ℕ)) → Fills clues settled picture ↔ FillsSome clues front picture = λ picture. split_fills clues settled picture cell.row cell.col is at.in_rows at.in_columns in
-    let less = weight_within s.at_hand settled h.within in
-    let most = pow_mono {i = 5 * weight settled} {j = 5 * weight s.at_hand} (omega arith) in
-    let light = branches_lighter settled cell.row cell.col at.in_rows wide at.unsettled in
-    record {
-      front = front;
-      behind = ap (λ (x : Search). x.behind) eu ∙ ap (λ (x : Search). branches x.at_hand cell.row cell.col (cell_at x.at_hand cell.row cell.col) ++ x.behind) et;
-      lighter = omega arith;
-      alike = held_alike s.at_hand settled cell.row cell.col h.within.same_shape (colours_of (cell_at settled cell.row cell.col));
-      there = λ picture d f. (same picture).0 ((h.fills picture).0 f);
-      back = λ picture f. (h.fills picture).1 ((same picture).1 f);
-      quiet = λ first shape q.
-          let P : Search → Type 0 = λ x. EachQuiet clues first x.behind x.cells in
-          let Q : Search → Type 0 = λ x. EachQuiet clues first (branches x.at_hand cell.row cell.col (cell_at x.at_hand cell.row cell.col) ++ x.behind) (places cell.row cell.col (cell_at x.at_hand cell.row cell.col) ++ x.cells) in
-          subst P (sym eu) (subst Q (sym et) (each_branch clues first settled cell.row cell.col (cell_at settled cell.row cell.col) s.behind s.cells (shape_trans shape h.within.same_shape) h.closed h.fits at.in_rows at.in_columns (above_first settled cell h.splits) q));
-    }
-
--- the rows that were settled are the same in the facts that were split
-pub find_same : (clues : Clues) (known facts settled : List (List ℕ)) (s : Search) (look : Look) (cell : Cell) (rows : ℕ) → facts ≡ s.at_hand → look ≡ Split settled cell → Looks clues known facts look → AreRowsSettled s.at_hand rows → AreSameAbove s.at_hand settled rows
-find_same clues known facts settled s look cell rows e f h above =
-    let n = seen clues known facts s look (Split settled cell) e f h in
-    rows_same clues s.at_hand settled rows n.are_facts n.within n.fits above
-
-alike_both : (first facts : List (List ℕ)) (xs ys : List (List (List ℕ))) → SameShape first facts → AreAlike facts xs → AreAlike first ys → AreAlike first (xs ++ ys)
+pub alike_both : (first facts : List (List ℕ)) (xs ys : List (List (List ℕ))) → SameShape first facts → AreAlike facts xs → AreAlike first ys → AreAlike first (xs ++ ys)
 alike_both first facts [] ys s a b = b
 alike_both first facts (x ∷ xs) ys s a b = (shape_trans s a.0, alike_both first facts xs ys s a.1 b)
 
@@ -255,44 +172,6 @@ some_both clues (x ∷ xs) ys picture f = elim f [
   | inl here ↦ inl (inl here)
   | inr there ↦ elim (some_both clues xs ys picture there) [ inl a ↦ inl (inr a) | inr b ↦ inr b ]
 ]
-
-there_again : (clues : Clues) (first known : List (List ℕ)) (s t : Search) → Finding clues first known s → IsLookedAt clues known s t → (picture : List (List ℕ)) → (picture ≡ known → ⊥) → Fills clues first picture → FillsSome clues t.behind picture
-there_again clues first known s t i l picture d f =
-    let P : List (List (List ℕ)) → Type 0 = λ xs. FillsSome clues xs picture in
-    subst P (sym l.behind) (elim (i.there picture d f) [
-      | inl here ↦ some_front clues l.front s.behind picture (l.there picture d here)
-      | inr other ↦ some_behind clues l.front s.behind picture other
-    ])
-
-pub finding_goes_on : (clues : Clues) (first known : List (List ℕ)) (s t u : Search) → Finding clues first known s → IsLookedAt clues known s t → t.behind ≡ u.at_hand ∷ u.behind → Finding clues first known u
-finding_goes_on clues first known s t u i l e =
-    let P : List (List (List ℕ)) → Type 0 = λ xs. AreAlike first xs in
-    let Q : List (List ℕ) → List (List (List ℕ)) → Type 0 = λ picture xs. FillsSome clues xs picture in
-    let all : l.front ++ s.behind ≡ u.at_hand ∷ u.behind = sym l.behind ∙ e in
-    record {
-      alike = subst P all (alike_both first s.at_hand l.front s.behind i.alike.0 l.alike i.alike.1);
-      there = λ picture d f. subst (Q picture) e (there_again clues first known s t i l picture d f);
-      back = λ picture f. i.back picture (elim (some_both clues l.front s.behind picture (subst (Q picture) (sym all) f)) [
-        | inl here ↦ inl (l.back picture here)
-        | inr other ↦ inr other
-      ]);
-    }
-
-pub less_waits : (clues : Clues) (known : List (List ℕ)) (s t u : Search) → IsLookedAt clues known s t → t.behind ≡ u.at_hand ∷ u.behind → load (u.at_hand ∷ u.behind) < load (s.at_hand ∷ s.behind)
-less_waits clues known s t u l e =
-    let all : load (l.front ++ s.behind) ≡ load (u.at_hand ∷ u.behind) = ap load (sym l.behind ∙ e) in
-    let both = load_append l.front s.behind in
-    let head = load_more s.at_hand s.behind in
-    let light = l.lighter in
-    omega arith
-
-pub none_waits : (clues : Clues) (first known : List (List ℕ)) (s t : Search) → Finding clues first known s → IsLookedAt clues known s t → t.behind ≡ [] → FindsFilling clues first known None
-none_waits clues first known s t i l e picture f d =
-    let P : List (List (List ℕ)) → Type 0 = λ xs. FillsSome clues xs picture in
-    subst P e (there_again clues first known s t i l picture d f)
-
-pub found_one : (clues : Clues) (first known picture : List (List ℕ)) (s : Search) → Finding clues first known s → Looks clues known s.at_hand (Found picture) → FindsFilling clues first known (Some picture)
-found_one clues first known picture s i h = (i.back picture (inl h.0), h.1)
 
 -- ---- the calls
 

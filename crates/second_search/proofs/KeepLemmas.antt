@@ -21,7 +21,7 @@ use Rattle.picture.specs.BitLaws.{no_bit}
 use Rattle.line_settle.specs.Branches.{branches, colours_of, held}
 use Rattle.propagate.specs.Closing.{AreClosable, EachFits, IsQuietLine, QuietOutside}
 use Rattle.propagate.specs.LineNames.{AreLinesOf}
-use Rattle.second_search.specs.declared.cell.Cell.{Cell}
+use Rattle.split_choice.specs.declared.cell.Cell.{Cell}
 use Rattle.second_search.specs.declared.counting.Step.TheVariants as step
 use Rattle.second_search.specs.Branching.{GoesOn, Search, place, places, search_of}
 use Rattle.second_search.specs.Looking.{AreRowsSettled, IsFirstUnsettled}

@@ -2,6 +2,7 @@ pub mod GridLemmas
 pub mod NoteLemmas
 pub mod LookLemmas
 pub mod WeightLemmas
+pub mod TreeLemmas
 pub mod FindLemmas
 pub mod SoundLemmas
 pub mod ChainLemmas
@@ -19,6 +20,7 @@ pub mod JudgeLemmas
 pub mod OneListLemmas
 pub mod VerdictLemmas
 pub mod EndLemmas
+pub mod WithinLemmas
 pub mod TruthLemmas
 pub mod AnswerLemmas
 pub mod CarryLemmas

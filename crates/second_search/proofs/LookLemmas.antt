@@ -1,5 +1,5 @@
 -- Settled facts and the picture that they show.
-use Rattle.std.proofs.Common.{◌≡◌, ℕ, ◌+◌, ◌<◌, ◌↔◌, List, [], length, get_or, replicate, refl, sym, ap, subst, ◌∙◌, arith, inl, inr, Result, Ok, Err}
+use Rattle.std.proofs.Common.{◌≡◌, ℕ, ◌+◌, ◌<◌, List, [], length, get_or, replicate, refl, sym, ap, subst, ◌∙◌, arith, inl, inr, Result, Ok, Err}
 use Rattle.std.specs.Prelude.{IfOk, IsBitSet}
 use Rattle.std.proofs.lemmas.Bool.{cases_eq, cases_lt}
 use Rattle.std.proofs.lemmas.List.{get_or_past, get_or-replicate, length-replicate}
@@ -11,10 +11,8 @@ use Rattle.line_settle.specs.declared.line_engine.Outcome.{Outcome}
 use Rattle.line_settle.specs.declared.line_engine.Outcome.TheVariants.{Narrowed}
 use Rattle.propagate.specs.Closing.{Closes, EachFits}
 use Rattle.propagate.specs.Filling.{Fills}
-use Rattle.second_search.specs.declared.looking.Look.{Look}
-use Rattle.second_search.specs.declared.looking.Look.TheVariants.{Nothing, Found, Split}
 use Rattle.second_search.specs.Branching.{AreSameAbove}
-use Rattle.second_search.specs.Looking.{AreRowsSettled, Looks, Shows, ShowsRow}
+use Rattle.second_search.specs.Looking.{AreRowsSettled, Shows, ShowsRow}
 use Rattle.second_search.specs.Through.{across}
 use Rattle.line_settle.specs.GridLaws.{shape_sym, shape_trans, at_with_cell, off_with_cell, shape_with_cell}
 use Rattle.picture.specs.BitLaws.{bit_below, fewer_le, no_bit}
@@ -95,19 +93,6 @@ shown_fills clues facts picture is s e = record {
   ];
 }
 
--- a picture shown without the clues
-pub none_without_clues : (clues : Clues) (facts picture known : List (List ℕ)) → IsFacts facts → Shows facts picture → (clues_of picture ≡ clues → ⊥) → Looks clues known facts Nothing
-none_without_clues clues facts picture known is s n other f d =
-    let P : List (List ℕ) → Type 0 = λ p. clues_of p ≡ clues in
-    n (subst P (one_filling clues facts picture other is s f) f.has_clues)
-
--- the known picture shown
-pub none_but_known : (clues : Clues) (facts picture known : List (List ℕ)) → IsFacts facts → Shows facts picture → picture ≡ known → Looks clues known facts Nothing
-none_but_known clues facts picture known is s e other f d = d (one_filling clues facts picture other is s f ∙ e)
-
-pub found_shown : (clues : Clues) (facts picture known : List (List ℕ)) → IsFacts facts → Shows facts picture → clues_of picture ≡ clues → (picture ≡ known → ⊥) → Looks clues known facts (Found picture)
-found_shown clues facts picture known is s e n = (shown_fills clues facts picture is s e, n)
-
 -- ---- before closing
 
 pub if_ok : {T E : Type 0} (r : Result T E) (P Q : T → Type 0) → ((x : T) → P x → Q x) → IfOk r P → IfOk r Q
@@ -162,19 +147,3 @@ rows_same clues facts settled rows is w fits h r col l =
           cell_outside facts (width_of facts) rect r col (λ _ m. absurd (omega arith))
           ∙ sym (cell_outside settled (width_of settled) is.rectangular r col (λ _ m. absurd (omega arith)))
     ]
-
--- what is seen of the facts that closing leaves is seen of those handed in
-pub looks_back : (clues : Clues) (known facts settled : List (List ℕ)) → IsWithin facts settled → ((picture : List (List ℕ)) → Fills clues facts picture ↔ Fills clues settled picture) → (look : Look) → Looks clues known settled look → Looks clues known facts look
-looks_back clues known facts settled w same Nothing h = λ picture f d. h picture ((same picture).0 f) d
-looks_back clues known facts settled w same (Found picture) h = ((same picture).1 h.0, h.1)
-looks_back clues known facts settled w same (Split more cell) h = record {
-  are_facts = h.are_facts;
-  within = record {
-    same_shape = shape_trans w.same_shape h.within.same_shape;
-    leaves = λ r c k s. w.leaves r c k (h.within.leaves r c k s);
-  };
-  closed = h.closed;
-  fits = h.fits;
-  fills = λ picture. ((λ f. (h.fills picture).0 ((same picture).0 f)), (λ f. (same picture).1 ((h.fills picture).1 f)));
-  splits = h.splits;
-}

@@ -14,7 +14,8 @@ use Rattle.second_search.specs.declared.keeper.Verdict.TheVariants.{Other, Undec
 use Rattle.second_search.specs.Laws.{FillingsAreOfFacts, PartsDecide}
 use Rattle.second_search.specs.Parts.{AreParts, IsOtherFilling, IsScene}
 use Rattle.second_search.specs.Judging.{AreTrue, Changes, EndsBy, EndsPart, Finds, HasNoFilling, IsFilling, IsTrueOf, IsVerdict, Judges, Passes, answer_at, cells_at, kept_at, parts_of}
-use Rattle.second_search.proofs.EndLemmas.{IsFound, none_found, one_found}
+use Rattle.second_search.proofs.EndLemmas.{IsFound}
+use Rattle.second_search.proofs.WithinLemmas.{within_none, within_one}
 use Rattle.second_search.proofs.VerdictLemmas.{part_of_kept}
 
 module _ (clues : Clues) (givens : List ℕ) (picture : List (List ℕ)) where
@@ -70,12 +71,12 @@ passes_each clues facts picture allowance kept (suc n) s t p i l = elim (cases_e
 
 module _ (law : CluesAreOfLines) (books : BooksAreTheirClues) (closing : ClosingKeepsFillings) (own : OnlyIsClosed) (fillings : FillingsAreOfFacts) (decide : PartsDecide) (clues : Clues) (givens : List ℕ) (facts picture : List (List ℕ)) (scene : IsScene clues givens facts picture) (allowance : Option ℕ) where
   part_passed : (cells : List ℕ) (answer : Answer) (x y : ℕ) → EndsBy clues facts picture allowance cells answer ending.Nothing x y → IsTrueOf clues givens picture cells answer → (IsFilling answer → ⊥) → HasNone clues givens picture cells
-  part_passed cells Unknown x y e t f = none_found law books closing own fillings clues givens facts picture scene cells y e.1.0
+  part_passed cells Unknown x y e t f = within_none law books closing own fillings clues givens facts picture scene cells allowance y e.1
   part_passed cells Nothing x y e t f = t
   part_passed cells (Filling other) x y e t f = absurd (f tt)
 
   part_found : (cells : List ℕ) (answer : Answer) (other : List (List ℕ)) (x y : ℕ) → EndsBy clues facts picture allowance cells answer (ending.Found other) x y → IsOtherFilling clues givens picture cells other
-  part_found cells Unknown other x y e = one_found law books closing own fillings clues givens facts picture scene cells other y e.1.0
+  part_found cells Unknown other x y e = within_one law books closing own fillings clues givens facts picture scene cells other allowance y e.1
   part_found cells Nothing other x y e = absurd (subst IsFound e.0 tt)
   part_found cells (Filling known) other x y e = absurd (subst IsFound e.0 tt)
 

@@ -1,4 +1,4 @@
--- What facts weigh: the sum of their masks. A search ends since what waits weighs less with each step.
+-- What facts weigh when they are narrowed, split and searched.
 use Rattle.std.proofs.Common.{◌≡◌, ℕ, zero, suc, ◌+◌, ◌-◌, ◌*◌, ◌^◌, ◌<◌, ◌≤◌, ◌==◌, true, List, [], ◌∷◌, ◌++◌, length, get_or, set, refl, sym, ap, subst, arith, inl, inr, eqb-true}
 use Rattle.std.specs.Prelude.{IsBitSet}
 use Rattle.std.specs.List.{All, filter, range_with_len}
@@ -13,13 +13,9 @@ use Rattle.std.proofs.Math.Pow.{pow_mono, pow_pos}
 use Rattle.picture.specs.Rows.{row_at, cell_at, with_cell}
 use Rattle.line_settle.specs.Masks.{IsOnly}
 use Rattle.line_settle.specs.FactSets.{IsWithin}
+pub use Rattle.second_search.specs.Weighing.{load, loads, row_weight, total, weight}
 use Rattle.picture.specs.BitLaws.{fewer_le, bit_is_set, power_has}
 use Rattle.line_settle.specs.Branches.{branches, colours_of, held}
-
--- the sum over a list
-abbrev total : {X : Type 0} → (X → ℕ) → List X → ℕ
-total f [] = 0
-total f (x ∷ xs) = f x + total f xs
 
 total_append : {X : Type 0} (f : X → ℕ) (xs ys : List X) → total f (xs ++ ys) ≡ total f xs + total f ys
 total_append f [] ys = omega arith
@@ -29,18 +25,6 @@ total_set : {X : Type 0} (f : X → ℕ) (xs : List X) (i : ℕ) (y d : X) → i
 total_set f [] i y d l = absurd (omega arith)
 total_set f (x ∷ xs) zero y d l = omega arith
 total_set f (x ∷ xs) (suc i) y d l = let rest = total_set f xs i y d (omega arith) in omega arith
-
-row_weight : List ℕ → ℕ
-row_weight row = total (λ (x : ℕ). x) row
-
-pub weight : List (List ℕ) → ℕ
-weight facts = total row_weight facts
-
-abbrev loads : List (List ℕ) → ℕ
-loads facts = 2 ^ (5 * weight facts)
-
-pub load : List (List (List ℕ)) → ℕ
-load many = total loads many
 
 -- ---- fewer colours weigh less
 

@@ -5,7 +5,7 @@ use Rattle.clues.specs.ClueBook.{Clues}
 use Rattle.line_settle.specs.FactSets.{SameShape}
 use Rattle.line_settle.specs.Branches.{branches, colours_of}
 use Rattle.propagate.specs.Filling.{Fills}
-use Rattle.second_search.specs.declared.cell.Cell.{Cell}
+use Rattle.split_choice.specs.declared.cell.Cell.{Cell}
 use Rattle.second_search.specs.declared.note.CellMask.{CellMask}
 use Rattle.second_search.specs.declared.note.Note.{Note}
 use Rattle.second_search.specs.declared.note.Note.TheVariants.{Restore, Branch}

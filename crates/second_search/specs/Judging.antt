@@ -17,7 +17,7 @@ use Rattle.second_search.specs.declared.keeper.KeptPart.{KeptPart}
 use Rattle.second_search.specs.declared.keeper.Stop.{Stop}
 use Rattle.second_search.specs.declared.keeper.Stop.TheVariants.{Through, Found, BrokenOff}
 use Rattle.second_search.specs.Parts.{AreParts, IsOtherFilling}
-use Rattle.second_search.specs.Searching.{EndsAs, alone, raised}
+use Rattle.second_search.specs.Searching.{EndsWithin, alone, raised}
 
 -- the part at a place, its cells and what is known of it
 abbrev pub kept_at : List KeptPart → ℕ → KeptPart
@@ -67,7 +67,7 @@ pub record FirstFilling (kept : List KeptPart) (other : List (List ℕ)) : Type 
 -- How a part is dealt with, and how many searches and splits that takes: where nothing is known of it, it is searched, and this is
 -- how the search ends; where something is, the next part follows.
 abbrev pub EndsBy : Clues → List (List ℕ) → List (List ℕ) → Option ℕ → List ℕ → Answer → Ending → ℕ → ℕ → Type 0
-EndsBy clues facts picture allowance cells Unknown found searched splits = (searched ≡ 1) × EndsAs clues picture (alone cells facts picture) allowance found splits
+EndsBy clues facts picture allowance cells Unknown found searched splits = (searched ≡ 1) × EndsWithin clues picture (alone cells facts picture) allowance found splits
 EndsBy clues facts picture allowance cells Nothing found searched splits = (found ≡ ending.Nothing) × ((searched ≡ 0) × (splits ≡ 0))
 EndsBy clues facts picture allowance cells (Filling other) found searched splits = (found ≡ ending.Nothing) × ((searched ≡ 0) × (splits ≡ 0))
 

@@ -2,6 +2,8 @@ pub mod Other
 pub mod Parts
 pub mod Growing
 pub mod Branching
+pub mod Weighing
+pub mod Trees
 pub mod Looking
 pub mod Near
 pub mod Laws

@@ -1,22 +1,14 @@
--- What facts come to when they are closed.
-use Rattle.std.specs.Prelude.{◌≡◌, ℕ, ◌<◌, ◌↔◌, List, Option, None, Some, length}
+-- Settled facts, the picture that they show, and the first cell that is not settled.
+use Rattle.std.specs.Prelude.{◌≡◌, ℕ, ◌<◌, List, Option, None, Some, length}
 use Rattle.picture.specs.Picture.{IsPicture}
 use Rattle.picture.specs.Rows.{width_of, cell_at}
 use Rattle.clues.specs.ClueBook.{Clues}
 use Rattle.line_settle.specs.Masks.{IsOnly}
-use Rattle.line_settle.specs.FactSets.{IsClosed, IsFacts, IsWithin, SameShape}
-use Rattle.propagate.specs.Closing.{EachFits}
+use Rattle.line_settle.specs.FactSets.{SameShape}
 use Rattle.propagate.specs.Filling.{Fills}
-use Rattle.second_search.specs.declared.cell.Cell.{Cell}
-use Rattle.second_search.specs.declared.looking.Look.{Look}
-use Rattle.second_search.specs.declared.looking.Look.TheVariants.{Nothing, Found, Split}
+use Rattle.split_choice.specs.declared.cell.Cell.{Cell}
+use Rattle.split_choice.specs.Choosing.{IsUnsettled}
 use Rattle.second_search.specs.Parts.{IsBefore}
-
--- a cell in which not just one colour is left
-pub record IsUnsettled (facts : List (List ℕ)) (cell : Cell) : Type 0 where
-  pub in_rows : cell.row < length facts
-  pub in_columns : cell.col < width_of facts
-  pub unsettled : (k : ℕ) → IsOnly (cell_at facts cell.row cell.col) k → ⊥
 
 -- in each cell just one colour is left
 abbrev pub AreSettled : List (List ℕ) → Type 0
@@ -43,21 +35,6 @@ pub record ShowsRow (facts old new : List (List ℕ)) (row : ℕ) : Type 0 where
   pub same_shape : SameShape new facts
   pub only : (col : ℕ) → col < width_of facts → IsOnly (cell_at facts row col) (cell_at new row col)
   pub elsewhere : (r col : ℕ) → (r ≡ row → ⊥) → cell_at new r col ≡ cell_at old r col
-
--- closed facts that exclude more, with a first cell that is not settled, which the same pictures fill; some list fits each line
-pub record Narrows (clues : Clues) (facts settled : List (List ℕ)) (cell : Cell) : Type 0 where
-  pub are_facts : IsFacts settled
-  pub within : IsWithin facts settled
-  pub closed : IsClosed clues settled
-  pub fits : EachFits clues settled
-  pub fills : (picture : List (List ℕ)) → Fills clues facts picture ↔ Fills clues settled picture
-  pub splits : IsFirstUnsettled settled cell
-
--- No picture fills the facts but the known one; or another one does; or they narrow to facts with a cell to split.
-abbrev pub Looks : Clues → List (List ℕ) → List (List ℕ) → Look → Type 0
-Looks clues known facts Nothing = (picture : List (List ℕ)) → Fills clues facts picture → (picture ≡ known → ⊥) → ⊥
-Looks clues known facts (Found picture) = Fills clues facts picture × (picture ≡ known → ⊥)
-Looks clues known facts (Split settled cell) = Narrows clues facts settled cell
 
 -- a picture fills the facts and is not the known one, or none does
 abbrev pub FindsFilling : Clues → List (List ℕ) → List (List ℕ) → Option (List (List ℕ)) → Type 0

@@ -1,12 +1,14 @@
 -- Windows, in which alone another picture is looked for at first.
 use Rattle.std.specs.Prelude.{List, ℕ}
+use Rattle.picture.specs.CellSet.{HasCell}
 use Rattle.propagate.specs.LineNames.{AreLinesOf}
 use Rattle.second_search.specs.declared.near.Window.{Window}
 use Rattle.second_search.specs.Carrying.{LieInside}
 use Rattle.second_search.specs.Searching.{NamesLinesOf}
 
--- the cells lie in the facts, and the lines, which are theirs, go through all of them
-pub record IsWindow (facts : List (List ℕ)) (window : Window) : Type 0 where
+-- the cells are among those of a part and lie in the facts, and the lines, which are theirs, go through all of them
+pub record IsWindow (facts : List (List ℕ)) (part : List ℕ) (window : Window) : Type 0 where
+  pub among : (row col : ℕ) → HasCell window.cells row col → HasCell part row col
   pub inside : LieInside window.cells facts
   pub lines : AreLinesOf facts window.lines
   pub through : NamesLinesOf window.cells window.lines

@@ -1,9 +1,9 @@
 -- The search in a fixed order, with its count of splits.
-use Rattle.std.specs.Prelude.{◌≡◌, ℕ, suc, ◌+◌, ◌-◌, ◌^◌, ◌<◌, ◌≤◌, Option, None, Some, List, [], ◌∷◌, ◌++◌, length, min}
+use Rattle.std.specs.Prelude.{◌≡◌, ℕ, suc, ◌+◌, ◌-◌, ◌^◌, ◌<◌, ◌≤◌, ◌⊎◌, Option, None, Some, List, [], ◌∷◌, ◌++◌, length, min}
 use Rattle.picture.specs.declared.line_id.Axis.TheVariants.{Across, Down}
 use Rattle.picture.specs.CellSet.{HasCell}
 use Rattle.picture.specs.LineSet.{Lines, HasName}
-use Rattle.picture.specs.Rows.{width_of, row_at, cell_at}
+use Rattle.picture.specs.Rows.{row_at, cell_at}
 use Rattle.clues.specs.ClueBook.{Clues}
 use Rattle.line_settle.specs.declared.meter.Meter.{Meter}
 use Rattle.line_settle.specs.Counting.{Counts}
@@ -12,12 +12,12 @@ use Rattle.line_settle.specs.FactSets.{IsFacts, IsLeast, SameShape}
 use Rattle.line_settle.specs.Branches.{branches}
 use Rattle.propagate.specs.Closing.{EachFits, HasDeadLine}
 use Rattle.propagate.specs.Filling.{only}
-use Rattle.second_search.specs.declared.cell.Cell.{Cell}
+use Rattle.split_choice.specs.declared.cell.Cell.{Cell}
 use Rattle.second_search.specs.declared.coming.Coming.{Coming}
 use Rattle.second_search.specs.declared.coming.Coming.TheVariants.{Dies, Ends, Splits}
 use Rattle.second_search.specs.declared.counting.Ending.{Ending}
 use Rattle.second_search.specs.declared.counting.Ending.TheVariants.{Nothing, Found, BrokenOff}
-use Rattle.second_search.specs.Looking.{IsFirstUnsettled, Shows}
+use Rattle.second_search.specs.Looking.{FindsFilling, IsFirstUnsettled, Shows}
 use Rattle.second_search.specs.Parts.{picked}
 
 -- the least closed facts over others, where some list fits each line under them
@@ -80,6 +80,24 @@ abbrev pub EndsAs : Clues → List (List ℕ) → List (List ℕ) → Option ℕ
 EndsAs clues known facts allowance Nothing n = Searches clues known (facts ∷ []) None n × Allows allowance n
 EndsAs clues known facts allowance (Found picture) n = Searches clues known (facts ∷ []) (Some picture) n × Allows allowance n
 EndsAs clues known facts allowance BrokenOff n = (allowance ≡ Some n) × (SplitsPast clues known (facts ∷ []) n × ((cost : ℕ) → HasCost clues known facts cost → n < cost))
+
+-- what is answered is true of facts: nothing fills them but the known picture, or this one does
+abbrev pub EndsTrue : Clues → List (List ℕ) → List (List ℕ) → Ending → Type 0
+EndsTrue clues known facts Nothing = FindsFilling clues facts known None
+EndsTrue clues known facts (Found picture) = FindsFilling clues facts known (Some picture)
+EndsTrue clues known facts BrokenOff = ⊥
+
+-- how many splits the search of the fixed order makes in a part where no allowance is set
+abbrev pub fixed_splits : ℕ
+fixed_splits = 1000
+
+-- How the search of a part ends: under an allowance as in the fixed order; without one as within so many splits of that order, or,
+-- where it splits past them, with what is true.
+abbrev pub EndsWithin : Clues → List (List ℕ) → List (List ℕ) → Option ℕ → Ending → ℕ → Type 0
+EndsWithin clues known facts (Some most) found n = EndsAs clues known facts (Some most) found n
+EndsWithin clues known facts None found n =
+    (EndsAs clues known facts (Some fixed_splits) found n × (found ≡ BrokenOff → ⊥))
+    ⊎ (EndsAs clues known facts (Some fixed_splits) BrokenOff n × EndsTrue clues known facts found)
 
 -- outside of some cells the facts leave a picture's colour alone
 pub record KeepsOutside (cells : List ℕ) (picture facts : List (List ℕ)) : Type 0 where

@@ -2,8 +2,8 @@
 use Rattle.std.specs.Prelude.{◌≡◌, ℕ, suc, ◌⊎◌, Bool, true, false, Option, None, Some, List, ◌++◌}
 use Rattle.picture.specs.Rows.{cell_at}
 use Rattle.clues.specs.ClueBook.{Clues}
+use Rattle.split_choice.specs.declared.cell.Cell.{Cell}
 use Rattle.line_settle.specs.Branches.{branches}
-use Rattle.second_search.specs.declared.cell.Cell.{Cell}
 use Rattle.second_search.specs.declared.coming.Coming.TheVariants.{Dies, Ends, Splits}
 use Rattle.second_search.specs.declared.counting.Step.{Step}
 use Rattle.second_search.specs.declared.counting.Step.TheVariants.{Passed, Split, Other, Halted}

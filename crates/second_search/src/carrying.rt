@@ -6,11 +6,11 @@ ghost use Rattle.picture.specs.Rows.{lines_along, width_of, HasLine};
 ghost use Rattle.second_search.specs.Carrying.{HoldsCells, LieInside, NamesAlong, NamesThrough, PutsRowOn, carried};
 ghost use Rattle.second_search.specs.Parts.{GoesThrough, picked};
 
-use crate::cell::Cell;
 use crate::keeper::Answer;
 use crate::parts::cell_on;
 use line_settle::Facts;
 use picture::{Axis, CellSet, LineId, LineSet, Picture};
+use split_choice::Cell;
 use std::alloc::AllocError;
 
 // What is known of a part, said of a scene with another picture: another filling gets that picture's colours elsewhere.

@@ -5,9 +5,9 @@ ghost use Rattle.picture.specs.Rows.{width_of};
 ghost use Rattle.propagate.specs.LineNames.{AreLinesOf};
 ghost use Rattle.second_search.specs.Through.{NamesBoth, PutsBoth};
 
-use crate::cell::Cell;
 use line_settle::Facts;
 use picture::{Axis, LineId, LineSet, MAX_SIDE};
+use split_choice::Cell;
 
 // The names of the lines through a cell.
 pub(crate) fn lines_at(facts: &Facts, cell: Cell) -> LineSet

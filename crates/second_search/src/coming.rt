@@ -9,12 +9,12 @@ ghost use Rattle.propagate.specs.LineNames.{AreLinesOf};
 ghost use Rattle.second_search.specs.Looking.{AreRowsSettled, Shows};
 ghost use Rattle.second_search.specs.Searching.{Comes, ComesClosed, CountsSome};
 
-use crate::cell::Cell;
 use crate::looking::{first_unsettled, shown_picture};
 use clues::ClueBook;
 use line_settle::{Facts, LineEngine, Meter, Outcome};
 use picture::{LineSet, Picture};
 use propagate::{InOrder, close_facts};
+use split_choice::Cell;
 use std::alloc::{AllocError, Global};
 
 // What facts come to: no list fits some line, or they leave one picture, or a cell is to be split.

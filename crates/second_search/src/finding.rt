@@ -2,20 +2,19 @@
 
 ghost use Rattle.std.specs.Prelude.{◌≡◌, ◌≤◌, ℕ, List, length, IfOk};
 ghost use Rattle.clues.specs.ClueBook.{clues_of};
+ghost use Rattle.line_settle.specs.FactSets.{SameShape};
 ghost use Rattle.propagate.specs.Closing.{AreClosable};
 ghost use Rattle.second_search.specs.Other.{AreSound, FindsFirst, FindsOther};
 ghost use Rattle.second_search.specs.Looking.{FindsFilling};
 
-use crate::cell_lines::lines_at;
-use crate::looking::{Look, look_at};
-use crate::near::find_near;
-use crate::pending::Pending;
+use crate::ladder::{Decided, FIRST_BOUND, Ladder, MOST_CELLS, climb};
+use crate::near::find_in_parts;
 use crate::scene::Scene;
 use clues::ClueBook;
 use clues::laws::clues_are_of_lines;
-use line_settle::{Facts, LineEngine};
+use line_settle::{Facts, LineEngine, Meter};
 use picture::{CellSet, Picture};
-use propagate::all_lines;
+use propagate::laws::{closing_keeps_fillings, only_is_closed};
 use std::alloc::{AllocError, Global};
 
 /// A picture with these clues. There is none exactly where the answer is None. No line is longer than the engine's
@@ -37,7 +36,14 @@ pub fn find_first<E: LineEngine>(
         return Ok(Some(blank));
     }
     let facts = Facts::none(alloc, book.height(), book.width())?;
-    let found = find_filling(alloc, engine, book, facts, &blank)?;
+    let givens = CellSet::empty();
+    let scene = Scene {
+        clues: book,
+        givens: &givens,
+        facts: &facts,
+        picture: &blank,
+    };
+    let found = find_filling(alloc, engine, &scene, false)?;
     Ok(found)
 }
 
@@ -67,46 +73,46 @@ pub fn find_other<E: LineEngine>(
         facts,
         picture,
     };
-    let near = find_near(alloc, engine, &scene)?;
+    let mut meter = Meter {
+        evaluations: 0,
+        trials: 0,
+    };
+    let near = find_in_parts(alloc, engine, &scene, &mut meter)?;
     if near.is_some() {
         return Ok(near);
     }
-    let found = find_filling(alloc, engine, book, facts.copy()?, picture)?;
+    let found = find_filling(alloc, engine, &scene, true)?;
     Ok(found)
 }
 
-// A picture that fills facts and is not the known one. There is none exactly where the answer is None. After a split only the
-// two lines of the split cell are handed over, since closed facts were split, and the rows above that cell are settled.
+// A picture that fills the facts of a scene and is not the scene's. There is none exactly where the answer is None. The scene's
+// picture need not have the clues, and is held on to where that is said.
 fn find_filling<E: LineEngine>(
     alloc: Global,
     engine: &mut E,
-    book: &ClueBook,
-    facts: Facts,
-    known: &Picture,
+    scene: &Scene,
+    holds: bool,
 ) -> Result<Option<Picture>, AllocError>
-    requires { AreClosable book.now (E.longest engine.old) facts }
-    ensures finds { IfOk result (FindsFilling book.now facts known.now) }
+    requires closable { AreClosable scene.now.clues.now (E.longest engine.old) scene.now.facts.now }
+    requires same_shape { SameShape scene.now.picture.now scene.now.facts.now }
+    ensures finds { IfOk result (FindsFilling scene.now.clues.now scene.now.facts.now scene.now.picture.now) }
     ensures same_longest { E.longest engine.new ≡ E.longest engine.old }
 {
-    let mut dirty = all_lines(&facts);
-    let mut top = 0;
-    let mut pending = Pending::start(alloc, facts);
-    loop {
-        let look = look_at(alloc, engine, book, known, pending.at_hand(), &dirty, top)?;
-        match look {
-            Look::Nothing => {}
-            Look::Found(picture) => return Ok(Some(picture)),
-            Look::Split(settled, cell) => {
-                pending.narrow(&settled, top)?;
-                pending.split(cell)?;
-            }
-        }
-        match pending.advance()? {
-            Some(cell) => {
-                dirty = lines_at(pending.at_hand(), cell);
-                top = cell.row;
-            }
-            None => return Ok(None),
-        }
+    closing_keeps_fillings();
+    only_is_closed();
+    let ladder = Ladder {
+        most: MOST_CELLS,
+        first_bound: FIRST_BOUND,
+        holds,
+        keeps: false,
+    };
+    let mut meter = Meter {
+        evaluations: 0,
+        trials: 0,
+    };
+    let decided = climb(alloc, engine, scene, ladder, &mut meter)?;
+    match decided {
+        Decided::Tree(_) => Ok(None),
+        Decided::OtherPicture(picture) => Ok(Some(picture)),
     }
 }

@@ -30,10 +30,9 @@ ghost use Rattle.second_search.specs.Judging.{
 };
 
 use crate::carrying::{answer_for, are_named, first_cell};
-use crate::cell::Cell;
 use crate::counting::Ending;
 use crate::laws::{fillings_are_of_facts, fillings_stay, parts_decide};
-use crate::part_search::search_part;
+use crate::part_decision::decide_part;
 use crate::parts::Parts;
 use crate::same_lines::same_lines;
 use crate::scene::Scene;
@@ -43,6 +42,7 @@ use line_settle::{Facts, LineEngine, Meter};
 use picture::laws::same_cells_are_equal;
 use picture::{CellSet, LineSet, MAX_SIDE, Picture};
 use propagate::laws::{closing_keeps_fillings, only_is_closed};
+use split_choice::Cell;
 use std::alloc::{AllocError, Global};
 use std::marker::Model;
 
@@ -428,7 +428,7 @@ impl Keeper {
         match part.answer {
             Answer::Unknown => {
                 *searched = searched.saturating_add(1);
-                search_part(
+                decide_part(
                     *self.kept.allocator(),
                     engine,
                     scene,

@@ -2,24 +2,34 @@
 #![tactic(auto)]
 
 mod carrying;
-mod cell;
 mod cell_lines;
 mod coming;
 mod counting;
 mod finding;
 mod keeper;
+mod ladder;
 pub mod laws;
 mod looking;
 mod near;
 mod note;
+mod part_decision;
 mod part_search;
 mod parts;
 mod pending;
 mod same_lines;
 mod scene;
+mod tree;
+mod tree_closing;
+mod tree_dead;
+mod tree_line;
+mod tree_lines;
+mod tree_step;
 
 pub use counting::Ending;
 pub use finding::{find_first, find_other};
 pub use keeper::{Answer, Judged, Keeper, KeptPart, Verdict};
+pub use ladder::{Decided, FIRST_BOUND, Ladder, MOST_CELLS, climb};
 pub use parts::Parts;
 pub use scene::Scene;
+pub use tree_line::{CellNumber, CertLine, LineNumber};
+pub use tree_lines::Lines;

@@ -1,28 +1,30 @@
-//! Near pictures: other ones that differ from the known picture inside of one small window.
+//! Near pictures: other ones that differ from the known picture inside of one window of a part.
 
 ghost use Rattle.std.specs.Prelude.{◌≡◌, ◌≤◌, ◌<◌, ℕ, length, IfOk, IfSome};
 ghost use Rattle.picture.specs.CellSet.{HasCell};
-ghost use Rattle.picture.specs.Rows.{width_of};
 ghost use Rattle.clues.specs.Solution.{IsOther};
+ghost use Rattle.line_settle.specs.Counting.{Counts};
 ghost use Rattle.second_search.specs.Near.{IsWindow};
-ghost use Rattle.second_search.specs.Parts.{IsScene};
+ghost use Rattle.second_search.specs.Parts.{IsOtherFilling, IsScene};
 
 use crate::cell_lines::put_both;
 use crate::counting::{Ending, search_counted};
 use crate::laws::fillings_are_of_facts;
-use crate::part_search::leave_alone;
+use crate::part_search::{leave_alone, lines_through};
+use crate::parts::Parts;
 use crate::scene::Scene;
 use clues::laws::{books_are_their_clues, clues_are_of_lines};
+use line_settle::laws::counts_add;
 use line_settle::{Facts, LineEngine, Meter};
-use picture::{CellSet, LineSet, Picture};
+use picture::{Axis, CellSet, LineId, LineSet, MAX_SIDE, Picture};
 use propagate::laws::{closing_keeps_fillings, only_is_closed};
 use std::alloc::{AllocError, Global};
 
-// How many rows and columns a window has, and how many splits a search in it may make. Smaller windows miss more near pictures,
-// larger ones take more splits.
-const SIDE: u8 = 8;
+/// How many of a part's rows and columns a window has, one size after the other.
+pub(crate) const SIZES: [u8; 5] = [4, 7, 11, 16, 24];
 
-const SPLITS: u32 = 16;
+/// How many splits a search in a window may make.
+pub(crate) const WINDOW_SPLITS: u32 = 64;
 
 // A line with the same clue differs in two cells or in none, so another picture differs in two rows and in two columns.
 const FEWEST: usize = 4;
@@ -34,11 +36,21 @@ pub(crate) struct Window {
     pub lines: LineSet,
 }
 
-// Looks for another picture that differs in one window alone. There may be others where the answer is None.
-pub(crate) fn find_near<E: LineEngine>(
+// Some rows of a part, all its columns, and how many of them a window has.
+#[derive(Clone, Copy, Drop)]
+struct Band<'a> {
+    rows: &'a [u8],
+    columns: &'a [u8],
+    size: u8,
+}
+
+// Looks for another picture that differs in one window of a part alone, by one size after the other. There may be others where the
+// answer is None.
+pub(crate) fn find_in_parts<E: LineEngine>(
     alloc: Global,
     engine: &mut E,
     scene: &Scene,
+    meter: &mut Meter,
 ) -> Result<Option<Picture>, AllocError>
     requires scene { IsScene scene.now.clues.now scene.now.givens.now scene.now.facts.now
         scene.now.picture.now }
@@ -46,10 +58,17 @@ pub(crate) fn find_near<E: LineEngine>(
     requires wide { length scene.now.clues.now.columns ≤ E.longest engine.old }
     ensures other { IfOk result (λ found. IfSome found
         (IsOther scene.now.clues.now (HasCell scene.now.givens.now) scene.now.picture.now)) }
+    ensures counts { (evaluations : ℕ)
+        × Counts evaluations 0 meter.old meter.new (E.calls engine.old) (E.calls engine.new) }
     ensures same_longest { E.longest engine.new ≡ E.longest engine.old }
 {
-    for band in 0..scene.facts.height() / SIDE + 1 {
-        let found = find_in_band(alloc, engine, scene, band * SIDE)?;
+    counts_add();
+    let _ = engine.calls();
+    let _evaluations = meter.evaluations;
+    let _trials = meter.trials;
+    let parts = Parts::of(alloc, scene.facts)?;
+    for size in SIZES.iter() {
+        let found = find_in_each(alloc, engine, scene, &parts, *size, meter)?;
         if found.is_some() {
             return Ok(found);
         }
@@ -57,25 +76,106 @@ pub(crate) fn find_near<E: LineEngine>(
     Ok(None)
 }
 
-// The same in the windows that begin in one row.
-fn find_in_band<E: LineEngine>(
+// The same in windows of one size.
+fn find_in_each<E: LineEngine>(
     alloc: Global,
     engine: &mut E,
     scene: &Scene,
-    top: u8,
+    parts: &Parts,
+    size: u8,
+    meter: &mut Meter,
 ) -> Result<Option<Picture>, AllocError>
     requires scene { IsScene scene.now.clues.now scene.now.givens.now scene.now.facts.now
         scene.now.picture.now }
     requires tall { length scene.now.clues.now.rows ≤ E.longest engine.old }
     requires wide { length scene.now.clues.now.columns ≤ E.longest engine.old }
-    requires top { top ≤ 120 }
     ensures other { IfOk result (λ found. IfSome found
         (IsOther scene.now.clues.now (HasCell scene.now.givens.now) scene.now.picture.now)) }
+    ensures counts { (evaluations : ℕ)
+        × Counts evaluations 0 meter.old meter.new (E.calls engine.old) (E.calls engine.new) }
     ensures same_longest { E.longest engine.new ≡ E.longest engine.old }
 {
-    for band in 0..scene.facts.width() / SIDE + 1 {
-        let window = window_at(scene.facts, top, band * SIDE);
-        let found = find_inside(alloc, engine, scene, window)?;
+    counts_add();
+    let _ = engine.calls();
+    let _evaluations = meter.evaluations;
+    let _trials = meter.trials;
+    for i in 0..parts.len() {
+        let found = find_near(alloc, engine, scene, parts.cells(i), size, meter)?;
+        if let Some(picture) = found {
+            return Ok(Some(picture));
+        }
+    }
+    Ok(None)
+}
+
+// Looks for another filling of a part that differs in one window alone, each of a size, a third over the next. There may be
+// others where the answer is None.
+pub(crate) fn find_near<E: LineEngine>(
+    alloc: Global,
+    engine: &mut E,
+    scene: &Scene,
+    cells: &CellSet,
+    size: u8,
+    meter: &mut Meter,
+) -> Result<Option<Picture>, AllocError>
+    requires scene { IsScene scene.now.clues.now scene.now.givens.now scene.now.facts.now
+        scene.now.picture.now }
+    requires tall { length scene.now.clues.now.rows ≤ E.longest engine.old }
+    requires wide { length scene.now.clues.now.columns ≤ E.longest engine.old }
+    ensures other { IfOk result (λ found. IfSome found
+        (IsOtherFilling scene.now.clues.now scene.now.givens.now scene.now.picture.now cells.now)) }
+    ensures counts { (evaluations : ℕ)
+        × Counts evaluations 0 meter.old meter.new (E.calls engine.old) (E.calls engine.new) }
+    ensures same_longest { E.longest engine.new ≡ E.longest engine.old }
+{
+    counts_add();
+    let _ = engine.calls();
+    let _evaluations = meter.evaluations;
+    let _trials = meter.trials;
+    let lines = lines_through(cells, scene.facts);
+    let rows = places_along(alloc, &lines, Axis::Across)?;
+    let columns = places_along(alloc, &lines, Axis::Down)?;
+    for at in 0..windows_along(&rows, size) {
+        let band = Band {
+            rows: window_along(&rows, at, size),
+            columns: &columns,
+            size,
+        };
+        let found = find_in_band(alloc, engine, scene, cells, band, meter)?;
+        if found.is_some() {
+            return Ok(found);
+        }
+    }
+    Ok(None)
+}
+
+// The same in the windows of some rows.
+fn find_in_band<E: LineEngine>(
+    alloc: Global,
+    engine: &mut E,
+    scene: &Scene,
+    cells: &CellSet,
+    band: Band<'_>,
+    meter: &mut Meter,
+) -> Result<Option<Picture>, AllocError>
+    requires scene { IsScene scene.now.clues.now scene.now.givens.now scene.now.facts.now
+        scene.now.picture.now }
+    requires tall { length scene.now.clues.now.rows ≤ E.longest engine.old }
+    requires wide { length scene.now.clues.now.columns ≤ E.longest engine.old }
+    ensures other { IfOk result (λ found. IfSome found
+        (IsOtherFilling scene.now.clues.now scene.now.givens.now scene.now.picture.now cells.now)) }
+    ensures counts { (evaluations : ℕ)
+        × Counts evaluations 0 meter.old meter.new (E.calls engine.old) (E.calls engine.new) }
+    ensures same_longest { E.longest engine.new ≡ E.longest engine.old }
+{
+    counts_add();
+    let _ = engine.calls();
+    let _evaluations = meter.evaluations;
+    let _trials = meter.trials;
+    for at in 0..windows_along(band.columns, band.size) {
+        let columns = window_along(band.columns, at, band.size);
+        let window = window_of(scene.facts, cells, band.rows, columns);
+        let found = find_inside(alloc, engine, scene, cells, window, meter)?;
         if found.is_some() {
             return Ok(found);
         }
@@ -88,17 +188,24 @@ fn find_inside<E: LineEngine>(
     alloc: Global,
     engine: &mut E,
     scene: &Scene,
+    cells: &CellSet,
     window: Window,
+    meter: &mut Meter,
 ) -> Result<Option<Picture>, AllocError>
     requires scene { IsScene scene.now.clues.now scene.now.givens.now scene.now.facts.now
         scene.now.picture.now }
-    requires window { IsWindow scene.now.facts.now window }
+    requires window { IsWindow scene.now.facts.now cells.now window }
     requires tall { length scene.now.clues.now.rows ≤ E.longest engine.old }
     requires wide { length scene.now.clues.now.columns ≤ E.longest engine.old }
     ensures other { IfOk result (λ found. IfSome found
-        (IsOther scene.now.clues.now (HasCell scene.now.givens.now) scene.now.picture.now)) }
+        (IsOtherFilling scene.now.clues.now scene.now.givens.now scene.now.picture.now cells.now)) }
+    ensures counts { (evaluations : ℕ)
+        × Counts evaluations 0 meter.old meter.new (E.calls engine.old) (E.calls engine.new) }
     ensures same_longest { E.longest engine.new ≡ E.longest engine.old }
 {
+    let _ = engine.calls();
+    let _evaluations = meter.evaluations;
+    let _trials = meter.trials;
     if window.lines.len() < FEWEST {
         return Ok(None);
     }
@@ -110,10 +217,6 @@ fn find_inside<E: LineEngine>(
     let _ = scene.facts.height();
     let mut facts = scene.facts.copy()?;
     leave_alone(&mut facts, scene.picture, &window.cells);
-    let mut meter = Meter {
-        evaluations: 0,
-        trials: 0,
-    };
     let mut splits = 0;
     match search_counted(
         alloc,
@@ -122,8 +225,8 @@ fn find_inside<E: LineEngine>(
         scene.picture,
         window.lines,
         facts,
-        Some(SPLITS),
-        &mut meter,
+        Some(WINDOW_SPLITS),
+        meter,
         &mut splits,
     )? {
         Ending::Found(picture) => Ok(Some(picture)),
@@ -132,33 +235,73 @@ fn find_inside<E: LineEngine>(
     }
 }
 
-// The window that begins in a row and a column; it may reach past the end.
-fn window_at(facts: &Facts, top: u8, left: u8) -> Window
-    requires top { top ≤ 120 }
-    requires left { left ≤ 120 }
-    ensures { IsWindow facts.now result }
+// The open cells of a part in some rows and columns, and the lines through them.
+fn window_of(facts: &Facts, cells: &CellSet, rows: &[u8], columns: &[u8]) -> Window
+    ensures { IsWindow facts.now cells.now result }
 {
     let mut window = Window {
         cells: CellSet::empty(),
         lines: LineSet::empty(),
     };
-    for row in top..facts.height().min(top + SIDE) {
-        open_row(facts, row, left, &mut window);
+    for row in rows {
+        open_row(facts, cells, *row, columns, &mut window);
     }
     window
 }
 
-// Puts the open cells of a window's row into it.
-fn open_row(facts: &Facts, row: u8, left: u8, window: &mut Window)
-    requires window { IsWindow facts.now window.old }
-    requires in_rows { row < length facts.now }
-    requires left { left ≤ 120 }
-    ensures { IsWindow facts.now window.new }
+// Puts the open cells of a row and of some columns into a window.
+fn open_row(facts: &Facts, cells: &CellSet, row: u8, columns: &[u8], window: &mut Window)
+    requires { IsWindow facts.now cells.now window.old }
+    ensures { IsWindow facts.now cells.now window.new }
 {
-    for col in left..facts.width().min(left + SIDE) {
-        if facts.shown(row, col).is_none() {
-            window.cells.put(row, col);
-            put_both(&mut window.lines, row, col);
+    for col in columns {
+        open_cell(facts, cells, row, *col, window);
+    }
+}
+
+// Puts a cell into a window, where it is an open cell of the part.
+fn open_cell(facts: &Facts, cells: &CellSet, row: u8, col: u8, window: &mut Window)
+    requires { IsWindow facts.now cells.now window.old }
+    ensures { IsWindow facts.now cells.now window.new }
+{
+    if row >= facts.height() || col >= facts.width() {
+        return;
+    }
+    if cells.has(row, col) && facts.shown(row, col).is_none() {
+        window.cells.put(row, col);
+        put_both(&mut window.lines, row, col);
+    }
+}
+
+// The places of the names along an axis, rising.
+fn places_along(alloc: Global, lines: &LineSet, axis: Axis) -> Result<Vec<u8>, AllocError> {
+    let mut places = Vec::new(alloc);
+    for at in 0..MAX_SIDE {
+        if lines.has(LineId { axis, at }) {
+            places.push(at)?;
         }
     }
+    Ok(places)
+}
+
+// How many windows of a size there are along some places, at least one.
+fn windows_along(places: &[u8], size: u8) -> usize {
+    let over = usize::from(size / 3);
+    let step = step_of(size);
+    let beyond = places.len().saturating_sub(over);
+    (beyond.saturating_add(step - 1) / step).max(1)
+}
+
+// How far it is from a window to the next: a third of it lies over the one before.
+fn step_of(size: u8) -> usize
+    ensures { 0 < result }
+{
+    usize::from(size - size / 3).max(1)
+}
+
+// The places of a window, by its number from 0.
+fn window_along(places: &[u8], at: usize, size: u8) -> &[u8] {
+    let first = at.saturating_mul(step_of(size)).min(places.len());
+    let count = usize::from(size).min(places.len() - first);
+    &places[first..first + count]
 }

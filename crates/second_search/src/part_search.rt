@@ -64,7 +64,7 @@ pub(crate) fn search_part<E: LineEngine>(
 }
 
 // The names of the lines that go through some cells.
-fn lines_through(cells: &CellSet, facts: &Facts) -> LineSet
+pub(crate) fn lines_through(cells: &CellSet, facts: &Facts) -> LineSet
     ensures lines { AreLinesOf facts.now result }
     ensures through { PutsThrough cells.now facts.now result (length facts.now) }
 {

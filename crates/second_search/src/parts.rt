@@ -5,9 +5,9 @@ ghost use Rattle.picture.specs.Rows.{width_of};
 ghost use Rattle.second_search.specs.Growing.{ArePartsAbove, HoldsCell, IsFirstOpen};
 ghost use Rattle.second_search.specs.Parts.{AreParts, part_at};
 
-use crate::cell::Cell;
 use line_settle::Facts;
 use picture::{CellSet, MAX_SIDE};
+use split_choice::Cell;
 use std::alloc::{AllocError, Global};
 use std::marker::Model;
 

@@ -6,9 +6,9 @@ ghost use Rattle.line_settle.specs.FactSets.{SameShape};
 ghost use Rattle.line_settle.specs.Branches.{branches};
 ghost use Rattle.second_search.specs.Branching.{place, places, search_of, AreInside, AreSameAbove, GoesOn, IsInside, IsRowTaken, PutsBack};
 
-use crate::cell::Cell;
 use crate::note::{CellMask, Note};
 use line_settle::Facts;
+use split_choice::Cell;
 use std::alloc::{AllocError, Global};
 use std::marker::Model;
 

@@ -19,7 +19,7 @@ use Rattle.certificate.specs.Cert.{Certificate}
 use Rattle.live_audit.specs.declared.verdict.Verdict.{Verdict}
 use Rattle.live_audit.specs.declared.why.Why.{Why}
 use Rattle.live_audit.specs.Bench.{IsAudited, Seen}
-use Rattle.live_audit.specs.Calls.{Accepts, IsAsBefore, Refuses}
+use Rattle.live_audit.specs.Calls.{Accepts, IsAsBefore, IsSearched, Learns, Refuses}
 use Rattle.live_audit.specs.Certify.{Certifies}
 use Rattle.live_audit.specs.Reason.{Explains}
 use Rattle.live_audit.specs.Stroke.{Stroke, Edits, Undoes, Redoes}
@@ -114,12 +114,12 @@ unfolding Replies
 replies_outside s row col colour outside = (inl (inl (outside, (refl, refl))), same_count s.calls)
 
 -- a certificate
-pub replies_certify : (old new : Seen) (outcome : Result (Vec ℕ Global) Refusal) → IsAsBefore old new → old.calls ≤ new.calls
+pub replies_certify : (old new : Seen) (outcome : Result (Vec ℕ Global) Refusal) → Learns old new → OnOk outcome (IsSearched old new) → IsAudited new → old.calls ≤ new.calls
     → IfOk outcome (λ text. (found : Option Certificate) × (Certifies old.history.document found × (text.items ≡ certified_text found))) → IfErr outcome (λ e. e ≡ refusal.Memory)
     → Replies command.Certify old (answer_text (written_said outcome)) new
 unfolding Replies
-replies_certify old new (Ok text) before calls found short = (inl (found.0, (found.1.0, (found.1.1, before))), calls)
-replies_certify old new (Err e) before calls found short = (inr (ap refusal_line short, before), calls)
+replies_certify old new (Ok text) learns searched audited calls found short = (inl (found.0, (found.1.0, (found.1.1, ((learns, searched), audited)))), calls)
+replies_certify old new (Err e) learns searched audited calls found short = (inr (ap refusal_line short, (learns, audited)), calls)
 
 -- an allowance
 pub replies_allow : (old new : Seen) (allowance : Option ℕ) → new ≡ record old { allowance = allowance } → Replies (command.Allow allowance) old done_text new

@@ -4,7 +4,8 @@ ghost use Rattle.std.specs.Prelude.{◌≡◌, ◌+◌, ◌++◌, ◌<◌, ◌�
 ghost use Rattle.picture.specs.Rows.{width_of};
 ghost use Rattle.edits.specs.Fault.{has_cell};
 ghost use Rattle.certificate.specs.Cert.{Certificate};
-ghost use Rattle.live_audit.specs.Calls.{IsAsBefore};
+ghost use Rattle.live_audit.specs.Bench.{IsAudited};
+ghost use Rattle.live_audit.specs.Calls.{IsSearched, Learns};
 ghost use Rattle.live_audit.specs.Certify.{Certifies};
 ghost use Rattle.live_audit.specs.Reason.{Explains};
 ghost use Rattle.live_audit.specs.declared.why.Why.{Why};
@@ -348,8 +349,10 @@ fn certificate_text<E: LineEngine + Drop, A: Agenda + Drop>(
     ensures text { IfOk result (λ text. (found : Option Certificate)
         × (Certifies bench.old.history.document found × (text.items ≡ certified_text found))) }
     ensures err { IfErr result (λ e. e ≡ refusal.Memory) }
-    ensures as_before { IsAsBefore bench.old bench.new }
+    ensures judges { OnOk result (IsSearched bench.old bench.new) }
+    ensures learns { Learns bench.old bench.new }
     ensures calls { bench.old.calls ≤ bench.new.calls }
+    ensures audited { IsAudited bench.new }
 {
     match bench.certify() {
         Ok(found) => found_text(alloc, &found),

@@ -8,11 +8,11 @@ ghost use Rattle.line_settle.specs.FactSets.{col_on, row_on};
 ghost use Rattle.second_search.specs.Growing.{HasOpenCellsOf, IsGrown, Leaves, TakesIn};
 ghost use Rattle.second_search.specs.Parts.{IsChained, IsOpenCell};
 
-use crate::cell::Cell;
 use crate::parts::open_cells::is_open;
 use line_settle::Facts;
 use picture::{Axis, CellSet, LineId, LineSet, MAX_SIDE};
 use propagate::all_lines;
+use split_choice::Cell;
 
 // The cells found so far, the lines through them that are still to be visited, and all lines that were not visited yet.
 #[derive(Drop)]

@@ -5,8 +5,8 @@ ghost use Rattle.picture.specs.Rows.{width_of};
 ghost use Rattle.second_search.specs.Growing.{HasNoOpenCell, IsFirstOpen};
 ghost use Rattle.second_search.specs.Parts.{HasTwoColours, IsOpenCell};
 
-use crate::cell::Cell;
 use line_settle::Facts;
+use split_choice::Cell;
 
 // The first open cell of a row.
 pub(crate) fn first_open(facts: &Facts, row: u8) -> Option<Cell>

@@ -1,6 +1,6 @@
 use Rattle.std.proofs.Common.{◌≡◌, subst, List, Ok, Option, Vec, Global}
-use Rattle.certificate.specs.declared.line.CellNumber.{CellNumber}
-use Rattle.certificate.specs.declared.line.CertLine.{CertLine}
+use Rattle.second_search.specs.declared.tree_line.CellNumber.{CellNumber}
+use Rattle.second_search.specs.declared.tree_line.CertLine.{CertLine}
 use Rattle.certificate.specs.Making.{WritesTree, lines_seen}
 use Rattle.certificate.specs.Puzzle.{with_givens}
 use Rattle.certificate.specs.Walk.{GivesBase}
@@ -15,7 +15,7 @@ returns-in_default-clause-makes g c =
     let P : List CellNumber → Type 0 = λ givens. GivesBase c.args.picture.now blank givens (Ok tt) start in
     let Q : List CellNumber → Type 0 = λ givens. start ≡ with_givens c.args.picture.now givens blank in
     let R : Option (Vec CertLine Global) → Type 0 = λ lines. WritesTree c.args.picture.now start (lines_seen lines) in
-    makes_none c.clues_are_of_lines.ensures c.books_are_their_clues.ensures c.args.picture.now blank start c.args.givens.now cells c.height.result c.width.result c.height.ensures.picture c.requires.inside c.in_ok-cells.ensures.named c.height.ensures.value c.width.ensures.value c.in_ok-facts.ensures.value (subst P c.deref.ensures.value c.in_ok-set_givens.ensures.base) c.height-2.ensures.facts (subst Q c.deref.ensures.value c.in_ok-set_givens.ensures.facts) (subst R c.in_default.is c.in_ok-lines.ensures.writes)
+    makes_none c.args.picture.now blank start c.args.givens.now cells c.height.result c.width.result c.height.ensures.picture c.requires.inside c.in_ok-cells.ensures.named c.height.ensures.value c.width.ensures.value c.in_ok-facts.ensures.value (subst P c.deref.ensures.value c.in_ok-set_givens.ensures.base) (subst Q c.deref.ensures.value c.in_ok-set_givens.ensures.facts) (subst R c.in_default.is c.in_ok-lines.ensures.writes)
 
 pub returns-clause-makes : goal.returns-clause-makes
 returns-clause-makes g c =

@@ -1,16 +1,19 @@
-use Rattle.std.proofs.Common.{◌∙◌, Bool, arith, reverse, subst, sym}
-use Rattle.certificate.specs.Walk.{CanCheck, waiting}
-use Rattle.certificate.proofs.MakeLemmas.{SoFar, taken_so_far}
+use Rattle.std.proofs.Common.{true, subst, refl}
+use Rattle.second_search.specs.declared.ladder.Decided.{Decided}
+use Rattle.second_search.specs.declared.ladder.Decided.TheVariants.{Tree}
+use Rattle.second_search.specs.declared.tree_lines.Lines.{Lines}
+use Rattle.second_search.specs.Trees.{Decides}
+use Rattle.certificate.proofs.MakeLemmas.{can_close, whole_tree}
 use Rattle.certificate.proofs.making.write_tree.Goals as goal
 
-pub loop-line-preserved : goal.loop-line-preserved
-loop-line-preserved g c =
-    let so_far = taken_so_far c.forcing_closes_a_line.ensures c.args.picture.now c.args.facts.now c.loop-line.facts c.take_line.new.facts _ (reverse c.take_line.new.notes.items) c.loop-line.lines.items c.push.new.self.items c.in-Some.line 0 _ c.in_ok-push.ensures.items c.in-Some.ensures.writes c.in_ok-take_line.ensures.takes c.loop-line.invariant.so_far in
-    let P : Bool → Type 0 = λ b. SoFar c.args.picture.now c.args.facts.now (waiting b c.take_line.new.facts (reverse c.take_line.new.notes.items)) c.push.new.self.items in
-    record {
-      walk = c.in_ok-take_line.ensures.takes.0;
-      can = subst (CanCheck c.args.picture.now c.args.book.now) (sym (c.in_ok-take_line.ensures.same_longest ∙ c.in-Some.ensures.same_longest)) c.loop-line.invariant.can;
-      same_longest = c.in_ok-take_line.ensures.same_longest ∙ (c.in-Some.ensures.same_longest ∙ c.loop-line.invariant.same_longest);
-      calls = omega (arith, c.loop-line.invariant.calls, c.in-Some.ensures.calls, c.in_ok-take_line.ensures.calls);
-      so_far = subst P c.if-not-branch.false so_far;
-    }
+pub climb-requires : goal.climb-requires
+climb-requires g c =
+    let s = c.args.scene.now in
+    can_close c.clues_are_of_lines.ensures s.picture.now s.facts.now s.clues.now _ c.requires.can c.requires.same_shape
+
+pub returns-in-Tree-Kept-clause-writes : goal.returns-in-Tree-Kept-clause-writes
+returns-in-Tree-Kept-clause-writes g c =
+    let s = c.args.scene.now in
+    let P : Decided → Type 0 = λ d. Decides s.clues.now s.picture.now s.facts.now true d in
+    let Q : Lines → Type 0 = λ l. Decides s.clues.now s.picture.now s.facts.now true (Tree l) in
+    whole_tree c.forcing_closes_a_line.ensures c.one_line_decides.ensures s.picture.now s.facts.now s.clues.now _ c.in-Tree-Kept.lines.items c.requires.can c.requires.same_shape (subst Q c.in-Tree-Kept.field-0-is (subst P c.in-Tree-Kept.is c.in_ok-lines.ensures.decides)).0

@@ -1,7 +1,7 @@
 use Rattle.std.proofs.Common.{ℕ, ◌<◌, ◌∙◌, List, length, Option, Some, arith, refl, subst, sym}
 use Rattle.picture.specs.Rows.{width_of}
 use Rattle.propagate.specs.LineNames.{AreLinesOf}
-use Rattle.second_search.specs.declared.cell.Cell.{Cell}
+use Rattle.split_choice.specs.declared.cell.Cell.{Cell}
 use Rattle.second_search.specs.Branching.{GoesOn}
 use Rattle.second_search.specs.Through.{across}
 use Rattle.second_search.proofs.CountLemmas.{Counting, counted_halted, counted_nothing, counted_other, counting_at, counting_passes, counting_splits, counting_starts, counts_more, counts_none, counts_some, passes_lighter, splits_lighter, steps_as}

@@ -1,13 +1,13 @@
-use Rattle.std.proofs.Common.{arith}
+use Rattle.std.proofs.Common.{arith, refl}
 use Rattle.second_search.proofs.FindLemmas.{can_close, finds_other}
 use Rattle.second_search.proofs.finding.find_other.Goals as goal
 
-pub find_filling-requires : goal.find_filling-requires
-find_filling-requires g c =
+pub find_filling-requires-clause-closable : goal.find_filling-requires-clause-closable
+find_filling-requires-clause-closable g c =
     let e = c.in_ok-near.ensures.same_longest in
     let tall = c.requires.tall in
     let wide = c.requires.wide in
-    can_close c.args.book.now c.args.picture.now c.args.facts.now c.in_ok-copy.field-0 _ (c.clues_are_of_lines.ensures.sizes c.args.picture.now) c.requires.clues c.requires.sound.same_shape c.in_ok-copy.ensures (omega arith) (omega arith)
+    can_close c.args.book.now c.args.picture.now c.args.facts.now c.args.facts.now _ (c.clues_are_of_lines.ensures.sizes c.args.picture.now) c.requires.clues c.requires.sound.same_shape refl (omega arith) (omega arith)
 
 pub returns-clause-finds : goal.returns-clause-finds
-returns-clause-finds g c = finds_other c.args.book.now c.args.givens.now c.args.picture.now c.args.facts.now c.in_ok-copy.field-0 c.in_ok-found.found c.requires.sound c.in_ok-copy.ensures c.in_ok-found.ensures.finds
+returns-clause-finds g c = finds_other c.args.book.now c.args.givens.now c.args.picture.now c.args.facts.now c.args.facts.now c.in_ok-found.found c.requires.sound refl c.in_ok-found.ensures.finds

@@ -1,8 +1,9 @@
-use Rattle.std.proofs.Common.{ap, ◌∙◌}
-use Rattle.live_audit.specs.Bench.{Seen}
-use Rattle.live_audit.proofs.CertifyLemmas.{certified_now}
+use Rattle.live_audit.proofs.LearnLemmas.{proved_on}
 use Rattle.live_audit.proofs.bench.Bench.certify.Goals as goal
 
-pub returns-clause-certifies : goal.returns-clause-certifies
-returns-clause-certifies g c =
-    certified_now c.certify_ordered.result _ _ (c.document.ensures ∙ ap (λ (s : Seen). s.history.document) c.self.view_is) c.certify_ordered.ensures.certifies
+pub returns-in-Unique : goal.returns-in-Unique
+returns-in-Unique g c =
+    let l = c.in_ok-learn.ensures in
+    let e = c.prove.ensures in
+    let p = proved_on c.args.self.now c.learn.new.self c.prove.new.self c.prove.result l.judges l.learns l.calls e.certifies e.as_before e.calls in
+    record { certifies = p.certifies; judges = p.judges; learns = p.learns; calls = p.calls; audited = e.audited }

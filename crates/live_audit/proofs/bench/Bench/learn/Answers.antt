@@ -1,0 +1,22 @@
+use Rattle.std.proofs.Common.{◌∙◌, ap, inl, inr, sym, subst}
+use Rattle.picture.specs.declared.picture.TheConstants.{MAX_SIDE}
+use Rattle.live_audit.specs.Bench.{Seen}
+use Rattle.live_audit.proofs.VerdictLemmas.{audited_so, learnt_so, ruled_so, searched_so}
+use Rattle.live_audit.proofs.bench.Bench.learn.Goals as goal
+
+pub returns-clause-judges : goal.returns-clause-judges
+returns-clause-judges g c =
+    let s = c.self.inside in
+    searched_so c.document.result.now s.studio s.audit.clues s.audit.book s.keeper _ s.allowance s.work _ c.args.self.now _ _ _ _ _ _ _ _ _ c.document.ensures c.self.view_is c.in_ok-ruling.ensures.judges
+
+pub returns-clause-learns : goal.returns-clause-learns
+returns-clause-learns g c =
+    let s = c.self.inside in
+    record {
+      same = learnt_so s.studio s.audit.clues s.audit.book s.keeper _ s.allowance s.work _ _ c.args.self.now c.self.view_is;
+      kept = inr (searched_so c.document.result.now s.studio s.audit.clues s.audit.book s.keeper _ s.allowance s.work _ c.args.self.now _ _ _ _ _ _ _ _ _ c.document.ensures c.self.view_is c.in_ok-ruling.ensures.judges);
+    }
+
+pub returns-clause-ruling : goal.returns-clause-ruling
+returns-clause-ruling g c =
+    ruled_so _ _ _ c.in_ok-ruling.ruling (c.document.ensures ∙ ap (λ (s : Seen). s.history.document) c.self.view_is) c.in_ok-ruling.ensures.ruling

@@ -1,5 +1,0 @@
-use Rattle.second_search.specs.Near.{IsWindow}
-use Rattle.second_search.proofs.near.window_at.Given as goal
-
-abbrev pub invariant-loop-row : goal.invariant-loop-row
-invariant-loop-row l = IsWindow l.facts l.window

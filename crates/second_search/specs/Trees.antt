@@ -1,0 +1,167 @@
+-- Trees that a search writes line by line: which line may come next, and where lines lead.
+use Rattle.std.specs.Prelude.{◌≡◌, ℕ, ◌-◌, ◌<◌, ◌≤◌, Bool, true, false, Option, None, List, [], ◌∷◌, ◌++◌, length}
+use Rattle.picture.specs.declared.line_id.Axis.{Axis}
+use Rattle.picture.specs.declared.line_id.LineId.{LineId}
+use Rattle.picture.specs.Rows.{width_of, cell_at, line_of, lines_along, HasLine}
+use Rattle.clues.specs.ClueBook.{Clues, clue_at}
+use Rattle.line_settle.specs.declared.line_engine.Outcome.{Outcome}
+use Rattle.line_settle.specs.declared.line_engine.Outcome.TheVariants.{Narrowed, Dead as NoneFits}
+use Rattle.line_settle.specs.Fitting.{CanFit}
+use Rattle.line_settle.specs.FactSets.{Gains, IsWithin, Leaves}
+use Rattle.propagate.specs.Filling.{Fills}
+use Rattle.split_choice.specs.Choosing.{IsUnsettled}
+use Rattle.second_search.specs.declared.tree_line.CellNumber.{CellNumber}
+use Rattle.second_search.specs.declared.tree_line.LineNumber.{LineNumber}
+use Rattle.second_search.specs.declared.tree_line.CertLine.{CertLine}
+use Rattle.second_search.specs.declared.tree_line.CertLine.TheVariants.{Line, Split, Dead, Done}
+use Rattle.second_search.specs.declared.tree_lines.Lines.{Lines}
+use Rattle.second_search.specs.declared.tree_lines.Lines.TheVariants.{Kept, Dropped}
+use Rattle.second_search.specs.declared.tree_step.TreeStep.{TreeStep}
+use Rattle.second_search.specs.declared.tree_step.TreeStep.TheVariants.{Ends, Splits, Other}
+use Rattle.second_search.specs.declared.tree.Growing.{Growing}
+use Rattle.second_search.specs.declared.tree.Turn.{Turn}
+use Rattle.second_search.specs.declared.tree.Turn.TheVariants.{Goes, Found}
+use Rattle.second_search.specs.declared.tree.Written.{Written}
+use Rattle.second_search.specs.declared.tree.Written.TheVariants.{Whole, Another, BrokenOff}
+use Rattle.second_search.specs.declared.ladder.Decided.{Decided}
+use Rattle.second_search.specs.declared.ladder.Decided.TheVariants.{Tree, OtherPicture}
+use Rattle.line_settle.specs.Branches.{branches}
+use Rattle.second_search.specs.Weighing.{load}
+
+-- ---- places by number
+
+-- the grid has a line with that number
+abbrev pub HasLineNumber : List (List ℕ) → LineNumber → Type 0
+HasLineNumber grid line = (0 < line.number) × (line.number ≤ lines_along line.axis grid)
+
+abbrev pub line_id : LineNumber → LineId
+line_id line = record { axis = line.axis; at = line.number - 1 }
+
+-- the grid has a cell with these numbers
+abbrev pub HasCellNumber : List (List ℕ) → CellNumber → Type 0
+HasCellNumber grid cell = (0 < cell.row) × (cell.row ≤ length grid) × (0 < cell.col) × (cell.col ≤ width_of grid)
+
+-- the branches of a cell: one for each colour left in it
+abbrev pub split_at : List (List ℕ) → CellNumber → List (List (List ℕ))
+split_at facts cell = branches facts (cell.row - 1) (cell.col - 1) (cell_at facts (cell.row - 1) (cell.col - 1))
+
+-- no colour is left anywhere but the picture's
+abbrev pub ShowsOnly : List (List ℕ) → List (List ℕ) → Type 0
+ShowsOnly picture facts = (row col k : ℕ) → Leaves facts row col k → k ≡ cell_at picture row col
+
+-- ---- the next line
+
+-- the facts gain all that a line forces, and that is something
+pub record ForcesMore (clues : Clues) (facts : List (List ℕ)) (line : LineId) (gained : List (List ℕ)) : Type 0 where
+  pub outcome : Outcome
+  pub gains : Gains (clue_at clues line) line facts gained outcome
+  pub more : line_of facts line ≡ line_of gained line → ⊥
+
+-- A line that may come next on a branch, and the branches that it leads to: what the line forces is more than is known; a cell has
+-- a branch for each of its colours; no list fits the line; no colour is left but the known picture's.
+abbrev pub Stands : Clues → List (List ℕ) → List (List ℕ) → CertLine → List (List (List ℕ)) → Type 0
+Stands clues known facts (Line number) next =
+    HasLineNumber facts number × ((gained : List (List ℕ)) × (ForcesMore clues facts (line_id number) gained × (next ≡ gained ∷ [])))
+Stands clues known facts (Split cell) next = HasCellNumber facts cell × (next ≡ split_at facts cell)
+Stands clues known facts (Dead number) next =
+    HasLineNumber facts number × ((CanFit (clue_at clues (line_id number)) (line_of facts (line_id number)) → ⊥) × (next ≡ []))
+Stands clues known facts Done next = ShowsOnly known facts × (next ≡ [])
+
+-- ---- where lines lead
+
+-- lines lead from the branches that wait to others, one line after the other, each on the first branch that waits
+abbrev pub Walks : Clues → List (List ℕ) → List CertLine → List (List (List ℕ)) → List (List (List ℕ)) → Type 0
+Walks clues known [] waits rest = waits ≡ rest
+Walks clues known (line ∷ lines) [] rest = ⊥
+Walks clues known (line ∷ lines) (facts ∷ others) rest =
+    (next : List (List (List ℕ))) × (Stands clues known facts line next × Walks clues known lines (next ++ others) rest)
+
+-- ---- lines that are kept or dropped
+
+-- these lines more are kept, or all are dropped
+abbrev pub Adds : Lines → Lines → List CertLine → Type 0
+Adds (Kept old) (Kept new) lines = new.items ≡ old.items ++ lines
+Adds (Kept old) Dropped lines = ⊥
+Adds Dropped (Kept new) lines = ⊥
+Adds Dropped Dropped lines = Unit {0}
+
+-- lines are said that lead from the facts of a branch, and whatever waits behind it, to other facts, or to none
+pub record Says (clues : Clues) (known facts : List (List ℕ)) (front : List (List (List ℕ))) (old new : Lines) : Type 0 where
+  pub lines : List CertLine
+  pub adds : Adds old new lines
+  pub walks : (others : List (List (List ℕ))) → Walks clues known lines (facts ∷ others) (front ++ others)
+
+-- what closing a branch line by line comes to: facts within those, or a dead line, which ends the branch
+abbrev pub Settles : Clues → List (List ℕ) → List (List ℕ) → Lines → Lines → Outcome → Type 0
+Settles clues facts settled old new Narrowed = IsWithin facts settled × ((known : List (List ℕ)) → Says clues known facts (settled ∷ []) old new)
+Settles clues facts settled old new NoneFits = (known : List (List ℕ)) → Says clues known facts [] old new
+
+-- another picture than the known one fills the facts
+abbrev pub IsOtherIn : Clues → List (List ℕ) → List (List ℕ) → List (List ℕ) → Type 0
+IsOtherIn clues known facts picture = Fills clues facts picture × (picture ≡ known → ⊥)
+
+-- a line that no list fits
+pub record IsDeadLine (clues : Clues) (facts : List (List ℕ)) (line : LineId) : Type 0 where
+  pub has : HasLine facts line
+  pub dead : CanFit (clue_at clues line) (line_of facts line) → ⊥
+
+-- some list fits each line along an axis
+abbrev pub EachFitsAlong : Clues → List (List ℕ) → Axis → Type 0
+EachFitsAlong clues facts axis = (at : ℕ) → at < lines_along axis facts → CanFit (clue_at clues (record { axis = axis; at = at })) (line_of facts (record { axis = axis; at = at }))
+
+-- a picture is the known one, which ends a branch, or another
+abbrev pub IsComparedTo : List (List ℕ) → List (List ℕ) → TreeStep → Type 0
+IsComparedTo known picture (Ends line) = (line ≡ Done) × (picture ≡ known)
+IsComparedTo known picture (Splits cell) = ⊥
+IsComparedTo known picture (Other other) = (other ≡ picture) × (picture ≡ known → ⊥)
+
+-- what comes next on a closed branch: a line that ends it, a cell to split, or another picture than the known one
+abbrev pub Continues : Clues → List (List ℕ) → List (List ℕ) → TreeStep → Type 0
+Continues clues known facts (Ends line) = Stands clues known facts line []
+Continues clues known facts (Splits cell) = IsUnsettled facts cell
+Continues clues known facts (Other picture) = IsOtherIn clues known facts picture
+
+-- ---- a tree
+
+-- What a turn on the first branch that waits comes to: lines that lead to what waits then, which weighs less; or another picture.
+pub record TurnsOn (clues : Clues) (known : List (List ℕ)) (old new : Growing) : Type 0 where
+  pub lines : List CertLine
+  pub adds : Adds old.lines new.lines lines
+  pub walks : Walks clues known lines (old.pending.at_hand ∷ old.pending.behind) new.pending.behind
+  pub lighter : load new.pending.behind < load (old.pending.at_hand ∷ old.pending.behind)
+
+abbrev pub Turns : Clues → List (List ℕ) → Growing → Growing → Turn → Type 0
+Turns clues known old new Goes = TurnsOn clues known old new
+Turns clues known old new (Found picture) = IsOtherIn clues known old.pending.at_hand picture
+
+-- the next branch that waits is at hand, or none waits
+abbrev pub Advances : Growing → Growing → Bool → Type 0
+Advances old new true = (old.pending.behind ≡ new.pending.at_hand ∷ new.pending.behind) × (new.lines ≡ old.lines)
+Advances old new false = (old.pending.behind ≡ []) × (new.lines ≡ old.lines)
+
+-- lines more that lead from facts to the end of a tree; or another picture; or the tree was broken off, where a bound is set
+abbrev pub Writes : Clues → List (List ℕ) → List (List ℕ) → Lines → Option ℕ → Written → Type 0
+Writes clues known facts old until (Whole new) = (lines : List CertLine) × (Adds old new lines × Walks clues known lines (facts ∷ []) [])
+Writes clues known facts old until (Another picture) = IsOtherIn clues known facts picture
+Writes clues known facts old until BrokenOff = until ≡ None → ⊥
+
+-- ---- what is decided
+
+-- no line yet, to be kept where that is said
+abbrev pub AreNone : Bool → Lines → Type 0
+AreNone keeps (Kept lines) = lines.items ≡ []
+AreNone keeps Dropped = keeps ≡ false
+
+abbrev pub AreKept : Lines → Type 0
+AreKept (Kept lines) = Unit {0}
+AreKept Dropped = ⊥
+
+-- the lines of a tree from facts, where they are kept; else there are some
+abbrev pub AreTree : Clues → List (List ℕ) → List (List ℕ) → Lines → Type 0
+AreTree clues known facts (Kept lines) = Walks clues known lines.items (facts ∷ []) []
+AreTree clues known facts Dropped = (lines : List CertLine) × Walks clues known lines (facts ∷ []) []
+
+-- a tree, or another picture than the known one
+abbrev pub Decides : Clues → List (List ℕ) → List (List ℕ) → Bool → Decided → Type 0
+Decides clues known facts keeps (Tree lines) = AreTree clues known facts lines × (keeps ≡ true → AreKept lines)
+Decides clues known facts keeps (OtherPicture picture) = IsOtherIn clues known facts picture

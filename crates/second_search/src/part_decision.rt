@@ -1,0 +1,153 @@
+//! A part decided: by the search of the fixed order, and where that takes long and no allowance is set, by the ladder inside the
+//! part.
+
+ghost use Rattle.std.specs.Prelude.{◌≡◌, ◌≤◌, ℕ, length, IfOk, IfSome, OnOk};
+ghost use Rattle.line_settle.specs.Counting.{Counts};
+ghost use Rattle.second_search.specs.Parts.{IsOtherFilling, IsPart, IsScene};
+ghost use Rattle.second_search.specs.Searching.{CountsSome, EndsTrue, EndsWithin, alone, raised};
+
+use crate::counting::Ending;
+use crate::ladder::{Decided, FIRST_BOUND, Ladder, MOST_CELLS, climb};
+use crate::laws::fillings_are_of_facts;
+use crate::near::{SIZES, find_near};
+use crate::part_search::{leave_alone, search_part};
+use crate::scene::Scene;
+use clues::laws::clues_are_of_lines;
+use line_settle::laws::counts_add;
+use line_settle::{LineEngine, Meter};
+use picture::{CellSet, Picture};
+use propagate::laws::{closing_keeps_fillings, only_is_closed};
+use std::alloc::{AllocError, Global};
+
+/// How many splits the search of the fixed order makes in a part where no allowance is set.
+pub const FIXED_SPLITS: u32 = 1_000;
+
+// Decides a part under an allowance; or, where none is set, by so many splits of the fixed order, and by the ladder where they do
+// not suffice.
+pub(crate) fn decide_part<E: LineEngine>(
+    alloc: Global,
+    engine: &mut E,
+    scene: &Scene,
+    cells: &CellSet,
+    allowance: Option<u32>,
+    meter: &mut Meter,
+    splits: &mut u32,
+) -> Result<Ending, AllocError>
+    requires scene { IsScene scene.now.clues.now scene.now.givens.now scene.now.facts.now
+        scene.now.picture.now }
+    requires part { IsPart scene.now.facts.now cells.now }
+    requires tall { length scene.now.clues.now.rows ≤ E.longest engine.old }
+    requires wide { length scene.now.clues.now.columns ≤ E.longest engine.old }
+    ensures ends { IfOk result (λ ending. (n : ℕ) × ((splits.new ≡ raised splits.old n)
+        × EndsWithin scene.now.clues.now scene.now.picture.now (alone cells.now scene.now.facts.now scene.now.picture.now) allowance ending n)) }
+    ensures counts { (evaluations : ℕ)
+        × Counts evaluations 0 meter.old meter.new (E.calls engine.old) (E.calls engine.new) }
+    ensures evaluates { OnOk result
+        (CountsSome meter.old meter.new (E.calls engine.old) (E.calls engine.new)) }
+    ensures rises { splits.old ≤ splits.new }
+    ensures same_longest { E.longest engine.new ≡ E.longest engine.old }
+{
+    counts_add();
+    let _ = (engine.calls(), *splits);
+    let _evaluations = meter.evaluations;
+    let _trials = meter.trials;
+    match allowance {
+        Some(most) => search_part(alloc, engine, scene, cells, Some(most), meter, splits),
+        None => {
+            let ending = search_part(
+                alloc,
+                engine,
+                scene,
+                cells,
+                Some(FIXED_SPLITS),
+                meter,
+                splits,
+            )?;
+            match ending {
+                Ending::Nothing => Ok(Ending::Nothing),
+                Ending::Found(picture) => Ok(Ending::Found(picture)),
+                Ending::BrokenOff => {
+                    let climbed = climb_part(alloc, engine, scene, cells, meter)?;
+                    Ok(climbed)
+                }
+            }
+        }
+    }
+}
+
+// Decides a part by the ladder: other fillings that differ in one window alone, and then trees.
+fn climb_part<E: LineEngine>(
+    alloc: Global,
+    engine: &mut E,
+    scene: &Scene,
+    cells: &CellSet,
+    meter: &mut Meter,
+) -> Result<Ending, AllocError>
+    requires scene { IsScene scene.now.clues.now scene.now.givens.now scene.now.facts.now
+        scene.now.picture.now }
+    requires tall { length scene.now.clues.now.rows ≤ E.longest engine.old }
+    requires wide { length scene.now.clues.now.columns ≤ E.longest engine.old }
+    ensures ends { IfOk result (EndsTrue scene.now.clues.now scene.now.picture.now
+        (alone cells.now scene.now.facts.now scene.now.picture.now)) }
+    ensures counts { (evaluations : ℕ)
+        × Counts evaluations 0 meter.old meter.new (E.calls engine.old) (E.calls engine.new) }
+    ensures same_longest { E.longest engine.new ≡ E.longest engine.old }
+{
+    counts_add();
+    fillings_are_of_facts();
+    let _ = engine.calls();
+    let _evaluations = meter.evaluations;
+    let _trials = meter.trials;
+    for size in SIZES.iter() {
+        let near = find_near(alloc, engine, scene, cells, *size, meter)?;
+        if let Some(picture) = near {
+            return Ok(Ending::Found(picture));
+        }
+    }
+    search_alone(alloc, engine, scene, cells, meter)
+}
+
+// The trees of a part: the facts on it, with the picture's colours alone left elsewhere.
+fn search_alone<E: LineEngine>(
+    alloc: Global,
+    engine: &mut E,
+    scene: &Scene,
+    cells: &CellSet,
+    meter: &mut Meter,
+) -> Result<Ending, AllocError>
+    requires scene { IsScene scene.now.clues.now scene.now.givens.now scene.now.facts.now
+        scene.now.picture.now }
+    requires tall { length scene.now.clues.now.rows ≤ E.longest engine.old }
+    requires wide { length scene.now.clues.now.columns ≤ E.longest engine.old }
+    ensures ends { IfOk result (EndsTrue scene.now.clues.now scene.now.picture.now
+        (alone cells.now scene.now.facts.now scene.now.picture.now)) }
+    ensures counts { (evaluations : ℕ)
+        × Counts evaluations 0 meter.old meter.new (E.calls engine.old) (E.calls engine.new) }
+    ensures same_longest { E.longest engine.new ≡ E.longest engine.old }
+{
+    clues_are_of_lines();
+    only_is_closed();
+    closing_keeps_fillings();
+    let _ = (engine.calls(), scene.facts.height());
+    let _evaluations = meter.evaluations;
+    let _trials = meter.trials;
+    let mut facts = scene.facts.copy()?;
+    leave_alone(&mut facts, scene.picture, cells);
+    let part = Scene {
+        clues: scene.clues,
+        givens: scene.givens,
+        facts: &facts,
+        picture: scene.picture,
+    };
+    let ladder = Ladder {
+        most: MOST_CELLS,
+        first_bound: FIRST_BOUND,
+        holds: true,
+        keeps: false,
+    };
+    let decided = climb(alloc, engine, &part, ladder, meter)?;
+    match decided {
+        Decided::Tree(_) => Ok(Ending::Nothing),
+        Decided::OtherPicture(picture) => Ok(Ending::Found(picture)),
+    }
+}

@@ -1,0 +1,109 @@
+//! Closing a branch line by line, with the lines that force something written.
+
+ghost use Rattle.std.specs.Prelude.{◌≡◌, ◌≤◌, ℕ, length, IfOk, IsTrue};
+ghost use Rattle.picture.specs.Rows.{line_of, HasLine};
+ghost use Rattle.clues.specs.ClueBook.{HasClue};
+ghost use Rattle.line_settle.specs.Counting.{Counts};
+ghost use Rattle.line_settle.specs.FactSets.{IsFacts};
+ghost use Rattle.propagate.specs.Closing.{AreClosable};
+ghost use Rattle.second_search.specs.Trees.{Settles};
+
+use crate::tree_line::CertLine;
+use crate::tree_lines::{Lines, line_number};
+use clues::ClueBook;
+use line_settle::laws::{counts_add, forcing_closes_a_line};
+use line_settle::{Facts, Forced, LineEngine, Meter, Outcome, force_crossing};
+use picture::{Axis, LineId, LineSet};
+use propagate::{Agenda, InOrder};
+use std::alloc::AllocError;
+
+// More lines are never due on one branch: each evaluation but the first of a line goes with a colour that was excluded.
+const MOST_LINES: u32 = 100_000_000;
+
+// Closes facts from some lines on, and writes the lines that force something, or a dead one, where there is one.
+pub(crate) fn close_written<E: LineEngine>(
+    engine: &mut E,
+    clues: &ClueBook,
+    facts: &mut Facts,
+    dirty: &LineSet,
+    lines: &mut Lines,
+    meter: &mut Meter,
+) -> Result<Outcome, AllocError>
+    requires { AreClosable clues.now (E.longest engine.old) facts.old }
+    ensures settles { IfOk result (Settles clues.now facts.old facts.new lines.old lines.new) }
+    ensures counts { (evaluations : ℕ) × Counts evaluations 0 meter.old meter.new (E.calls engine.old) (E.calls engine.new) }
+    ensures same_longest { E.longest engine.new ≡ E.longest engine.old }
+{
+    counts_add();
+    let _ = engine.calls();
+    let _evaluations = meter.evaluations;
+    let _trials = meter.trials;
+    let mut agenda = InOrder::make();
+    agenda.put_all(dirty);
+    for _ in 0..MOST_LINES {
+        let Some(line) = agenda.take() else {
+            return Ok(Outcome::Narrowed);
+        };
+        if !is_line_of(facts, line) {
+            continue;
+        }
+        let forced = take_line(engine, clues, facts, line, lines, meter)?;
+        match forced.outcome {
+            Outcome::Dead => return Ok(Outcome::Dead),
+            Outcome::Narrowed => {}
+        }
+        agenda.put_all(&forced.changed);
+    }
+    Ok(Outcome::Narrowed)
+}
+
+// Whether the facts have a line.
+fn is_line_of(facts: &Facts, line: LineId) -> bool
+    ensures { IsTrue result → HasLine facts.now line }
+{
+    match line.axis {
+        Axis::Across => line.at < facts.height(),
+        Axis::Down => line.at < facts.width(),
+    }
+}
+
+#[tactic(auto, using(crate::proofs::TreeLemmas::taking))]
+// Evaluates a line, and writes it where it forces something or is dead.
+fn take_line<E: LineEngine>(
+    engine: &mut E,
+    clues: &ClueBook,
+    facts: &mut Facts,
+    line: LineId,
+    lines: &mut Lines,
+    meter: &mut Meter,
+) -> Result<Forced, AllocError>
+    requires closable { AreClosable clues.now (E.longest engine.old) facts.old }
+    requires line { HasLine facts.old line }
+    ensures settles { IfOk result (λ forced. Settles clues.now facts.old facts.new lines.old lines.new forced.outcome) }
+    ensures counts { (evaluations : ℕ) × Counts evaluations 0 meter.old meter.new (E.calls engine.old) (E.calls engine.new) }
+    ensures same_longest { E.longest engine.new ≡ E.longest engine.old }
+{
+    forcing_closes_a_line();
+    let _ = (facts.height(), engine.calls());
+    let _trials = meter.trials;
+    let forced = force_crossing(
+        engine,
+        facts,
+        clues.clue(line),
+        line,
+        &mut meter.evaluations,
+    );
+    match forced.outcome {
+        Outcome::Dead => {
+            lines.add(CertLine::Dead(line_number(line)))?;
+            Ok(forced)
+        }
+        Outcome::Narrowed => {
+            if forced.changed.is_empty() {
+                return Ok(forced);
+            }
+            lines.add(CertLine::Line(line_number(line)))?;
+            Ok(forced)
+        }
+    }
+}

@@ -1,0 +1,98 @@
+//! Dead lines of a branch whose picture does not have the clues.
+
+ghost use Rattle.std.specs.Prelude.{◌≡◌, ◌↔◌, ℕ, IfOk, IsTrue, MatchOption};
+ghost use Rattle.picture.specs.Rows.{HasLine, line_of};
+ghost use Rattle.clues.specs.ClueBook.{clue_at};
+ghost use Rattle.line_settle.specs.Counting.{Counts};
+ghost use Rattle.line_settle.specs.Fitting.{CanFit};
+ghost use Rattle.propagate.specs.Closing.{AreClosable, EachFits};
+ghost use Rattle.second_search.specs.Trees.{EachFitsAlong, IsDeadLine};
+
+use clues::ClueBook;
+use line_settle::laws::counts_add;
+use line_settle::{Facts, LineEngine, Meter, Outcome, force};
+use picture::{Axis, LineId};
+use std::alloc::AllocError;
+
+#[tactic(auto, using(crate::proofs::TreeLemmas::all_fit))]
+// The first line that no list fits, if there is one.
+pub(crate) fn dead_line<E: LineEngine>(
+    engine: &mut E,
+    clues: &ClueBook,
+    facts: &Facts,
+    meter: &mut Meter,
+) -> Result<Option<LineId>, AllocError>
+    requires { AreClosable clues.now (E.longest engine.old) facts.now }
+    ensures dead { IfOk result (λ found. MatchOption found (EachFits clues.now facts.now) (IsDeadLine clues.now facts.now)) }
+    ensures counts { (evaluations : ℕ) × Counts evaluations 0 meter.old meter.new (E.calls engine.old) (E.calls engine.new) }
+    ensures same_longest { E.longest engine.new ≡ E.longest engine.old }
+{
+    counts_add();
+    let _ = engine.calls();
+    let _evaluations = meter.evaluations;
+    let _trials = meter.trials;
+    if let Some(line) = dead_along(engine, clues, facts, Axis::Across, meter)? {
+        return Ok(Some(line));
+    }
+    dead_along(engine, clues, facts, Axis::Down, meter)
+}
+
+// The first such line along an axis.
+fn dead_along<E: LineEngine>(
+    engine: &mut E,
+    clues: &ClueBook,
+    facts: &Facts,
+    axis: Axis,
+    meter: &mut Meter,
+) -> Result<Option<LineId>, AllocError>
+    requires { AreClosable clues.now (E.longest engine.old) facts.now }
+    ensures dead { IfOk result (λ found. MatchOption found (EachFitsAlong clues.now facts.now axis) (IsDeadLine clues.now facts.now)) }
+    ensures counts { (evaluations : ℕ) × Counts evaluations 0 meter.old meter.new (E.calls engine.old) (E.calls engine.new) }
+    ensures same_longest { E.longest engine.new ≡ E.longest engine.old }
+{
+    counts_add();
+    let _ = engine.calls();
+    let _evaluations = meter.evaluations;
+    let _trials = meter.trials;
+    let count = match axis {
+        Axis::Across => facts.height(),
+        Axis::Down => facts.width(),
+    };
+    for at in 0..count {
+        let line = LineId { axis, at };
+        if !some_fits(engine, clues, facts, line, meter)? {
+            return Ok(Some(line));
+        }
+    }
+    Ok(None)
+}
+
+// Whether some list fits a line.
+fn some_fits<E: LineEngine>(
+    engine: &mut E,
+    clues: &ClueBook,
+    facts: &Facts,
+    line: LineId,
+    meter: &mut Meter,
+) -> Result<bool, AllocError>
+    requires closable { AreClosable clues.now (E.longest engine.old) facts.now }
+    requires line { HasLine facts.now line }
+    ensures fits { IfOk result (λ fits. IsTrue fits ↔ CanFit (clue_at clues.now line) (line_of facts.now line)) }
+    ensures counts { (evaluations : ℕ) × Counts evaluations 0 meter.old meter.new (E.calls engine.old) (E.calls engine.new) }
+    ensures same_longest { E.longest engine.new ≡ E.longest engine.old }
+{
+    let _ = (facts.height(), engine.calls());
+    let _evaluations = meter.evaluations;
+    let _trials = meter.trials;
+    let mut trial = facts.copy()?;
+    match force(
+        engine,
+        &mut trial,
+        clues.clue(line),
+        line,
+        &mut meter.evaluations,
+    ) {
+        Outcome::Dead => Ok(false),
+        Outcome::Narrowed => Ok(true),
+    }
+}

@@ -1,0 +1,233 @@
+//! What comes next on a closed branch of a tree.
+
+ghost use Rattle.std.specs.Prelude.{◌≡◌, ◌<◌, ◌↔◌, ℕ, length, IfOk, IfSome, IsTrue, MatchOption};
+ghost use Rattle.picture.specs.Picture.{IsPicture};
+ghost use Rattle.picture.specs.Rows.{cell_at, width_of};
+ghost use Rattle.line_settle.specs.Counting.{Counts};
+ghost use Rattle.line_settle.specs.FactSets.{Leaves, SameShape};
+ghost use Rattle.propagate.specs.Closing.{AreClosable};
+ghost use Rattle.propagate.specs.Filling.{LeavesPicture};
+ghost use Rattle.second_search.specs.Looking.{AreSettled};
+ghost use Rattle.second_search.specs.Trees.{Continues, IsComparedTo, IsOtherIn};
+
+use crate::looking::{first_unsettled, shown_picture};
+use crate::scene::Scene;
+use crate::tree_dead::dead_line;
+use crate::tree_line::CertLine;
+use crate::tree_lines::line_number;
+use clues::laws::{books_are_their_clues, clues_are_of_lines};
+use line_settle::laws::counts_add;
+use line_settle::{Facts, LineEngine, Meter};
+use picture::Picture;
+use split_choice::{Cell, Choice, Chosen, Node, Plan, Puzzle, choose, filled, fills_all, leaves};
+use std::alloc::{AllocError, Global};
+
+// What comes next: a line that ends the branch, a cell to split, or another picture than the known one.
+#[derive(Drop)]
+pub(crate) enum TreeStep {
+    Ends(CertLine),
+    Splits(Cell),
+    Other(Picture),
+}
+
+// How a tree is written: how cells are chosen, how many are looked at, at how many evaluations the tree is broken off, if at
+// all, and whether the known picture is held on to.
+#[derive(Clone, Copy)]
+pub(crate) struct Way {
+    pub choice: Choice,
+    pub most: usize,
+    pub until: Option<u64>,
+    pub holds: bool,
+}
+
+// What comes next on a branch. Where it is not closed, that is still a lawful step.
+pub(crate) fn next_step<E: LineEngine>(
+    alloc: Global,
+    engine: &mut E,
+    scene: &Scene,
+    facts: &Facts,
+    way: Way,
+    meter: &mut Meter,
+) -> Result<TreeStep, AllocError>
+    requires { AreClosable scene.now.clues.now (E.longest engine.old) facts.now }
+    ensures continues { IfOk result (Continues scene.now.clues.now scene.now.picture.now facts.now) }
+    ensures counts { (evaluations : ℕ) × Counts evaluations 0 meter.old meter.new (E.calls engine.old) (E.calls engine.new) }
+    ensures same_longest { E.longest engine.new ≡ E.longest engine.old }
+{
+    counts_add();
+    let _ = engine.calls();
+    let _evaluations = meter.evaluations;
+    let _trials = meter.trials;
+    let node = node_at(scene, facts, way);
+    let here = other_here(alloc, scene, &node)?;
+    if let Some(picture) = here {
+        return Ok(TreeStep::Other(picture));
+    }
+    let chosen = choose(alloc, engine, &node, plan_of(way), meter)?;
+    match chosen {
+        Chosen::Splits(cell) => Ok(TreeStep::Splits(cell)),
+        Chosen::Nothing => end_at(alloc, engine, scene, facts, meter),
+        Chosen::Fills(trial) => {
+            let there = other_in(alloc, scene, &node.puzzle, facts, &trial)?;
+            match there {
+                Some(picture) => Ok(TreeStep::Other(picture)),
+                None => end_at(alloc, engine, scene, facts, meter),
+            }
+        }
+    }
+}
+
+// The branch as it is chosen on.
+fn node_at<'a>(scene: &Scene<'a>, facts: &'a Facts, way: Way) -> Node<'a>
+    ensures { result.facts.now ≡ facts.now }
+{
+    let held = if way.holds { Some(scene.picture) } else { None };
+    Node {
+        puzzle: Puzzle {
+            clues: scene.clues,
+            held,
+        },
+        facts,
+        own: way.holds && leaves(facts, scene.picture),
+    }
+}
+
+// How its cells are chosen.
+fn plan_of(way: Way) -> Plan {
+    Plan {
+        choice: way.choice,
+        most: way.most,
+        until: way.until.unwrap_or(u64::MAX),
+    }
+}
+
+// Another picture on a branch, where the held picture's colours fill its open cells.
+fn other_here(alloc: Global, scene: &Scene, node: &Node) -> Result<Option<Picture>, AllocError>
+    ensures { IfOk result (λ found. IfSome found (IsOtherIn scene.now.clues.now scene.now.picture.now node.now.facts.now)) }
+{
+    if node.own || !fills_all(&node.puzzle, node.facts) {
+        return Ok(None);
+    }
+    other_in(alloc, scene, &node.puzzle, node.facts, node.facts)
+}
+
+// Another picture on a branch: that which facts show, with the held picture's colours in open cells.
+fn other_in(
+    alloc: Global,
+    scene: &Scene,
+    puzzle: &Puzzle,
+    facts: &Facts,
+    shown: &Facts,
+) -> Result<Option<Picture>, AllocError>
+    ensures { IfOk result (λ found. IfSome found (IsOtherIn scene.now.clues.now scene.now.picture.now facts.now)) }
+{
+    let picture = filled(alloc, puzzle, shown)?;
+    if is_other_in(scene, facts, &picture) {
+        Ok(Some(picture))
+    } else {
+        Ok(None)
+    }
+}
+
+// Whether a picture fills facts and is not the known one.
+fn is_other_in(scene: &Scene, facts: &Facts, picture: &Picture) -> bool
+    ensures { IsTrue result → IsOtherIn scene.now.clues.now scene.now.picture.now facts.now picture.now }
+{
+    !picture.same(scene.picture) && scene.clues.has_clues(picture) && allows(facts, picture)
+}
+
+// Whether facts have the size of a picture and leave its colours.
+fn allows(facts: &Facts, picture: &Picture) -> bool
+    ensures shape { IsTrue result → SameShape picture.now facts.now }
+    ensures leaves { IsTrue result → LeavesPicture picture.now facts.now }
+    ensures picture { IsPicture picture.now }
+{
+    if picture.height() != facts.height() || picture.width() != facts.width() {
+        return false;
+    }
+    for row in 0..facts.height() {
+        if !allows_row(facts, picture, row) {
+            return false;
+        }
+    }
+    true
+}
+
+// The same of a row.
+fn allows_row(facts: &Facts, picture: &Picture, row: u8) -> bool
+    requires here { row < length facts.now }
+    requires there { row < length picture.now }
+    requires width { width_of picture.now ≡ width_of facts.now }
+    ensures { IsTrue result → (col : ℕ) → col < width_of facts.now → Leaves facts.now row col (cell_at picture.now row col) }
+{
+    for col in 0..facts.width() {
+        if facts.excluded(row, col, picture.cell(row, col)) {
+            return false;
+        }
+    }
+    true
+}
+
+// What comes next where no cell was chosen: the first cell in which not just one colour is left, if there is one.
+fn end_at<E: LineEngine>(
+    alloc: Global,
+    engine: &mut E,
+    scene: &Scene,
+    facts: &Facts,
+    meter: &mut Meter,
+) -> Result<TreeStep, AllocError>
+    requires { AreClosable scene.now.clues.now (E.longest engine.old) facts.now }
+    ensures continues { IfOk result (Continues scene.now.clues.now scene.now.picture.now facts.now) }
+    ensures counts { (evaluations : ℕ) × Counts evaluations 0 meter.old meter.new (E.calls engine.old) (E.calls engine.new) }
+    ensures same_longest { E.longest engine.new ≡ E.longest engine.old }
+{
+    let _ = engine.calls();
+    let _evaluations = meter.evaluations;
+    let _trials = meter.trials;
+    match first_unsettled(facts, 0) {
+        Some(cell) => Ok(TreeStep::Splits(cell)),
+        None => end_settled(alloc, engine, scene, facts, meter),
+    }
+}
+
+// The end of a branch in which each cell has just one colour left: the picture that it shows is the known one or another, or
+// some line is dead.
+fn end_settled<E: LineEngine>(
+    alloc: Global,
+    engine: &mut E,
+    scene: &Scene,
+    facts: &Facts,
+    meter: &mut Meter,
+) -> Result<TreeStep, AllocError>
+    requires closable { AreClosable scene.now.clues.now (E.longest engine.old) facts.now }
+    requires settled { AreSettled facts.now }
+    ensures continues { IfOk result (Continues scene.now.clues.now scene.now.picture.now facts.now) }
+    ensures counts { (evaluations : ℕ) × Counts evaluations 0 meter.old meter.new (E.calls engine.old) (E.calls engine.new) }
+    ensures same_longest { E.longest engine.new ≡ E.longest engine.old }
+{
+    clues_are_of_lines();
+    books_are_their_clues();
+    let _ = (facts.height(), engine.calls());
+    let _evaluations = meter.evaluations;
+    let _trials = meter.trials;
+    let picture = shown_picture(alloc, facts)?;
+    if scene.clues.has_clues(&picture) {
+        return Ok(compared(picture, scene.picture));
+    }
+    let dead = dead_line(engine, scene.clues, facts, meter)?;
+    match dead {
+        Some(line) => Ok(TreeStep::Ends(CertLine::Dead(line_number(line)))),
+        None => unreachable!(),
+    }
+}
+
+// What a picture that has the clues is: the known one, which ends the branch, or another.
+fn compared(picture: Picture, known: &Picture) -> TreeStep
+    ensures { IsComparedTo known.now picture result }
+{
+    if picture.same(known) {
+        TreeStep::Ends(CertLine::Done)
+    } else {
+        TreeStep::Other(picture)
+    }
+}

@@ -1,0 +1,167 @@
+//! The cell that a search splits.
+
+ghost use Rattle.std.specs.Prelude.{◌≡◌, ℕ, IfOk, IsTrue};
+ghost use Rattle.line_settle.specs.Counting.{Counts};
+ghost use Rattle.split_choice.specs.Choosing.{CanSplit, IsUnsettled};
+
+use crate::cell::Cell;
+use crate::looking::{Look, look_at};
+use crate::open_cells::OpenCells;
+use crate::pool::Place;
+use crate::puzzle::{Choice, Node, Plan};
+use crate::regions::{Region, smallest_unfilled};
+use crate::telling::most_telling;
+use line_settle::laws::counts_add;
+use line_settle::{Facts, LineEngine, Meter};
+use picture::MAX_SIDE;
+use std::alloc::{AllocError, Global};
+
+/// What is chosen: a cell to split, or facts inside those at hand that the held picture's colours fill, or nothing.
+#[derive(Drop)]
+pub enum Chosen {
+    Splits(Cell),
+    Fills(Facts),
+    Nothing,
+}
+
+/// Chooses a cell in which not just one colour is left. Where there is such a cell, none may be chosen all the same, and of
+/// facts that are answered nothing is promised.
+pub fn choose<E: LineEngine>(
+    alloc: Global,
+    engine: &mut E,
+    node: &Node,
+    plan: Plan,
+    meter: &mut Meter,
+) -> Result<Chosen, AllocError>
+    ensures can_split { IfOk result (CanSplit node.now.facts.now) }
+    ensures counts { (evaluations : ℕ) × Counts evaluations 0 meter.old meter.new (E.calls engine.old) (E.calls engine.new) }
+    ensures same_longest { E.longest engine.new ≡ E.longest engine.old }
+{
+    let chosen = choose_any(alloc, engine, node, plan, meter)?;
+    Ok(tested(node.facts, chosen))
+}
+
+// What was chosen, where it can be split.
+fn tested(facts: &Facts, chosen: Chosen) -> Chosen
+    ensures { CanSplit facts.now result }
+{
+    match chosen {
+        Chosen::Splits(cell) if can_split(facts, cell) => Chosen::Splits(cell),
+        Chosen::Splits(_) => Chosen::Nothing,
+        Chosen::Fills(others) => Chosen::Fills(others),
+        Chosen::Nothing => Chosen::Nothing,
+    }
+}
+
+// Whether a cell is one of the facts in which not just one colour is left.
+fn can_split(facts: &Facts, cell: Cell) -> bool
+    ensures { IsTrue result → IsUnsettled facts.now cell }
+{
+    if cell.row >= facts.height() || cell.col >= facts.width() {
+        return false;
+    }
+    facts.shown(cell.row, cell.col).is_none()
+}
+
+// The same, of which nothing is promised.
+fn choose_any<E: LineEngine>(
+    alloc: Global,
+    engine: &mut E,
+    node: &Node,
+    plan: Plan,
+    meter: &mut Meter,
+) -> Result<Chosen, AllocError>
+    ensures counts { (evaluations : ℕ) × Counts evaluations 0 meter.old meter.new (E.calls engine.old) (E.calls engine.new) }
+    ensures same_longest { E.longest engine.new ≡ E.longest engine.old }
+{
+    let _ = engine.calls();
+    let _evaluations = meter.evaluations;
+    let _trials = meter.trials;
+    let open = OpenCells::of(node.facts);
+    let Some(region) = smallest_unfilled(node, &open) else {
+        return Ok(Chosen::Nothing);
+    };
+    match plan.choice {
+        Choice::First => Ok(first_in(&open, &region)),
+        Choice::Look => {
+            let pool = most_telling(alloc, node, &open, &region, plan.most)?;
+            look_ahead(engine, node, pool.places(), plan.until, meter)
+        }
+    }
+}
+
+// The first open cell of a part in row order.
+fn first_in(open: &OpenCells, region: &Region) -> Chosen {
+    for row in 0..MAX_SIDE {
+        if region.rows >> row & 1 == 1 {
+            let col = open.in_row(usize::from(row)).trailing_zeros();
+            return Chosen::Splits(Cell {
+                row,
+                col: col.min(127) as u8,
+            });
+        }
+    }
+    Chosen::Nothing
+}
+
+// The cell that tells most when its colours are held; at once one of which at most one branch goes on, on the held picture's own
+// branch none but its own.
+fn look_ahead<E: LineEngine>(
+    engine: &mut E,
+    node: &Node,
+    places: &[Place],
+    until: u64,
+    meter: &mut Meter,
+) -> Result<Chosen, AllocError>
+    ensures counts { (evaluations : ℕ) × Counts evaluations 0 meter.old meter.new (E.calls engine.old) (E.calls engine.new) }
+    ensures same_longest { E.longest engine.new ≡ E.longest engine.old }
+{
+    counts_add();
+    let _ = engine.calls();
+    let _evaluations = meter.evaluations;
+    let _trials = meter.trials;
+    let enough = if node.own { 0 } else { 1 };
+    let mut best = Best {
+        worth: 0,
+        cell: None,
+    };
+    for place in places {
+        match look_at(engine, node, place.cell, meter)? {
+            Look::Fills(facts) => return Ok(Chosen::Fills(facts)),
+            Look::Seen(tally) => {
+                if tally.alive <= enough {
+                    return Ok(Chosen::Splits(place.cell));
+                }
+                best.offer(tally.worth(), place.cell);
+            }
+        }
+        if meter.evaluations >= until {
+            return Ok(best.chosen());
+        }
+    }
+    Ok(best.chosen())
+}
+
+// The cell that tells most so far.
+#[derive(Clone, Copy)]
+struct Best {
+    worth: u64,
+    cell: Option<Cell>,
+}
+
+impl Best {
+    // Takes a cell that tells more.
+    fn offer(&mut self, worth: u64, cell: Cell) {
+        if self.cell.is_none() || worth > self.worth {
+            self.worth = worth;
+            self.cell = Some(cell);
+        }
+    }
+
+    fn chosen(self) -> Chosen {
+        match self.cell {
+            Some(cell) => Chosen::Splits(cell),
+            None => Chosen::Nothing,
+        }
+    }
+}
