@@ -10,11 +10,9 @@ from pathlib import Path
 EXAMPLES = Path(__file__).resolve().parent.parent / 'examples'
 MARK = b'refused\n'  # what the library says on standard error
 MEMORY = b'nonobench: memory\n'
-PAGE = EXAMPLES.parent / 'crates' / 'page' / 'out' / 'page'
 WANTED = b'refused: Memory\n'
 LONG = b'x' * 201  # a line whose answer ends each answer of a dialogue
 END = b'refused: LongLine\n'
-HOST = b'127.0.0.1:7'
 LOOKS = (b'clues', b'map', b'write ppm')  # what is asked behind a refusal: these change nothing
 MOST = 100_000
 
@@ -41,27 +39,6 @@ write non
 colour set c 0 0 254
 report
 '''.splitlines()
-
-
-def posted(lines, host=HOST):
-    """A request with lines for the bench of the page's program."""
-    return (b'POST /say HTTP/1.1\r\nHost: %s\r\nContent-Type: text/plain\r\nX-Nonobench: say\r\nContent-Length: %d\r\n\r\n%s'
-            % (host, len(lines), lines))
-
-
-REPORT = posted(b'report\n')
-
-# Requests on the picture of PEERS_PICTURE, and the bodies that tell of a refused growth in the middle: with 0 where the bench is
-# then as before the request, and with 1 where it is as behind it.
-PEERS = (
-    (posted(b'pin 1 1\nverdict\n'), {b'refused: Memory\nambiguous\n.a\na.\n': 0, b'ok\nrefused: Memory\n': 1}),
-    (posted(b'undo\n', b'elsewhere'), {}),
-    (posted(b'undo'), {b'refused: Memory\n': 0}),
-    (b'GET / HTTP/1.1\r\nHost: %s\r\n\r\n' % HOST, {}),
-)
-
-# Two rows, black and white, white and black: another picture has these clues.
-PEERS_PICTURE = b'P3 2 2 255 0 0 0 255 255 255 255 255 255 0 0 0\n'
 
 
 class Wrong(Exception):
@@ -199,85 +176,6 @@ class Session:
             raise Wrong(f'in front of line {at + 1} another thing is shown')
 
 
-class Peers:
-    """The page's program, which answers some peers one after another."""
-
-    def __init__(self, program, words):
-        self.program = program
-        self.words = words
-        self.lacks = 'no refused growth is answered by 503'
-        with program.open(0, words) as process:
-            self.places = [exchange(process, REPORT)]
-            self.answers = []
-            for request, _ in PEERS:
-                self.answers.append(exchange(process, request))
-                self.places.append(exchange(process, REPORT))
-            if ended(process) != ((0, b'', b''), False) or None in self.answers + self.places:
-                raise Wrong('with ample memory it does not end as it must')
-
-    def refuse(self, number):
-        """Refuses one growth: its request is answered by 503, by the line of its command or not to the end, the bench is as
-        before the request or as behind it, and the request is answered when it is put again, as are all behind it. Before the
-        first one the program must end by memory. Whether a growth was refused, and whether that was seen."""
-        with self.program.open(number, self.words) as process:
-            told = []
-            while None not in told and len(told) < len(PEERS):
-                told.append(self.puts(process, len(told)))
-            is_open = None not in told
-            if is_open and self.stand(process) != self.places[-1]:
-                raise Wrong('the bench ends otherwise')
-            (status, rest, said), was_refused = ended(process)
-        if (status, rest, said) != ((0, b'', b'') if is_open else (1, b'', b'nonobench_page: memory\n')):
-            raise Wrong(f'it ends with status {status} and says {said[:80]!r}')
-        was_seen = any(told) or not is_open
-        if was_seen and not was_refused:
-            raise Wrong('a request is refused though no growth was')
-        return was_refused, was_seen
-
-    def stand(self, process):
-        """A report, a second one where a growth for it was refused."""
-        got = exchange(process, REPORT)
-        return got if got in self.places else exchange(process, REPORT)
-
-    def puts(self, process, at):
-        """Puts a request, and again where the bench is then as before it. Whether a refusal was seen; None where the program
-        has ended before the first request."""
-        request, told = PEERS[at]
-        got = exchange(process, request)
-        if got == self.answers[at]:
-            return False
-        if got is None and at == 0:
-            return None
-        report = self.stand(process)
-        if got is None or report not in self.allowed(at, got, told):
-            raise Wrong(f'request {at + 1} is answered by {got!r} and leads to {report!r}')
-        if report == self.places[at] and exchange(process, request) != self.answers[at]:
-            raise Wrong(f'request {at + 1} is not answered when it is put again')
-        return True
-
-    def allowed(self, at, got, told):
-        """The reports that may follow this answer, which is not the right one."""
-        between = self.places[at:at + 2]
-        head, _, body = got.partition(b'\r\n\r\n')
-        if self.answers[at].startswith(got):
-            return between
-        if head.startswith(b'HTTP/1.1 503 Service Unavailable\r\n') and not body:
-            self.lacks = None
-            return between
-        return [between[told[body]]] if head.startswith(b'HTTP/1.1 200 OK\r\n') and body in told else []
-
-
-def exchange(process, request):
-    """What goes back to a peer; None where the program has ended."""
-    try:
-        process.stdin.write(len(request).to_bytes(4, 'big') + request)
-        process.stdin.flush()
-    except BrokenPipeError:
-        return None
-    length = process.stdout.read(4)
-    return process.stdout.read(int.from_bytes(length, 'big')) if len(length) == 4 else None
-
-
 def ended(process):
     """The status, what was written behind all that was read and what was said; and whether a growth was refused."""
     try:
@@ -354,11 +252,6 @@ def runs(program, folder):
         yield name, Run(program, words)
     for name, words, lines in sessions(folder):
         yield name, Session(program, words, lines)
-    if PAGE.exists():
-        picture = folder / 'peers.ppm'
-        picture.write_bytes(PEERS_PICTURE)
-        words = [str(picture), '--address', HOST.decode(), '--page', str(EXAMPLES.parent / 'page')]
-        yield 'page', Peers(Program(str(PAGE), program.library), words)
 
 
 def main(program, library, folder, *wanted):

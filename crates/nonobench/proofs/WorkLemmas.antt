@@ -4,9 +4,10 @@ use Rattle.live_audit.specs.Bench.{Seen}
 use Rattle.session.specs.declared.session.SessionFault.{SessionFault}
 use Rattle.session.specs.Session.{Runs}
 use Rattle.answers.specs.declared.fault.ProgramFault.{ProgramFault}
-use Rattle.nonobench.specs.declared.options.Options.{Options}
+use Rattle.answers.specs.declared.options.Options.{Options}
 use Rattle.answers.specs.Faults.{session_fault_of}
-use Rattle.nonobench.specs.Work.{IsStarted, RunsOn, Works}
+use Rattle.nonobench.specs.Work.{RunsOn, Works}
+use Rattle.answers.specs.Start.{IsStarted}
 
 pub ran : (had have held holds : Option (List ℕ)) (file : List ℕ) (options : Options) (fresh last : Seen) (answered ended : Result (Unit {0}) SessionFault)
     → IsStarted file options fresh → answered ≡ ended → Runs had have held holds fresh last answered → RunsOn had have held holds file options ended

@@ -1,4 +1,2 @@
-pub mod Background
-pub mod Open
 pub mod Work
 pub mod Words

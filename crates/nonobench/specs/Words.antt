@@ -2,7 +2,7 @@
 use Rattle.std.specs.Prelude.{ℕ, Option}
 use Rattle.nonobench.specs.declared.words.Task.{Task}
 use Rattle.nonobench.specs.declared.words.Task.TheVariants.{Clues, Work, Check, Help}
-use Rattle.nonobench.specs.Work.{IsLawful}
+use Rattle.answers.specs.Start.{IsLawful}
 
 -- the options of a session are lawful
 abbrev pub IsLawfulTask : Task → Type 0

@@ -4,19 +4,16 @@
 #![tactic(auto)]
 
 mod input;
-mod open;
-mod options;
 mod words;
 mod work;
 
 ghost use Rattle.nonobench.specs.Words.{IsLawfulTask};
-ghost use Rattle.nonobench.specs.Work.{IsLawful};
+ghost use Rattle.answers.specs.Start.{IsLawful};
 
 use crate::input::read_input;
-use crate::options::Options;
 use crate::words::{Task, read_words};
 use crate::work::run_work;
-pub use answers::{ProgramFault, run_check, run_clues};
+pub use answers::{Options, ProgramFault, run_check, run_clues};
 use picture::{Rgb, send};
 use std::process::ExitCode;
 use std::rt::{Env, Files};

@@ -1,17 +1,14 @@
 //! The words of the command line.
 
-ghost use Rattle.std.specs.Prelude.{◌≡◌, ◌<◌, ◌≤◌, [], IfOk, option_map, position};
+ghost use Rattle.std.specs.Prelude.{◌≡◌, ◌<◌, ◌≤◌, [], IfOk};
 ghost use Rattle.nonobench.specs.declared.words.Task.TheVariants.{Clues};
-ghost use Rattle.nonobench.specs.Background.{background_of, is_comma, sample_before, sample_seen};
 ghost use Rattle.nonobench.specs.Words.{IsLawfulTask};
 
-use crate::options::Options;
-use answers::ProgramFault;
+use answers::{Options, ProgramFault, background_in};
 use clap::error::ErrorKind;
 use clap::{Arg, ArgMatches, Command, Error, value_parser};
 use edits::MAX_DEPTH;
 use picture::Rgb;
-use session::sample_in;
 use std::alloc::{AllocError, Global};
 
 /// What the words ask the program for. Paths are as they were given.
@@ -213,35 +210,4 @@ fn background<'a>(alloc: Global) -> Arg<'a> {
         .long("background")
         .value_name("R,G,B")
         .help("The colour of the background in a P3 text, white where it is not given")
-}
-
-// The colour that three samples with commas between them name.
-fn background_in(text: &[u8]) -> Option<Rgb>
-    ensures { result ≡ background_of text.now }
-{
-    let (r, rest) = sample_before(text)?;
-    let (g, rest) = sample_before(rest)?;
-    let b = sample_in(rest)?;
-    Some(Rgb { r, g, b })
-}
-
-#[tactic(auto, using(std::proofs::lemmas::List::take_rest))]
-// The sample before the first comma, and what stands behind that.
-fn sample_before(text: &[u8]) -> Option<(u16, &[u8])>
-    ensures { option_map sample_seen result ≡ sample_before text.now }
-{
-    let Some(end) = comma_place(text) else {
-        return None;
-    };
-    let Some(sample) = sample_in(&text[..end]) else {
-        return None;
-    };
-    Some((sample, &text[end + 1..]))
-}
-
-// The place of the first comma.
-fn comma_place(text: &[u8]) -> Option<usize>
-    ensures { result ≡ position is_comma text.now }
-{
-    text.iter().position(|b| *b == b',')
 }

@@ -1,14 +1,9 @@
 //! The work on a file: a session.
 
-ghost use Rattle.nonobench.specs.Work.{IsLawful, Starts, Works};
+ghost use Rattle.answers.specs.Start.{IsLawful};
+ghost use Rattle.nonobench.specs.Work.{Works};
 
-use crate::open::open_file;
-use crate::options::Options;
-use answers::ProgramFault;
-use line_settle::MaskEngine;
-use live_audit::Bench;
-use picture::MAX_SIDE;
-use propagate::InOrder;
+use answers::{Options, ProgramFault, start_bench};
 use session::run_session;
 use std::alloc::Global;
 use std::io::{Read, Write};
@@ -30,21 +25,7 @@ pub fn run_work<R: Read, W: Write>(
         (W.contents writer.old) (W.contents writer.new)
         file.now options result }
 {
-    let mut bench = fresh_bench(alloc, file, &options)?;
+    let mut bench = start_bench(alloc, file, &options)?;
     run_session(alloc, reader, writer, &mut bench)?;
     Ok(())
-}
-
-// A bench with the document that the file is opened as.
-fn fresh_bench(
-    alloc: Global,
-    file: &[u8],
-    options: &Options,
-) -> Result<Bench<MaskEngine, InOrder>, ProgramFault>
-    requires { IsLawful options.now }
-    ensures { Starts file.now options.now result }
-{
-    let document = open_file(alloc, file, options)?;
-    let engine = MaskEngine::make(alloc, MAX_SIDE)?;
-    Ok(Bench::start(alloc, document, options.history, engine, InOrder::make())?)
 }

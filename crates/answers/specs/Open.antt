@@ -1,0 +1,69 @@
+-- What a file is opened as.
+use Rattle.std.specs.Prelude.{◌≡◌, ◌⊎◌, ℕ, Bool, true, false, List, [], ◌∷◌, length, Option, None, Some, Result, Ok, Err}
+use Rattle.picture.specs.declared.document.Document.{Document}
+use Rattle.picture.specs.declared.rgb.Rgb.{Rgb}
+use Rattle.picture.specs.CellSet.{no_cells}
+use Rattle.picture.specs.Palette.{Colours}
+use Rattle.picture.specs.Rows.{width_of}
+use Rattle.clues.specs.ClueBook.{Clues}
+use Rattle.ppm_text.specs.Ppm.{ppm_of}
+use Rattle.non_text.specs.declared.fault.NonFault.{NonFault}
+use Rattle.non_text.specs.declared.non_puzzle.NonPuzzle.{NonPuzzle}
+use Rattle.non_text.specs.Puzzle.{non_of}
+use Rattle.second_search.specs.Other.{FindsFirst}
+use Rattle.edits.specs.Design.{Design, design, design_of, marks_of}
+use Rattle.answers.specs.declared.fault.ProgramFault.{ProgramFault}
+use Rattle.answers.specs.declared.fault.ProgramFault.TheVariants.{Memory, NoPicture}
+use Rattle.answers.specs.declared.options.Options.{Options}
+use Rattle.answers.specs.Background.{rgb}
+use Rattle.answers.specs.Faults.{non_fault_of}
+use Rattle.answers.specs.Run.{after_edit}
+
+-- white, and black as colour 1
+abbrev pub two_colours : Colours
+two_colours = record { maxval = 255; triples = rgb 255 255 255 ∷ rgb 0 0 0 ∷ [] }
+
+-- a picture in these colours, without givens
+abbrev pub black_on_white : List (List ℕ) → Design
+black_on_white rows = design two_colours rows (marks_of (length rows) (width_of rows) no_cells)
+
+-- the picture that was found, if one was
+abbrev pub picture_found : Option (List (List ℕ)) → Result (List (List ℕ)) ProgramFault
+picture_found None = Err NoPicture
+picture_found (Some rows) = Ok rows
+
+-- what a call answers that looks for a picture with these clues
+abbrev pub FindsPicture : Clues → Result (List (List ℕ)) ProgramFault → Type 0
+FindsPicture clues (Ok rows) = FindsFirst clues (Some rows)
+FindsPicture clues (Err fault) = (fault ≡ Memory) ⊎ ((fault ≡ NoPicture) × FindsFirst clues None)
+
+-- A puzzle with a goal is opened as the goal; one without as a picture that was found and has the clues, or there is none.
+abbrev pub OpensPuzzle : Clues → Option (List (List ℕ)) → Result Design ProgramFault → Type 0
+OpensPuzzle clues (Some goal) opened = opened ≡ Ok (black_on_white goal)
+OpensPuzzle clues None (Ok d) = (rows : List (List ℕ)) × (FindsFirst clues (Some rows) × (d ≡ black_on_white rows))
+OpensPuzzle clues None (Err fault) = (fault ≡ NoPicture) × FindsFirst clues None
+
+abbrev pub OpensRead : Result NonPuzzle NonFault → Result Design ProgramFault → Type 0
+OpensRead (Err fault) opened = opened ≡ Err (non_fault_of fault)
+OpensRead (Ok puzzle) opened = OpensPuzzle puzzle.clues puzzle.goal opened
+
+-- what a .non text is opened as
+abbrev pub OpensNon : List ℕ → Result Design ProgramFault → Type 0
+OpensNon text opened = OpensRead (non_of text) opened
+
+-- what a P3 text with this background is opened as
+abbrev pub OpensPpm : List ℕ → Option Rgb → Result Design ProgramFault → Type 0
+OpensPpm text background opened = opened ≡ after_edit None (ppm_of text background)
+
+abbrev pub OpensAs : Bool → List ℕ → Option Rgb → Result Design ProgramFault → Type 0
+OpensAs true file background opened = OpensNon file opened
+OpensAs false file background opened = OpensPpm file background opened
+
+-- what a file is opened as
+abbrev pub OpensFile : List ℕ → Options → Result Design ProgramFault → Type 0
+OpensFile file options opened = OpensAs options.non file options.background opened
+
+-- what a call answers that opens something: that, or want of memory
+abbrev pub Opened : (Result Design ProgramFault → Type 0) → Result Document ProgramFault → Type 0
+Opened Opens (Ok document) = Opens (Ok (design_of document))
+Opened Opens (Err fault) = (fault ≡ Memory) ⊎ Opens (Err fault)

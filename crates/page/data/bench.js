@@ -1,1 +1,0 @@
-what stands in bench.js

@@ -1,4 +1,0 @@
-pub mod FrameLemmas
-pub mod PeerLemmas
-pub mod ReadLemmas
-pub mod RunLemmas

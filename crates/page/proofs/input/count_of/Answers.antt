@@ -1,6 +1,0 @@
-use Rattle.std.proofs.Common.{rules}
-use Rattle.std.proofs.lemmas.Nat.{be_bytes_4}
-use Rattle.page.proofs.input.count_of.Goals as goal
-
-pub returns : goal.returns
-returns c = be_bytes_4 c.args.bytes _ (search rules) (search rules) c.from_be_bytes.ensures

@@ -1,0 +1,14 @@
+-- Why a certificate was not accepted, as the host is told it.
+use Rattle.std.proofs.Common.{◌≡◌, ◌⊎◌, inl, inr, ℕ, List, Option, Result, Err}
+use Rattle.answers.specs.declared.fault.ProgramFault.{ProgramFault}
+use Rattle.answers.specs.declared.fault.ProgramFault.TheVariants.{Memory, Write}
+use Rattle.answers.specs.Check.{WritesBy}
+use Rattle.web.specs.Desk.{IsRefused, Tells}
+
+pub refused_by : (old new : Option (List ℕ)) (Is : Result (List ℕ) ProgramFault → Type 0) (fault : ProgramFault) (text : List ℕ) (status : ℕ)
+    → WritesBy old new {X = Unit {0}} (Err fault) Is → (status ≡ 4) ⊎ Tells fault text status → (fault ≡ Memory → status ≡ 4) → (fault ≡ Write → status ≡ 4)
+    → IsRefused (λ (f : ProgramFault). Is (Err f)) text status
+refused_by old new Is fault text status (inl (bytes, (wrote, rest))) tells memory write = inl (write wrote)
+refused_by old new Is fault text status (inr (inl short, kept)) tells memory write = inl (memory short)
+refused_by old new Is fault text status (inr (inr is, kept)) (inl four) memory write = inl four
+refused_by old new Is fault text status (inr (inr is, kept)) (inr told) memory write = inr (fault, (is, told))

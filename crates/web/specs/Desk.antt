@@ -1,0 +1,89 @@
+-- The benches that are open, and what a call makes of them.
+use Rattle.std.specs.Prelude.{◌≡◌, ◌⊎◌, ℕ, ◌+◌, ◌==◌, List, [], ◌∷◌, ◌++◌, Option, None, Some, Result, Ok, Err, position, remove, slice_index_or, slice_set}
+use Rattle.picture.specs.declared.rgb.Rgb.{Rgb}
+use Rattle.live_audit.specs.Bench.{Seen}
+use Rattle.session.specs.declared.session.SessionFault.{SessionFault}
+use Rattle.session.specs.declared.session.SessionFault.TheVariants as session
+use Rattle.session.specs.Session.{Runs}
+use Rattle.answers.specs.declared.fault.ProgramFault.{ProgramFault}
+use Rattle.answers.specs.declared.options.Options.{Options}
+use Rattle.answers.specs.Check.{IsCheckOf, IsOnlyPicture}
+use Rattle.answers.specs.Faults.{fault_text, status_of}
+use Rattle.answers.specs.Open.{OpensFile}
+use Rattle.answers.specs.Start.{IsStarted}
+use Rattle.web.specs.declared.desk.Desk.{Desk}
+use Rattle.web.specs.declared.desk.Seat.{Seat}
+
+-- where the bench of a handle stands, if one does
+abbrev pub place_of : List Seat → ℕ → Option ℕ
+place_of seats handle = position (λ seat. seat.handle == handle) seats
+
+-- ---- lines
+
+-- the number that tells how a session ended
+abbrev pub status_after : Result (Unit {0}) SessionFault → ℕ
+status_after (Ok done) = 0
+status_after (Err session.Read) = 3
+status_after (Err session.Write) = 4
+
+-- A session on a bench with these bytes as its whole input, what it wrote behind what stood there, and the status of its end.
+abbrev pub RunsOver : List ℕ → List ℕ → List ℕ → Seen → Seen → ℕ → Type 0
+RunsOver lines had has old new status =
+    (ended : Result (Unit {0}) SessionFault) × ((status ≡ status_after ended) × ((left : Option (List ℕ)) × Runs (Some lines) left (Some had) (Some has) old new ended))
+
+-- What is said to a bench at a place: that session, and the other benches are as before; or no bench has the handle.
+abbrev pub SaysAt : Option ℕ → List ℕ → Desk → Desk → ℕ → Type 0
+SaysAt None lines old new status = (status ≡ 5) × (new.seats.items ≡ old.seats.items)
+SaysAt (Some at) lines old new status =
+    (seat : Seat) × ((new.seats.items ≡ slice_set old.seats.items at seat)
+    × ((d : Seat) → (seat.handle ≡ (slice_index_or old.seats.items at d).handle) × RunsOver lines [] new.text.items (slice_index_or old.seats.items at d).bench seat.bench status))
+
+-- what is said to the bench of a handle
+abbrev pub Says : ℕ → List ℕ → Desk → Desk → ℕ → Type 0
+Says handle lines old new status = SaysAt (place_of old.seats.items handle) lines old new status
+
+-- ---- faults
+
+-- the text and the status are those of a fault
+abbrev pub Tells : ProgramFault → List ℕ → ℕ → Type 0
+Tells fault text status = (text ≡ fault_text fault) × (status ≡ status_of fault)
+
+-- Memory was refused, or there is a fault for which this holds, and text and status are its.
+abbrev pub IsRefused : (ProgramFault → Type 0) → List ℕ → ℕ → Type 0
+IsRefused Is text status = (status ≡ 4) ⊎ ((fault : ProgramFault) × (Is fault × Tells fault text status))
+
+-- ---- benches
+
+abbrev pub seat : ℕ → Seen → Seat
+seat handle bench = record { handle = handle; bench = bench }
+
+-- a bench that was started with the file stands behind the others, under the handle after the last one that was given
+abbrev pub IsOpened : List ℕ → Options → Desk → Desk → ℕ → Type 0
+IsOpened file options old new handle =
+    (handle ≡ old.given + 1) × ((new.given ≡ handle) × ((bench : Seen) × (IsStarted file options bench × (new.seats.items ≡ old.seats.items ++ seat handle bench ∷ []))))
+
+-- the same benches are open, and no handle was given
+abbrev pub IsKept : Desk → Desk → Type 0
+IsKept old new = (new.seats.items ≡ old.seats.items) × (new.given ≡ old.given)
+
+-- what comes of a file that a bench is to be opened on
+abbrev pub Opens : List ℕ → Options → Desk → Desk → ℕ → ℕ → Type 0
+Opens file options old new status handle =
+    ((status ≡ 0) × IsOpened file options old new handle)
+    ⊎ (IsKept old new × IsRefused (λ fault. OpensFile file options (Err fault)) new.text.items status)
+
+-- the bench at a place is gone, or no bench has the handle
+abbrev pub ClosesAt : Option ℕ → Desk → Desk → ℕ → Type 0
+ClosesAt None old new status = (status ≡ 5) × (new.seats.items ≡ old.seats.items)
+ClosesAt (Some at) old new status = (status ≡ 0) × (new.seats.items ≡ remove old.seats.items at)
+
+abbrev pub Closes : ℕ → Desk → Desk → ℕ → Type 0
+Closes handle old new status = ClosesAt (place_of old.seats.items handle) old new status
+
+-- ---- certificates
+
+-- What is said to a certificate of a picture. Where it is accepted, no other picture has the clues and the givens.
+abbrev pub Checks : List ℕ → Option Rgb → List ℕ → List ℕ → ℕ → Type 0
+Checks file background cert text status =
+    ((status ≡ 0) × (IsCheckOf file background cert (Ok text) × IsOnlyPicture file background cert))
+    ⊎ IsRefused (λ fault. IsCheckOf file background cert (Err fault)) text status

@@ -1,0 +1,112 @@
+//! The calls that a host makes.
+
+ghost use Rattle.std.specs.Prelude.{◌≡◌, ◌++◌, None, drop, length, take, IfSome};
+ghost use Rattle.web.specs.Asked.{background_asked, options_asked};
+ghost use Rattle.web.specs.Desk.{Checks, Closes, IsKept, Opens, Says};
+
+use crate::asked::{Asked, Checked, background_of, options_of};
+use crate::desk::Desk;
+use crate::held::Held;
+use crate::inside::{check_in, close_in, copy_front, keep_text, lend_text, open_in, say_in};
+use crate::status::{DONE, MEMORY, OPTIONS};
+use core::mem::replace_with;
+use std::alloc::Global;
+
+/// Makes the state that all other calls are handed, and puts its pointer out.
+#[unsafe(no_mangle)]
+pub extern "C" fn nonobench_start(alloc: Global, out: &mut *mut u8) -> u32 {
+    match Desk::make(alloc) {
+        Ok(desk) => {
+            *out = Box::into_raw(desk) as *mut u8;
+            DONE
+        }
+        Err(_) => MEMORY,
+    }
+}
+
+/// Ends a state with all its benches.
+#[unsafe(no_mangle)]
+pub extern "C" fn nonobench_end(held: Held) {
+    drop(held.into_box());
+}
+
+/// Opens a bench on a file, and puts its handle out. A fault is the text.
+#[unsafe(no_mangle)]
+pub extern "C" fn nonobench_open(
+    held: &mut Held,
+    file: &[u8],
+    non: bool,
+    background: &[u8],
+    history: u32,
+    handle: &mut u32,
+) -> u32
+    ensures opens { IfSome (options_asked non background.now history) (λ options.
+        Opens file.now options held.old.desk held.new.desk result handle.new) }
+    ensures refused { options_asked non background.now history ≡ None
+        → (result ≡ 6) × IsKept held.old.desk held.new.desk }
+{
+    let Some(options) = options_of(non, background, history) else {
+        return OPTIONS;
+    };
+    let (status, given) = replace_with(held, Asked { file, options }, open_in);
+    *handle = given;
+    status
+}
+
+/// Answers lines on the bench of a handle. What a session writes for them is the text.
+#[unsafe(no_mangle)]
+pub extern "C" fn nonobench_say(held: &mut Held, handle: u32, lines: &[u8]) -> u32
+    ensures { Says handle lines.now held.old.desk held.new.desk result }
+{
+    replace_with(held, (handle, lines), say_in)
+}
+
+/// Puts the text of the last call out, as far as there is room, and says how many bytes it has.
+#[unsafe(no_mangle)]
+pub extern "C" fn nonobench_take(held: &mut Held, out: &mut [u8]) -> usize
+    ensures all { result ≡ length held.old.desk.text.items }
+    ensures front { out.new ≡ take (length out.old) held.old.desk.text.items
+        ++ drop (length held.old.desk.text.items) out.old }
+    ensures text { held.new.desk.text.items ≡ held.old.desk.text.items }
+    ensures kept { IsKept held.old.desk held.new.desk }
+{
+    let text = replace_with(held, (), lend_text);
+    let count = copy_front(&text, out);
+    replace_with(held, text, keep_text);
+    count
+}
+
+/// Ends the bench of a handle.
+#[unsafe(no_mangle)]
+pub extern "C" fn nonobench_close(held: &mut Held, handle: u32) -> u32
+    ensures { Closes handle held.old.desk held.new.desk result }
+{
+    replace_with(held, handle, close_in)
+}
+
+/// Checks a certificate of a picture. What the program writes for it, or a fault, is the text.
+#[unsafe(no_mangle)]
+pub extern "C" fn nonobench_check(
+    held: &mut Held,
+    file: &[u8],
+    cert: &[u8],
+    background: &[u8],
+) -> u32
+    ensures checks { IfSome (background_asked background.now) (λ colour.
+        Checks file.now colour cert.now held.new.desk.text.items result) }
+    ensures refused { background_asked background.now ≡ None → result ≡ 6 }
+    ensures kept { IsKept held.old.desk held.new.desk }
+{
+    let Some(background) = background_of(background) else {
+        return OPTIONS;
+    };
+    replace_with(
+        held,
+        Checked {
+            file,
+            cert,
+            background,
+        },
+        check_in,
+    )
+}

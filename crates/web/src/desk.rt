@@ -1,0 +1,166 @@
+//! The benches that a host has opened, and the text of its last call.
+
+ghost use Rattle.std.specs.Prelude.{◌≡◌, ◌⊎◌, ◌<◌, true, [], Err, length, IfErr, IfOk, IfSome, OnErr};
+ghost use Rattle.answers.specs.declared.fault.ProgramFault.TheVariants.{Memory, Write as Unwritten};
+ghost use Rattle.answers.specs.Open.{OpensFile};
+ghost use Rattle.answers.specs.Start.{IsLawful};
+ghost use Rattle.web.specs.Desk.{Checks, Closes, IsKept, IsOpened, Opens, RunsOver, Says, Tells, place_of};
+
+use crate::status::{CLOSED, DONE, MEMORY};
+use answers::{Options, ProgramFault, run_check, start_bench};
+use line_settle::MaskEngine;
+use live_audit::Bench;
+use picture::Rgb;
+use propagate::InOrder;
+use session::{SessionFault, run_session};
+use std::alloc::{AllocError, Global};
+
+/// A bench under its handle.
+#[derive(Drop)]
+pub struct Seat {
+    pub handle: u32,
+    pub bench: Bench<MaskEngine, InOrder>,
+}
+
+/// The benches that are open, the handle that was given last, and the text of the last call.
+#[derive(Drop)]
+pub struct Desk {
+    pub alloc: Global,
+    pub seats: Vec<Seat>,
+    pub given: u32,
+    pub text: Vec<u8>,
+}
+
+impl Desk {
+    /// No bench is open.
+    pub fn make(alloc: Global) -> Result<Box<Desk>, AllocError>
+        ensures seats { IfOk result (λ desk. desk.value.seats.items ≡ []) }
+        ensures given { IfOk result (λ desk. desk.value.given ≡ 0) }
+    {
+        Ok(Box::new(
+            alloc,
+            Desk {
+                alloc,
+                seats: Vec::new(alloc),
+                given: 0,
+                text: Vec::new(alloc),
+            },
+        )?)
+    }
+
+    /// Opens a bench on a file, and tells the status and the handle, which was never given before. A fault is the text.
+    pub fn open(&mut self, file: &[u8], options: &Options) -> (u32, u32)
+        requires { IsLawful options.now }
+        ensures { Opens file.now options.now self.old self.new result.0 result.1 }
+    {
+        match self.begin(file, options) {
+            Ok(handle) => (DONE, handle),
+            Err(fault) => (self.refuse(&fault), 0),
+        }
+    }
+
+    /// Runs a session with these lines as its whole input on the bench of a handle. What it writes is the text.
+    pub fn say(&mut self, handle: u32, lines: &[u8]) -> u32
+        ensures { Says handle lines.now self.old self.new result }
+    {
+        self.text.clear();
+        match self.place(handle) {
+            None => CLOSED,
+            Some(at) => say_at(self.alloc, &mut self.seats[at], lines, &mut self.text),
+        }
+    }
+
+    /// Ends the bench of a handle.
+    pub fn close(&mut self, handle: u32) -> u32
+        ensures { Closes handle self.old self.new result }
+    {
+        self.text.clear();
+        match self.place(handle) {
+            None => CLOSED,
+            Some(at) => {
+                drop(self.seats.remove(at));
+                DONE
+            }
+        }
+    }
+
+    /// Checks a certificate of a picture. What the program writes for it, or why it refuses it, is the text.
+    pub fn check(&mut self, file: &[u8], cert: &[u8], background: Option<Rgb>) -> u32
+        ensures checks { Checks file.now background cert.now self.new.text.items result }
+        ensures kept { IsKept self.old self.new }
+    {
+        self.text.clear();
+        match run_check(self.alloc, file, cert, background, &mut self.text) {
+            Ok(()) => DONE,
+            Err(fault) => self.refuse(&fault),
+        }
+    }
+
+    // Starts a bench on a file, under the handle after the last one that was given.
+    fn begin(&mut self, file: &[u8], options: &Options) -> Result<u32, ProgramFault>
+        requires { IsLawful options.now }
+        ensures opened { IfOk result (λ handle.
+            IsOpened file.now options.now self.old self.new handle) }
+        ensures kept { OnErr result (IsKept self.old self.new) }
+        ensures fault { IfErr result (λ fault.
+            (fault ≡ Memory) ⊎ OpensFile file.now options.now (Err fault)) }
+    {
+        if self.given == u32::MAX {
+            return Err(ProgramFault::Memory);
+        }
+        let handle = self.given + 1;
+        let bench = start_bench(self.alloc, file, options)?;
+        self.seats.push(Seat { handle, bench })?;
+        self.given = handle;
+        Ok(handle)
+    }
+
+    // Takes why a call was refused as the text, and tells its status. Where the text cannot grow, memory is refused.
+    fn refuse(&mut self, fault: &ProgramFault) -> u32
+        ensures tells { (result ≡ 4) ⊎ Tells fault.now self.new.text.items result }
+        ensures memory { fault.now ≡ Memory → result ≡ 4 }
+        ensures write { fault.now ≡ Unwritten → result ≡ 4 }
+        ensures kept { IsKept self.old self.new }
+    {
+        if is_memory(fault) {
+            return MEMORY;
+        }
+        match format!(in self.alloc; "{fault}") {
+            Ok(text) => {
+                self.text = text.into_bytes();
+                u32::from(fault.status())
+            }
+            Err(_) => MEMORY,
+        }
+    }
+
+    // Where the bench of a handle stands.
+    fn place(&self, handle: u32) -> Option<usize>
+        ensures place { result ≡ place_of self.now.seats.items handle }
+        ensures within { IfSome result (λ at. at < length self.now.seats.items) }
+    {
+        self.seats.iter().position(|seat| seat.handle == handle)
+    }
+}
+
+// Whether a growth was refused: that of a text is met as a failed write.
+fn is_memory(fault: &ProgramFault) -> bool
+    ensures memory { fault.now ≡ Memory → result ≡ true }
+    ensures write { fault.now ≡ Unwritten → result ≡ true }
+{
+    matches!(fault, ProgramFault::Memory | ProgramFault::Write)
+}
+
+// Runs a session on one bench.
+fn say_at(alloc: Global, seat: &mut Seat, lines: &[u8], text: &mut Vec<u8>) -> u32
+    ensures handle { seat.new.handle ≡ seat.old.handle }
+    ensures runs { RunsOver lines.now text.old.items text.new.items seat.old.bench seat.new.bench
+        result }
+{
+    let mut reader = lines;
+    match run_session(alloc, &mut reader, text, &mut seat.bench) {
+        Ok(()) => DONE,
+        Err(SessionFault::Read) => 3,
+        Err(SessionFault::Write) => MEMORY,
+    }
+}

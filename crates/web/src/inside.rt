@@ -1,0 +1,80 @@
+//! The calls, on the desk that the host's pointer leads to.
+
+ghost use Rattle.std.specs.Prelude.{◌≡◌, [], ◌++◌, drop, length, take};
+ghost use Rattle.answers.specs.Start.{IsLawful};
+ghost use Rattle.web.specs.Desk.{Checks, Closes, IsKept, Opens, Says};
+
+use crate::asked::{Asked, Checked};
+use crate::held::Held;
+use std::mem::replace;
+
+/// Opens a bench: the status and the handle.
+pub fn open_in(held: Held, asked: Asked<'_>) -> (Held, (u32, u32))
+    requires { IsLawful asked.options }
+    ensures { Opens asked.entry.file.now asked.entry.options held.desk
+        result.0.desk result.1.0 result.1.1 }
+{
+    let mut desk = held.into_box();
+    let answer = desk.open(asked.file, &asked.options);
+    (Held::new(desk), answer)
+}
+
+/// Answers lines on a bench.
+pub fn say_in(held: Held, asked: (u32, &[u8])) -> (Held, u32)
+    ensures { Says asked.entry.0 asked.entry.1.now held.desk result.0.desk result.1 }
+{
+    let mut desk = held.into_box();
+    let status = desk.say(asked.0, asked.1);
+    (Held::new(desk), status)
+}
+
+/// Ends a bench.
+pub fn close_in(held: Held, handle: u32) -> (Held, u32)
+    ensures { Closes handle held.desk result.0.desk result.1 }
+{
+    let mut desk = held.into_box();
+    let status = desk.close(handle);
+    (Held::new(desk), status)
+}
+
+/// Checks a certificate.
+pub fn check_in(held: Held, asked: Checked<'_>) -> (Held, u32)
+    ensures checks { Checks asked.entry.file.now asked.entry.background asked.entry.cert.now
+        result.0.desk.text.items result.1 }
+    ensures kept { IsKept held.desk result.0.desk }
+{
+    let mut desk = held.into_box();
+    let status = desk.check(asked.file, asked.cert, asked.background);
+    (Held::new(desk), status)
+}
+
+/// Takes the text of the last call out.
+pub fn lend_text(held: Held, _: ()) -> (Held, Vec<u8>)
+    ensures text { result.1.items ≡ held.desk.text.items }
+    ensures kept { IsKept held.desk result.0.desk }
+{
+    let mut desk = held.into_box();
+    let blank = Vec::new(desk.alloc);
+    let text = replace(&mut desk.text, blank);
+    (Held::new(desk), text)
+}
+
+/// Puts that text back.
+pub fn keep_text(held: Held, text: Vec<u8>) -> (Held, ())
+    ensures text { result.0.desk.text.items ≡ text.items }
+    ensures kept { IsKept held.desk result.0.desk }
+{
+    let mut desk = held.into_box();
+    desk.text = text;
+    (Held::new(desk), ())
+}
+
+/// Copies as many bytes as there is room for, and says how many there are.
+pub fn copy_front(text: &[u8], out: &mut [u8]) -> usize
+    ensures all { result ≡ length text.now }
+    ensures front { out.new ≡ take (length out.old) text.now ++ drop (length text.now) out.old }
+{
+    let count = text.len().min(out.len());
+    out[..count].copy_from_slice(&text[..count]);
+    text.len()
+}

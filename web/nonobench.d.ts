@@ -1,0 +1,53 @@
+// What nonobench.mjs offers.
+
+/** A file: its text, or its bytes. At most 16,777,216 bytes. */
+export type Input = string | Uint8Array | ArrayBuffer;
+
+export interface OpenOptions {
+  /** How many edits can be undone, 1 to 1000; 100 where it is not given. */
+  history?: number;
+  /** The colour of the background in a P3 picture, 'r,g,b'; white where it is not given. */
+  background?: string | null;
+  /** The file's format. Where it is not given, the file is looked at. */
+  format?: 'ppm' | 'non';
+}
+
+/** What the program says to a picture and a certificate. */
+export interface Checked {
+  /** The certificate proves that no other picture of that size has the clues and the givens. */
+  accepted: boolean;
+  /** The program's status: 0 where it is accepted. */
+  status: number;
+  /** What the program says. */
+  text: string;
+}
+
+/** A bench on a picture, until it is closed. */
+export interface Bench {
+  /** Answers lines, each a command, with exactly what the program writes for them. */
+  say(lines: Input): string;
+  /** Ends the bench. Each further call throws a Fault. */
+  close(): void;
+}
+
+/** An instance of the module. Its benches are apart from those of another. */
+export interface Engine {
+  open(file: Input, options?: OpenOptions): Bench;
+  check(picture: Input, certificate: Input, options?: { background?: string | null }): Checked;
+  /** How many bytes of memory the module has taken. */
+  readonly memory: number;
+  /** For tests: lets the nth growth of memory from now on be refused; 0 for none. */
+  refuse(nth: number): void;
+}
+
+/** Why a call was not answered. */
+export class Fault extends Error {
+  /** 'open': the input was refused; 'memory'; 'closed': the bench was closed; 'ended': the module is of no use any more. */
+  readonly kind: 'open' | 'memory' | 'closed' | 'ended';
+  /** What the program says. */
+  readonly text: string;
+  constructor(kind: Fault['kind'], text: string);
+}
+
+/** Makes an engine of the bytes of nonobench.wasm. */
+export function load(bytes: Uint8Array | ArrayBuffer): Promise<Engine>;

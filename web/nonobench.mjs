@@ -1,0 +1,209 @@
+// The workbench as a module of JavaScript: benches on pictures, and the check of certificates. It imports nothing and runs in
+// browsers and in node from version 18 on.
+//
+//     const engine = await load(bytes)                      // the bytes of nonobench.wasm
+//     const bench = engine.open(picture, {history: 100})    // a P3 picture or a two-colour .non text
+//     bench.say('clues\nverdict\n')                         // what the program `nonobench work` answers
+//     bench.close()
+//     engine.check(picture, certificate)                    // {accepted, status, text}
+
+const DONE = 0;
+const MEMORY = 4;
+const CLOSED = 5;
+const OPTIONS = 6;
+
+// How many bytes an input has at the most, as for the program.
+const MOST_BYTES = 16777216;
+
+// The room that a text is first taken in.
+const ROOM = 65536;
+
+/** Why a call was not answered. `kind` is 'open', 'memory', 'closed' or 'ended', and `text` what the program says. */
+export class Fault extends Error {
+  constructor(kind, text) {
+    super(text);
+    this.name = 'Fault';
+    this.kind = kind;
+    this.text = text;
+  }
+}
+
+const encoder = new TextEncoder();
+const decoder = new TextDecoder();
+
+// The bytes of a text or of bytes.
+function bytesOf(input) {
+  if (typeof input === 'string') return encoder.encode(input);
+  if (input instanceof Uint8Array) return input;
+  if (input instanceof ArrayBuffer) return new Uint8Array(input);
+  throw new TypeError('a string, a Uint8Array or an ArrayBuffer is wanted');
+}
+
+// Whether a file is a .non text: a line of it begins with a word of that format, and it does not begin as a picture does.
+function isNon(bytes) {
+  if (bytes[0] === 0x50) return false;
+  const front = decoder.decode(bytes.subarray(0, ROOM));
+  return /^[ \t]*(?:width|height|rows|columns|goal|catalogue|title)\b/m.test(front);
+}
+
+/** An instance of the module with its memory. Each has benches of its own. */
+class Engine {
+  #calls;
+  #cell;
+  #hasEnded = false;
+
+  constructor(instance) {
+    this.#calls = instance.exports;
+    this.#cell = this.#room(16);
+    if (this.#run(() => this.#calls.nonobench_start(this.#cell)) !== DONE) throw new Fault('memory', 'memory');
+  }
+
+  /** Opens a bench. Throws a Fault where the file is refused. */
+  open(file, options = {}) {
+    const bytes = this.#input(file);
+    const history = options.history ?? 100;
+    if (!Number.isInteger(history) || history < 1 || history > 1000) throw new Fault('open', 'history must be 1 to 1000');
+    const non = options.format === undefined ? isNon(bytes) : options.format === 'non';
+    const background = this.#background(options.background);
+    if (non && background.length > 0) throw new Fault('open', 'background goes with ppm');
+    const out = this.#room(4);
+    try {
+      const status = this.#lend([bytes, background], ([file, word]) =>
+        this.#calls.nonobench_open(this.#cell, file.at, file.size, non ? 1 : 0, word.at, word.size, history, out));
+      if (status !== DONE) this.#refuse(status);
+      return new Bench(this, new DataView(this.#calls.memory.buffer).getUint32(Number(out), true));
+    } finally {
+      this.#give(out);
+    }
+  }
+
+  /** Checks a certificate of a picture, and says what the program says, by its status: 0 where it is accepted. */
+  check(picture, certificate, options = {}) {
+    const background = this.#background(options.background);
+    const status = this.#lend([this.#input(picture), this.#input(certificate), background], ([file, cert, word]) =>
+      this.#calls.nonobench_check(this.#cell, file.at, file.size, cert.at, cert.size, word.at, word.size));
+    if (status === MEMORY || status === OPTIONS) this.#refuse(status);
+    return { accepted: status === DONE, status, text: this.#text() };
+  }
+
+  // Answers lines on the bench of a handle.
+  say(handle, lines) {
+    const status = this.#lend([bytesOf(lines)], ([text]) => this.#calls.nonobench_say(this.#cell, handle, text.at, text.size));
+    if (status !== DONE) this.#refuse(status);
+    return this.#text();
+  }
+
+  // Ends the bench of a handle.
+  close(handle) {
+    const status = this.#run(() => this.#calls.nonobench_close(this.#cell, handle));
+    if (status !== DONE) this.#refuse(status);
+  }
+
+  /** For tests: lets the nth growth of memory from now on be refused; 0 for none. */
+  refuse(nth) {
+    this.#calls.nonobench_refuse(nth);
+  }
+
+  /** How many bytes of memory the module has taken. */
+  get memory() {
+    return this.#calls.memory.buffer.byteLength;
+  }
+
+  #input(input) {
+    const bytes = bytesOf(input);
+    if (bytes.length > MOST_BYTES) throw new Fault('open', 'input too long');
+    return bytes;
+  }
+
+  // The word for a background: empty where none is given, and then not taken for one.
+  #background(word) {
+    if (word === undefined || word === null) return new Uint8Array(0);
+    if (!/^[0-9]+,[0-9]+,[0-9]+$/.test(word)) throw new Fault('open', 'background must be R,G,B');
+    return encoder.encode(word);
+  }
+
+  #refuse(status) {
+    if (status === MEMORY) throw new Fault('memory', 'memory');
+    if (status === CLOSED) throw new Fault('closed', 'closed');
+    if (status === OPTIONS) throw new Fault('open', 'background must be R,G,B');
+    throw new Fault('open', this.#text());
+  }
+
+  // The text of the last call.
+  #text() {
+    for (let room = ROOM; ;) {
+      const out = this.#room(room);
+      try {
+        const size = Number(this.#run(() => this.#calls.nonobench_take(this.#cell, out, BigInt(room))));
+        if (size <= room) return decoder.decode(new Uint8Array(this.#calls.memory.buffer, Number(out), size));
+        room = size;
+      } finally {
+        this.#give(out);
+      }
+    }
+  }
+
+  // Runs a call with bytes that are lent to it.
+  #lend(inputs, call) {
+    const lent = [];
+    try {
+      for (const bytes of inputs) {
+        const at = this.#room(bytes.length);
+        new Uint8Array(this.#calls.memory.buffer, Number(at), bytes.length).set(bytes);
+        lent.push({ at, size: BigInt(bytes.length) });
+      }
+      return this.#run(() => call(lent));
+    } finally {
+      for (const { at } of lent) this.#give(at);
+    }
+  }
+
+  #room(size) {
+    const at = this.#run(() => this.#calls.malloc(BigInt(size)));
+    if (at === 0n) throw new Fault('memory', 'memory');
+    return at;
+  }
+
+  #give(at) {
+    if (!this.#hasEnded) this.#calls.free(at);
+  }
+
+  // Runs a call of the module. A trap leaves its memory as it was in mid-call, so nothing is called after it.
+  #run(call) {
+    if (this.#hasEnded) throw new Fault('ended', 'the module has ended');
+    try {
+      return call();
+    } catch (error) {
+      if (error instanceof Fault) throw error;
+      this.#hasEnded = true;
+      throw new Fault('ended', `the module has ended: ${error.message}`);
+    }
+  }
+}
+
+/** A bench on a picture: what a session is said to, until it is closed. */
+class Bench {
+  #engine;
+  #handle;
+
+  constructor(engine, handle) {
+    this.#engine = engine;
+    this.#handle = handle;
+  }
+
+  /** Answers lines, each a command, with exactly what the program writes for them. */
+  say(lines) {
+    return this.#engine.say(this.#handle, lines);
+  }
+
+  /** Ends the bench. Each further call throws a Fault. */
+  close() {
+    this.#engine.close(this.#handle);
+  }
+}
+
+/** Makes an engine of the bytes of nonobench.wasm. */
+export async function load(bytes) {
+  const { instance } = await WebAssembly.instantiate(bytes, {});
+  return new Engine(instance);
+}

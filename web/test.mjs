@@ -1,0 +1,211 @@
+// Tests of the module by node's own runner: WASM=path node --test web/test.mjs. The texts that are expected stand in tests/ and
+// examples/, or are worked out by hand from docs/FORMATS.md.
+import assert from 'node:assert/strict';
+import { readFileSync, readdirSync, existsSync } from 'node:fs';
+import { dirname, join } from 'node:path';
+import test from 'node:test';
+import { fileURLToPath } from 'node:url';
+import { Fault, load } from './nonobench.mjs';
+
+const root = join(dirname(fileURLToPath(import.meta.url)), '..');
+const bytes = readFileSync(process.env.WASM ?? join(root, 'web', 'out', 'nonobench.wasm'));
+const text = (...parts) => readFileSync(join(root, ...parts), 'utf8');
+const fresh = () => load(bytes);
+
+// Two rows, black and white, white and black: another picture has the clues, and a given decides it.
+const DIAGONAL = 'P3 2 2 255 0 0 0 255 255 255 255 255 255 0 0 0\n';
+const PUZZLE = 'width 2\nheight 2\n\nrows\n1\n1\n\ncolumns\n1\n1\n\ngoal "1001"\n';
+
+// What a call throws.
+function faultOf(call) {
+  try {
+    call();
+  } catch (fault) {
+    assert.ok(fault instanceof Fault, String(fault));
+    return [fault.kind, fault.text];
+  }
+  return assert.fail('nothing was thrown');
+}
+
+test('a picture and a puzzle are opened and answer', async () => {
+  const engine = await fresh();
+  for (const file of [DIAGONAL, PUZZLE, new TextEncoder().encode(PUZZLE), new TextEncoder().encode(DIAGONAL).buffer]) {
+    const bench = engine.open(file);
+    assert.equal(bench.say('verdict\npin 1 1\nverdict\nundo\nundo\n'), 'ambiguous\n.a\na.\nok\nunique\nok\nrefused: UndoEmpty\n');
+    bench.close();
+  }
+});
+
+test('what files, options and words are refused, and how it is said', async () => {
+  const engine = await fresh();
+  assert.deepEqual(faultOf(() => engine.open('P4\n')), ['open', 'ppm NotP3 at byte 0']);
+  assert.deepEqual(faultOf(() => engine.open('')), ['open', 'ppm NotP3 at byte 0']);
+  assert.deepEqual(faultOf(() => engine.open('width 2\n')), ['open', 'non MissingSize']);
+  assert.deepEqual(faultOf(() => engine.open('width 2\n', { format: 'ppm' })), ['open', 'ppm NotP3 at byte 0']);
+  assert.deepEqual(faultOf(() => engine.open('width 1\nheight 1\nrows\n1\ncolumns\n0\n')), ['open', 'no picture has these clues']);
+  for (const history of [0, 1001, 1.5, NaN, '5']) {
+    assert.deepEqual(faultOf(() => engine.open(DIAGONAL, { history })), ['open', 'history must be 1 to 1000']);
+  }
+  for (const background of ['', '1,2', '1,2,3,4', 'red', '1,2,65536', '1,2,-3']) {
+    assert.deepEqual(faultOf(() => engine.open(DIAGONAL, { background })), ['open', 'background must be R,G,B']);
+    assert.deepEqual(faultOf(() => engine.check(DIAGONAL, '', { background })), ['open', 'background must be R,G,B']);
+  }
+  assert.deepEqual(faultOf(() => engine.open(PUZZLE, { background: '0,0,0' })), ['open', 'background goes with ppm']);
+  assert.deepEqual(faultOf(() => engine.open(new Uint8Array(16777217))), ['open', 'input too long']);
+  assert.throws(() => engine.open(5), TypeError);
+  const bench = engine.open('P3 2 1 255 1 2 3 4 5 6\n', { background: '4,5,6', history: 1 });
+  assert.equal(bench.say('clues\npin 1 1\npin 1 2\nundo\nundo\n'), 'r 1: 1a\nc 1: 1a\nc 2: 0\nok\nok\nok\nrefused: UndoEmpty\n');
+});
+
+test('a bench lives between calls, and several are apart', async () => {
+  const engine = await fresh();
+  const one = engine.open(DIAGONAL), two = engine.open(DIAGONAL);
+  assert.equal(one.say('pin 1 1\n'), 'ok\n');
+  assert.equal(one.say('verdict'), 'unique\n');
+  assert.equal(two.say('verdict'), 'ambiguous\n.a\na.\n');
+  one.close();
+  assert.equal(two.say('undo\n'), 'refused: UndoEmpty\n');
+  assert.equal(two.say(''), '');
+});
+
+test('a closed bench is refused for good', async () => {
+  const engine = await fresh();
+  const one = engine.open(DIAGONAL), two = engine.open(DIAGONAL);
+  one.close();
+  const three = engine.open(DIAGONAL);
+  assert.deepEqual(faultOf(() => one.say('verdict\n')), ['closed', 'closed']);
+  assert.deepEqual(faultOf(() => one.close()), ['closed', 'closed']);
+  assert.equal(two.say('undo\n') + three.say('undo\n'), 'refused: UndoEmpty\n'.repeat(2));
+});
+
+test('handles that were never given are refused, by the plain calls', async () => {
+  const { instance: { exports: calls } } = await WebAssembly.instantiate(bytes, {});
+  const cell = calls.malloc(16n), lines = calls.malloc(16n);
+  assert.equal(calls.nonobench_start(cell), 0);
+  for (const handle of [0, 1, -1, 2147483647]) {
+    assert.equal(calls.nonobench_say(cell, handle, lines, 0n), 5);
+    assert.equal(calls.nonobench_close(cell, handle), 5);
+  }
+  assert.equal(calls.nonobench_take(cell, lines, 16n), 0n);
+  const word = new Uint8Array(calls.memory.buffer, Number(lines), 16);
+  word.set(new TextEncoder().encode('P3 1 1 255 0 0 0'));
+  for (const [non, history] of [[0, 0], [0, 1001], [0, -1]]) {
+    assert.equal(calls.nonobench_open(cell, lines, 16n, non, lines, 0n, history, cell + 8n), 6);
+  }
+  assert.equal(calls.nonobench_open(cell, lines, 16n, 0, lines, 16n, 1, cell + 8n), 6);
+  assert.equal(calls.nonobench_open(cell, lines, 16n, 0, lines, 0n, 1, cell + 8n), 0);
+  assert.equal(new DataView(calls.memory.buffer).getUint32(Number(cell) + 8, true), 1);
+});
+
+test('a long answer is taken whole', async () => {
+  const engine = await fresh();
+  const bench = engine.open(text('tests', 'sessions', 'widest.ppm'));
+  const once = bench.say('map\n');
+  assert.equal(bench.say('map\n'.repeat(20000)), once.repeat(20000));
+  assert.ok(once.length * 20000 > 1000000, `${once.length}`);
+});
+
+test('a certificate is accepted, and what is wrong is said', async () => {
+  const engine = await fresh();
+  const picture = text('examples', 'given.ppm'), certificate = text('examples', 'given.cert');
+  assert.deepEqual(engine.check(picture, certificate), { accepted: true, status: 0, text: 'certificate accepted, givens 1\n' });
+  assert.deepEqual(engine.check(picture, 'no certificate\n'), { accepted: false, status: 1, text: 'certificate NotCert at line 1' });
+  assert.deepEqual(engine.check('P4\n', certificate), { accepted: false, status: 1, text: 'ppm NotP3 at byte 0' });
+  const bench = engine.open(picture);
+  assert.equal(engine.check(picture, certificate).accepted, true);
+  assert.equal(bench.say('undo\n'), 'refused: UndoEmpty\n');
+});
+
+test('10,000 benches are opened and closed, and memory does not grow', async () => {
+  const engine = await fresh();
+  const session = () => {
+    const bench = engine.open(DIAGONAL);
+    bench.say('pin 1 1\nverdict\n');
+    bench.close();
+  };
+  for (let i = 0; i < 10; i += 1) session();
+  const before = engine.memory;
+  for (let i = 0; i < 10000; i += 1) session();
+  assert.equal(engine.memory, before);
+});
+
+test('each growth of memory refused in turn is an ordinary answer', async () => {
+  const picture = text('examples', 'heart.ppm');
+  const lines = 'clues\nmap\npaint 1 1 b\nverdict\nwhy 1 1 a\nreport\ncertify\nppm\nundo\nredo\n';
+  const whole = (await fresh()).open(picture).say(lines);
+  const engine = await fresh();
+  let refused = 0;
+  for (let nth = 1; ; nth += 1) {
+    let bench = null, said = null, kind = null;
+    engine.refuse(nth);
+    try {
+      bench = engine.open(picture);
+      said = bench.say(lines);
+    } catch (fault) {
+      assert.ok(fault instanceof Fault && fault.kind === 'memory', `${nth}: ${fault.kind} ${fault.message}`);
+      kind = fault.kind;
+    }
+    engine.refuse(0);
+    if (said === whole) break;
+    refused += 1;
+    assert.ok(kind || said.includes('refused: Memory\n'), `${nth}: ${said}`);
+    bench?.close();
+  }
+  assert.ok(refused > 50, `${refused}`);
+  assert.equal(engine.open(picture).say(lines), whole);
+});
+
+test('any bytes are answered, and the module goes on', async () => {
+  const engine = await fresh();
+  let seed = 1;
+  const next = (n) => {
+    seed = (Math.imul(seed, 1103515245) + 12345) >>> 0;
+    return Math.floor((seed / 4294967296) * n);
+  };
+  const bench = engine.open(DIAGONAL);
+  for (let i = 0; i < 2000; i += 1) {
+    const noise = Uint8Array.from({ length: next(300) }, () => next(256));
+    const near = new TextEncoder().encode(DIAGONAL);
+    near[next(near.length)] = next(256);
+    for (const file of [noise, near]) {
+      for (const format of ['ppm', 'non']) {
+        try {
+          engine.open(file, { format }).close();
+        } catch (fault) {
+          assert.equal(fault.kind, 'open');
+        }
+      }
+      assert.equal(typeof engine.check(file, noise).text, 'string');
+    }
+    assert.equal(typeof bench.say(noise), 'string');
+  }
+  assert.equal(engine.open(DIAGONAL).say('verdict\n'), 'ambiguous\n.a\na.\n');
+});
+
+// The text in front of a certificate, whose lines are free, and of two right lines the one that was given.
+function chosen(wanted, got) {
+  const lines = got.split('nonocert ')[0].split('\n');
+  return wanted.split('nonocert ')[0].split('\n').map((line, at) => {
+    const [one, other] = line.split(' or ');
+    return other !== undefined && lines[at] !== one ? other : one;
+  }).join('\n');
+}
+
+test('the sessions of the repository come out as they stand there', async () => {
+  const engine = await fresh();
+  let count = 0;
+  for (const folder of ['tests/sessions', 'examples']) {
+    for (const file of readdirSync(join(root, folder)).filter((name) => name.endsWith('.session'))) {
+      const stem = join(root, folder, file.slice(0, -'.session'.length));
+      const word = (ending) => (existsSync(stem + ending) ? readFileSync(stem + ending, 'utf8').trim() : undefined);
+      const picture = existsSync(`${stem}.ppm`) ? `${stem}.ppm` : `${stem}.non`;
+      const options = { format: picture.slice(-3), background: word('.background'), history: word('.history') && Number(word('.history')) };
+      const bench = engine.open(readFileSync(picture), options);
+      const said = bench.say(readFileSync(`${stem}.session`));
+      assert.equal(said.split('nonocert ')[0], chosen(readFileSync(`${stem}.out`, 'utf8'), said), stem);
+      bench.close();
+      count += 1;
+    }
+  }
+  assert.ok(count > 20, `${count}`);
+});
