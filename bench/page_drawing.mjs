@@ -165,6 +165,23 @@ export async function zooming({ trial, page }) {
     await page.until(() => document.getElementById('minimap').hidden, 2000 * SLACK);
 }
 
+export async function letters({ trial, page }) {
+    await trial.open(ppmOf(DUCK));
+    await trial.judged();
+    await page.run(() => { sheet.hatching = 'off'; sheet.drawAll(); });
+    // How many colours are seen within a cell: one without its letter, more with it.
+    const count = (row, col) => page.run((r, c) => {
+        const { geometry: at, cellCanvas } = sheet;
+        const { data } = cellCanvas.getContext('2d').getImageData(at.x(c) + 4, at.y(r) + 4, at.cell - 8, at.cell - 8);
+        return new Set(new Uint32Array(data.buffer)).size;
+    }, row, col);
+    assert.deepEqual([await count(0, 2), await count(0, 0)], [1, 1]);
+    await page.press('Control+l');
+    await page.until(() => sheet.geometry.letters && document.getElementById('row-clue').textContent.includes('a'), 2000 * SLACK);
+    await page.run(() => new Promise((go) => requestAnimationFrame(() => requestAnimationFrame(go))));
+    assert.deepEqual([await count(0, 2) > 1, await count(1, 3) > 1, await count(0, 0)], [true, true, 1], 'a letter in each cell with a colour');
+}
+
 export async function nextCell({ trial, page }) {
     const rows = [...Array(100)].map(() => '.'.repeat(100));
     rows[97] = 'a'.padStart(98, '.').padEnd(100, '.');

@@ -124,7 +124,7 @@ keep.ready = (home = globalThis) => {
 };
 
 keep.said = ({ kind, why, record }) => {
-  if (kind === 'dropped') return say(`The oldest kept picture, ${record.name}, was dropped from the browser's storage: ${MOST_KEPT} are kept.`);
+  if (kind === 'dropped') return record.isSaved ? undefined : say(`The oldest kept picture, ${record.name}, was dropped from the browser's storage: ${MOST_KEPT} are kept.`);
   keep.isKept = kind === 'kept';
   tell('kept', keep.isKept);
   if (keep.isKept) keep.wasTold = false;

@@ -9,6 +9,8 @@ const bareName = (name) => (name ?? '').replace(/\.[A-Za-z0-9]{1,5}$/, '').repla
  * bench opens it. Answers whether it is open; what is refused is told.
  */
 async function openBase(base, { name, isSaved = true, id = null, about = {}, strokes, handle = null, form = 'ppm', isBlank = false }) {
+  const isLost = bench.state && !keep.isKept && !bench.isSaved;
+  if (isLost && !(await confirmDialog('Open another picture', `${bench.name} is in no file, and the browser does not keep it. It would be lost.`, 'Open'))) return false;
   keep.isPaused = true;
   try {
     await bench.open(base, { name, strokes, isSaved });
@@ -43,7 +45,6 @@ function faultText(fault) {
 async function takeFile(file, handle = null) {
   try {
     if (file.size > MOST_BYTES_READ) throw new FileFault('it has more than 16 MiB');
-    if (bench.state && !keep.isKept && !bench.isSaved && !(await confirmDialog('Open another picture', `${bench.name} is in no file, and the browser does not keep it. It would be lost.`, 'Open'))) return false;
     const bytes = new Uint8Array(await file.arrayBuffer());
     return await takeBytes(bytes, file, handle);
   } catch (fault) {
