@@ -23,6 +23,11 @@ test('an image at its own size stays as it is', () => {
     for (const sharp of [false, true]) assert.deepEqual(scaledTo(image, whole(image), 3, 2, sharp), image);
 });
 
+test('the light of each sample gives that sample back', () => {
+    const image = { width: 16, height: 16, data: Uint8ClampedArray.from({ length: 1024 }, (_, at) => (at % 4 === 3 ? 255 : at >> 2)) };
+    assert.deepEqual(scaledTo(image, whole(image), 16, 16), image);
+});
+
 test('a mean is a mean of light', () => {
     const image = imageOf(['wk', 'kw'], COLOURS);
     assert.deepEqual(pixel(scaledTo(image, whole(image), 1, 1), 0), [188, 188, 188, 255]); // half the light of white

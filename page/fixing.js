@@ -47,9 +47,10 @@ async function findRepaints() {
   const version = searches.version;
   $('fix-list').replaceChildren();
   fixSays('');
+  verdictView.ended = null;
   const found = await searches.job('Looking for cells to repaint', secondsChosen(), (copy) => repaintsFor(copy, state, state.verdict.other, (one) => listRepaint(state, one)));
   if (version !== searches.version) return;
-  fixSays(found?.length ? `${many(found.length, 'repaint')} found. Point at one to see it, choose it to paint it.` : 'No single repaint was found in this time.');
+  fixSays(found?.length ? `${many(found.length, 'repaint')} found. Point at one to see it, choose it to paint it.` : verdictView.ended ? 'No single repaint was found in this time. A longer time may find some.' : 'No single repaint was found.');
 }
 
 function listRepaint(state, one) {

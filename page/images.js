@@ -53,7 +53,12 @@ const LIGHT_OF = Float64Array.from({ length: 256 }, (_, sample) => {
   const value = sample / 255;
   return value <= 0.04045 ? value / 12.92 : ((value + 0.055) / 1.055) ** 2.4;
 });
-const sampleOf = (light) => Math.round(255 * (light <= 0.0031308 ? light * 12.92 : 1.055 * light ** (1 / 2.4) - 0.055));
+const LIGHT_STEPS = 16384; // fine enough that the light of each sample gives that sample back
+const SAMPLE_OF = Uint8Array.from({ length: LIGHT_STEPS + 1 }, (_, step) => {
+  const light = step / LIGHT_STEPS;
+  return Math.round(255 * (light <= 0.0031308 ? light * 12.92 : 1.055 * light ** (1 / 2.4) - 0.055));
+});
+const sampleOf = (light) => SAMPLE_OF[Math.min(LIGHT_STEPS, Math.round(light * LIGHT_STEPS))];
 
 // For each target place: the first source place, and the share of each one from there.
 function sharesOf(from, length, count) {

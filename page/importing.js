@@ -2,6 +2,7 @@
 // drawn anew at each change.
 
 const MOST_WORKED = 480; // pixels a side that the dialog works on; a larger part is made smaller first
+const MOST_POINTS = 100; // pixels a side that its colours are found in
 const SHOWN_SIDE = 320; // pixels of the two pictures in the dialog
 
 /** What the dialog proposes for an image: one cell a dot of a pixel picture, else 40 cells on the longer side. */
@@ -28,7 +29,7 @@ class Importing {
     this.worked = null; // the part that is taken, no larger than the dialog works on
     this.crop = { x: 0, y: 0, width: image.width, height: image.height }; // in pixels of the full image
     this.background = null;
-    this.scaled = new Map(); // by pixels a cell and whether they are sharp: what was made last
+    this.scaled = new Map(); // what was made last of the part, as cells and as points
     this.doc = null;
     this.isWaiting = false;
     this.make();
@@ -163,14 +164,24 @@ class Importing {
     return this.worked;
   }
 
-  cells(times = 1, sharp = this.sharp.checked) {
-    const { image, box } = this.part();
+  cells(times = 1) {
     const [columns, rows] = this.size ?? [1, 1];
-    const key = JSON.stringify([this.crop, columns, rows]);
-    const kept = this.scaled.get(`${times} ${sharp}`);
+    return this.made('cells', columns * times, rows * times, this.sharp.checked);
+  }
+
+  // Single pixels of the part, for its colours: as many whatever the size in cells is.
+  points() {
+    const { box } = this.part();
+    return this.made('points', Math.min(MOST_POINTS, box.width), Math.min(MOST_POINTS, box.height), true);
+  }
+
+  made(what, columns, rows, sharp) {
+    const key = JSON.stringify([this.crop, columns, rows, sharp]);
+    const kept = this.scaled.get(what);
     if (kept?.key === key) return kept.image;
-    const scaled = scaledTo(image, box, columns * times, rows * times, sharp);
-    this.scaled.set(`${times} ${sharp}`, { key, image: scaled });
+    const { image, box } = this.part();
+    const scaled = scaledTo(image, box, columns, rows, sharp);
+    this.scaled.set(what, { key, image: scaled });
     return scaled;
   }
 
@@ -182,7 +193,7 @@ class Importing {
     const times = this.size[0] * this.size[1] > 5000 ? 2 : 3;
     const fine = this.sharp.checked || this.two.checked ? null : this.cells(times);
     const cells = fine ? scaledTo(fine, { x: 0, y: 0, width: fine.width, height: fine.height }, ...this.size) : this.cells();
-    this.doc = this.grounded(docOfCells(cells, options, fine ? { fine, points: this.cells(times, true) } : {}));
+    this.doc = this.grounded(docOfCells(cells, options, fine ? { fine, points: this.points() } : {}));
     drawSmall(this.preview, this.doc, SHOWN_SIDE);
     this.drawSource();
     this.showSwatches();

@@ -35,6 +35,11 @@ function spotsOf({ data }, bits = EXACT) {
   return [...spots.values()];
 }
 
+function hasClear({ data }) {
+  for (let at = 0; at < data.length; at += 4) if (isTransparent(data, at)) return true;
+  return false;
+}
+
 /** Whether an image has at most so many colours beside what is transparent. */
 function hasFewColours({ data }, most) {
   const met = new Set();
@@ -118,17 +123,20 @@ function paletteFor(image, most) {
 const weightOf = (spots) => spots.reduce((sum, spot) => sum + spot.weight, 0);
 
 /** For each pixel the number of the nearest triple, or -1 where it is transparent. */
-function numbersFor({ data }, palette, bits = EXACT) {
+function numbersFor({ data }, palette, bits = EXACT, known = new Map()) {
   const labs = palette.map((triple) => oklabOf(...triple));
-  const known = new Map();
-  return Int8Array.from({ length: data.length / 4 }, (_, index) => {
-    const at = index * 4;
-    if (isTransparent(data, at)) return -1;
+  const numbers = new Int8Array(data.length / 4);
+  for (let at = 0; at < data.length; at += 4) {
+    if (isTransparent(data, at)) {
+      numbers[at / 4] = -1;
+      continue;
+    }
     const key = keyOf(data, at);
     let nearest = known.get(key & bits);
     if (nearest === undefined) known.set(key & bits, (nearest = nearestOf(labs, oklabOf(...tripleOfKey(key)))));
-    return nearest;
-  });
+    numbers[at / 4] = nearest;
+  }
+  return numbers;
 }
 
 /** How light a triple looks, from 0 to 255. */
@@ -194,7 +202,7 @@ function apartFrom(palette) {
  */
 function docOfCells(image, options, { fine = null, points = image } = {}) {
   const { width: columns, height: rows, data } = image;
-  const clear = data.some((sample, at) => at % 4 === 3 && sample < 128);
+  const clear = hasClear(image);
   let [palette, numbers] = [[], null];
   if (options.threshold) {
     palette = options.inverted ? [[0, 0, 0], [255, 255, 255]] : [[255, 255, 255], [0, 0, 0]];
@@ -203,8 +211,9 @@ function docOfCells(image, options, { fine = null, points = image } = {}) {
   }
   palette = paletteFor(points, clear ? options.colours - 1 : options.colours);
   const bits = hasFewColours(points, palette.length) ? EXACT : ALIKE;
-  numbers = numbersFor(image, palette, bits);
-  if (fine) numbers = mostOf(numbersFor(fine, palette, bits), fine.width / columns, numbers, columns);
+  const known = new Map(); // colours whose nearest one was found
+  numbers = numbersFor(image, palette, bits, known);
+  if (fine) numbers = mostOf(numbersFor(fine, palette, bits, known), fine.width / columns, numbers, columns);
   let ground = options.background ? palette.findIndex((triple) => String(triple) === String(options.background)) : -1;
   if (clear || !palette.length) {
     const triple = ground < 0 && options.background && !palette.some((one) => String(one) === String(options.background)) ? options.background : apartFrom(palette);

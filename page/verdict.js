@@ -177,7 +177,15 @@ async function certificateText() {
     say('There is no certificate: another picture has these clues.', 'alarm');
     return null;
   }
-  return searches.certify();
+  verdictView.ended = null;
+  const text = await searches.certify();
+  const why = {
+    time: `No certificate was found within ${number(secondsChosen())} s. A longer time can be chosen beside the verdict.`,
+    stopped: 'The search for a certificate was stopped.',
+    stroke: 'The search for a certificate was ended by a stroke.',
+  }[verdictView.ended];
+  if (text === null && why) say(why);
+  return text;
 }
 
 const isWord = (word) => bench.state?.verdict.word === word;
