@@ -50,6 +50,7 @@ test('one document of another by commands', () => {
   assert.ok(sameDoc(after(from, ...lines), to));
   assert.equal(lines.length, 4); // the two cells a, the one cell ., one unpin, one pin
   assert.deepEqual(linesTo(to, to), []);
+  assert.deepEqual([linesTo(from, to, 4)?.length, linesTo(from, to, 3)], [4, null]);
   assert.equal(linesTo(from, docOf(['..'])), null);
   assert.equal(linesTo(from, { ...to, colours: COLOURS.slice(0, 2) }), null);
   assert.equal(linesTo(from, { ...to, colours: [[1, 1, 1], ...COLOURS.slice(1)] }), null);

@@ -78,8 +78,8 @@ class Bench {
   /** Makes the document another one, as one stroke: by commands where they can, else it is opened anew. */
   become(doc) {
     if (!this.state) return Promise.resolve([]);
-    const lines = linesTo(this.expected(), doc);
-    return lines && lines.length <= MOST_PAINTED ? this.stroke(lines) : this.put({ way: 'become', lines: [], doc: docOf(doc) });
+    const lines = linesTo(this.expected(), doc, MOST_PAINTED);
+    return lines ? this.stroke(lines) : this.put({ way: 'become', lines: [], doc: docOf(doc) });
   }
 
   undo() {
@@ -257,8 +257,8 @@ class Bench {
 
   // Makes the bench's document this one: by commands where a few do, else by opening it.
   async makeDoc(doc, done) {
-    const lines = linesTo(docOf(this.state), doc);
-    if (lines && lines.length <= MOST_PAINTED) {
+    const lines = linesTo(docOf(this.state), doc, MOST_PAINTED);
+    if (lines) {
       const answers = await this.sent(lines);
       done();
       return this.took(answers, doc);

@@ -97,17 +97,19 @@ function docBehind(doc, lines) {
 
 /** The commands for cells: rectangles of `touched` cells that together have each cell that does not yet have the colour. */
 function coverOf(touched, picture, letter) {
-  const columns = picture[0].length;
-  const has = (row, col) => row < picture.length && col < columns && touched.has(row * columns + col);
-  const covered = new Set();
-  const wanted = (row, col) => picture[row][col] !== letter && !covered.has(row * columns + col);
-  const each = function* ([top, left, bottom, right]) {
-    for (let row = top; row <= bottom; row++) for (let col = left; col <= right; col++) yield [row, col];
+  const [rows, columns] = [picture.length, picture[0].length];
+  const has = new Uint8Array(rows * columns); // 1 for a touched cell
+  const wanted = new Uint8Array(rows * columns); // 1 for one that has another colour and is not covered yet
+  for (const index of touched) {
+    has[index] = 1;
+    wanted[index] = picture[Math.floor(index / columns)][index % columns] === letter ? 0 : 1;
+  }
+  const sum = (cells, [top, left, bottom, right]) => {
+    let count = 0;
+    for (let row = top; row <= bottom; row++) for (let at = row * columns + left; at <= row * columns + right; at++) count += cells[at];
+    return count;
   };
-  const spans = (top, left, bottom, right) => {
-    for (let row = top; row <= bottom; row++) for (let col = left; col <= right; col++) if (!has(row, col)) return false;
-    return true;
-  };
+  const spans = (top, left, bottom, right) => bottom < rows && right < columns && sum(has, [top, left, bottom, right]) === (bottom - top + 1) * (right - left + 1);
   const grown = (row, col, across) => {
     let [bottom, right] = [row, col];
     const down = () => { while (spans(bottom + 1, col, bottom + 1, right)) bottom++; };
@@ -115,29 +117,24 @@ function coverOf(touched, picture, letter) {
     if (across) { aside(); down(); } else { down(); aside(); }
     return [row, col, bottom, right];
   };
-  const gain = (rectangle) => {
-    let sum = 0;
-    for (const [row, col] of each(rectangle)) if (wanted(row, col)) sum++;
-    return sum;
-  };
   const lines = [];
-  for (const index of [...touched].sort((a, b) => a - b)) {
-    const row = Math.floor(index / columns);
-    const col = index % columns;
-    if (!wanted(row, col)) continue;
+  for (let index = 0; index < wanted.length; index++) {
+    if (!wanted[index]) continue;
+    const [row, col] = [Math.floor(index / columns), index % columns];
     const [flat, tall] = [grown(row, col, true), grown(row, col, false)];
-    const best = gain(flat) >= gain(tall) ? flat : tall;
-    for (const [r, c] of each(best)) covered.add(r * columns + c);
-    const [top, left, bottom, right] = best.map((place) => place + 1);
-    lines.push(top === bottom && left === right ? `paint ${top} ${left} ${letter}` : `fill ${top} ${left} ${bottom} ${right} ${letter}`);
+    const best = sum(wanted, flat) >= sum(wanted, tall) ? flat : tall;
+    const [top, left, bottom, right] = best;
+    for (let one = top; one <= bottom; one++) wanted.fill(0, one * columns + left, one * columns + right + 1);
+    const places = best.map((place) => place + 1);
+    lines.push(top === bottom && left === right ? `paint ${places[0]} ${places[1]} ${letter}` : `fill ${places.join(' ')} ${letter}`);
   }
   return lines;
 }
 
 const placeOf = (doc, index) => `${Math.floor(index / doc.columns) + 1} ${(index % doc.columns) + 1}`;
 
-/** The commands that make one picture of another of its size: as few rectangles as are easily found. */
-function repaintLines(from, to) {
+/** The commands that make one picture of another of its size: as few rectangles as are easily found; null for more than `most`. */
+function repaintLines(from, to, most = Infinity) {
   const lines = [];
   let { picture } = from;
   const differing = new Set();
@@ -146,14 +143,15 @@ function repaintLines(from, to) {
     const cells = new Set();
     to.forEach((row, at) => { for (let col = 0; col < row.length; col++) if (row[col] === letter) cells.add(at * row.length + col); });
     const cover = coverOf(cells, picture, letter);
+    if (lines.length + cover.length > most) return null;
     for (const line of cover) ({ picture } = mirrored({ ...from, picture }, line));
     lines.push(...cover);
   }
   return lines;
 }
 
-/** The commands that make one document of another, or null where commands cannot: another size, fewer colours. */
-function linesTo(from, to) {
+/** The commands that make one document of another; null for more than `most`, another size or fewer colours. */
+function linesTo(from, to, most = Infinity) {
   if (from.rows !== to.rows || from.columns !== to.columns || from.maxval !== to.maxval) return null;
   if (from.colours.length > to.colours.length || from.colours[0].join() !== to.colours[0].join()) return null;
   const lines = [];
@@ -162,10 +160,12 @@ function linesTo(from, to) {
     else if (triple.join() !== from.colours[at].join()) lines.push(`colour set ${letterAt(at)} ${triple.join(' ')}`);
   }
   if (lines.length > 1) return null; // on the way two colours might be the same, which is refused
-  lines.push(...repaintLines(from, to.picture));
+  const painted = repaintLines(from, to.picture, most);
+  if (!painted) return null;
+  lines.push(...painted);
   for (const index of from.givens) if (!to.givens.has(index)) lines.push(`unpin ${placeOf(to, index)}`);
   for (const index of to.givens) if (!from.givens.has(index)) lines.push(`pin ${placeOf(to, index)}`);
-  return lines;
+  return lines.length > most ? null : lines;
 }
 
 /**
