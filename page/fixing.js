@@ -50,7 +50,8 @@ async function findRepaints() {
   verdictView.ended = null;
   const found = await searches.job('Looking for cells to repaint', secondsChosen(), (copy) => repaintsFor(copy, state, state.verdict.other, (one) => listRepaint(state, one)));
   if (version !== searches.version) return;
-  fixSays(found?.length ? `${many(found.length, 'repaint')} found. Point at one to see it, choose it to paint it.` : verdictView.ended ? 'No single repaint was found in this time. A longer time may find some.' : 'No single repaint was found.');
+  const none = verdictView.ended ? 'No single repaint was found in this time. A longer time may find some.' : 'No single repaint was found.';
+  fixSays(found?.length ? `${many(found.length, 'repaint')} found. Point at one to see it, choose it to paint it.` : none);
 }
 
 function listRepaint(state, one) {
@@ -58,7 +59,9 @@ function listRepaint(state, one) {
   const [row, col] = [Math.floor(index / state.columns), index % state.columns];
   const before = state.picture[row][col];
   const show = () => showPreview(one);
-  const button = make('button', { type: 'button', onclick: () => paintRepaint(state, one), onpointerenter: show, onfocus: show, onpointerleave: () => showPreview(null), onblur: () => showPreview(null) },
+  const hide = () => showPreview(null);
+  const hears = { onclick: () => paintRepaint(state, one), onpointerenter: show, onfocus: show, onpointerleave: hide, onblur: hide };
+  const button = make('button', { type: 'button', ...hears },
     `Row ${row + 1}, column ${col + 1}: `, fixChip(state, before), ' to ', fixChip(state, letter));
   $('fix-list').append(make('li', {}, button));
 }

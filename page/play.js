@@ -47,7 +47,8 @@ function playPalette() {
   const choices = [...LETTERS.slice(1, colours.length), '.', '?'];
   $('play-palette').replaceChildren(...choices.map((letter) => {
     const name = letter === '.' ? 'background' : letter === '?' ? 'wipe' : nameOf(colours[LETTERS.indexOf(letter)], maxval);
-    const button = make('button', { type: 'button', role: 'radio', 'data-letter': letter, 'aria-label': name, title: name, onclick: () => choosePlay(letter) }, { '.': '×', '?': '⌫' }[letter] ?? letter);
+    const sign = { '.': '×', '?': '⌫' }[letter] ?? letter;
+    const button = playButton(null, sign, () => choosePlay(letter), { role: 'radio', 'data-letter': letter, 'aria-label': name, title: name });
     if (letter !== '?') {
       const triple = colours[LETTERS.indexOf(letter)];
       button.style.background = cssOf(triple, maxval);

@@ -182,7 +182,8 @@ function movePlay(at, told = false) {
   if (!told) return;
   const mark = play.marks[at.row][at.col];
   const { clues } = play.state;
-  $('play-cell').textContent = `Row ${at.row + 1}, column ${at.col + 1}: ${mark === '?' ? 'no mark' : wordOf(mark)}. Row: ${playClueText(clues.rows[at.row])}. Column: ${playClueText(clues.columns[at.col])}.`;
+  const place = `Row ${at.row + 1}, column ${at.col + 1}: ${mark === '?' ? 'no mark' : wordOf(mark)}.`;
+  $('play-cell').textContent = `${place} Row: ${playClueText(clues.rows[at.row])}. Column: ${playClueText(clues.columns[at.col])}.`;
   const board = $('play-board').getBoundingClientRect();
   const field = $('play-field').getBoundingClientRect();
   const { wide, high } = playStrips();

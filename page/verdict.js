@@ -56,7 +56,8 @@ function makeVerdictPanel() {
       make('p', {}, make('label', {}, 'Search after a stroke ', choiceOf('seconds', TIMES, setSeconds)))),
   );
   $('seconds').value = verdictView.seconds;
-  $('task').append(make('span', { id: 'task-name' }), make('span', { id: 'task-time', 'aria-hidden': 'true' }), make('button', { type: 'button', id: 'stop', onclick: () => searches.stop() }, 'Stop'));
+  const stop = make('button', { type: 'button', id: 'stop', onclick: () => searches.stop() }, 'Stop');
+  $('task').append(make('span', { id: 'task-name' }), make('span', { id: 'task-time', 'aria-hidden': 'true' }), stop);
 }
 
 // On small screens the verdict stands in one line; the rest opens below it.
