@@ -11,7 +11,7 @@ const NO_PICKERS = 'delete window.showSaveFilePicker; delete window.showOpenFile
 const frames = (page) => page.run(() => new Promise((go) => requestAnimationFrame(() => requestAnimationFrame(() => setTimeout(go, 0)))));
 const said = (page) => page.run(() => document.getElementById('said').textContent);
 const isOpen = (page, ms = 8000) => page.until(() => !document.body.classList.contains('starting') && bench.state !== null, ms * SLACK)
-    .catch(async () => { throw new Error(`nothing is open: ${await said(page)} ${page.faults.join('; ')}`); });
+    .catch(async () => { throw new Error(`nothing is open: ${await said(page)} ${page.faults.join('; ')} ${await page.run(() => `${document.body.className} ${document.hasFocus()} ${document.querySelector('dialog[open]')?.textContent}`)}`); });
 const isKept = (page) => page.until(() => keep.keeper.isDone && keep.isKept, 5000 * SLACK);
 
 /** Writes a file to the folder and drops it on the middle of the window. */
@@ -29,7 +29,9 @@ async function drop(page, folder, name, content) {
         if (await page.run(() => document.body.classList.contains('dropping'))) break;
         await new Promise((go) => setTimeout(go, 30));
     }
+    assert.ok(await page.run(() => document.body.classList.contains('dropping')), 'the page hears of a file that is over it');
     await send('drop');
+    await page.until(() => !document.body.classList.contains('dropping'), 3000 * SLACK); // and that it was dropped
 }
 
 /** A tab of its own without file access, in a folder of its own for downloads. */
