@@ -95,7 +95,8 @@ fn find_filling<E: LineEngine>(
 ) -> Result<Option<Picture>, AllocError>
     requires closable { AreClosable scene.now.clues.now (E.longest engine.old) scene.now.facts.now }
     requires same_shape { SameShape scene.now.picture.now scene.now.facts.now }
-    ensures finds { IfOk result (FindsFilling scene.now.clues.now scene.now.facts.now scene.now.picture.now) }
+    ensures finds { IfOk result
+        (FindsFilling scene.now.clues.now scene.now.facts.now scene.now.picture.now) }
     ensures same_longest { E.longest engine.new ≡ E.longest engine.old }
 {
     closing_keeps_fillings();
