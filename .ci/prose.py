@@ -3,7 +3,7 @@
 
 For each *.md of the repository, or those that are named: a sentence above 40 words, a stiff phrase, a link or a path
 that does not exist. In README.md also a command that the gate does not run, and in docs/PROOF.md a line of a clause that
-stands in no source. And the kit's version in the file KIT is that of `rt version`, where there is one.
+stands in no source. And the file KIT has a line for the kit's version, as `rt version` tells it, where there is an rt.
 
 A block of README.md that begins with ```sh is run by .ci/tutorial, so its commands pass. A block that begins with
 ```sh build holds commands that only build or serve; each must begin as one of BUILDS. No other block may be named sh.
@@ -158,8 +158,8 @@ def kit_fault():
         return None
     told = subprocess.run(["rt", "version"], capture_output=True, text=True).stdout.strip()
     with open(os.path.join(ROOT, "KIT"), encoding="utf-8") as file:
-        kept = file.read().strip()
-    return None if told == kept else f"KIT says {kept!r}, and rt version says {told!r}"
+        kept = file.read().splitlines()
+    return None if told in kept else f"KIT has no line {told!r}, which rt version says"
 
 
 def main():
