@@ -17,9 +17,10 @@ trap 'rm -rf "$work"' EXIT
 
 # Answers a command on the picture in $1, into $work/answer, and says the milliseconds of processor time, or fails.
 ask() {
-    local TIMEFORMAT='%U %S'
-    { time (ulimit -t "$limit" && printf '%s\n' "$2" | "$program" work "$1" >"$work/answer" 2>"$work/fault") 2>/dev/null; } 2>"$work/time" || return 1
-    awk '{ printf "%d", ($1 + $2) * 1000 }' "$work/time"
+    (ulimit -t "$limit" && printf '%s\n' "$2" | "$program" work "$1" >"$work/answer" 2>"$work/fault") 2>/dev/null || return 1
+    # The times of this shell's children, which are those of one command: it runs in a shell of its own.
+    times >"$work/time"
+    awk 'NR == 2 { gsub(/[ms]/, " "); printf "%d", ($1 * 60 + $2 + $3 * 60 + $4) * 1000 }' "$work/time"
 }
 
 open_verdicts=0
