@@ -1,5 +1,5 @@
 -- What is made: a certificate, or there is another picture.
-use Rattle.std.proofs.Common.{◌≡◌, ℕ, ◌+◌, ◌<◌, ◌↔◌, List, [], ◌∷◌, None, Some, Ok, length, sym, ap, subst, ◌∙◌, arith, ◌-◌}
+use Rattle.std.proofs.Common.{◌≡◌, ℕ, ◌+◌, ◌↔◌, List, [], ◌∷◌, None, Some, Ok, length, sym, ap, subst, ◌∙◌, arith}
 use Rattle.picture.specs.CellSet.{HasCell}
 use Rattle.picture.specs.Document.{AreInside}
 use Rattle.picture.specs.Picture.{IsPicture}
@@ -24,8 +24,7 @@ pub none_made : (picture start : List (List ℕ)) (givens : List ℕ) (cells : L
 none_made picture start givens cells is inside names shape e w =
     let other = w.0 in
     let fills = w.1.0 in
-    let same : SameShape picture other = shape_trans shape (shape_sym fills.same_shape) in
-    (
+    let same : SameShape picture other = shape_trans shape (shape_sym fills.same_shape) in (
       other,
       record {
         solves = record {

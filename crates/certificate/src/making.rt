@@ -17,7 +17,9 @@ use clues::laws::clues_are_of_lines;
 use line_settle::laws::{forcing_closes_a_line, one_line_decides};
 use line_settle::{Facts, LineEngine, Meter};
 use picture::{CellSet, MAX_SIDE, Picture};
-use second_search::{CellNumber, CertLine, Decided, FIRST_BOUND, Ladder, Lines, MOST_CELLS, Scene, climb};
+use second_search::{
+    CellNumber, CertLine, Decided, FIRST_BOUND, Ladder, Lines, MOST_CELLS, Scene, climb,
+};
 use std::alloc::{AllocError, Global};
 
 // The picture is held on to, and the lines are kept.
