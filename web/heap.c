@@ -35,17 +35,25 @@ static int has_room(size_t need) {
     return need <= memory_size();
 }
 
+// Takes a block of a class that was given back.
+static void *take_back(size_t class) {
+    void *kept = lists[class];
+    if (kept) lists[class] = *(void **)kept;
+    return kept;
+}
+
 void *malloc(size_t n) {
     if (refuse_at && !--refuse_at) return 0;
     if (n > (size_t)1 << 31) return 0;
     size_t class = class_of(n);
-    void *kept = lists[class];
-    if (kept) {
-        lists[class] = *(void **)kept;
+    void *kept = take_back(class);
+    if (kept) return kept;
+    if (!top) top = ((size_t)&__heap_base + 15) & ~(size_t)15;
+    if (!has_room(top + ((size_t)1 << class))) {
+        // At the bound a larger block does.
+        while (!kept && ++class < 64) kept = take_back(class);
         return kept;
     }
-    if (!top) top = ((size_t)&__heap_base + 15) & ~(size_t)15;
-    if (!has_room(top + ((size_t)1 << class))) return 0;
     struct head *head = (struct head *)top;
     head->class = class;
     top += (size_t)1 << class;
