@@ -67,7 +67,7 @@ async function changeColour() {
   if (doc.colours[at].join() === triple.join()) return;
   if (hasColour(doc, triple)) return void say('The palette has this colour already. To make two colours one, use Merge.', 'alarm');
   if (old.maxval === 255 && at > 0) return sendStroke([`colour set ${tools.colour} ${triple.join(' ')}`]);
-  return heard(bench.become({ ...doc, colours: doc.colours.with(at, triple) }));
+  return heard(bench.become({ ...doc, colours: doc.colours.map((one, other) => (other === at ? triple : one)) }));
 }
 
 // Asks for one of the other colours.
