@@ -38,6 +38,20 @@ test('an undo takes back a stroke, not a command', async () => {
   assert.deepEqual(words(await bench.redo()), ['RedoEmpty']);
 });
 
+test('a stroke behind an undo that waits is made on what the undo leaves', async () => {
+  const { bench } = await opened();
+  await bench.stroke(['paint 1 1 a']);
+  await bench.stroke(['paint 1 1 b', 'paint 1 2 b']);
+  const waits = [bench.undo(), bench.undo(), bench.redo()];
+  assert.equal(bench.expected().picture[0], 'a...');
+  waits.push(bench.stroke(['recolour a b']));
+  assert.equal(bench.expected().picture[0], 'b...');
+  waits.push(bench.undo(), bench.undo());
+  assert.equal(bench.expected().picture[0], '....');
+  await Promise.all(waits);
+  assert.deepEqual([bench.state.picture[0], bench.past.length, bench.future.length], ['....', 0, 2]);
+});
+
 test('strokes made at once go in one text, and what is refused counts for nothing', async () => {
   const { bench, made } = await opened();
   const answers = await Promise.all([bench.stroke(['paint 1 1 a']), bench.stroke(['paint 1 1 a']), bench.stroke(['paint 1 2 b', 'paint 1 2 b'])]);
@@ -120,6 +134,33 @@ test('a stroke that ends each worker is left out, and the rest goes on', async (
   await assert.rejects(bench.stroke(['paint 2 2 b']), { kind: 'ended' });
   await bench.stroke(['paint 3 3 a']);
   assert.deepEqual(bench.state.picture, ['a...', '....', '..a.']);
+});
+
+test('of strokes sent together only the one that ends each worker is left out', async () => {
+  const { bench } = await opened(empty(3, 4), { fails: (text) => text.includes('paint 2 2') });
+  const made = await Promise.allSettled([bench.stroke(['paint 1 1 a']), bench.stroke(['paint 2 2 b']), bench.stroke(['paint 3 3 a'])]);
+  assert.deepEqual(made.map((one) => one.status), ['fulfilled', 'rejected', 'fulfilled']);
+  assert.deepEqual(bench.state.picture, ['a...', '....', '..a.']);
+});
+
+test('a search that ends each worker is not made again and again', async () => {
+  const { bench, made } = await opened(empty(3, 4), { fails: (text) => /^allow [1-9]/.test(text), judge: 'undecided 0' });
+  await bench.stroke(['paint 1 1 a']);
+  while (bench.running) await new Promise((go) => setImmediate(go));
+  assert.deepEqual([bench.state.picture[0], bench.state.verdict.word, bench.running], ['a...', 'undecided', false]);
+  assert.ok(made.length <= 4);
+});
+
+test('a document that is opened while another one waits is the one that counts', async () => {
+  const { bench } = await opened();
+  const waits = bench.stroke(['paint 1 1 a']);
+  await bench.open(baseOf(empty(2, 2)));
+  await waits;
+  await bench.stroke(['paint 2 2 b']);
+  while (bench.running) await new Promise((go) => setImmediate(go));
+  assert.deepEqual([bench.state.picture, bench.past.length], [['..', '.b'], 1]);
+  bench.close();
+  assert.deepEqual([bench.state, await bench.stroke(['paint 1 1 a'])], [null, []]);
 });
 
 test('a text that no session writes is not taken', async () => {

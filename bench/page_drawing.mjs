@@ -157,8 +157,29 @@ export async function zooming({ trial, page }) {
     await page.run(() => new Promise((go) => requestAnimationFrame(go)));
     await page.mouse('mouseMoved', x + 3, y + 3);
     await page.until(() => [...document.querySelectorAll('.whole')].every((one) => !one.hidden && /(Row|Column) \d+/.test(one.textContent)), 2000 * SLACK);
-    await page.press('z');
+    const down = await page.run(() => sheet.geometry.panY);
+    await page.press('s');
+    await page.drag([[x, y], [x, 200], [x, 60]]);
+    await page.until((from) => sheet.geometry.panY < from, 2000 * SLACK, down);
+    await page.press('Escape', 'z');
     await page.until(() => document.getElementById('minimap').hidden, 2000 * SLACK);
+}
+
+export async function letters({ trial, page }) {
+    await trial.open(ppmOf(DUCK));
+    await trial.judged();
+    await page.run(() => { sheet.hatching = 'off'; sheet.drawAll(); });
+    // How many colours are seen within a cell: one without its letter, more with it.
+    const count = (row, col) => page.run((r, c) => {
+        const { geometry: at, cellCanvas } = sheet;
+        const { data } = cellCanvas.getContext('2d').getImageData(at.x(c) + 4, at.y(r) + 4, at.cell - 8, at.cell - 8);
+        return new Set(new Uint32Array(data.buffer)).size;
+    }, row, col);
+    assert.deepEqual([await count(0, 2), await count(0, 0)], [1, 1]);
+    await page.press('Control+l');
+    await page.until(() => sheet.geometry.letters && document.getElementById('row-clue').textContent.includes('a'), 2000 * SLACK);
+    await page.run(() => new Promise((go) => requestAnimationFrame(() => requestAnimationFrame(go))));
+    assert.deepEqual([await count(0, 2) > 1, await count(1, 3) > 1, await count(0, 0)], [true, true, 1], 'a letter in each cell with a colour');
 }
 
 export async function nextCell({ trial, page }) {

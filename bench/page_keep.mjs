@@ -5,8 +5,8 @@ import { test } from 'node:test';
 import { load } from '../page/test/load.mjs';
 
 const FILES = ['answers.js', 'hub.js', 'mirror.js', 'ppm.js', 'docs.js', 'shelf.js', 'keep.js'];
-const NAMES = ['memoryShelf', 'localShelf', 'openShelf', 'claim', 'Keeper', 'recordOf', 'soundRecord', 'emptyDoc', 'packedDoc', 'docOf', 'mirrored', 'baseOf', 'keep', 'MOST_KEPT'];
-const { memoryShelf, localShelf, openShelf, claim, Keeper, recordOf, soundRecord, emptyDoc, docOf, mirrored, baseOf, MOST_KEPT } = load(FILES, NAMES);
+const NAMES = ['memoryShelf', 'localShelf', 'openShelf', 'claim', 'Keeper', 'recordOf', 'soundRecord', 'emptyDoc', 'packedDoc', 'mirrored', 'baseOf', 'keep', 'MOST_KEPT'];
+const { memoryShelf, localShelf, openShelf, claim, Keeper, recordOf, soundRecord, emptyDoc, packedDoc, mirrored, baseOf, MOST_KEPT } = load(FILES, NAMES);
 
 class Full extends Error {
     name = 'QuotaExceededError';
@@ -55,18 +55,24 @@ test('a record holds the base, the strokes and what they come to', () => {
     assert.deepEqual([...back.now.givens], [0]);
 });
 
-test('behind a stroke without commands the record begins anew', () => {
+test('a stroke to another size is kept as its document', () => {
+    const doc = packedDoc(emptyDoc(5, 3));
     const bench = benchOf(emptyDoc(4, 3), [['paint 1 1 a']]);
-    const larger = emptyDoc(5, 3);
-    bench.past.push({ lines: [], before: docOf(bench.state), after: larger });
-    const one = recordOf({ ...bench, state: larger, kept: () => ({ base: bench.base, name: 'x', strokes: { past: [['paint 1 1 a'], []], future: [] } }) }, 'x');
-    assert.deepEqual([one.base.text, one.strokes.past], [baseOf(larger).text, []]);
+    bench.kept = () => ({ base: bench.base, name: 'x', strokes: { past: [['paint 1 1 a'], { doc }], future: [] } });
+    const one = JSON.parse(JSON.stringify(recordOf({ ...bench, state: emptyDoc(5, 3) }, 'x')));
+    assert.deepEqual([one.base.text, one.strokes.past], [baseOf(emptyDoc(4, 3)).text, [['paint 1 1 a'], { doc }]]);
+    assert.ok(soundRecord(one));
+    one.strokes.past[1].doc.rows = 4;
+    assert.equal(soundRecord(one), null);
 });
 
-test('more strokes than are kept: the picture alone', () => {
-    const lines = Array.from({ length: 5000 }, (_, at) => `paint 1 1 ${at % 2 ? '.' : 'a'}`);
-    const one = recordOf(benchOf(emptyDoc(4, 3), [lines]), 'x');
-    assert.deepEqual([one.strokes.past, one.base.text], [[], baseOf(emptyDoc(4, 3)).text]);
+test('of more strokes than are kept the last ones are, behind a base of their own', () => {
+    const turn = (count) => Array.from({ length: count }, (_, at) => `paint 1 1 ${at % 2 ? '.' : 'a'}`);
+    const one = recordOf(benchOf(emptyDoc(4, 3), [turn(2001), turn(1000), turn(2000), ['paint 2 2 a']]), 'x');
+    assert.deepEqual(one.strokes.past.map((lines) => lines.length), [1000, 2000, 1]);
+    assert.match(one.base.text, /^P3\n4 3\n255\n0 0 0\n/); // painted by the stroke that went
+    const none = recordOf(benchOf(emptyDoc(4, 3), [turn(5000)]), 'x');
+    assert.deepEqual([none.strokes.past, none.base.text], [[], baseOf(emptyDoc(4, 3)).text]);
 });
 
 test('damaged records are none', () => {

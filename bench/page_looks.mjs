@@ -93,6 +93,29 @@ export async function largePictures({ browser, url, folder }) {
     }
 }
 
+/** Nothing is asked of a network, and the page's policy refuses what would. */
+export async function nothingIsSent({ browser, url, folder }) {
+    const trial = await Trial.start(browser, url, folder);
+    const { page } = trial;
+    const asked = [];
+    const plain = page.event.bind(page);
+    page.event = (method, params) => {
+        if (method === 'Network.requestWillBeSent') asked.push(params.request.url);
+        plain(method, params);
+    };
+    await page.send('Network.enable');
+    await trial.load();
+    await trial.example('apple');
+    await trial.judged();
+    await page.run(() => { runAction('fix'); document.getElementById('fix-paint').click(); });
+    await page.until(() => !searches.running, 30000 * SLACK);
+    assert.deepEqual(asked.filter((one) => !/^(file|blob|data):/.test(one)), []);
+    assert.ok(asked.some((one) => one.startsWith('file:')), 'requests are seen');
+    assert.equal(await page.run(() => fetch('http://127.0.0.1:9/x').then(() => 'sent', (fault) => fault.name)), 'TypeError');
+    assert.ok(page.faults.some((one) => /Content Security Policy/.test(one)), `the policy refuses it: ${page.faults}`);
+    await page.close();
+}
+
 /** Pictures for the documents. */
 export async function pictures({ trial, page, folder }) {
     await trial.example('apple');

@@ -21,7 +21,7 @@ export function hookedPage(built, folder) {
     mkdirSync(folder, { recursive: true });
     const path = join(folder, 'hooked.html');
     const open = html.slice(0, last) + HOOKS + html.slice(last);
-    writeFileSync(path, open.replace(/<meta http-equiv="Content-Security-Policy"[^>]*>/, ''));
+    writeFileSync(path, open);
     return pathToFileURL(path).href;
 }
 

@@ -18,6 +18,7 @@ class Bench {
     this.future = [];
     this.queue = [];
     this.running = false;
+    this.term = {}; // another one for each document that is opened
     this.splits = FIRST_SPLITS;
     this.isSaved = true;
   }
@@ -35,7 +36,7 @@ class Bench {
       const made = await openedIn(engine, opened, strokes);
       this.engine?.end();
       for (const item of this.queue.splice(0)) item.resolve([]);
-      Object.assign(this, { engine, name, isSaved, running: false, ...made });
+      Object.assign(this, { engine, name, isSaved, running: false, term: {}, ...made });
     } catch (fault) {
       engine.end();
       throw fault;
@@ -55,7 +56,8 @@ class Bench {
   close() {
     this.engine?.end();
     for (const item of this.queue.splice(0)) item.resolve([]);
-    Object.assign(this, { engine: null, state: null, base: null, past: [], future: [], running: false, isSaved: true });
+    Object.assign(this, { engine: null, state: null, base: null, past: [], future: [], running: false, term: {}, isSaved: true });
+    tell('busy', false);
     tell('closed', null);
   }
 
@@ -68,23 +70,24 @@ class Bench {
 
   /** Sends the commands of one stroke: one undo takes it back. Resolves to their answers. */
   stroke(lines) {
-    if (!lines.length) return Promise.resolve([]);
+    if (!lines.length || !this.state) return Promise.resolve([]);
     const before = this.expected();
     return this.put({ way: 'new', lines, doc: docBehind(before, lines) });
   }
 
   /** Makes the document another one, as one stroke: by commands where they can, else it is opened anew. */
   become(doc) {
+    if (!this.state) return Promise.resolve([]);
     const lines = linesTo(this.expected(), doc);
     return lines && lines.length <= MOST_PAINTED ? this.stroke(lines) : this.put({ way: 'become', lines: [], doc: docOf(doc) });
   }
 
   undo() {
-    return this.put({ way: 'undo', lines: [] });
+    return this.put({ way: 'undo', lines: [], doc: this.state && strokesBehind(this).past.at(-1)?.before });
   }
 
   redo() {
-    return this.put({ way: 'redo', lines: [] });
+    return this.put({ way: 'redo', lines: [], doc: this.state && strokesBehind(this).future.at(-1)?.after });
   }
 
   /** Asks something that changes nothing; resolves to the answer. */
@@ -113,21 +116,18 @@ class Bench {
   async run() {
     if (this.running) return;
     this.running = true;
-    const { engine } = this;
+    const { term } = this;
     tell('busy', true);
-    while ((this.queue.length || this.isUnsearched()) && this.engine === engine) {
+    while (this.term === term && (this.queue.length || this.isUnsearched())) {
       try {
         await (this.queue.length ? this.next() : this.search());
       } catch (fault) {
-        if (this.engine !== engine) return;
-        await this.recover(fault);
-        break;
+        if (this.term === term) await this.recover(fault, term);
       }
     }
-    if (this.engine !== engine && this.queue.length === 0 && !this.state) return;
+    if (this.term !== term) return; // another document is open
     this.running = false;
     tell('busy', false);
-    if (this.queue.length) this.run();
   }
 
   isUnsearched() {
@@ -171,7 +171,7 @@ class Bench {
     let count = 0;
     for (const item of this.queue) {
       count += item.lines.length;
-      if (item.way !== 'new' || (items.length && count > MOST_LINES)) break;
+      if (item.way !== 'new' || (items.length && (count > MOST_LINES || items[0].failed))) break;
       items.push(item);
     }
     const answers = await this.sent(items.flatMap((item) => item.lines));
@@ -209,7 +209,7 @@ class Bench {
       count += this.past[at].lines.length;
       if (count > HISTORY) this.past[at].live = false;
     }
-    while (this.past.length > MOST_STROKES) this.base = baseOf(this.past.shift().after);
+    if (this.past.length > MOST_STROKES + 50) this.base = baseOf(this.past.splice(0, 50).at(-1).after);
   }
 
   took({ report, verdict }, doc) {
@@ -271,22 +271,27 @@ class Bench {
 
   // ---- a worker that ended
 
-  async recover(fault) {
-    const item = this.queue[0];
-    if (item.failed) { // it fails a second time: without it
+  async recover(fault, term) {
+    const [item] = this.queue;
+    if (item?.failed) { // a second time: without it
       this.queue.shift();
       item.reject(fault);
-    } else item.failed = true;
+    } else if (item) item.failed = true;
     this.engine.end();
-    this.engine = this.make();
+    const engine = this.make();
+    this.engine = engine;
     try {
-      const { state } = await openedIn(this.engine, baseOf(docOf(this.state)), { past: [], future: [] });
+      const { state } = await openedIn(engine, baseOf(docOf(this.state)), { past: [], future: [] });
+      if (this.term !== term) return;
       for (const one of [...this.past, ...this.future]) one.live = false;
       this.state = state;
+      if (!item) this.searched = state.picture; // it was the search that failed
       tell('recovered', fault);
       this.show(state);
     } catch (again) {
+      if (this.term !== term) return;
       for (const one of this.queue.splice(0)) one.reject(again);
+      this.searched = this.state.picture;
       tell('lost', again);
     }
   }

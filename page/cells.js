@@ -80,6 +80,7 @@ class Cells {
     const { geometry: at, doc } = sheet;
     this.fills = doc.colours.map((triple) => cssOf(triple, doc.maxval));
     this.isSmall = at.cell < 6 * at.scale;
+    this.hasLetters = at.letters && at.cell >= 10 * at.scale;
     this.thin = this.isSmall ? 0 : 1;
     this.wide = at.cell < 14 * at.scale ? 1 : 2;
     this.hatching = this.pen.createPattern(this.tileFor(at.scale), 'repeat');
@@ -123,7 +124,7 @@ class Cells {
       const [x, wide] = this.edges(from, next, at.x(0), at.cell, at.columns);
       this.pen.fillStyle = this.fills[look & 15] ?? '#888';
       this.pen.fillRect(x, y, wide, high);
-      if (look < HATCHED) continue;
+      if (look < HATCHED && !this.hasLetters) continue;
       if (look & HATCHED) {
         this.pen.fillStyle = this.hatching;
         this.pen.fillRect(x, y, wide, high);
@@ -135,7 +136,7 @@ class Cells {
   more(sheet, row, col, look, [x, wide, y, high]) {
     const rival = look & RIVAL ? (look >> 9) & 15 : -1;
     if (rival >= 0) this.rival(sheet, rival, x, y, wide, high);
-    if (sheet.geometry.letters && sheet.geometry.cell >= 10 * sheet.geometry.scale) this.letter(sheet, look & 15, rival, x, y, wide, high);
+    if (this.hasLetters) this.letter(sheet, look & 15, rival, x, y, wide, high);
     if (look & GIVEN) this.given(sheet, x, y, wide, high);
   }
 

@@ -92,6 +92,7 @@ function addViewActions() {
   view({ id: 'letters', name: 'Letters in cells and clues', key: 'Ctrl+L', group: 'show', run: () => {
     sheet.geometry.letters = !sheet.geometry.letters;
     sheet.resized();
+    showCell();
   } });
   for (const scheme of ['light', 'dark', '']) {
     view({ id: `scheme-${scheme || 'system'}`, name: { light: 'Light', dark: 'Dark', '': 'Light or dark as the system' }[scheme], needs: false, group: 'scheme', run: () => {

@@ -1,7 +1,7 @@
 // A picture into a puzzle: a dialog with the image, the part that is taken, the size in cells, the colours, and what comes of it,
 // drawn anew at each change.
 
-const MOST_WORKED = 640; // pixels a side that the dialog works on; a larger part is made smaller first
+const MOST_WORKED = 480; // pixels a side that the dialog works on; a larger part is made smaller first
 const SHOWN_SIDE = 320; // pixels of the two pictures in the dialog
 
 /** What the dialog proposes for an image: one cell a dot of a pixel picture, else 40 cells on the longer side. */

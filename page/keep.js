@@ -7,19 +7,21 @@ const MOST_KEPT_LINES = 4000; // commands of strokes that are kept with one
 const keptKey = (id) => `work:${id}`;
 const newId = () => `${Date.now().toString(36)}-${Math.floor(Math.random() * 2 ** 40).toString(36)}`;
 
-/** What is kept of a bench: how it was opened, its strokes, and what it has come to, each as a plain value. */
+// What an entry of a stroke counts: its commands, or for a document of another size as much as many of them.
+const entryCost = (entry) => (Array.isArray(entry) ? entry.length : 100);
+const listCost = (list) => list.reduce((sum, entry) => sum + entryCost(entry), 0);
+
+/** What is kept of a bench: how it was opened, its last strokes, and what it has come to, each as a plain value. */
 function recordOf(open, id, about = {}) {
-  let { base, strokes } = open.kept();
-  const wholeFrom = open.past.findLastIndex((stroke) => !stroke.lines.length) + 1; // strokes of another size have no commands
-  if (wholeFrom > 0) {
-    base = baseOf(open.past[wholeFrom - 1].after);
-    strokes = { past: strokes.past.slice(wholeFrom), future: strokes.future };
+  let { base, strokes: { past, future } } = open.kept();
+  if (listCost(future) > MOST_KEPT_LINES) future = [];
+  let from = past.length;
+  for (let cost = 0; from > 0; from--) {
+    cost += entryCost(past[from - 1]);
+    if (cost > MOST_KEPT_LINES) break;
   }
-  const isSayable = strokes.future.every((lines) => lines.length);
-  const count = [...strokes.past, ...strokes.future].reduce((sum, lines) => sum + lines.length, 0);
-  if (!isSayable) strokes = { ...strokes, future: [] };
-  if (count > MOST_KEPT_LINES) [base, strokes] = [baseOf(docOf(open.state)), { past: [], future: [] }];
-  return { version: 1, id, name: open.name, when: Date.now(), isSaved: open.isSaved, about, base, strokes, now: packedDoc(open.state) };
+  if (from > 0) [base, past] = [baseOf(open.past[from - 1].after), past.slice(from)];
+  return { version: 1, id, name: open.name, when: Date.now(), isSaved: open.isSaved, about, base, strokes: { past, future }, now: packedDoc(open.state) };
 }
 
 /** A record out of the shelf, or null where it is none. */
@@ -27,7 +29,8 @@ function soundRecord(value) {
   try {
     const now = unpackedDoc(value.now);
     const isBase = typeof value.base?.text === 'string' && Array.isArray(value.base.lines);
-    const isList = (list) => Array.isArray(list) && list.every((lines) => Array.isArray(lines) && lines.every((line) => typeof line === 'string'));
+    const isEntry = (entry) => (Array.isArray(entry) ? entry.every((line) => typeof line === 'string') : Boolean(unpackedDoc(entry.doc)));
+    const isList = (list) => Array.isArray(list) && list.every(isEntry);
     if (value.version !== 1 || typeof value.id !== 'string' || !isBase || !isList(value.strokes?.past) || !isList(value.strokes?.future)) return null;
     return { ...value, name: String(value.name).slice(0, 200), when: Number(value.when) || 0, now };
   } catch {
@@ -121,7 +124,7 @@ keep.ready = (home = globalThis) => {
 };
 
 keep.said = ({ kind, why, record }) => {
-  if (kind === 'dropped') return say(`The oldest kept picture, ${record.name}, was dropped from the browser's storage: ${MOST_KEPT} are kept.`);
+  if (kind === 'dropped') return record.isSaved ? undefined : say(`The oldest kept picture, ${record.name}, was dropped from the browser's storage: ${MOST_KEPT} are kept.`);
   keep.isKept = kind === 'kept';
   tell('kept', keep.isKept);
   if (keep.isKept) keep.wasTold = false;

@@ -69,3 +69,16 @@ async function reportedBy(engine, lines, before) {
   if (report.kind !== 'report' || verdict.kind !== 'verdict') throw new EngineFault({ kind: 'memory', text: report.name ?? verdict.name });
   return stateOf(report, verdict, null);
 }
+
+// Past and future of a bench behind all that waits.
+function strokesBehind(bench) {
+  let [past, future] = [[...bench.past], [...bench.future]];
+  let doc = docOf(bench.state);
+  for (const item of bench.queue) {
+    if (item.way === 'undo' && past.length) future.push(past.pop());
+    else if (item.way === 'redo' && future.length) past.push(future.pop());
+    else if (item.way === 'new' || item.way === 'become') [past, future] = [[...past, { before: doc, after: item.doc }], []];
+    doc = item.doc ?? doc;
+  }
+  return { past, future };
+}

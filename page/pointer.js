@@ -98,6 +98,7 @@ function pointerMove(event) {
     alongDrag({ row: at.row, col: at.col });
     moveCursor(at.row, at.col);
     tell('pointed', { ...at, part: 'cell' });
+    if (sheet.isBeyond(event)) sheet.reveal(at.row, at.col);
     return;
   }
   tell('pointed', at.part === 'none' ? null : at);

@@ -19,17 +19,27 @@ function oklabOf(red, green, blue) {
 const keyOf = (data, at) => (data[at] << 16) | (data[at + 1] << 8) | data[at + 2];
 const tripleOfKey = (key) => [key >> 16, (key >> 8) & 255, key & 255];
 
+const EXACT = 0xffffff; // which bits of a colour count
+const ALIKE = 0xf8f8f8; // colours whose samples differ in the last three bits alone count as one
+
 /** The colours of the pixels that are not transparent, each with its place in Oklab and how many pixels have it. */
-function spotsOf({ data }) {
+function spotsOf({ data }, bits = EXACT) {
   const spots = new Map();
   for (let at = 0; at < data.length; at += 4) {
     if (isTransparent(data, at)) continue;
     const key = keyOf(data, at);
-    const spot = spots.get(key);
+    const spot = spots.get(key & bits);
     if (spot) spot.weight++;
-    else spots.set(key, { key, triple: tripleOfKey(key), lab: oklabOf(...tripleOfKey(key)), weight: 1 });
+    else spots.set(key & bits, { triple: tripleOfKey(key), lab: oklabOf(...tripleOfKey(key)), weight: 1 });
   }
   return [...spots.values()];
+}
+
+/** Whether an image has at most so many colours beside what is transparent. */
+function hasFewColours({ data }, most) {
+  const met = new Set();
+  for (let at = 0; at < data.length && met.size <= most; at += 4) if (!isTransparent(data, at)) met.add(keyOf(data, at));
+  return met.size <= most;
 }
 
 // The axis along which spots spread most, their mean there, and how much they spread, by weight.
@@ -74,7 +84,8 @@ const meanOf = (spots, field) => {
 function gatheredSpots(spots) {
   const bins = new Map();
   for (const spot of spots) {
-    const key = spot.lab.map((place) => Math.round(place / BIN)).join();
+    const [light, one, two] = spot.lab;
+    const key = Math.round(light / BIN) * 65536 + (Math.round(one / BIN) + 128) * 256 + Math.round(two / BIN) + 128;
     if (bins.has(key)) bins.get(key).push(spot);
     else bins.set(key, [spot]);
   }
@@ -83,8 +94,8 @@ function gatheredSpots(spots) {
 
 /** At most so many triples that stand well for an image's colours; its own ones where there are no more than that. */
 function paletteFor(image, most) {
-  const all = spotsOf(image);
-  if (all.length <= most) return all.sort((a, b) => b.weight - a.weight).map((spot) => spot.triple);
+  if (hasFewColours(image, most)) return spotsOf(image).sort((a, b) => b.weight - a.weight).map((spot) => spot.triple);
+  const all = spotsOf(image, ALIKE);
   const gathered = gatheredSpots(all);
   const spots = gathered.length > most ? gathered : all;
   let groups = cutBoxes(spots, most);
@@ -107,15 +118,16 @@ function paletteFor(image, most) {
 const weightOf = (spots) => spots.reduce((sum, spot) => sum + spot.weight, 0);
 
 /** For each pixel the number of the nearest triple, or -1 where it is transparent. */
-function numbersFor({ data }, palette) {
+function numbersFor({ data }, palette, bits = EXACT) {
   const labs = palette.map((triple) => oklabOf(...triple));
   const known = new Map();
   return Int8Array.from({ length: data.length / 4 }, (_, index) => {
     const at = index * 4;
     if (isTransparent(data, at)) return -1;
     const key = keyOf(data, at);
-    if (!known.has(key)) known.set(key, nearestOf(labs, oklabOf(...tripleOfKey(key))));
-    return known.get(key);
+    let nearest = known.get(key & bits);
+    if (nearest === undefined) known.set(key & bits, (nearest = nearestOf(labs, oklabOf(...tripleOfKey(key)))));
+    return nearest;
   });
 }
 
@@ -141,15 +153,17 @@ function thresholdFor(image) {
 
 // For each cell the number that most of its part has; of those that are even, that of its mean where it is one of them.
 function mostOf(fine, times, means, columns) {
+  const counts = new Uint16Array(MOST_COLOURS + 2); // of -1 and each number
   return means.map((mean, index) => {
-    const counts = new Map();
     const first = Math.floor(index / columns) * times * columns * times + (index % columns) * times;
+    counts.fill(0);
+    let best = mean;
     for (let at = 0; at < times * times; at++) {
       const one = fine[first + Math.floor(at / times) * columns * times + (at % times)];
-      counts.set(one, (counts.get(one) ?? 0) + 1);
+      counts[one + 1]++;
+      if (counts[one + 1] > counts[best + 1]) best = one;
     }
-    const most = Math.max(...counts.values());
-    return counts.get(mean) === most ? mean : [...counts].find(([, count]) => count === most)[0];
+    return counts[mean + 1] === counts[best + 1] ? mean : best;
   });
 }
 
@@ -188,8 +202,9 @@ function docOfCells(image, options, { fine = null, points = image } = {}) {
     return docOfNumbers(numbers.map((one) => Math.max(0, one)), palette, columns, rows);
   }
   palette = paletteFor(points, clear ? options.colours - 1 : options.colours);
-  numbers = numbersFor(image, palette);
-  if (fine) numbers = mostOf(numbersFor(fine, palette), fine.width / columns, numbers, columns);
+  const bits = hasFewColours(points, palette.length) ? EXACT : ALIKE;
+  numbers = numbersFor(image, palette, bits);
+  if (fine) numbers = mostOf(numbersFor(fine, palette, bits), fine.width / columns, numbers, columns);
   let ground = options.background ? palette.findIndex((triple) => String(triple) === String(options.background)) : -1;
   if (clear || !palette.length) {
     const triple = ground < 0 && options.background && !palette.some((one) => String(one) === String(options.background)) ? options.background : apartFrom(palette);

@@ -100,7 +100,7 @@ function exportAs(form, content, suffix = '') {
 /** Shows the document's name, and whether it is in a file. */
 function showFileName() {
   const isOpen = bench.state !== null;
-  const where = bench.isSaved ? '' : keep.isKept ? ' · kept in this browser, not in a file' : ' · not kept';
+  const where = bench.isSaved ? '' : keep.isKept ? ' · kept in this browser' : ' · not kept';
   $('title').textContent = isOpen ? bench.name + where : '';
   document.title = isOpen ? `${bench.isSaved ? '' : '• '}${bench.name} – nonobench` : 'nonobench';
 }

@@ -200,7 +200,15 @@ class Sheet {
     return this.geometry.at((event.clientX - box.left) * this.geometry.scale, (event.clientY - box.top) * this.geometry.scale);
   }
 
-  /** Scrolls until a cell is seen; `middle` brings it to the middle. */
+  /** Whether a pointer is outside the room of the cells: a drag that goes on there moves the picture. */
+  isBeyond(event) {
+    const { geometry: at } = this;
+    const box = this.view.getBoundingClientRect();
+    const [x, y] = [(event.clientX - box.left) * at.scale, (event.clientY - box.top) * at.scale];
+    return x < at.originX || y < at.originY || x > at.width || y > at.height;
+  }
+
+  /** Scrolls until a cell is seen. */
   reveal(row, col) {
     if (this.geometry.reveal(row, col)) this.drawAll();
   }

@@ -5,14 +5,17 @@ const START_SIZE = [20, 15];
 /** Draws a document small on a canvas, some pixels a cell. */
 function drawSmall(canvas, doc, most) {
   const side = Math.max(1, Math.floor(most / Math.max(doc.rows, doc.columns)));
+  const { colours } = eightBitDoc(doc);
+  const points = new ImageData(doc.columns, doc.rows);
+  let at = 0;
+  for (const row of doc.picture) for (const letter of row) points.data.set([...colours[LETTERS.indexOf(letter)], 255], at++ * 4);
+  const small = penOf(doc.columns, doc.rows);
+  small.putImageData(points, 0, 0);
   canvas.width = doc.columns * side;
   canvas.height = doc.rows * side;
   const pen = canvas.getContext('2d');
-  const inks = eightBitDoc(doc).colours.map((triple) => `rgb(${triple.join(' ')})`);
-  doc.picture.forEach((row, r) => [...row].forEach((letter, c) => {
-    pen.fillStyle = inks[LETTERS.indexOf(letter)];
-    pen.fillRect(c * side, r * side, side, side);
-  }));
+  pen.imageSmoothingEnabled = false;
+  pen.drawImage(small.canvas, 0, 0, canvas.width, canvas.height);
 }
 
 function smallPicture(doc, most = 56) {
@@ -57,6 +60,7 @@ async function goOn(record) {
   const how = { name: record.name, isSaved: record.isSaved, id: record.id, about: record.about ?? {} };
   const isOpen = await openBase(record.base, { ...how, strokes: record.strokes });
   if (isOpen && sameDoc(docOf(bench.state), record.now)) return true;
+  say('');
   return openDoc(record.now, how);
 }
 

@@ -9,6 +9,8 @@ const bareName = (name) => (name ?? '').replace(/\.[A-Za-z0-9]{1,5}$/, '').repla
  * bench opens it. Answers whether it is open; what is refused is told.
  */
 async function openBase(base, { name, isSaved = true, id = null, about = {}, strokes, handle = null, form = 'ppm', isBlank = false }) {
+  const isLost = bench.state && !keep.isKept && !bench.isSaved;
+  if (isLost && !(await confirmDialog('Open another picture', `${bench.name} is in no file, and the browser does not keep it. It would be lost.`, 'Open'))) return false;
   keep.isPaused = true;
   try {
     await bench.open(base, { name, strokes, isSaved });
@@ -18,7 +20,6 @@ async function openBase(base, { name, isSaved = true, id = null, about = {}, str
   } finally {
     keep.isPaused = false;
   }
-  if (base.format === 'non') bench.base = baseOf(docOf(bench.state)); // what was searched for once is not searched for again
   saving.handle = handle;
   saving.form = form;
   await keep.begin(id, about, isBlank);
@@ -33,6 +34,7 @@ const OPEN_FAULTS = { BadSize: 'its width or height is not from 1 to 120', BadCo
 function faultText(fault) {
   if (fault instanceof FileFault) return fault.message;
   const text = String(fault?.text ?? fault?.message ?? fault);
+  if (text === 'stopped') return 'the search was stopped';
   if (/memory/i.test(text) || fault?.kind === 'memory') return 'there is not enough memory for it';
   if (/no picture has these clues/.test(text)) return 'no picture has these clues';
   const name = Object.keys(OPEN_FAULTS).find((one) => text.includes(one));
@@ -43,7 +45,6 @@ function faultText(fault) {
 async function takeFile(file, handle = null) {
   try {
     if (file.size > MOST_BYTES_READ) throw new FileFault('it has more than 16 MiB');
-    if (bench.state && !keep.isKept && !bench.isSaved && !(await confirmDialog('Open another picture', `${bench.name} is in no file, and the browser does not keep it. It would be lost.`, 'Open'))) return false;
     const bytes = new Uint8Array(await file.arrayBuffer());
     return await takeBytes(bytes, file, handle);
   } catch (fault) {
@@ -70,9 +71,11 @@ async function takePpm(bytes, name, handle) {
 }
 
 async function takeXml(text, name, handle) {
-  const { doc, non, about } = readWebpbn(text);
+  const { doc, non, about, count } = readWebpbn(text);
   if (non) return openNon(non, name, about);
-  return openDoc(doc, { name, about, handle, form: 'xml' });
+  const isOpen = await openDoc(doc, { name, about, handle: count === 1 ? handle : null, form: 'xml' });
+  if (isOpen && count > 1) say(`The first of ${count} puzzles is open. Saved, it goes to a file of its own.`, 'alarm');
+  return isOpen;
 }
 
 function takeNon(bytes, name, handle) {
@@ -81,11 +84,29 @@ function takeNon(bytes, name, handle) {
   return openNon(bytes, name, { title }, handle);
 }
 
+const STOP_AFTER = 400; // milliseconds until a search can be stopped by the user
+
+// Of clues without a goal a picture is searched for, in a worker of its own, which the user can stop.
 async function openNon(text, name, about, handle = null) {
-  say(`Opening ${name} …`);
-  const isOpen = await openBase({ text, format: 'non', background: null, lines: [] }, { name, about, handle, form: 'non' });
-  if (isOpen) say('');
-  return isOpen;
+  const engine = startEngine();
+  let dialog = null;
+  const timer = setTimeout(() => {
+    openDialog({ title: `Opening ${name}`, content: 'A picture with these clues is searched for.', buttons: [{ name: 'Stop', value: null, main: true }] }).then(() => engine.end('stopped'));
+    dialog = $('dialogs').lastElementChild;
+  }, STOP_AFTER);
+  let doc;
+  try {
+    await engine.open(text, { history: 1, background: null });
+    const lines = ['allow 0', 'report'];
+    const [, report] = answersTo(lines, await engine.say(lines), null);
+    if (report.kind !== 'report') throw new FileFault('there is not enough memory for it');
+    doc = docOf(stateOf(report, null, null));
+  } finally {
+    clearTimeout(timer);
+    dialog?.close();
+    engine.end();
+  }
+  return openDoc(doc, { name, about, handle, form: 'non' });
 }
 
 /** The pixels of an image file, after the size in its head was looked at. */
@@ -141,7 +162,8 @@ function hearFiles() {
     event.preventDefault(); // else the browser would leave the page for the file
     if (document.querySelector('dialog[open]')) return;
     const file = item.getAsFile();
-    const handle = await item.getAsFileSystemHandle?.().catch(() => null);
+    const late = new Promise((go) => setTimeout(go, 1000, null)); // the file itself is at hand already
+    const handle = await Promise.race([late, item.getAsFileSystemHandle?.().catch(() => null)]);
     takeFile(file, handle?.kind === 'file' ? handle : null);
   });
   addEventListener('paste', (event) => {

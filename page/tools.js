@@ -9,7 +9,7 @@ const TOOLS = {
   recolour: { name: 'Recolour', key: 'e', hint: 'Every cell of the colour pointed at takes the chosen one.' },
   select: { name: 'Select', key: 's', hint: 'Drag a rectangle; drag it to move it. Enter sets it down, Escape takes the move back.' },
   pin: { name: 'Give cells', key: 'g', hint: 'A given cell is printed with the puzzle. Drag to give, or to take back.' },
-  why: { name: 'Why', key: 'w', hint: 'Point at a cell: why does it not have the chosen colour?' },
+  why: { name: 'Why', key: 'w', hint: 'Point at a cell: why does it not have another colour?' },
 };
 
 const tools = { name: 'pencil', colour: 'a', drag: null };

@@ -200,7 +200,6 @@ on('ready', () => {
   for (const id of ['other', 'fix', 'search', 'play']) $('verdict-do').append(actionButton(actions.get(id)));
 });
 on('stroke', () => searches.strokeBegun());
-on('begun', (tool) => { if (tool !== 'why' && tool !== 'select') searches.strokeBegun(); });
 on('closed', () => searches.shown(null));
 on('opened', () => { verdictView.hatching = null; });
 on('shown', (state) => {

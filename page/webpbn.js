@@ -113,7 +113,7 @@ function readWebpbnClues(puzzle, type, usual) {
 }
 
 /**
- * The first grid puzzle of an XML text: `{ doc, about }`, or `{ non, about }` with the text of a two-colour puzzle that
+ * The first grid puzzle of an XML text: `{ doc, about, count }`, or `{ non, about, count }` with the text of a two-colour puzzle that
  * has clues and no solution. Throws a FileFault for what no bench would open.
  */
 function readWebpbn(text) {
@@ -127,14 +127,14 @@ function readWebpbn(text) {
   const clues = { rows: readWebpbnClues(puzzle, 'rows', usual), columns: readWebpbnClues(puzzle, 'columns', usual) };
   const solutions = childrenOf(puzzle, 'solution');
   const goal = solutions.find((element) => (element.attributes.get('type') ?? 'goal') === 'goal') ?? solutions.find((element) => element.attributes.get('type') === 'solution');
-  if (!goal) return { non: nonOfClues(clues), about };
+  if (!goal) return { non: nonOfClues(clues), about, count: puzzles.length };
   const colours = readWebpbnColours(puzzle);
   const signs = readWebpbnImage(imageIn(goal));
   const { doc, names } = docOfSigns(signs, colours, ground);
   checkWebpbnClues(doc, clues, (name) => LETTERS[names.indexOf(name)] ?? '?');
   const saved = solutions.find((element) => element.attributes.get('type') === 'saved' && element.attributes.get('id') === WEBPBN_GIVENS);
   if (saved) doc.givens = givensOfSigns(readWebpbnImage(imageIn(saved)), signs);
-  return { doc: unpackedDoc(doc), about };
+  return { doc: unpackedDoc(doc), about, count: puzzles.length };
 }
 const imageIn = (solution) => childrenOf(solution, 'image')[0]?.text ?? '';
 

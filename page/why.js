@@ -42,6 +42,7 @@ function forgetWhy() {
 
 on('ready', () => $('cell').append(make('div', { id: 'why', role: 'status' })));
 on('asked', ({ row, col }) => whyAt(row, col));
+on('tool', (name) => { if (name === 'why') $('cell').scrollIntoView({ block: 'start' }); });
 on('pointed', (at) => { if (tools.name === 'why' && at?.part === 'cell') whyAt(at.row, at.col); });
 on('reason', (reason) => { if (!reason) forgetWhy(); });
 on('shown', () => {
