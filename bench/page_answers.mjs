@@ -46,8 +46,8 @@ test('a report with a line less, more or another is no report', () => {
     const lines = REPORT.trimEnd().split('\n');
     for (let at = 0; at < lines.length; at++) {
         fails('report', lines.filter((_, other) => other !== at).join('\n') + '\n');
-        fails('report', lines.toSpliced(at, 0, 'zz').join('\n') + '\n');
-        fails('report', lines.with(at, 'verdict maybe').join('\n') + '\n');
+        fails('report', [...lines.slice(0, at), 'zz', ...lines.slice(at)].join('\n') + '\n');
+        fails('report', [...lines.slice(0, at), 'verdict maybe', ...lines.slice(at + 1)].join('\n') + '\n');
     }
     fails('report', REPORT.slice(0, -1));
     fails('report', REPORT + 'ok\n');

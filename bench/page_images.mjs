@@ -3,9 +3,9 @@ import assert from 'node:assert/strict';
 import { test } from 'node:test';
 import { load } from '../page/test/load.mjs';
 
-const { scaledTo, dotSize, sizeOfImage, paletteFor, docOfCells, thresholdFor, oklabOf } = load(
+const { scaledTo, dotSize, sizeOfImage, flatColours, paletteFor, docOfCells, thresholdFor, oklabOf } = load(
     ['answers.js', 'hub.js', 'mirror.js', 'ppm.js', 'images.js', 'docs.js', 'quantise.js'],
-    ['scaledTo', 'dotSize', 'sizeOfImage', 'paletteFor', 'docOfCells', 'thresholdFor', 'oklabOf'],
+    ['scaledTo', 'dotSize', 'sizeOfImage', 'flatColours', 'paletteFor', 'docOfCells', 'thresholdFor', 'oklabOf'],
 );
 // An image of rows of signs; '-' is transparent.
 function imageOf(rows, colours) {
@@ -144,4 +144,21 @@ test('Oklab of known colours', () => {
     close(oklabOf(255, 255, 255), [1, 0, 0]);
     close(oklabOf(255, 0, 0), [0.628, 0.2249, 0.1258]);
     close(oklabOf(0, 0, 255), [0.452, -0.0325, -0.3115]);
+});
+
+test('a drawing in flat colours keeps them as they are, whatever its edges have', () => {
+    const rows = Array.from({ length: 20 }, (_, row) => (row < 10 ? `${'r'.repeat(19)}e` : `${'y'.repeat(12)}f${'g'.repeat(7)}`));
+    const colours = { ...COLOURS, e: [203, 34, 54], f: [135, 185, 50] }; // edges: 10 pixels of each, of 400
+    for (const row of [3, 13]) rows[row] = rows[row].replace(/[ef]/, '-');
+    const image = imageOf(rows, colours);
+    assert.deepEqual(flatColours(image, 16), [COLOURS.r, COLOURS.y, COLOURS.g, colours.e, colours.f]);
+    const wide = imageOf(rows.map((row, at) => (at % 4 ? row.replace(/[ef]/, row[0]) : row)), colours);
+    assert.deepEqual(flatColours(wide, 16), [COLOURS.r, COLOURS.y, COLOURS.g]);
+    assert.deepEqual(flatColours(wide, 2), []);
+    assert.deepEqual(paletteFor(wide, 3), [COLOURS.r, COLOURS.y, COLOURS.g]);
+});
+
+test('a photo has no flat colours', () => {
+    const data = Uint8ClampedArray.from({ length: 40000 }, (_, at) => (at % 4 === 3 ? 255 : (at * 48271) % 251));
+    assert.deepEqual(flatColours({ width: 100, height: 100, data }, 16), []);
 });

@@ -33,7 +33,7 @@ export async function drawing({ trial, page }) {
     await shows(outlined, 'an outline');
     await page.press('l');
     await trial.drag([[8, 1], [8, 9]]);
-    const lined = outlined.with(7, 'aaaaaaaaa');
+    const lined = outlined.map((row, at) => (at === 7 ? 'aaaaaaaaa' : row));
     await shows(lined, 'a line');
     for (const wanted of [outlined, boxed, dragged]) {
         await trial.press('Control+z');

@@ -37,7 +37,7 @@ const press = (row, col) => new Promise((done) => {
     }));
 });
 
-const median = (list) => list.toSorted((one, other) => one - other)[Math.floor(list.length / 2)];
+const median = (list) => [...list].sort((one, other) => one - other)[Math.floor(list.length / 2)];
 const folder = mkdtempSync(join(tmpdir(), 'nonobench-speed-'));
 const turns = Number(process.argv[3] ?? 15);
 const browser = new Browser();

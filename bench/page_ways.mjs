@@ -134,7 +134,7 @@ export async function pastedPhoto({ page, folder, trial }) {
         await facts(wanted);
         times.push(await page.run(() => Number(document.querySelector('#import-preview').dataset.ms)));
     }
-    const middle = times.toSorted((one, two) => one - two)[Math.floor(times.length / 2)];
+    const middle = [...times].sort((one, two) => one - two)[Math.floor(times.length / 2)];
     assert.ok(middle <= 100 * SLACK, `previews took ${times.join(', ')} ms`);
     await page.shot(join(folder, 'photo.png'));
     const box = await page.run(() => {

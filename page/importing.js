@@ -5,13 +5,23 @@ const MOST_WORKED = 480; // pixels a side that the dialog works on; a larger par
 const MOST_POINTS = 100; // pixels a side that its colours are found in
 const SHOWN_SIDE = 320; // pixels of the two pictures in the dialog
 
+/** How many colours an image has with a background: all where each pixel counts and they are few, its flat ones, or some. */
+function coloursFor(image, { isExact, some }) {
+  const clear = Number(hasClear(image));
+  const most = MOST_COLOURS - clear;
+  const own = isExact && hasFewColours(image, most) ? spotsOf(image) : flatColours(image, most);
+  return own.length ? Math.max(2, own.length + clear) : some;
+}
+
 /** What the dialog proposes for an image: one cell a dot of a pixel picture, else 40 cells on the longer side. */
 function proposalFor(image) {
   const dot = dotSize(image);
   const [columns, rows] = [image.width / dot, image.height / dot];
-  if (columns <= MOST_CELLS && rows <= MOST_CELLS && columns * rows > 1) return { columns, rows, sharp: true, colours: clamp(spotsOf(scaledTo(image, { x: 0, y: 0, ...image }, columns, rows, true)).length, 2, MOST_COLOURS) };
+  const sampled = (wide, high) => scaledTo(image, { x: 0, y: 0, ...image }, wide, high, true);
+  if (columns <= MOST_CELLS && rows <= MOST_CELLS && columns * rows > 1) return { columns, rows, sharp: true, colours: coloursFor(sampled(columns, rows), { isExact: true, some: MOST_COLOURS }) };
   const scale = 40 / Math.max(image.width, image.height);
-  return { columns: Math.max(1, Math.round(image.width * scale)), rows: Math.max(1, Math.round(image.height * scale)), sharp: false, colours: 6 };
+  const colours = coloursFor(sampled(Math.min(MOST_POINTS, image.width), Math.min(MOST_POINTS, image.height)), { isExact: false, some: 6 });
+  return { columns: Math.max(1, Math.round(image.width * scale)), rows: Math.max(1, Math.round(image.height * scale)), sharp: false, colours };
 }
 
 /** An image as points of a canvas. */
@@ -164,9 +174,9 @@ class Importing {
     return this.worked;
   }
 
-  cells(times = 1) {
+  cells(times = 1, sharp = this.sharp.checked) {
     const [columns, rows] = this.size ?? [1, 1];
-    return this.made('cells', columns * times, rows * times, this.sharp.checked);
+    return this.made('cells', columns * times, rows * times, sharp);
   }
 
   // Single pixels of the part, for its colours: as many whatever the size in cells is.
@@ -191,7 +201,8 @@ class Importing {
     const options = { colours: Number(this.colours.value), background: this.background };
     if (this.two.checked) Object.assign(options, { threshold: Number(this.threshold.value), inverted: this.inverted.checked });
     const times = this.size[0] * this.size[1] > 5000 ? 2 : 3;
-    const fine = this.sharp.checked || this.two.checked ? null : this.cells(times);
+    // Of a drawing in flat colours single pixels are taken: means across its edges would be colours of their own.
+    const fine = this.sharp.checked || this.two.checked ? null : this.cells(times, flatColours(this.points(), MOST_COLOURS).length > 0);
     const cells = fine ? scaledTo(fine, { x: 0, y: 0, width: fine.width, height: fine.height }, ...this.size) : this.cells();
     this.doc = this.grounded(docOfCells(cells, options, fine ? { fine, points: this.points() } : {}));
     drawSmall(this.preview, this.doc, SHOWN_SIDE);

@@ -38,7 +38,7 @@ const MIRRORED = {
   },
   insert(doc, [axis, at]) {
     if (axis === 'row') {
-      return { ...doc, rows: doc.rows + 1, picture: doc.picture.toSpliced(at - 1, 0, '.'.repeat(doc.columns)),
+      return { ...doc, rows: doc.rows + 1, picture: [...doc.picture.slice(0, at - 1), '.'.repeat(doc.columns), ...doc.picture.slice(at - 1)],
         givens: movedGivens(doc, doc.columns, (row, col) => [row >= at - 1 ? row + 1 : row, col]) };
     }
     return { ...doc, columns: doc.columns + 1, picture: doc.picture.map((row) => `${row.slice(0, at - 1)}.${row.slice(at - 1)}`),
@@ -47,7 +47,7 @@ const MIRRORED = {
   delete(doc, [axis, at]) {
     const moved = (place) => (place > at - 1 ? place - 1 : place);
     if (axis === 'row') {
-      return { ...doc, rows: doc.rows - 1, picture: doc.picture.toSpliced(at - 1, 1),
+      return { ...doc, rows: doc.rows - 1, picture: doc.picture.filter((_, row) => row !== at - 1),
         givens: movedGivens(doc, doc.columns, (row, col) => (row === at - 1 ? null : [moved(row), col])) };
     }
     return { ...doc, columns: doc.columns - 1, picture: doc.picture.map((row) => row.slice(0, at - 1) + row.slice(at)),
@@ -65,7 +65,7 @@ const MIRRORED = {
   },
   colour(doc, [way, ...words]) {
     if (way === 'add') return { ...doc, colours: [...doc.colours, words] };
-    return { ...doc, colours: doc.colours.with(LETTERS.indexOf(words[0]), words.slice(1)) };
+    return { ...doc, colours: doc.colours.map((triple, at) => (LETTERS[at] === words[0] ? words.slice(1) : triple)) };
   },
   pin(doc, [row, col]) {
     return { ...doc, givens: new Set(doc.givens).add((row - 1) * doc.columns + col - 1) };

@@ -2,6 +2,8 @@
 // then a little k-means (Lloyd). Distances are taken in Oklab (Ottosson, 2020), where equal steps look equal.
 
 const KMEANS_ROUNDS = 8;
+const FLAT_SHARE = 0.01; // of the pixels: what a colour of a drawing has at least
+const FLAT_PART = 0.85; // of the pixels: what its colours have together
 const BIN = 0.03; // a side of the boxes of Oklab in which colours are taken as one
 
 function oklabOf(red, green, blue) {
@@ -97,9 +99,23 @@ function gatheredSpots(spots) {
   return [...bins.values()].map((bin) => ({ lab: meanOf(bin, 'lab'), triple: meanOf(bin, 'triple'), weight: Math.sqrt(weightOf(bin)) }));
 }
 
+/**
+ * The colours of a drawing in flat colours, where its edges alone have others: the most used first, at most so many. None
+ * where the image is no such drawing.
+ */
+function flatColours(image, most) {
+  const all = spotsOf(image);
+  const total = weightOf(all);
+  const flat = all.filter(({ weight }) => weight >= total * FLAT_SHARE);
+  const isFlat = flat.length <= most && weightOf(flat) >= total * FLAT_PART;
+  return isFlat ? flat.sort((a, b) => b.weight - a.weight).map((spot) => spot.triple) : [];
+}
+
 /** At most so many triples that stand well for an image's colours; its own ones where there are no more than that. */
 function paletteFor(image, most) {
   if (hasFewColours(image, most)) return spotsOf(image).sort((a, b) => b.weight - a.weight).map((spot) => spot.triple);
+  const flat = flatColours(image, most);
+  if (flat.length === most) return flat;
   const all = spotsOf(image, ALIKE);
   const gathered = gatheredSpots(all);
   const spots = gathered.length > most ? gathered : all;

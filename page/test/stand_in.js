@@ -54,11 +54,11 @@ const EDITS = {
   pin: (doc, row, col) => ({ ...doc, givens: shiftedGivens({ givens: [...new Set([...doc.givens, `${row} ${col}`])] }, (r, c) => [r, c]) }),
   unpin: (doc, row, col) => ({ ...doc, givens: doc.givens.filter((key) => key !== `${row} ${col}`) }),
   insert: (doc, axis, at) => (axis === 'row'
-    ? { ...doc, rows: doc.rows + 1, picture: doc.picture.toSpliced(at - 1, 0, '.'.repeat(doc.columns)), givens: shiftedGivens(doc, (r, c) => [r >= at ? r + 1 : r, c]) }
-    : { ...doc, columns: doc.columns + 1, picture: doc.picture.map((line) => [...line].toSpliced(at - 1, 0, '.').join('')), givens: shiftedGivens(doc, (r, c) => [r, c >= at ? c + 1 : c]) }),
+    ? { ...doc, rows: doc.rows + 1, picture: [...doc.picture.slice(0, at - 1), '.'.repeat(doc.columns), ...doc.picture.slice(at - 1)], givens: shiftedGivens(doc, (r, c) => [r >= at ? r + 1 : r, c]) }
+    : { ...doc, columns: doc.columns + 1, picture: doc.picture.map((line) => `${line.slice(0, at - 1)}.${line.slice(at - 1)}`), givens: shiftedGivens(doc, (r, c) => [r, c >= at ? c + 1 : c]) }),
   delete: (doc, axis, at) => (axis === 'row'
-    ? { ...doc, rows: doc.rows - 1, picture: doc.picture.toSpliced(at - 1, 1), givens: shiftedGivens(doc, (r, c) => (r === at ? null : [r > at ? r - 1 : r, c])) }
-    : { ...doc, columns: doc.columns - 1, picture: doc.picture.map((line) => [...line].toSpliced(at - 1, 1).join('')), givens: shiftedGivens(doc, (r, c) => (c === at ? null : [r, c > at ? c - 1 : c])) }),
+    ? { ...doc, rows: doc.rows - 1, picture: doc.picture.filter((_, row) => row !== at - 1), givens: shiftedGivens(doc, (r, c) => (r === at ? null : [r > at ? r - 1 : r, c])) }
+    : { ...doc, columns: doc.columns - 1, picture: doc.picture.map((line) => line.slice(0, at - 1) + line.slice(at)), givens: shiftedGivens(doc, (r, c) => (c === at ? null : [r, c > at ? c - 1 : c])) }),
   swap: (doc, axis, one, other) => {
     const to = (at) => (at === one ? other : at === other ? one : at);
     return axis === 'row'
