@@ -22,24 +22,41 @@ static size_t class_of(size_t n) {
 // Lets the nth growth from now on be refused, and each after it pass; 0 for none.
 void nonobench_refuse(unsigned n) { refuse_at = n; }
 
+static size_t memory_size(void) { return __builtin_wasm_memory_size(0) << 16; }
+
+// Whether memory reaches up to here, or grew to it: by 4 MiB where that is possible. It is its size that tells, since the -1
+// of a growth that was refused is another number once 64-bit memory is lowered.
+static int has_room(size_t need) {
+    size_t have = memory_size();
+    if (need <= have) return 1;
+    size_t pages = (need - have + 65535) >> 16;
+    __builtin_wasm_memory_grow(0, pages < 64 ? 64 : pages);
+    if (need > memory_size()) __builtin_wasm_memory_grow(0, pages);
+    return need <= memory_size();
+}
+
+// Takes a block of a class that was given back.
+static void *take_back(size_t class) {
+    void *kept = lists[class];
+    if (kept) lists[class] = *(void **)kept;
+    return kept;
+}
+
 void *malloc(size_t n) {
     if (refuse_at && !--refuse_at) return 0;
     if (n > (size_t)1 << 31) return 0;
     size_t class = class_of(n);
-    void *kept = lists[class];
-    if (kept) {
-        lists[class] = *(void **)kept;
-        return kept;
-    }
+    void *kept = take_back(class);
+    if (kept) return kept;
     if (!top) top = ((size_t)&__heap_base + 15) & ~(size_t)15;
-    size_t need = top + ((size_t)1 << class), have = __builtin_wasm_memory_size(0) << 16;
-    if (need > have) {
-        size_t pages = (need - have + 65535) >> 16, more = pages < 64 ? 64 : pages;
-        if (__builtin_wasm_memory_grow(0, more) == (size_t)-1 && __builtin_wasm_memory_grow(0, pages) == (size_t)-1) return 0;
+    if (!has_room(top + ((size_t)1 << class))) {
+        // At the bound a larger block does.
+        while (!kept && ++class < 64) kept = take_back(class);
+        return kept;
     }
     struct head *head = (struct head *)top;
     head->class = class;
-    top = need;
+    top += (size_t)1 << class;
     return head + 1;
 }
 

@@ -12,6 +12,31 @@ const bytes = readFileSync(process.env.WASM ?? join(root, 'web', 'out', 'nonoben
 const text = (...parts) => readFileSync(join(root, ...parts), 'utf8');
 const fresh = () => load(bytes);
 
+// An engine with the plain calls of its module, some of them put in place of its own.
+async function watched(others = {}) {
+  const plain = WebAssembly.instantiate;
+  let calls = null;
+  WebAssembly.instantiate = async (...given) => {
+    const { instance: { exports } } = await plain.apply(WebAssembly, given);
+    calls = { ...exports, ...others };
+    return { instance: { exports: calls } };
+  };
+  try {
+    return { engine: await fresh(), calls };
+  } finally {
+    WebAssembly.instantiate = plain;
+  }
+}
+
+// How many bytes of the heap were handed out for the first time while a function ran. A block of 2 MiB is the first of its
+// size, and lies at the end of what is in use; one of 4 MiB then tells where that end is.
+function taken(calls, run) {
+  const [room, more] = [2097152, 4194304].map((size) => BigInt(size - 16));
+  const from = calls.malloc(room);
+  run();
+  return Number(calls.malloc(more) - from) - 2097152;
+}
+
 // Two rows, black and white, white and black: another picture has the clues, and a given decides it.
 const DIAGONAL = 'P3 2 2 255 0 0 0 255 255 255 255 255 255 0 0 0\n';
 const PUZZLE = 'width 2\nheight 2\n\nrows\n1\n1\n\ncolumns\n1\n1\n\ngoal "1001"\n';
@@ -53,8 +78,22 @@ test('what files, options and words are refused, and how it is said', async () =
   assert.deepEqual(faultOf(() => engine.open(PUZZLE, { background: '0,0,0' })), ['open', 'background goes with ppm']);
   assert.deepEqual(faultOf(() => engine.open(new Uint8Array(16777217))), ['open', 'input too long']);
   assert.throws(() => engine.open(5), TypeError);
+  assert.equal(engine.open(DIAGONAL, { background: null }).say('verdict\n'), 'ambiguous\n.a\na.\n');
   const bench = engine.open('P3 2 1 255 1 2 3 4 5 6\n', { background: '4,5,6', history: 1 });
   assert.equal(bench.say('clues\npin 1 1\npin 1 2\nundo\nundo\n'), 'r 1: 1a\nc 1: 1a\nc 2: 0\nok\nok\nok\nrefused: UndoEmpty\n');
+});
+
+test('the longest input and the deepest history are taken, and what they are where none is named', async () => {
+  const engine = await fresh();
+  const longest = new Uint8Array(16777216).fill(0x20);
+  longest.set(new TextEncoder().encode(DIAGONAL));
+  assert.equal(engine.open(longest).say('verdict\n'), 'ambiguous\n.a\na.\n');
+  for (const [options, depth] of [[{}, 100], [{ history: 1000 }, 1000]]) {
+    const bench = engine.open(DIAGONAL, options);
+    const said = bench.say('pin 1 1\nunpin 1 1\n'.repeat(501) + 'undo\n'.repeat(1002));
+    assert.equal(said, 'ok\n'.repeat(1002 + depth) + 'refused: UndoEmpty\n'.repeat(1002 - depth));
+    bench.close();
+  }
 });
 
 test('a bench lives between calls, and several are apart', async () => {
@@ -97,12 +136,99 @@ test('handles that were never given are refused, by the plain calls', async () =
   assert.equal(new DataView(calls.memory.buffer).getUint32(Number(cell) + 8, true), 1);
 });
 
+test('lengths past the memory are refused, and the module goes on', async () => {
+  const { engine, calls } = await watched();
+  for (const size of [2n ** 30n, 2n ** 31n + 1n, 2n ** 32n, 2n ** 63n, 2n ** 64n - 16n, 2n ** 64n - 1n]) assert.equal(calls.malloc(size), 0n, `${size}`);
+  assert.ok(engine.memory <= 1073741824);
+  assert.equal(engine.open(DIAGONAL).say('verdict\n'), 'ambiguous\n.a\na.\n');
+});
+
+test('at the bound of memory a call is refused, and answers again when there is room', async () => {
+  const { engine, calls } = await watched();
+  const bench = engine.open(text('examples', 'heart.ppm'));
+  const lines = 'clues\nmap\nverdict\nreport\ncertify\n', whole = bench.say(lines);
+  const blocks = [];
+  for (let size = 29n; size >= 5n; size -= 1n) {
+    for (let at = calls.malloc(2n ** size - 16n); at !== 0n; at = calls.malloc(2n ** size - 16n)) blocks.push(at);
+  }
+  assert.ok(engine.memory <= 1073741824, `${engine.memory}`);
+  const refused = (call) => {
+    try {
+      return call().includes('refused: Memory\n');
+    } catch (fault) {
+      assert.deepEqual([fault.kind, fault.text], ['memory', 'memory']);
+      return true;
+    }
+  };
+  assert.ok(refused(() => bench.say(lines)));
+  let turns = 0;
+  for (; refused(() => bench.say(lines)); turns += 1) calls.free(blocks.pop());
+  assert.ok(turns > 3, `${turns}`);
+  assert.equal(bench.say(lines), whole);
+  assert.ok(refused(() => engine.open(text('examples', 'moon.ppm')).say(lines)));
+  bench.close();
+  assert.equal(engine.open(text('examples', 'heart.ppm')).say(lines), whole);
+});
+
+test('a desk that is ended gives back what it and its benches held', async () => {
+  const { calls } = await watched();
+  const cell = calls.malloc(16n), file = calls.malloc(64n);
+  new Uint8Array(calls.memory.buffer, Number(file), DIAGONAL.length).set(new TextEncoder().encode(DIAGONAL));
+  const once = () => {
+    assert.equal(calls.nonobench_start(cell), 0);
+    for (let i = 0; i < 2; i += 1) assert.equal(calls.nonobench_open(cell, file, BigInt(DIAGONAL.length), 0, file, 0n, 1, cell + 8n), 0);
+    calls.nonobench_end(new DataView(calls.memory.buffer).getBigUint64(Number(cell), true));
+  };
+  once();
+  assert.equal(taken(calls, () => { for (let i = 0; i < 100; i += 1) once(); }), 0);
+});
+
+test('a text is taken in parts by the plain call, and stays', async () => {
+  const { calls } = await watched();
+  const cell = calls.malloc(16n), file = calls.malloc(64n), out = calls.malloc(64n);
+  const put = (text) => new Uint8Array(calls.memory.buffer, Number(file), 64).set(new TextEncoder().encode(text));
+  const got = (size) => new TextDecoder().decode(new Uint8Array(calls.memory.buffer, Number(out), size));
+  assert.equal(calls.nonobench_start(cell), 0);
+  put(DIAGONAL);
+  assert.equal(calls.nonobench_open(cell, file, BigInt(DIAGONAL.length), 0, file, 0n, 1, cell + 8n), 0);
+  put('verdict\n');
+  assert.equal(calls.nonobench_say(cell, 1, file, 8n), 0);
+  new Uint8Array(calls.memory.buffer, Number(out), 64).fill(0x2d);
+  for (const [room, whole] of [[0n, '-----'], [3n, 'amb--'], [4n, 'ambi-'], [64n, 'ambiguous\n.a\na.\n-']]) {
+    assert.equal(calls.nonobench_take(cell, out, room), 16n);
+    assert.equal(got(whole.length), whole);
+  }
+});
+
+test('after a trap the engine is of no use, and says so', async () => {
+  let isTrap = false;
+  const { engine, calls } = await watched();
+  const plain = calls.nonobench_say;
+  calls.nonobench_say = (...words) => {
+    if (isTrap) throw new WebAssembly.RuntimeError('unreachable');
+    return plain(...words);
+  };
+  const bench = engine.open(DIAGONAL);
+  assert.equal(bench.say('pin 1 1\n'), 'ok\n');
+  isTrap = true;
+  assert.deepEqual(faultOf(() => bench.say('pin 1 2\n')), ['ended', 'the module has ended: unreachable']);
+  isTrap = false;
+  for (const call of [() => bench.say('verdict\n'), () => bench.close(), () => engine.open(DIAGONAL), () => engine.check(DIAGONAL, '')]) {
+    assert.deepEqual(faultOf(call), ['ended', 'the module has ended']);
+  }
+});
+
 test('a long answer is taken whole', async () => {
   const engine = await fresh();
   const bench = engine.open(text('tests', 'sessions', 'widest.ppm'));
   const once = bench.say('map\n');
   assert.equal(bench.say('map\n'.repeat(20000)), once.repeat(20000));
   assert.ok(once.length * 20000 > 1000000, `${once.length}`);
+  // Texts of 65,535, 65,536 and 65,537 bytes: the room that a text is first taken in, and a byte less and more.
+  const line = engine.open('P3 1 1 255 255 255 255\n');
+  for (const [verdicts, whys] of [[9357, 4], [9361, 1], [9356, 5]]) {
+    assert.equal(line.say('verdict\n'.repeat(verdicts) + 'why 1 1 .\n'.repeat(whys)), 'unique\n'.repeat(verdicts) + 'possible\n'.repeat(whys));
+  }
 });
 
 test('a certificate is accepted, and what is wrong is said', async () => {
@@ -111,22 +237,29 @@ test('a certificate is accepted, and what is wrong is said', async () => {
   assert.deepEqual(engine.check(picture, certificate), { accepted: true, status: 0, text: 'certificate accepted, givens 1\n' });
   assert.deepEqual(engine.check(picture, 'no certificate\n'), { accepted: false, status: 1, text: 'certificate NotCert at line 1' });
   assert.deepEqual(engine.check('P4\n', certificate), { accepted: false, status: 1, text: 'ppm NotP3 at byte 0' });
+  // By its background the first colour of this picture has a clue or none: where the left cell is background, nothing tells the
+  // two pictures apart that the certificate is of.
+  const two = 'P3 2 1 255 0 0 0 9 9 9\n', plain = 'nonocert 1\nline r 1\ndone\n';
+  assert.deepEqual(engine.check(two, plain), { accepted: true, status: 0, text: 'certificate accepted\n' });
+  assert.deepEqual(engine.check(two, plain, { background: null }).status, 0);
+  assert.deepEqual(engine.check(two, plain, { background: '0,0,0' }), { accepted: false, status: 1, text: 'certificate NotDone at line 3' });
   const bench = engine.open(picture);
   assert.equal(engine.check(picture, certificate).accepted, true);
   assert.equal(bench.say('undo\n'), 'refused: UndoEmpty\n');
 });
 
-test('10,000 benches are opened and closed, and memory does not grow', async () => {
-  const engine = await fresh();
+test('10,000 benches are opened and closed, and not a block more is taken', async () => {
+  const { engine, calls } = await watched();
   const session = () => {
     const bench = engine.open(DIAGONAL);
-    bench.say('pin 1 1\nverdict\n');
+    bench.say('pin 1 1\nverdict\ncertify\n');
     bench.close();
+    assert.equal(engine.check(DIAGONAL, 'nonocert 2\ngiven 1 1\nline r 1\nline c 1\nline r 2\ndone\n').accepted, true);
+    faultOf(() => engine.open('P4\n'));
+    faultOf(() => bench.say(''));
   };
   for (let i = 0; i < 10; i += 1) session();
-  const before = engine.memory;
-  for (let i = 0; i < 10000; i += 1) session();
-  assert.equal(engine.memory, before);
+  assert.equal(taken(calls, () => { for (let i = 0; i < 10000; i += 1) session(); }), 0);
 });
 
 test('each growth of memory refused in turn is an ordinary answer', async () => {
@@ -153,6 +286,29 @@ test('each growth of memory refused in turn is an ordinary answer', async () => 
   }
   assert.ok(refused > 50, `${refused}`);
   assert.equal(engine.open(picture).say(lines), whole);
+});
+
+test('each growth refused in turn while a certificate is checked is a fault of memory', async () => {
+  const { engine, calls } = await watched();
+  const picture = text('examples', 'given.ppm'), certificate = text('examples', 'given.cert');
+  let refused = 0;
+  const turns = () => {
+    for (let nth = 1; ; nth += 1) {
+      engine.refuse(nth);
+      let answer = null;
+      try {
+        answer = engine.check(picture, certificate);
+      } catch (fault) {
+        assert.deepEqual([fault.kind, fault.text], ['memory', 'memory'], `${nth}`);
+      }
+      engine.refuse(0);
+      if (answer) return assert.deepEqual(answer, { accepted: true, status: 0, text: 'certificate accepted, givens 1\n' }, `${nth}`);
+      refused += 1;
+    }
+  };
+  turns();
+  assert.ok(refused > 10, `${refused}`);
+  assert.equal(taken(calls, turns), 0);
 });
 
 test('any bytes are answered, and the module goes on', async () => {

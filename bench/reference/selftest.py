@@ -102,6 +102,7 @@ SESSIONS = (
               '|allow 1|verdict|allow 0|verdict|certify|allow 00007|allow x',
      'ok|a.|.a|unique|given|possible|by r 1 given 1=a|refused: NoChange|refused: Place|refused: NoChange|ok|ok'
      '|undecided 0|ok|ambiguous|.a|a.|ok|ambiguous|.a|a.|ambiguous|ok|refused: BadNumber'),
+    ('a./.a', 'allow 0|verdict|certify|verdict', 'ok|undecided 0|ambiguous|ambiguous|.a|a.'),
     ('a.../.a../..b./...b', 'allow 1|verdict|allow 0|paint 4 3 b|map|verdict',
      'ok|ambiguous|.a..|a...|..b.|...b|ok|ok|??..|??..|..b.|..bb|ambiguous|.a..|a...|..b.|..bb'),
 )

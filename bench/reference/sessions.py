@@ -213,10 +213,8 @@ class Session:
                 agree(not forces(scene.clues[line], fewer, crossing, colour), f'the premise at {at + 1} can be left out')
 
     def say_certify(self, output):
-        """A certificate, checked by the reference, or that there is another picture."""
-        keeper = Keeper(self.scene())
-        keeper.known = list(self.kept().known)
-        if keeper.judge(None, self.most) == 'ambiguous':
+        """A certificate, checked by the reference, or that there is another picture. What it finds of the parts is kept."""
+        if self.kept().judge(None, self.most) == 'ambiguous':
             output.must_lines('ambiguous')
             return
         givens = sorted(self.document.givens)

@@ -1,10 +1,9 @@
 -- What `write ppm` and `certify` print, read again.
 use Rattle.std.proofs.Common.{◌≡◌, ℕ, List, Option, Some, None, Ok, Result, refl, sym, ap, subst, ◌∙◌, codes}
 use Rattle.picture.specs.declared.document.Document.{Document}
-use Rattle.picture.specs.declared.rgb.Rgb.{Rgb}
 use Rattle.picture.specs.CellSet.{no_cells}
-use Rattle.picture.specs.Document.{Content, first_of, ordered_of}
-use Rattle.picture.specs.Palette.{Colours, IsPalette}
+use Rattle.picture.specs.Document.{Content, ordered_of}
+use Rattle.picture.specs.Palette.{IsPalette}
 use Rattle.picture.specs.Picture.{IsPicture}
 use Rattle.ppm_text.specs.declared.fault.PpmFault.{PpmFault}
 use Rattle.ppm_text.specs.Ppm.{ppm_of}
@@ -17,11 +16,10 @@ use Rattle.certificate.specs.Writing as certificates
 use Rattle.edits.specs.Design.{Design, design_of}
 use Rattle.edits.specs.History.{History}
 use Rattle.live_audit.specs.Bench.{Seen}
-use Rattle.live_audit.specs.Certify.{Certifies, IsCertificateFor, NamesMarks, ordered}
+use Rattle.live_audit.specs.Certify.{Certifies}
 use Rattle.session.specs.Session.{certified_text, content}
-use Rattle.answers.specs.declared.fault.ProgramFault.{ProgramFault}
-use Rattle.answers.specs.Check.{IsCheck, IsCheckOf, IsProofOf, accepted_text}
-use Rattle.answers.specs.Laws.{ArePublished, AreAccepted, PairsAreAccepted, background_in}
+use Rattle.answers.specs.Check.{IsCheck, accepted_text}
+use Rattle.answers.specs.Laws.{AreAccepted, PairsAreAccepted, background_in}
 
 -- the document without its givens
 abbrev ungiven : Design → Content

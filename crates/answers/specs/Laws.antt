@@ -5,7 +5,7 @@ use Rattle.picture.specs.Document.{first_of}
 use Rattle.certificate.specs.Cert.{Certificate}
 use Rattle.edits.specs.Design.{Design}
 use Rattle.live_audit.specs.Bench.{Seen}
-use Rattle.live_audit.specs.Certify.{NamesMarks, ordered}
+use Rattle.live_audit.specs.Certify.{NamesMarks}
 use Rattle.live_audit.specs.Verdict.{IsOtherFor}
 use Rattle.session.specs.declared.command.Command.TheVariants as command
 use Rattle.session.specs.Session.{SaysTo}

@@ -1,7 +1,7 @@
 -- What a certificate speaks of: a picture, its clues, and facts on its cells.
 use Rattle.std.specs.Prelude.{◌≡◌, ◌⊎◌, ℕ, ◌+◌, ◌-◌, List, [], ◌∷◌, length}
 use Rattle.picture.specs.declared.line_id.LineId.{LineId}
-use Rattle.picture.specs.Rows.{width_of, cell_at, line_of}
+use Rattle.picture.specs.Rows.{width_of, line_of}
 use Rattle.clues.specs.ClueBook.{clue_at, clues_of}
 use Rattle.clues.specs.Solution.{IsOnlySolution}
 use Rattle.line_settle.specs.declared.line_engine.Outcome.{Outcome}

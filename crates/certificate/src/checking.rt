@@ -12,12 +12,12 @@ ghost use Rattle.certificate.specs.Walk.{GivesBase};
 
 use crate::cert::Cert;
 use crate::fault::CertFault;
-use second_search::CellNumber;
 use crate::places::cell_in;
 use crate::walk::walk;
 use clues::ClueBook;
 use line_settle::{Facts, LineEngine};
 use picture::Picture;
+use second_search::CellNumber;
 use std::alloc::Global;
 
 // The line below which the givens stand.

@@ -18,7 +18,7 @@ mod writing;
 pub use cert::Cert;
 pub use checking::check_cert;
 pub use fault::CertFault;
-pub use second_search::{CellNumber, CertLine, LineNumber};
 pub use making::make_cert;
 pub use reading::read_cert;
+pub use second_search::{CellNumber, CertLine, LineNumber};
 pub use writing::write_cert;

@@ -7,9 +7,9 @@ ghost use Rattle.certificate.specs.Text.{axis_of, cell_named, cert_line, cert_of
 
 use crate::cert::Cert;
 use crate::fault::CertFault;
-use second_search::{CellNumber, CertLine, LineNumber};
 use crate::words::{first_line, is_word, number_in, three_words};
 use picture::Axis;
+use second_search::{CellNumber, CertLine, LineNumber};
 use std::alloc::Global;
 
 // The axis that a letter names.

@@ -7,13 +7,13 @@ ghost use Rattle.certificate.specs.Walk.{CanCheck, IsWalk, Takes};
 
 use crate::fault::CertFault;
 use crate::forcing::{force, is_dead};
-use second_search::{CellNumber, CertLine, LineNumber};
 use crate::notes::{Note, end_branch, split};
 use crate::places::{cell_in, line_at};
 use crate::showing::shows_only;
 use clues::ClueBook;
 use line_settle::{Facts, LineEngine};
 use picture::Picture;
+use second_search::{CellNumber, CertLine, LineNumber};
 use std::alloc::Global;
 
 // Takes a `line`: the branch goes on with what it forces.

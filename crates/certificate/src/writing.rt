@@ -6,9 +6,9 @@ ghost use Rattle.picture.specs.Writing.{AppendsFront};
 ghost use Rattle.certificate.specs.Writing.{IsReadAgain, axis_text, cell_text, cert_text, givens_text, line_text, lines_text, named_text, number_text, version_text};
 
 use crate::cert::Cert;
-use second_search::{CellNumber, CertLine, LineNumber};
 use itoa::Buffer;
 use picture::{Axis, WriteFault, send};
+use second_search::{CellNumber, CertLine, LineNumber};
 use std::io::Write;
 
 #[tactic(auto, using(crate::proofs::Sending::sending))]

@@ -1,5 +1,5 @@
 -- A history that goes on fits its depth.
-use Rattle.std.proofs.Common.{◌≡◌, ℕ, ◌+◌, ◌-◌, ◌<◌, ◌≤◌, List, [], ◌∷◌, ◌++◌, length, Option, None, Some, sym, subst, arith, refl}
+use Rattle.std.proofs.Common.{◌≡◌, ℕ, ◌-◌, ◌<◌, ◌≤◌, List, [], ◌∷◌, ◌++◌, length, Option, None, Some, sym, subst, arith, refl}
 use Rattle.std.proofs.lemmas.List.{length-append, length-drop, length-take}
 use Rattle.circular_buffer.specs.Buffer.{keep_last}
 use Rattle.edits.specs.declared.edit.Edit.{Edit}

@@ -1,8 +1,8 @@
 -- A certificate's call: what is searched first, and the certificate that is made then.
-use Rattle.std.proofs.Common.{◌≡◌, ◌≤◌, ℕ, arith, List, Option, Result, Ok, Err, IfOk, OnOk, inr, refl, sym, ap, subst, ◌∙◌}
+use Rattle.std.proofs.Common.{◌≤◌, arith, List, Option, Result, Ok, Err, IfOk, OnOk, inr, sym, ap, subst, ◌∙◌}
 use Rattle.certificate.specs.Cert.{Certificate}
 use Rattle.second_search.specs.declared.keeper.KeptPart.{KeptPart}
-use Rattle.live_audit.specs.Bench.{IsAudited, Seen}
+use Rattle.live_audit.specs.Bench.{Seen}
 use Rattle.live_audit.specs.Calls.{IsAsBefore, IsSearched, Learns}
 use Rattle.live_audit.specs.Certify.{Certifies}
 use Rattle.live_audit.proofs.CertifyLemmas.{certified_now}

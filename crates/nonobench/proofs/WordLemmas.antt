@@ -1,16 +1,14 @@
 -- The words of the command line, as the parser's contract has them.
-use Rattle.std.proofs.Common.{◌≡◌, ◌≤◌, ◌⊎◌, ℕ, decimal, true, List, [], ◌∷◌, length, codes, Option, None, Some, Result, Ok, Err, option_map, inl, inr, refl, sym, ap, subst, ◌∙◌, arith}
+use Rattle.std.proofs.Common.{◌≡◌, ◌≤◌, ℕ, decimal, List, length, codes, Option, None, Some, Result, Ok, Err, option_map, refl, sym, ap, subst, ◌∙◌, arith}
 use Rattle.std.proofs.lemmas.Fmt.{parse-decimal}
 use Rattle.std.specs.Str.Parse.{ParsesUnsigned}
-use Rattle.clap.specs.Words.{ReadsOne, Row, Text, first_of, first_value, found_of, one_of, one_text, rows_of, subcommand_name_of, subcommand_rows, subcommand_rows_of}
+use Rattle.clap.specs.Words.{ReadsOne, Row, Text, first_of, first_value, one_text, rows_of, subcommand_name_of, subcommand_rows_of}
 use Rattle.clap.specs.declared.parser.matches.ArgMatches.{ArgMatches}
 use Rattle.clap.specs.declared.parser.matches.Found.{Found}
 use Rattle.clap.proofs.WalkLemmas.{first_value-rows, one_text-rows}
 use Rattle.answers.specs.declared.fault.ProgramFault.{ProgramFault}
-use Rattle.answers.specs.declared.fault.ProgramFault.TheVariants as fault
 use Rattle.nonobench.specs.declared.words.Task.{Task}
-use Rattle.nonobench.specs.declared.words.Task.TheVariants.{Clues, Work, Check, Help}
-use Rattle.nonobench.specs.Words.{Given, IsAsked, IsCheck, IsUntaken, IsWork, given_in, given_of}
+use Rattle.nonobench.specs.Words.{Given, IsAsked, IsCheck, IsWork, given_in, given_of}
 
 -- ---- values
 

@@ -102,7 +102,8 @@ fn work_of<'a>(matches: &ArgMatches<'a>) -> Result<Task<'a>, ProgramFault>
 
 // Whether the format is that of .non texts.
 fn is_non(matches: &ArgMatches<'_>) -> bool
-    ensures { (result ≡ true) ↔ (first_value (found_of matches.now) (codes "format") ≡ Some (codes "non")) }
+    ensures { (result ≡ true)
+        ↔ (first_value (found_of matches.now) (codes "format") ≡ Some (codes "non")) }
 {
     match matches.get_str("format") {
         Some(format) => format == "non",

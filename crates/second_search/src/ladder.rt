@@ -51,8 +51,10 @@ pub fn climb<E: LineEngine>(
     meter: &mut Meter,
 ) -> Result<Decided, AllocError>
     requires { AreClosable scene.now.clues.now (E.longest engine.old) scene.now.facts.now }
-    ensures decides { IfOk result (Decides scene.now.clues.now scene.now.picture.now scene.now.facts.now ladder.keeps) }
-    ensures counts { (evaluations : ℕ) × Counts evaluations 0 meter.old meter.new (E.calls engine.old) (E.calls engine.new) }
+    ensures decides { IfOk result
+        (Decides scene.now.clues.now scene.now.picture.now scene.now.facts.now ladder.keeps) }
+    ensures counts { (evaluations : ℕ)
+        × Counts evaluations 0 meter.old meter.new (E.calls engine.old) (E.calls engine.new) }
     ensures same_longest { E.longest engine.new ≡ E.longest engine.old }
 {
     counts_add();
@@ -90,8 +92,10 @@ fn try_both<E: LineEngine>(
     meter: &mut Meter,
 ) -> Result<Option<Decided>, AllocError>
     requires { AreClosable scene.now.clues.now (E.longest engine.old) scene.now.facts.now }
-    ensures decides { IfOk result (λ found. IfSome found (Decides scene.now.clues.now scene.now.picture.now scene.now.facts.now ladder.keeps)) }
-    ensures counts { (evaluations : ℕ) × Counts evaluations 0 meter.old meter.new (E.calls engine.old) (E.calls engine.new) }
+    ensures decides { IfOk result (λ found. IfSome found (Decides scene.now.clues.now
+        scene.now.picture.now scene.now.facts.now ladder.keeps)) }
+    ensures counts { (evaluations : ℕ)
+        × Counts evaluations 0 meter.old meter.new (E.calls engine.old) (E.calls engine.new) }
     ensures same_longest { E.longest engine.new ≡ E.longest engine.old }
 {
     counts_add();
@@ -127,9 +131,11 @@ fn write<E: LineEngine>(
     meter: &mut Meter,
 ) -> Result<Option<Decided>, AllocError>
     requires { AreClosable scene.now.clues.now (E.longest engine.old) scene.now.facts.now }
-    ensures decides { IfOk result (λ found. IfSome found (Decides scene.now.clues.now scene.now.picture.now scene.now.facts.now keeps)) }
+    ensures decides { IfOk result (λ found. IfSome found (Decides scene.now.clues.now
+        scene.now.picture.now scene.now.facts.now keeps)) }
     ensures broken_off { IfOk result (λ found. IsNone found → way.until ≡ None → ⊥) }
-    ensures counts { (evaluations : ℕ) × Counts evaluations 0 meter.old meter.new (E.calls engine.old) (E.calls engine.new) }
+    ensures counts { (evaluations : ℕ)
+        × Counts evaluations 0 meter.old meter.new (E.calls engine.old) (E.calls engine.new) }
     ensures same_longest { E.longest engine.new ≡ E.longest engine.old }
 {
     let written = write_tree(alloc, engine, scene, no_lines(alloc, keeps), way, meter)?;

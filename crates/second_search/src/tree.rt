@@ -54,8 +54,10 @@ pub(crate) fn write_tree<E: LineEngine>(
     meter: &mut Meter,
 ) -> Result<Written, AllocError>
     requires { AreClosable scene.now.clues.now (E.longest engine.old) scene.now.facts.now }
-    ensures writes { IfOk result (Writes scene.now.clues.now scene.now.picture.now scene.now.facts.now lines way.until) }
-    ensures counts { (evaluations : ℕ) × Counts evaluations 0 meter.old meter.new (E.calls engine.old) (E.calls engine.new) }
+    ensures writes { IfOk result
+        (Writes scene.now.clues.now scene.now.picture.now scene.now.facts.now lines way.until) }
+    ensures counts { (evaluations : ℕ)
+        × Counts evaluations 0 meter.old meter.new (E.calls engine.old) (E.calls engine.new) }
     ensures same_longest { E.longest engine.new ≡ E.longest engine.old }
 {
     counts_add();
@@ -117,8 +119,10 @@ impl Growing {
         meter: &mut Meter,
     ) -> Result<Turn, AllocError>
         requires { AreClosable scene.now.clues.now (E.longest engine.old) self.old.pending.at_hand }
-        ensures turns { IfOk result (Turns scene.now.clues.now scene.now.picture.now self.old self.new) }
-        ensures counts { (evaluations : ℕ) × Counts evaluations 0 meter.old meter.new (E.calls engine.old) (E.calls engine.new) }
+        ensures turns { IfOk result
+            (Turns scene.now.clues.now scene.now.picture.now self.old self.new) }
+        ensures counts { (evaluations : ℕ)
+            × Counts evaluations 0 meter.old meter.new (E.calls engine.old) (E.calls engine.new) }
         ensures same_longest { E.longest engine.new ≡ E.longest engine.old }
     {
         counts_add();
@@ -153,8 +157,10 @@ impl Growing {
         meter: &mut Meter,
     ) -> Result<Turn, AllocError>
         requires { AreClosable scene.now.clues.now (E.longest engine.old) self.old.pending.at_hand }
-        ensures turns { IfOk result (Turns scene.now.clues.now scene.now.picture.now self.old self.new) }
-        ensures counts { (evaluations : ℕ) × Counts evaluations 0 meter.old meter.new (E.calls engine.old) (E.calls engine.new) }
+        ensures turns { IfOk result
+            (Turns scene.now.clues.now scene.now.picture.now self.old self.new) }
+        ensures counts { (evaluations : ℕ)
+            × Counts evaluations 0 meter.old meter.new (E.calls engine.old) (E.calls engine.new) }
         ensures same_longest { E.longest engine.new ≡ E.longest engine.old }
     {
         let facts = self.pending.at_hand();

@@ -31,7 +31,8 @@ pub(crate) fn close_written<E: LineEngine>(
 ) -> Result<Outcome, AllocError>
     requires { AreClosable clues.now (E.longest engine.old) facts.old }
     ensures settles { IfOk result (Settles clues.now facts.old facts.new lines.old lines.new) }
-    ensures counts { (evaluations : ℕ) × Counts evaluations 0 meter.old meter.new (E.calls engine.old) (E.calls engine.new) }
+    ensures counts { (evaluations : ℕ)
+        × Counts evaluations 0 meter.old meter.new (E.calls engine.old) (E.calls engine.new) }
     ensures same_longest { E.longest engine.new ≡ E.longest engine.old }
 {
     counts_add();
@@ -79,8 +80,10 @@ fn take_line<E: LineEngine>(
 ) -> Result<Forced, AllocError>
     requires closable { AreClosable clues.now (E.longest engine.old) facts.old }
     requires line { HasLine facts.old line }
-    ensures settles { IfOk result (λ forced. Settles clues.now facts.old facts.new lines.old lines.new forced.outcome) }
-    ensures counts { (evaluations : ℕ) × Counts evaluations 0 meter.old meter.new (E.calls engine.old) (E.calls engine.new) }
+    ensures settles { IfOk result (λ forced.
+        Settles clues.now facts.old facts.new lines.old lines.new forced.outcome) }
+    ensures counts { (evaluations : ℕ)
+        × Counts evaluations 0 meter.old meter.new (E.calls engine.old) (E.calls engine.new) }
     ensures same_longest { E.longest engine.new ≡ E.longest engine.old }
 {
     forcing_closes_a_line();

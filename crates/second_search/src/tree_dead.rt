@@ -23,8 +23,10 @@ pub(crate) fn dead_line<E: LineEngine>(
     meter: &mut Meter,
 ) -> Result<Option<LineId>, AllocError>
     requires { AreClosable clues.now (E.longest engine.old) facts.now }
-    ensures dead { IfOk result (λ found. MatchOption found (EachFits clues.now facts.now) (IsDeadLine clues.now facts.now)) }
-    ensures counts { (evaluations : ℕ) × Counts evaluations 0 meter.old meter.new (E.calls engine.old) (E.calls engine.new) }
+    ensures dead { IfOk result (λ found.
+        MatchOption found (EachFits clues.now facts.now) (IsDeadLine clues.now facts.now)) }
+    ensures counts { (evaluations : ℕ)
+        × Counts evaluations 0 meter.old meter.new (E.calls engine.old) (E.calls engine.new) }
     ensures same_longest { E.longest engine.new ≡ E.longest engine.old }
 {
     counts_add();
@@ -46,8 +48,10 @@ fn dead_along<E: LineEngine>(
     meter: &mut Meter,
 ) -> Result<Option<LineId>, AllocError>
     requires { AreClosable clues.now (E.longest engine.old) facts.now }
-    ensures dead { IfOk result (λ found. MatchOption found (EachFitsAlong clues.now facts.now axis) (IsDeadLine clues.now facts.now)) }
-    ensures counts { (evaluations : ℕ) × Counts evaluations 0 meter.old meter.new (E.calls engine.old) (E.calls engine.new) }
+    ensures dead { IfOk result (λ found. MatchOption found (EachFitsAlong clues.now facts.now axis)
+        (IsDeadLine clues.now facts.now)) }
+    ensures counts { (evaluations : ℕ)
+        × Counts evaluations 0 meter.old meter.new (E.calls engine.old) (E.calls engine.new) }
     ensures same_longest { E.longest engine.new ≡ E.longest engine.old }
 {
     counts_add();
@@ -77,8 +81,10 @@ fn some_fits<E: LineEngine>(
 ) -> Result<bool, AllocError>
     requires closable { AreClosable clues.now (E.longest engine.old) facts.now }
     requires line { HasLine facts.now line }
-    ensures fits { IfOk result (λ fits. IsTrue fits ↔ CanFit (clue_at clues.now line) (line_of facts.now line)) }
-    ensures counts { (evaluations : ℕ) × Counts evaluations 0 meter.old meter.new (E.calls engine.old) (E.calls engine.new) }
+    ensures fits { IfOk result (λ fits.
+        IsTrue fits ↔ CanFit (clue_at clues.now line) (line_of facts.now line)) }
+    ensures counts { (evaluations : ℕ)
+        × Counts evaluations 0 meter.old meter.new (E.calls engine.old) (E.calls engine.new) }
     ensures same_longest { E.longest engine.new ≡ E.longest engine.old }
 {
     let _ = (facts.height(), engine.calls());

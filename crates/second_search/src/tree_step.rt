@@ -50,8 +50,10 @@ pub(crate) fn next_step<E: LineEngine>(
     meter: &mut Meter,
 ) -> Result<TreeStep, AllocError>
     requires { AreClosable scene.now.clues.now (E.longest engine.old) facts.now }
-    ensures continues { IfOk result (Continues scene.now.clues.now scene.now.picture.now facts.now) }
-    ensures counts { (evaluations : ℕ) × Counts evaluations 0 meter.old meter.new (E.calls engine.old) (E.calls engine.new) }
+    ensures continues { IfOk result
+        (Continues scene.now.clues.now scene.now.picture.now facts.now) }
+    ensures counts { (evaluations : ℕ)
+        × Counts evaluations 0 meter.old meter.new (E.calls engine.old) (E.calls engine.new) }
     ensures same_longest { E.longest engine.new ≡ E.longest engine.old }
 {
     counts_add();
@@ -103,7 +105,8 @@ fn plan_of(way: Way) -> Plan {
 
 // Another picture on a branch, where the held picture's colours fill its open cells.
 fn other_here(alloc: Global, scene: &Scene, node: &Node) -> Result<Option<Picture>, AllocError>
-    ensures { IfOk result (λ found. IfSome found (IsOtherIn scene.now.clues.now scene.now.picture.now node.now.facts.now)) }
+    ensures { IfOk result (λ found.
+        IfSome found (IsOtherIn scene.now.clues.now scene.now.picture.now node.now.facts.now)) }
 {
     if node.own || !fills_all(&node.puzzle, node.facts) {
         return Ok(None);
@@ -119,7 +122,8 @@ fn other_in(
     facts: &Facts,
     shown: &Facts,
 ) -> Result<Option<Picture>, AllocError>
-    ensures { IfOk result (λ found. IfSome found (IsOtherIn scene.now.clues.now scene.now.picture.now facts.now)) }
+    ensures { IfOk result (λ found.
+        IfSome found (IsOtherIn scene.now.clues.now scene.now.picture.now facts.now)) }
 {
     let picture = filled(alloc, puzzle, shown)?;
     if is_other_in(scene, facts, &picture) {
@@ -131,7 +135,8 @@ fn other_in(
 
 // Whether a picture fills facts and is not the known one.
 fn is_other_in(scene: &Scene, facts: &Facts, picture: &Picture) -> bool
-    ensures { IsTrue result → IsOtherIn scene.now.clues.now scene.now.picture.now facts.now picture.now }
+    ensures { IsTrue result → IsOtherIn scene.now.clues.now
+        scene.now.picture.now facts.now picture.now }
 {
     !picture.same(scene.picture) && scene.clues.has_clues(picture) && allows(facts, picture)
 }
@@ -158,7 +163,8 @@ fn allows_row(facts: &Facts, picture: &Picture, row: u8) -> bool
     requires here { row < length facts.now }
     requires there { row < length picture.now }
     requires width { width_of picture.now ≡ width_of facts.now }
-    ensures { IsTrue result → (col : ℕ) → col < width_of facts.now → Leaves facts.now row col (cell_at picture.now row col) }
+    ensures { IsTrue result → (col : ℕ) → col < width_of facts.now → Leaves facts.now row col
+        (cell_at picture.now row col) }
 {
     for col in 0..facts.width() {
         if facts.excluded(row, col, picture.cell(row, col)) {
@@ -177,8 +183,10 @@ fn end_at<E: LineEngine>(
     meter: &mut Meter,
 ) -> Result<TreeStep, AllocError>
     requires { AreClosable scene.now.clues.now (E.longest engine.old) facts.now }
-    ensures continues { IfOk result (Continues scene.now.clues.now scene.now.picture.now facts.now) }
-    ensures counts { (evaluations : ℕ) × Counts evaluations 0 meter.old meter.new (E.calls engine.old) (E.calls engine.new) }
+    ensures continues { IfOk result
+        (Continues scene.now.clues.now scene.now.picture.now facts.now) }
+    ensures counts { (evaluations : ℕ)
+        × Counts evaluations 0 meter.old meter.new (E.calls engine.old) (E.calls engine.new) }
     ensures same_longest { E.longest engine.new ≡ E.longest engine.old }
 {
     let _ = engine.calls();
@@ -201,8 +209,10 @@ fn end_settled<E: LineEngine>(
 ) -> Result<TreeStep, AllocError>
     requires closable { AreClosable scene.now.clues.now (E.longest engine.old) facts.now }
     requires settled { AreSettled facts.now }
-    ensures continues { IfOk result (Continues scene.now.clues.now scene.now.picture.now facts.now) }
-    ensures counts { (evaluations : ℕ) × Counts evaluations 0 meter.old meter.new (E.calls engine.old) (E.calls engine.new) }
+    ensures continues { IfOk result
+        (Continues scene.now.clues.now scene.now.picture.now facts.now) }
+    ensures counts { (evaluations : ℕ)
+        × Counts evaluations 0 meter.old meter.new (E.calls engine.old) (E.calls engine.new) }
     ensures same_longest { E.longest engine.new ≡ E.longest engine.old }
 {
     clues_are_of_lines();

@@ -1,17 +1,16 @@
 -- A session's lines over the machine of a history and an allowance.
 use Rattle.std.proofs.Common.{◌≡◌, ◌≤◌, ◌⊎◌, ℕ, Bool, true, false, List, [], ◌∷◌, ◌++◌, Option, Some, None, inl, inr, refl, sym, ap, subst, ◌∙◌, arith}
-use Rattle.std.specs.List.{concat}
 use Rattle.std.specs.Prelude.{if◌then◌else◌}
 use Rattle.edits.specs.declared.fault.EditFault.{EditFault}
 use Rattle.edits.specs.History.{History, or_memory}
 use Rattle.live_audit.specs.Bench.{IsAudited, Seen}
-use Rattle.live_audit.specs.Calls.{Accepts, IsAsBefore, Machine, Refuses, machine}
+use Rattle.live_audit.specs.Calls.{Accepts, IsAsBefore, Machine, machine}
 use Rattle.live_audit.specs.Stroke.{Edits, Redoes, Stroke, Undoes, after_stroke, stroke_fault}
 use Rattle.session.specs.declared.command.Command.{Command}
 use Rattle.session.specs.declared.command.Command.TheVariants as command
 use Rattle.session.specs.declared.request.Request.{Request}
 use Rattle.session.specs.declared.request.Request.TheVariants as request
-use Rattle.session.specs.Laws.{AreAnswers, Follows, IsAnswer, IsAt, SessionsStayAudited, after_answer, after_asked, after_command, after_lawful, after_lines, after_request}
+use Rattle.session.specs.Laws.{AreAnswers, Follows, IsAt, SessionsStayAudited, after_answer, after_asked, after_command, after_lawful, after_lines}
 use Rattle.session.specs.Lines.{request_of}
 use Rattle.session.specs.Refusal.{edit_line, memory_line}
 use Rattle.session.specs.Session.{IsShort, LacksMemory, Replies, Says, SaysStroke, SaysTo, SaysToAll, done_text}

@@ -34,7 +34,8 @@ pub fn choose<E: LineEngine>(
     meter: &mut Meter,
 ) -> Result<Chosen, AllocError>
     ensures can_split { IfOk result (CanSplit node.now.facts.now) }
-    ensures counts { (evaluations : ℕ) × Counts evaluations 0 meter.old meter.new (E.calls engine.old) (E.calls engine.new) }
+    ensures counts { (evaluations : ℕ)
+        × Counts evaluations 0 meter.old meter.new (E.calls engine.old) (E.calls engine.new) }
     ensures same_longest { E.longest engine.new ≡ E.longest engine.old }
 {
     let chosen = choose_any(alloc, engine, node, plan, meter)?;
@@ -71,7 +72,8 @@ fn choose_any<E: LineEngine>(
     plan: Plan,
     meter: &mut Meter,
 ) -> Result<Chosen, AllocError>
-    ensures counts { (evaluations : ℕ) × Counts evaluations 0 meter.old meter.new (E.calls engine.old) (E.calls engine.new) }
+    ensures counts { (evaluations : ℕ)
+        × Counts evaluations 0 meter.old meter.new (E.calls engine.old) (E.calls engine.new) }
     ensures same_longest { E.longest engine.new ≡ E.longest engine.old }
 {
     let _ = engine.calls();
@@ -113,7 +115,8 @@ fn look_ahead<E: LineEngine>(
     until: u64,
     meter: &mut Meter,
 ) -> Result<Chosen, AllocError>
-    ensures counts { (evaluations : ℕ) × Counts evaluations 0 meter.old meter.new (E.calls engine.old) (E.calls engine.new) }
+    ensures counts { (evaluations : ℕ)
+        × Counts evaluations 0 meter.old meter.new (E.calls engine.old) (E.calls engine.new) }
     ensures same_longest { E.longest engine.new ≡ E.longest engine.old }
 {
     counts_add();

@@ -83,7 +83,8 @@ pub(crate) fn look_at<E: LineEngine>(
     cell: Cell,
     meter: &mut Meter,
 ) -> Result<Look, AllocError>
-    ensures counts { (evaluations : ℕ) × Counts evaluations 0 meter.old meter.new (E.calls engine.old) (E.calls engine.new) }
+    ensures counts { (evaluations : ℕ)
+        × Counts evaluations 0 meter.old meter.new (E.calls engine.old) (E.calls engine.new) }
     ensures same_longest { E.longest engine.new ≡ E.longest engine.old }
 {
     counts_add();
@@ -132,7 +133,8 @@ fn try_colour<E: LineEngine>(
     meter: &mut Meter,
 ) -> Result<Trial, AllocError>
     requires { colour < MAX_COLOURS }
-    ensures counts { (evaluations : ℕ) × Counts evaluations 0 meter.old meter.new (E.calls engine.old) (E.calls engine.new) }
+    ensures counts { (evaluations : ℕ)
+        × Counts evaluations 0 meter.old meter.new (E.calls engine.old) (E.calls engine.new) }
     ensures same_longest { E.longest engine.new ≡ E.longest engine.old }
 {
     let _ = engine.calls();

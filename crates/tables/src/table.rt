@@ -10,7 +10,6 @@ mod clueing;
 mod entries;
 mod lines;
 mod puzzles;
-mod reasons;
 mod said;
 mod searches;
 
@@ -46,7 +45,6 @@ fn tell_line(rt: &(impl AllocGlobal + Print), line: &str) -> Result<()> {
 fn answer(rt: &(impl AllocGlobal + Print), first: &str, words: &[&str]) -> Result<()> {
     match first {
         "refresh" => clueing::tell(rt, words),
-        "draw" | "stands-for" | "drew" => reasons::tell(rt, words),
         "narrow" | "engine" | "leave-out" | "force" => lines::tell(rt, words),
         "engines" | "random" | "leaving-out" => lines::tell_of_many(rt, words),
         "agenda" => agendas::tell(rt, words),

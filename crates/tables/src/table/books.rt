@@ -19,7 +19,7 @@ use crate::starting::NOTHING_DONE;
 use anyhow::{Result, bail, ensure};
 use clues::ClueBook;
 use clues::laws::clues_are_of_lines;
-use edits::{Prepared, Studio};
+use edits::{Edit, Prepared, Studio};
 use justify::Book;
 use line_settle::{Facts, LineEngine, MaskEngine, Meter, PlainEngine};
 use picture::{Axis, Document, LineId, LineSet, MAX_SIDE};
@@ -147,17 +147,32 @@ fn evaluate<E: LineEngine>(
         clues,
         book,
     } = desk;
-    let book = match turn {
-        ["close"] => close_all(engine, &mut InOrder::make(), book, &clues, text)?,
-        ["close", "newest"] => close_all(engine, &mut NewestFirst::make(), book, &clues, text)?,
-        [lines] => run(engine, book, &clues, &lines_in(alloc, lines)?, text)?,
-        _ => bail!("close, close newest, or lines"),
-    };
+    let book = go_further(alloc, engine, book, &clues, turn, text)?;
     Ok(Desk {
         studio,
         clues,
         book,
     })
+}
+
+// A book after a turn that evaluates lines.
+fn go_further<E: LineEngine>(
+    alloc: Global,
+    engine: &mut E,
+    book: Book,
+    clues: &ClueBook,
+    turn: &[&str],
+    text: &mut String,
+) -> Result<Book>
+    requires { IsDerivation clues.now book }
+    ensures { IfOk result (IsDerivation clues.now) }
+{
+    match turn {
+        ["close"] => close_all(engine, &mut InOrder::make(), book, clues, text),
+        ["close", "newest"] => close_all(engine, &mut NewestFirst::make(), book, clues, text),
+        [lines] => run(engine, book, clues, &lines_in(alloc, lines)?, text),
+        _ => bail!("close, close newest, or lines"),
+    }
 }
 
 // Stops where an engine or clues do not fit a book.
@@ -243,7 +258,7 @@ fn close_all<E: LineEngine, A: Agenda>(
 
 // Takes an edit, or a step along those that were made, and keeps what stands of the book.
 fn keep_after(alloc: Global, desk: Desk, turn: &[&str], text: &mut String) -> Result<Desk> {
-    let prepared = prepared_by(alloc, &desk.studio, turn)?;
+    let prepared = prepared_by(alloc, &desk.studio, turn_in(turn)?)?;
     let (clues, kept) = kept_of(alloc, &desk, &prepared)?;
     push_dirty(text, &kept.dirty)?;
     Ok(gone_on(desk, prepared, clues, kept.book))
@@ -264,16 +279,33 @@ fn gone_on(desk: Desk, prepared: Prepared, clues: ClueBook, book: Book) -> Desk
     }
 }
 
-// What an edit in a session's words, `undo` or `redo` comes to.
-fn prepared_by(alloc: Global, studio: &Studio, turn: &[&str]) -> Result<Prepared>
+/// An edit, or a step along those that were made.
+#[derive(Drop)]
+enum Turn {
+    Edit(Edit),
+    Undo,
+    Redo,
+}
+
+// The turn of an edit in a session's words, `undo` or `redo`.
+fn turn_in(words: &[&str]) -> Result<Turn> {
+    match words {
+        ["undo"] => Ok(Turn::Undo),
+        ["redo"] => Ok(Turn::Redo),
+        _ => Ok(Turn::Edit(edit_in(words)?)),
+    }
+}
+
+// What a turn comes to.
+fn prepared_by(alloc: Global, studio: &Studio, turn: Turn) -> Result<Prepared>
     ensures plan { IfOk result (IsPlanFor studio.now) }
     ensures change { IfOk result
         (λ p. IsChangeOf p.change studio.now.document.rows p.document.rows) }
 {
     let prepared = match turn {
-        ["undo"] => studio.prepare_undo()?,
-        ["redo"] => studio.prepare_redo()?,
-        _ => studio.prepare(alloc, &edit_in(turn)?)?,
+        Turn::Edit(edit) => studio.prepare(alloc, &edit)?,
+        Turn::Undo => studio.prepare_undo()?,
+        Turn::Redo => studio.prepare_redo()?,
     };
     Ok(prepared)
 }

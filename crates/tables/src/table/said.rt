@@ -18,10 +18,10 @@ mod strokes;
 mod touched;
 
 pub use blocks::{clue_in, push_clues};
-pub use colours::{ALL, letter_of, triple_of};
+pub use colours::{ALL, letter_of};
 pub use lines::{line_in, push_line};
-pub use masks::{facts_in, mask_in, masks_in, push_facts, push_masks};
+pub use masks::{facts_in, masks_in, push_facts, push_masks};
 pub use pictures::{document_in, push_picture, push_rows};
-pub use steps::{push_premises, push_step, push_steps};
+pub use steps::push_steps;
 pub use strokes::edit_in;
 pub use touched::push_touched;

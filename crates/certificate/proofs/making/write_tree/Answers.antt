@@ -1,4 +1,4 @@
-use Rattle.std.proofs.Common.{true, subst, refl}
+use Rattle.std.proofs.Common.{true, subst}
 use Rattle.second_search.specs.declared.ladder.Decided.{Decided}
 use Rattle.second_search.specs.declared.ladder.Decided.TheVariants.{Tree}
 use Rattle.second_search.specs.declared.tree_lines.Lines.{Lines}

@@ -34,8 +34,8 @@ pub fn masks_in(alloc: Global, word: &str) -> Result<Vec<u16>> {
     Ok(masks)
 }
 
-/// The mask of letters.
-pub fn mask_in(word: &str) -> Result<u16> {
+// The mask of letters.
+fn mask_in(word: &str) -> Result<u16> {
     match word {
         "*" => return Ok(ALL),
         "-" => return Ok(0),

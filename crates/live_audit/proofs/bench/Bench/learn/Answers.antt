@@ -1,7 +1,6 @@
-use Rattle.std.proofs.Common.{◌∙◌, ap, inl, inr, sym, subst}
-use Rattle.picture.specs.declared.picture.TheConstants.{MAX_SIDE}
+use Rattle.std.proofs.Common.{◌∙◌, ap, inr}
 use Rattle.live_audit.specs.Bench.{Seen}
-use Rattle.live_audit.proofs.VerdictLemmas.{audited_so, learnt_so, ruled_so, searched_so}
+use Rattle.live_audit.proofs.VerdictLemmas.{learnt_so, ruled_so, searched_so}
 use Rattle.live_audit.proofs.bench.Bench.learn.Goals as goal
 
 pub returns-clause-judges : goal.returns-clause-judges

@@ -1,0 +1,281 @@
+/* Tests of libnonobench and of nonobench.h: test FOLDER [TIMES], with the folder that has pictures.case and certificates.case.
+ * TIMES is how often what could grow is done. Expected answers stand in those files, or follow from docs/FORMATS.md by hand. */
+#include "nonobench.h"
+
+#include <malloc.h>
+#include <pthread.h>
+#include <stdio.h>
+#include <stdlib.h>
+
+#define MOST 4096
+#define THREADS 4
+
+static int failed = 0, passed = 0;
+
+static void expect(bool holds, const char *what, const char *got) {
+    if (holds) {
+        passed++;
+    } else {
+        failed++;
+        printf("failed: %s\n  got: %.300s\n", what, got);
+    }
+}
+
+/* Two rows, black and white, white and black: another picture has the clues, and a given decides it. */
+static const char DIAGONAL[] = "P3 2 2 255 0 0 0 255 255 255 255 255 255 0 0 0\n";
+static const char GIVEN[] = "nonocert 2\ngiven 1 1\nline r 1\nline c 1\nline r 2\ndone\n";
+
+/* The bytes of a text as printf reads it: \n, \t, \r, \v, \f, \a, \b, \e, \\, \xHH and octal digits. */
+static size_t unescape(const char *text, size_t size, char *out) {
+    static const char names[] = "ntrvfabe\\", bytes[] = "\n\t\r\v\f\a\b\033\\";
+    size_t count = 0;
+    for (size_t at = 0; at < size; at++) {
+        if (text[at] != '\\' || at + 1 == size) {
+            out[count++] = text[at];
+            continue;
+        }
+        const char *name = strchr(names, text[++at]);
+        if (name) {
+            out[count++] = bytes[name - names];
+        } else {
+            bool hex = text[at] == 'x';
+            char digits[4] = "";
+            size_t most = hex ? 2 : 3, found = 0;
+            size_t from = hex ? at + 1 : at;
+            while (found < most && from + found < size && strchr(hex ? "0123456789abcdefABCDEF" : "01234567", text[from + found])) {
+                digits[found] = text[from + found];
+                found++;
+            }
+            out[count++] = (char)strtol(digits, NULL, hex ? 16 : 8);
+            at = from + found - 1;
+        }
+    }
+    return count;
+}
+
+/* A picture of white, black (a) and red (b) cells, its rows joined by /. */
+static void picture_of(const char *rows, size_t size, char *out) {
+    size_t height = 1, width = 0;
+    for (size_t at = 0; at < size; at++) height += rows[at] == '/';
+    while (width < size && rows[width] != '/') width++;
+    out += sprintf(out, "P3\n%zu %zu\n255\n", width, height);
+    for (size_t at = 0; at < size; at++) {
+        const char *triple = rows[at] == '.' ? "255 255 255\n" : rows[at] == 'a' ? "0 0 0\n" : "255 0 0\n";
+        if (rows[at] != '/') out += sprintf(out, "%s", triple);
+    }
+}
+
+/* Whether a status and a text are those of a case's answer: `! TEXT` is refused, else the lines are joined by ` | `. */
+static bool is_answer(const char *answer, uint32_t status, const char *text) {
+    char wanted[MOST] = "";
+    if (strncmp(answer, "! ", 2) == 0) return status == NONOBENCH_REFUSED && strcmp(answer + 2, text) == 0;
+    for (char *to = wanted;; answer += 3) {
+        const char *cut = strstr(answer, " | ");
+        size_t size = cut ? (size_t)(cut - answer) : strlen(answer);
+        to += sprintf(to, "%.*s\n", (int)size, answer);
+        answer += size;
+        if (!cut) break;
+    }
+    return status == NONOBENCH_DONE && strcmp(wanted, text) == 0;
+}
+
+/* Runs one line of a file of cases. */
+static void run_case(char *line, bool is_check) {
+    char first[MOST], second[MOST], said[MOST], *answer = NULL;
+    nonobench_text text = {said, sizeof said, 0};
+    uint32_t status;
+    for (char *at = line; (at = strstr(at, " => ")); at++) answer = at;
+    if (!answer) return;
+    if (is_check) {
+        char *cut = strchr(line, ' ');
+        picture_of(line, (size_t)(cut - line), first);
+        size_t size = cut < answer ? unescape(cut + 1, (size_t)(answer - cut - 1), second) : 0;
+        status = nonobench_check_pair(first, strlen(first), second, size, NULL, NULL, &text);
+    } else {
+        size_t size = unescape(line, (size_t)(answer - line), first);
+        status = nonobench_clues(first, size, NULL, &text);
+    }
+    expect(is_answer(answer + 4, status, said), line, said);
+}
+
+static void run_cases(const char *folder, const char *name, bool is_check) {
+    char path[MOST], line[MOST];
+    int before = passed;
+    snprintf(path, sizeof path, "%s/%s.case", folder, name);
+    FILE *file = fopen(path, "r");
+    expect(file != NULL, "a file of cases opens", path);
+    while (file && fgets(line, sizeof line, file)) {
+        line[strcspn(line, "\n")] = 0;
+        if (line[0] && line[0] != '#') run_case(line, is_check);
+    }
+    if (file) fclose(file);
+    expect(passed > before + 20, "there are cases", path);
+}
+
+static void test_answers(void) {
+    char said[MOST];
+    nonobench_text text = {said, sizeof said, 0};
+    nonobench_ruling ruling;
+    nonobench_place place = {0, 0};
+    size_t givens = 9;
+    size_t picture = strlen(DIAGONAL), cert = strlen(GIVEN);
+    expect(nonobench_check_pair(DIAGONAL, picture, GIVEN, cert, NULL, &givens, &text) == NONOBENCH_DONE, "a given", said);
+    expect(givens == 1 && strcmp(said, "certificate accepted, givens 1\n") == 0, "one given", said);
+    expect(nonobench_givens(GIVEN, cert, &place, 1) == 1 && place.row == 1 && place.column == 1, "its place", "");
+    expect(nonobench_givens(GIVEN, cert, NULL, 0) == 1 && nonobench_givens(NULL, 0, NULL, 0) == 0, "no room for it", "");
+    expect(nonobench_verdict(DIAGONAL, picture, NULL, -1, &ruling, &text) == NONOBENCH_DONE, "a verdict", said);
+    expect(ruling == NONOBENCH_AMBIGUOUS && strcmp(said, "ambiguous\n.a\na.\n") == 0, "the other picture", said);
+    expect(nonobench_verdict("P3 1 1 1 0 0 0", 14, NULL, 0, &ruling, &text) == NONOBENCH_DONE, "one cell", said);
+    expect(ruling == NONOBENCH_UNIQUE && strcmp(said, "unique\n") == 0, "one cell is unique", said);
+    expect(nonobench_verdict(DIAGONAL, picture, "1,2", 9, NULL, &text) == NONOBENCH_OPTIONS, "no colour", said);
+    expect(strcmp(said, "background must be R,G,B") == 0, "it is said", said);
+    expect(nonobench_verdict(DIAGONAL, picture, NULL, 100000, NULL, &text) == NONOBENCH_OPTIONS, "no allowance", said);
+    expect(nonobench_clues("P3 1 1 1 0 0 0", 14, "0,0,0", &text) == NONOBENCH_DONE, "a black background", said);
+    expect(strcmp(said, "r 1: 0\nc 1: 0\n") == 0, "no clue", said);
+    expect(strcmp(nonobench_version(), NONOBENCH_VERSION) == 0, "the version", nonobench_version());
+}
+
+/* Nothing at all, nulls, and lengths above what a file may have. */
+static void test_bad_input(void) {
+    char said[MOST];
+    nonobench_text text = {said, sizeof said, 0}, none = {NULL, 0, 0};
+    size_t size = strlen(DIAGONAL), most = NONOBENCH_MOST_BYTES;
+    nonobench_desk *desk;
+    char *big = (char *)malloc(most + 1);
+    expect(nonobench_clues(NULL, 0, NULL, &text) == NONOBENCH_REFUSED && !strcmp(said, "ppm NotP3 at byte 0"), "no picture", said);
+    expect(nonobench_clues(NULL, 5, NULL, &text) == NONOBENCH_OPTIONS, "a null", said);
+    expect(nonobench_check_pair(DIAGONAL, size, NULL, 0, NULL, NULL, &text) == NONOBENCH_REFUSED, "no certificate", said);
+    expect(strcmp(said, "certificate NotCert at line 1") == 0, "it is said", said);
+    expect(nonobench_check_pair(DIAGONAL, size, NULL, 1, NULL, NULL, NULL) == NONOBENCH_OPTIONS, "a null certificate", "");
+    expect(nonobench_check_pair(DIAGONAL, size, GIVEN, strlen(GIVEN), "", NULL, &none) == NONOBENCH_DONE, "no room", "");
+    expect(none.size == 31, "how long it is", "");
+    if (!big) exit(2);
+    memset(big, ' ', most + 1);
+    memcpy(big, "P3", 2);
+    expect(nonobench_clues(big, most, NULL, &text) == NONOBENCH_REFUSED && !strcmp(said, "ppm Truncated at byte 16777216"), "most", said);
+    expect(nonobench_clues(big, most + 1, NULL, &text) == NONOBENCH_REFUSED && !strcmp(said, "input too long"), "too long", said);
+    expect(nonobench_check_pair(DIAGONAL, size, big, most + 1, NULL, NULL, &text) == NONOBENCH_REFUSED, "too long a certificate", said);
+    /* The library itself takes any length. */
+    expect(nonobench_start(&desk) == NONOBENCH_DONE, "a desk", "");
+    expect(nonobench_check(&desk, (uint8_t *)big, most + 1, (uint8_t *)big, most + 1, (uint8_t *)"", 0) == NONOBENCH_REFUSED, "long", "");
+    expect(nonobench_take(&desk, (uint8_t *)said, sizeof said) == 30 && !memcmp(said, "ppm Truncated at byte 16777217", 30), "long", said);
+    nonobench_end(desk);
+    free(big);
+}
+
+/* Each room from none to more than enough, with bytes behind it that must stay. */
+static void test_rooms(void) {
+    char said[64], whole[] = "ambiguous\n.a\na.\n";
+    bool holds = true;
+    for (size_t room = 0; room < 24; room++) {
+        size_t front = room == 0 ? 0 : room - 1 < 16 ? room - 1 : 16;
+        nonobench_text text = {said, room, 0};
+        memset(said, '#', sizeof said);
+        holds = holds && nonobench_verdict(DIAGONAL, strlen(DIAGONAL), NULL, -1, NULL, &text) == NONOBENCH_DONE && text.size == 16;
+        holds = holds && memcmp(said, whole, front) == 0 && (room == 0 || said[front] == 0);
+        for (size_t at = room == 0 ? 0 : front + 1; at < sizeof said; at++) holds = holds && said[at] == '#';
+    }
+    expect(holds, "a text in each room", said);
+}
+
+static uint32_t next(uint32_t *state, uint32_t n) {
+    *state = *state * 1103515245u + 12345u;
+    return (uint32_t)(((uint64_t)*state * n) >> 32);
+}
+
+/* A text for the answers to some pairs made by chance: bytes, and pictures and certificates with a byte changed. */
+static void answer_some(uint32_t seed, int times, char *out, size_t room) {
+    size_t used = 0;
+    for (int i = 0; i < times; i++) {
+        char picture[sizeof DIAGONAL], cert[sizeof GIVEN], noise[200], said[MOST];
+        nonobench_text text = {said, sizeof said, 0};
+        uint32_t size = next(&seed, sizeof noise), status[4];
+        for (uint32_t at = 0; at < size; at++) noise[at] = (char)next(&seed, 256);
+        memcpy(picture, DIAGONAL, sizeof picture);
+        memcpy(cert, GIVEN, sizeof cert);
+        if (next(&seed, 2)) picture[next(&seed, sizeof picture - 1)] = (char)(32 + next(&seed, 90));
+        if (next(&seed, 2)) cert[next(&seed, sizeof cert - 1)] = (char)(10 + next(&seed, 100));
+        status[0] = nonobench_check_pair(picture, sizeof picture - 1, cert, sizeof cert - 1, NULL, NULL, &text);
+        status[1] = nonobench_check_pair(noise, size, noise, size, NULL, NULL, NULL);
+        status[2] = nonobench_check_pair(DIAGONAL, sizeof DIAGONAL - 1, noise, size, NULL, NULL, NULL);
+        status[3] = nonobench_verdict(noise, size, NULL, 100, NULL, NULL);
+        used += (size_t)snprintf(out + used, room - used, "%u%u%u%u %s\n", status[0], status[1], status[2], status[3], said);
+        if (used + MOST > room) return;
+    }
+}
+
+typedef struct job {
+    uint32_t seed;
+    int times;
+    char *out;
+} job;
+
+#define ROOM 262144
+
+static void *work(void *given) {
+    job *mine = (job *)given;
+    answer_some(mine->seed, mine->times, mine->out, ROOM);
+    return NULL;
+}
+
+/* Four threads with desks of their own answer as one does. */
+static void test_threads(int times) {
+    pthread_t threads[THREADS];
+    job jobs[THREADS];
+    char *alone = (char *)malloc(ROOM);
+    if (!alone) exit(2);
+    for (int i = 0; i < THREADS; i++) {
+        jobs[i].seed = (uint32_t)i + 7, jobs[i].times = times, jobs[i].out = (char *)malloc(ROOM);
+        if (!jobs[i].out || pthread_create(&threads[i], NULL, work, &jobs[i]) != 0) exit(2);
+    }
+    for (int i = 0; i < THREADS; i++) pthread_join(threads[i], NULL);
+    for (int i = 0; i < THREADS; i++) {
+        answer_some(jobs[i].seed, times, alone, ROOM);
+        expect(strlen(alone) > (size_t)times * 6 && strcmp(alone, jobs[i].out) == 0, "a thread answers as one alone", jobs[i].out);
+        expect(strstr(alone, "0111 certificate accepted") != NULL, "some are accepted, and noise is not", alone);
+        free(jobs[i].out);
+    }
+    free(alone);
+}
+
+#if defined(__GLIBC__) && (__GLIBC__ > 2 || __GLIBC_MINOR__ >= 33)
+static size_t held(void) { return mallinfo2().uordblks; }
+#else
+static size_t held(void) { return 0; }
+#endif
+
+/* Calls in a loop, on a desk that stays and on desks of their own: no memory stays taken. */
+static void test_growth(int times) {
+    nonobench_desk *desk;
+    uint32_t handle;
+    size_t before = 0;
+    bool holds = true;
+    expect(nonobench_start(&desk) == NONOBENCH_DONE, "a desk", "");
+    for (int i = 0; i < 50 + times; i++) {
+        size_t givens = 0;
+        /* What malloc keeps for the next call of a size counts as taken, so the first calls do not count. */
+        if (i == 50) before = held();
+        holds = holds && nonobench_check_pair(DIAGONAL, strlen(DIAGONAL), GIVEN, strlen(GIVEN), NULL, &givens, NULL) == NONOBENCH_DONE;
+        holds = holds && givens == 1 && nonobench_check_pair("P4", 2, "", 0, NULL, NULL, NULL) == NONOBENCH_REFUSED;
+        holds = holds && nonobench_open(&desk, (const uint8_t *)DIAGONAL, strlen(DIAGONAL), false, (const uint8_t *)"", 0, 9, &handle) == 0;
+        holds = holds && nonobench_say(&desk, handle, (const uint8_t *)"pin 1 1\nverdict\nundo\n", 21) == NONOBENCH_DONE;
+        holds = holds && nonobench_close(&desk, handle) == NONOBENCH_DONE && nonobench_close(&desk, handle) == NONOBENCH_CLOSED;
+    }
+    expect(holds, "calls in a loop", "");
+    expect(held() == before, "no memory stays taken", "");
+    nonobench_end(desk);
+}
+
+int main(int count, char **words) {
+    int times = count > 2 ? atoi(words[2]) : 10000;
+    if (count < 2) return 2;
+    run_cases(words[1], "pictures", false);
+    run_cases(words[1], "certificates", true);
+    test_answers();
+    test_bad_input();
+    test_rooms();
+    test_threads(times / 10 < 500 ? times / 10 : 500);
+    test_growth(times);
+    printf("C: %d passed, %d failed\n", passed, failed);
+    return failed == 0 ? 0 : 1;
+}

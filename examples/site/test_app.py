@@ -1,0 +1,140 @@
+"""Tests of the example site by Flask's own client: PYTHONPATH=python python3 examples/site/test_app.py"""
+
+import io
+import os
+import re
+import signal
+import tempfile
+import unittest
+from pathlib import Path
+
+import app as site
+import nonobench
+
+EXAMPLES = Path(__file__).resolve().parent.parent
+DIAGONAL = (EXAMPLES / "diagonal.ppm").read_bytes()
+DIAGONAL_CERT = (EXAMPLES / "diagonal.cert").read_bytes()
+GIVEN = (EXAMPLES / "given.ppm").read_bytes()
+GIVEN_CERT = (EXAMPLES / "given.cert").read_bytes()
+
+
+class Site(unittest.TestCase):
+    """A site with an empty database."""
+
+    def setUp(self):
+        folder = tempfile.TemporaryDirectory()
+        self.addCleanup(folder.cleanup)
+        self.app = site.create_app(DATABASE=os.path.join(folder.name, "puzzles"), SECONDS=300.0, TESTING=True)
+        self.addCleanup(self.app.extensions["puzzles"].close)
+        self.client = self.app.test_client()
+
+    def bring(self, picture, certificate, title="Duck", name="picture"):
+        files = {"picture": (io.BytesIO(picture), name), "certificate": (io.BytesIO(certificate), "x"), "title": title}
+        return self.client.post("/puzzles", data=files, content_type="multipart/form-data")
+
+    def assert_refused(self, answer, reason, status=422):
+        self.assertEqual(answer.status_code, status)
+        self.assertIn(f'<p class="refused">{reason}', answer.text)
+        self.assertIn("None yet.", self.client.get("/").text)
+
+    def test_a_puzzle_is_stored_and_shown(self):
+        self.assertIn("None yet.", self.client.get("/").text)
+        answer = self.bring(DIAGONAL, DIAGONAL_CERT)
+        self.assertEqual((answer.status_code, answer.headers["Location"]), (303, "/puzzles/1"))
+        page = self.client.get("/puzzles/1")
+        self.assertEqual(page.status_code, 200)
+        # A black and a red cell on the diagonal: each row and column has a block of one.
+        self.assertEqual(page.text.count("background: rgb(0, 0, 0); color: white\">1</span>"), 2)
+        self.assertEqual(page.text.count("background: rgb(255, 0, 0); color: white\">1</span>"), 2)
+        self.assertEqual(len(re.findall("<td>", page.text)), 4)
+        self.assertIn(">Duck</a>", self.client.get("/").text)
+        self.assertIn("default-src 'none'", page.headers["Content-Security-Policy"])
+
+    def test_givens_are_shown(self):
+        self.assertEqual(self.bring(GIVEN, GIVEN_CERT).status_code, 303)
+        page = self.client.get("/puzzles/1").text
+        self.assertEqual(len(re.findall("<td>", page)), 3)
+        self.assertIn('<td style="background: rgb(0, 0, 0); color: white"></td>', page)
+        self.assertIn("with the 1 cells", page)
+
+    def test_a_puzzle_is_stored_once(self):
+        self.bring(DIAGONAL, DIAGONAL_CERT)
+        answer = self.bring(DIAGONAL + b"\n", DIAGONAL_CERT)
+        self.assertEqual(answer.status_code, 409)
+        self.assertIn("there already", answer.text)
+        self.assertEqual(self.client.get("/").text.count("<li>"), 1)
+
+    def test_what_is_refused(self):
+        self.assert_refused(self.bring(b"GIF89a", DIAGONAL_CERT), "The picture is neither a PNG image nor a plain PPM text (P3).")
+        self.assert_refused(self.bring(DIAGONAL, b"no"), "The certificate does not begin as one. (line 1)")
+        self.assert_refused(self.bring(DIAGONAL, b"nonocert 1\ndone\n"), "The certificate says that all cells are decided")
+        self.assert_refused(self.bring(GIVEN, DIAGONAL_CERT), "The certificate says that a line cannot be filled, and it can.")
+        self.assert_refused(self.bring(b"", b""), "The picture is neither a PNG")
+        self.assert_refused(self.client.post("/puzzles"), "A picture and a certificate are wanted.")
+        self.assert_refused(self.bring(b"P3 121 1 1", b""), "The picture has more than 120 rows or columns. (byte 3)")
+        self.assert_refused(self.bring(b" " * (3 << 20), b""), "The files have more than 2 MiB.", 413)
+
+    def test_names_are_not_trusted(self):
+        self.bring(DIAGONAL, DIAGONAL_CERT, "<script>alert(1)</script>" + "x" * 500, "../../etc/passwd")
+        for page in ("/", "/puzzles/1"):
+            text = self.client.get(page).text
+            self.assertNotIn("<script>", text)
+            self.assertIn("&lt;script&gt;", text)
+            self.assertNotIn("x" * 101, text)
+        self.bring(GIVEN, GIVEN_CERT, "Robert'); DROP TABLE puzzles;--")
+        self.assertIn("DROP TABLE", self.client.get("/").text)
+        for path in ("/puzzles/3", "/puzzles/x", "/puzzles/-1", "/puzzles/99999999999999999999999"):
+            self.assertEqual(self.client.get(path).status_code, 404)
+
+    def test_a_check_that_takes_too_long_is_ended(self):
+        self.app.config["SECONDS"] = 0.2
+        with nonobench.Worker(seconds=300) as worker:
+            # A worker that is stopped never answers, however fast the machine.
+            worker.clues(DIAGONAL)
+            os.kill(worker._process.pid, signal.SIGSTOP)
+            worker._seconds = 0.2
+            kept = site.Site(self.app.config)
+            kept.workers = site.queue.Queue()
+            kept.workers.put(worker)
+            with self.assertRaisesRegex(site.Refused, "^The check took more than 0.2 seconds.$"):
+                kept.proved(DIAGONAL, DIAGONAL_CERT)
+            worker._seconds = 300
+            self.assertIn('"rows"', kept.proved(DIAGONAL, DIAGONAL_CERT))
+
+    def test_a_busy_site_says_so(self):
+        self.app.config["SECONDS"] = 0.01
+        kept = site.Site(self.app.config)
+        kept.workers = site.queue.Queue()
+        with self.assertRaisesRegex(site.Refused, "busy"):
+            kept.proved(DIAGONAL, DIAGONAL_CERT)
+
+    def test_each_fault_has_words(self):
+        formats = (EXAMPLES.parent / "docs" / "FORMATS.md").read_text(encoding="utf-8")
+        for name in site.WORDS:
+            if name != "TooLong":
+                self.assertIn(name, formats)
+
+    @unittest.skipIf(site.Image is None, "there is no Pillow")
+    def test_images(self):
+        def png(image):
+            file = io.BytesIO()
+            image.save(file, "PNG")
+            return file.getvalue()
+
+        # Clear pixels are white.
+        image = site.Image.new("RGBA", (2, 2), (9, 9, 9, 0))
+        image.putpixel((0, 0), (0, 0, 0, 255))
+        image.putpixel((1, 1), (255, 0, 0, 255))
+        self.assert_refused(self.bring(png(site.Image.new("L", (121, 1))), b""), "The picture has more than 120 rows or columns.")
+        self.assert_refused(self.bring(png(image)[:60], DIAGONAL_CERT), "The image cannot be read.")
+        self.assert_refused(self.bring(site.PNG, DIAGONAL_CERT), "The image cannot be read.")
+        self.assertEqual(self.bring(png(image), DIAGONAL_CERT).status_code, 303)
+        self.assertEqual(site.cells_of(site.picture_of(png(image)))[2:], site.cells_of(DIAGONAL)[2:])
+
+    @unittest.skipUnless(site.Image is None, "there is Pillow")
+    def test_no_images(self):
+        self.assert_refused(self.bring(site.PNG, DIAGONAL_CERT), "This site reads no PNG, since Pillow is not installed.")
+
+
+if __name__ == "__main__":
+    unittest.main()

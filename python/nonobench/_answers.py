@@ -1,0 +1,142 @@
+"""What the calls answer, and why they refuse."""
+
+from __future__ import annotations
+
+import enum
+import re
+from dataclasses import dataclass
+from typing import NamedTuple, Optional
+
+
+class Fault(Exception):
+    """A file is refused. `name` is the fault's name in docs/FORMATS.md, and `text` what the program says behind `nonobench: `."""
+
+    def __init__(self, name: str, place: int, text: str) -> None:
+        super().__init__(name, place, text)
+        self.name = name
+        self.text = text
+        self._place = place
+
+    def __str__(self) -> str:
+        return self.text
+
+
+class PictureFault(Fault):
+    """The picture is refused, at a byte that is counted from 0."""
+
+    @property
+    def byte(self) -> int:
+        """Where the fault is."""
+        return self._place
+
+
+class CertificateFault(Fault):
+    """The certificate is refused, at a line that is counted from 1."""
+
+    @property
+    def line(self) -> int:
+        """Where the fault is."""
+        return self._place
+
+
+class LengthFault(Fault):
+    """A picture or a certificate has more than 16,777,216 bytes."""
+
+
+def fault_of(text: str) -> Fault:
+    """The fault that a text tells."""
+    found = re.fullmatch(r"(ppm|certificate) (\w+) at (?:byte|line) (\d+)", text)
+    if found is None:
+        return Fault(text, 0, text)
+    kind = PictureFault if found[1] == "ppm" else CertificateFault
+    return kind(found[2], int(found[3]), text)
+
+
+class Given(NamedTuple):
+    """A cell that is given, its row and column counted from 1."""
+
+    row: int
+    column: int
+
+
+@dataclass(frozen=True)
+class Result:
+    """A certificate was accepted: no other picture of that size has the clues, and these cells' colours.
+
+    A certificate may give every cell. So compare the givens with those that you publish.
+    """
+
+    givens: tuple[Given, ...]
+
+    def __str__(self) -> str:
+        return f"certificate accepted, givens {len(self.givens)}\n" if self.givens else "certificate accepted\n"
+
+
+def result_of(text: str, certificate: bytes) -> Result:
+    """What was accepted, by the line that tells it. The givens stand directly below the certificate's first line."""
+    givens = []
+    for line in certificate.split(b"\n")[1:]:
+        words = line.split(b" ")
+        if words[0] != b"given":
+            break
+        givens.append(Given(int(words[1]), int(words[2])))
+    result = Result(tuple(givens))
+    if str(result) != text:
+        raise RuntimeError(f"the library tells other givens: {text!r}")
+    return result
+
+
+class Block(NamedTuple):
+    """Cells side by side in one colour: how many, and the colour's letter."""
+
+    length: int
+    colour: str
+
+
+@dataclass(frozen=True)
+class Clues:
+    """The clues of each row from the top, and of each column from the left."""
+
+    rows: tuple[tuple[Block, ...], ...]
+    columns: tuple[tuple[Block, ...], ...]
+
+    def __str__(self) -> str:
+        """The lines that the program prints."""
+        return "".join(
+            f"{axis} {number}: {' '.join(f'{block.length}{block.colour}' for block in clue) or '0'}\n"
+            for axis, clues in (("r", self.rows), ("c", self.columns))
+            for number, clue in enumerate(clues, 1)
+        )
+
+
+def clues_of(text: str) -> Clues:
+    """The clues that a text tells."""
+    axes: dict[str, list[tuple[Block, ...]]] = {"r": [], "c": []}
+    for line in text.splitlines():
+        place, words = line.split(": ")
+        blocks = () if words == "0" else tuple(Block(int(word[:-1]), word[-1]) for word in words.split(" "))
+        axes[place[0]].append(blocks)
+    return Clues(tuple(axes["r"]), tuple(axes["c"]))
+
+
+class Ruling(enum.Enum):
+    """Whether another picture has the clues."""
+
+    UNIQUE = "unique"
+    AMBIGUOUS = "ambiguous"
+    UNDECIDED = "undecided"
+
+
+@dataclass(frozen=True)
+class Verdict:
+    """A verdict. `other` is another picture with the clues, its rows as letters, where the ruling is AMBIGUOUS."""
+
+    ruling: Ruling
+    other: Optional[tuple[str, ...]] = None
+
+
+def verdict_of(text: str) -> Verdict:
+    """The verdict that a text tells."""
+    first, *rows = text.splitlines()
+    ruling = Ruling(first.split(" ")[0])
+    return Verdict(ruling, tuple(rows) if ruling is Ruling.AMBIGUOUS else None)

@@ -1,0 +1,264 @@
+"""Tests of the package: cd python && python3 -m unittest tests/test_nonobench.py
+
+What is expected stands in tests/cases/, or follows from docs/FORMATS.md by hand. With NONOBENCH=program, 1,000 cases by chance
+(CASES=number) are compared with what the program prints; the seed is 1 (SEED=number).
+"""
+
+import os
+import random
+import re
+import signal
+import subprocess
+import tempfile
+import threading
+import unittest
+from pathlib import Path
+
+import nonobench
+from nonobench import Block, CertificateFault, Given, LengthFault, PictureFault, Ruling
+
+ROOT = Path(__file__).resolve().parent.parent.parent
+# Two rows, black and white, white and black: another picture has the clues, and a given decides it.
+DIAGONAL = b"P3 2 2 255 0 0 0 255 255 255 255 255 255 0 0 0\n"
+GIVEN = b"nonocert 2\ngiven 1 1\nline r 1\nline c 1\nline r 2\ndone\n"
+TRIPLES = {".": (255, 255, 255), "a": (0, 0, 0), "b": (255, 0, 0)}
+ESCAPES = {"n": 10, "t": 9, "r": 13, "v": 11, "f": 12, "a": 7, "b": 8, "e": 27, "\\": 92}
+
+
+def bytes_of(text):
+    """The bytes of a text as printf reads it."""
+    found = re.split(r"(\\(?:x[0-9a-fA-F]{1,2}|[0-7]{1,3}|.))", text)
+    made = b""
+    for part in found:
+        if part[:1] != "\\" or len(part) == 1:
+            made += part.encode()
+        elif part[1] in ESCAPES:
+            made += bytes([ESCAPES[part[1]]])
+        else:
+            made += bytes([int(part[2:], 16) if part[1] == "x" else int(part[1:], 8)])
+    return made
+
+
+def cases(name):
+    """What is asked, and what has to come."""
+    for line in (ROOT / "tests" / "cases" / f"{name}.case").read_text(encoding="utf-8").splitlines():
+        if line and not line.startswith("#"):
+            asked, _, answer = line.rpartition(" => ")
+            yield asked, answer
+
+
+def picture_of(rows):
+    """The picture of a shorthand: its rows, with / between them."""
+    lines = rows.split("/")
+    return nonobench.picture_of(len(lines[0]), len(lines), [TRIPLES[cell] for line in lines for cell in line])
+
+
+def told(call):
+    """What a call answers, as the program tells it: standard output, what is said, status."""
+    try:
+        return str(call()), "", 0
+    except nonobench.Fault as fault:
+        return "", f"nonobench: {fault.text}\n", 1
+
+
+class Cases(unittest.TestCase):
+    """The lines of tests/cases/."""
+
+    def compare(self, asked, answer, call):
+        wrote = answer.replace(" | ", "\n") + "\n"
+        wanted = ("", f"nonobench: {answer[2:]}\n", 1) if answer.startswith("! ") else (wrote, "", 0)
+        with self.subTest(asked):
+            self.assertEqual(told(call), wanted)
+
+    def test_pictures(self):
+        for asked, answer in cases("pictures"):
+            self.compare(asked, answer, lambda text=bytes_of(asked): nonobench.clues(text))
+
+    def test_certificates(self):
+        count = 0
+        for asked, answer in cases("certificates"):
+            rows, _, text = asked.partition(" ")
+            self.compare(asked, answer, lambda pair=(picture_of(rows), bytes_of(text)): nonobench.check(*pair))
+            count += 1
+        self.assertGreater(count, 40)
+
+
+class Answers(unittest.TestCase):
+    """Rows that were worked by hand."""
+
+    def test_check(self):
+        result = nonobench.check(DIAGONAL, GIVEN)
+        self.assertEqual(result.givens, (Given(1, 1),))
+        self.assertEqual(str(nonobench.check(bytearray(DIAGONAL), memoryview(GIVEN))), "certificate accepted, givens 1\n")
+        with self.assertRaises(CertificateFault) as caught:
+            nonobench.check(DIAGONAL, b"nonocert 1\nline r 3\n")
+        self.assertEqual((caught.exception.name, caught.exception.line), ("Place", 2))
+        with self.assertRaises(PictureFault) as caught:
+            nonobench.check(b"P3 1 1 1 0 0 2", b"")
+        self.assertEqual((caught.exception.name, caught.exception.byte), ("SampleOver", 13))
+        self.assertEqual(str(caught.exception), "ppm SampleOver at byte 13")
+
+    def test_clues(self):
+        clues = nonobench.clues(b"P3 3 1 2 1 0 0 0 1 0 0 1 0")
+        self.assertEqual(clues.rows, ((Block(1, "a"), Block(2, "b")),))
+        self.assertEqual(clues.columns, ((Block(1, "a"),), (Block(1, "b"),), (Block(1, "b"),)))
+        self.assertEqual(nonobench.clues(b"P3 1 1 1 0 0 0", (0, 0, 0)).rows, ((),))
+
+    def test_verdict(self):
+        verdict = nonobench.verdict(DIAGONAL)
+        self.assertEqual((verdict.ruling, verdict.other), (Ruling.AMBIGUOUS, (".a", "a.")))
+        self.assertEqual(nonobench.verdict(b"P3 1 1 1 0 0 0", allowance=0).ruling, Ruling.UNIQUE)
+        self.assertEqual(nonobench.verdict(DIAGONAL, 99999, (0, 0, 0)).ruling, Ruling.AMBIGUOUS)
+
+    def test_bad_input(self):
+        for file in (None, "P3", 5, ["P3"]):
+            with self.assertRaises(TypeError):
+                nonobench.clues(file)
+        for background in ((-1, 0, 0), (0, 0, 65536), (1, 2), (1, 2, 3, 4)):
+            with self.assertRaises(ValueError):
+                nonobench.check(DIAGONAL, GIVEN, background)
+        for allowance in (-1, 100000):
+            with self.assertRaises(ValueError):
+                nonobench.verdict(DIAGONAL, allowance)
+        with self.assertRaises(LengthFault):
+            nonobench.clues(b" " * 16777217)
+        with self.assertRaisesRegex(PictureFault, "^ppm NotP3 at byte 0$"):
+            nonobench.clues(b"")
+        with self.assertRaises(ValueError):
+            nonobench.picture_of(2, 2, [(0, 0, 0)])
+
+    def test_long_text(self):
+        rows = ["a." * 60, ".a" * 60] * 60
+        clues = nonobench.clues(picture_of("/".join(rows)))
+        self.assertEqual(clues.rows, ((Block(1, "a"),) * 60,) * 120)
+        self.assertEqual(clues.columns, clues.rows)
+
+    def test_any_bytes(self):
+        source = random.Random(1)
+        for _ in range(2000):
+            noise = source.randbytes(source.randrange(200))
+            near = bytearray(DIAGONAL)
+            near[source.randrange(len(near))] = source.randrange(256)
+            for call in (lambda: nonobench.check(near, noise), lambda: nonobench.verdict(noise, 10), lambda: nonobench.clues(near)):
+                try:
+                    call()
+                except nonobench.Fault as fault:
+                    self.assertRegex(fault.text, r"^(ppm|certificate) \w+ at (byte|line) \d+$")
+
+    def test_threads(self):
+        answers = []
+        threads = [threading.Thread(target=lambda: answers.extend(str(nonobench.check(DIAGONAL, GIVEN)) for _ in range(500)))
+                   for _ in range(4)]
+        for thread in threads:
+            thread.start()
+        for thread in threads:
+            thread.join()
+        self.assertEqual(answers, ["certificate accepted, givens 1\n"] * 2000)
+
+    def test_version(self):
+        header = (ROOT / "c" / "nonobench.h").read_text(encoding="utf-8")
+        self.assertIn(f'#define NONOBENCH_VERSION "{nonobench.__version__}"', header)
+        self.assertIn(f'version = "{nonobench.__version__}"', (ROOT / "python" / "pyproject.toml").read_text(encoding="utf-8"))
+
+
+class Workers(unittest.TestCase):
+    """Questions to another process."""
+
+    def test_answers_and_faults(self):
+        with nonobench.Worker(seconds=300) as worker:
+            self.assertEqual(worker.check(DIAGONAL, GIVEN).givens, (Given(1, 1),))
+            self.assertEqual(worker.clues(DIAGONAL), nonobench.clues(DIAGONAL))
+            self.assertEqual(worker.verdict(DIAGONAL, 5), nonobench.verdict(DIAGONAL))
+            with self.assertRaises(CertificateFault) as caught:
+                worker.check(DIAGONAL, b"")
+            self.assertEqual((caught.exception.name, caught.exception.line), ("NotCert", 1))
+            with self.assertRaises(ValueError):
+                worker.verdict(DIAGONAL, -1)
+
+    def test_time(self):
+        # A process that is stopped never answers, however fast the machine.
+        with nonobench.Worker(seconds=300) as worker:
+            worker.clues(DIAGONAL)
+            worker._seconds = 0.2
+            os.kill(worker._process.pid, signal.SIGSTOP)
+            with self.assertRaises(TimeoutError):
+                worker.clues(DIAGONAL)
+            worker._seconds = 300
+            self.assertEqual(worker.clues(DIAGONAL), nonobench.clues(DIAGONAL))
+
+    def test_memory(self):
+        # The question alone takes more than is left beside the interpreter.
+        with nonobench.Worker(seconds=300, memory=40 << 20) as worker:
+            with self.assertRaises(MemoryError):
+                worker.check(DIAGONAL, b" " * 16777216)
+        with nonobench.Worker(seconds=300) as worker, self.assertRaises(CertificateFault):
+            worker.check(DIAGONAL, b" " * 16777216)
+
+
+@unittest.skipUnless(os.environ.get("NONOBENCH"), "no program is named by NONOBENCH")
+class Chance(unittest.TestCase):
+    """Cases by chance beside the program's answers."""
+
+    def setUp(self):
+        self.folder = tempfile.TemporaryDirectory()
+        self.addCleanup(self.folder.cleanup)
+
+    def run_program(self, words, lines=b""):
+        run = subprocess.run([os.environ["NONOBENCH"], *words], input=lines, capture_output=True, cwd=self.folder.name, check=False)
+        return run.stdout.decode(), run.stderr.decode(), run.returncode
+
+    def put(self, name, file):
+        (Path(self.folder.name) / name).write_bytes(file)
+
+    def test_program(self):
+        source = random.Random(int(os.environ.get("SEED", "1")))
+        accepted = refused = ambiguous = 0
+        for _ in range(int(os.environ.get("CASES", "1000"))):
+            picture = marred(chance_picture(source), source, 4)
+            background = source.choice([None, None, (0, 0, 0), (7, 80, 7)])
+            words = [] if background is None else ["--background", ",".join(map(str, background))]
+            self.put("picture", picture)
+            answer = self.run_program(["work", "picture", *words], b"allow 500\nverdict\nclues\nallow off\ncertify\n")
+            with self.subTest(picture=picture, background=background):
+                if answer[2] != 0:
+                    self.assertEqual(told(lambda: nonobench.clues(picture, background)), answer)
+                    refused += 1
+                    continue
+                verdict, clues, certificate = parts_of(answer[0])
+                self.assertEqual(nonobench.verdict(picture, 500, background), verdict)
+                self.assertEqual(str(nonobench.clues(picture, background)), clues)
+                ambiguous += verdict.ruling is Ruling.AMBIGUOUS
+                certificate = marred(certificate, source, 3)
+                self.put("cert", certificate)
+                answer = self.run_program(["check", "picture", "cert", *words])
+                self.assertEqual(told(lambda: nonobench.check(picture, certificate, background)), answer)
+                accepted += answer[2] == 0
+        self.assertGreater(min(accepted, refused, ambiguous), 20 if accepted + refused + ambiguous > 500 else 0)
+
+
+def chance_picture(source):
+    """A picture of some colours."""
+    rows, columns, colours = source.randint(1, 9), source.randint(1, 9), source.randint(1, 4)
+    triples = [(255, 255, 255)] + [(40 * at, at, 250 - at) for at in range(colours)]
+    return nonobench.picture_of(columns, rows, source.choices(triples, [source.randint(1, 4)] + [1] * colours, k=rows * columns))
+
+
+def marred(text, source, one_of):
+    """The text, or, one time of some, with a byte changed."""
+    if not text or source.randrange(one_of):
+        return text
+    at = source.randrange(len(text))
+    return text[:at] + source.choice([b"", b" ", b"0", b"7", b"\n", b"x"]) + text[at + 1:]
+
+
+def parts_of(out):
+    """Verdict, clues and certificate (empty where there is none) of what a session printed."""
+    found = re.fullmatch(r"ok\n(unique|undecided \d+|ambiguous)\n((?:[.a-o]+\n)*)((?:[rc] .*\n)*)ok\n((?:.*\n)*)", out)
+    ruling = Ruling(found[1].split(" ")[0])
+    other = tuple(found[2].split()) if ruling is Ruling.AMBIGUOUS else None
+    certificate = b"" if found[4] == "ambiguous\n" else found[4].encode()
+    return nonobench.Verdict(ruling, other), found[3], certificate
+
+
+if __name__ == "__main__":
+    unittest.main()
