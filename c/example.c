@@ -10,9 +10,11 @@ static size_t read_file(const char *name, char *bytes, size_t room) {
 int main(int count, char **names) {
     static char picture[1 << 20], certificate[1 << 20], said[200];
     nonobench_text text = {said, sizeof said, 0};
+    size_t givens = 0;
     if (count != 3) return 2;
     uint32_t status = nonobench_check_pair(picture, read_file(names[1], picture, sizeof picture), certificate,
-                                           read_file(names[2], certificate, sizeof certificate), NULL, NULL, &text);
-    puts(said);
-    return (int)status;
+                                           read_file(names[2], certificate, sizeof certificate), NULL, &givens, &text);
+    if (status == NONOBENCH_DONE) return printf("accepted, with %zu givens\n", givens) < 0;
+    printf("refused: %s\n", said);
+    return 1;
 }

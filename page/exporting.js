@@ -57,12 +57,20 @@ function fillPrint({ title, letters, solution }) {
   $('print').replaceChildren(...sheets);
 }
 
+// What somebody who solves the sheet should not be left to find out.
+const PRINT_WARNINGS = {
+  ambiguous: 'Another picture has the same clues. “Fix it” in the menu Check makes this one the only solution.',
+  undecided: 'It is not known yet whether this picture is the only solution.',
+};
+
 async function printPuzzle() {
   const title = make('input', { type: 'text', value: keep.about.title || bench.name, maxlength: '200' });
   const letters = make('input', { type: 'checkbox', checked: true });
   const solution = make('input', { type: 'checkbox', checked: true });
   const content = make('div', { class: 'rows' }, make('label', {}, 'Title', title), make('label', {}, letters, 'Letters in place of colours, for black and white'), make('label', {}, solution, 'The solution on a second sheet'));
   letters.checked = false;
+  const warning = PRINT_WARNINGS[bench.state.verdict.word];
+  if (warning) content.append(make('p', { class: 'wrong' }, warning));
   const go = await openDialog({ title: 'Print', content, buttons: [{ name: 'Print …', value: true, main: true }] });
   if (!go) return;
   fillPrint({ title: title.value || bench.name, letters: letters.checked, solution: solution.checked });

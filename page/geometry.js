@@ -4,6 +4,7 @@
 const SMALLEST = 3; // a cell's side in the page's pixels
 const LARGEST = 64;
 const MARGIN = 6;
+const AROUND = 14; // the page's pixels around the blocks of a clue: some more than the strips leave free
 
 class Geometry {
   constructor() {
@@ -50,13 +51,13 @@ class Geometry {
     const font = this.fontFor(cell);
     const isTiny = cell < 7 * this.scale;
     const tick = 4 * this.scale;
-    const one = (size) => (isTiny ? size.blocks * (tick + 2) : size.signs * font * 0.62 + size.blocks * ((this.letters ? 0.62 : 0) * font + font / 2 + 2));
+    const one = (size) => (isTiny ? size.blocks * (tick + 2) : size.signs * font * 0.62 + size.blocks * ((this.letters ? 0.62 : 0) * font + font / 2 + 2.5)); // a block's width is rounded
     const most = Math.max(0, ...this.rowSizes.map(one)) + spare * one({ blocks: 1, signs: 1 });
     const tall = (Math.max(0, ...this.columnSizes.map((size) => size.blocks)) + spare) * ((isTiny ? tick : this.pitchFor(cell)) + 1);
     const bound = isTiny ? 0.2 : this.width < 600 * this.scale ? 0.28 : 0.34;
     return {
-      left: Math.ceil(clamp(most + 12 * this.scale, 26 * this.scale, this.width * bound)),
-      top: Math.ceil(clamp(tall + 12 * this.scale, 22 * this.scale, this.height * bound)),
+      left: Math.ceil(clamp(most + AROUND * this.scale, 26 * this.scale, this.width * bound)),
+      top: Math.ceil(clamp(tall + AROUND * this.scale, 22 * this.scale, this.height * bound)),
     };
   }
 

@@ -174,9 +174,9 @@ class Importing {
     return this.worked;
   }
 
-  cells(times = 1) {
+  cells(times = 1, sharp = this.sharp.checked) {
     const [columns, rows] = this.size ?? [1, 1];
-    return this.made('cells', columns * times, rows * times, this.sharp.checked);
+    return this.made('cells', columns * times, rows * times, sharp);
   }
 
   // Single pixels of the part, for its colours: as many whatever the size in cells is.
@@ -201,7 +201,8 @@ class Importing {
     const options = { colours: Number(this.colours.value), background: this.background };
     if (this.two.checked) Object.assign(options, { threshold: Number(this.threshold.value), inverted: this.inverted.checked });
     const times = this.size[0] * this.size[1] > 5000 ? 2 : 3;
-    const fine = this.sharp.checked || this.two.checked ? null : this.cells(times);
+    // Of a drawing in flat colours single pixels are taken: means across its edges would be colours of their own.
+    const fine = this.sharp.checked || this.two.checked ? null : this.cells(times, flatColours(this.points(), MOST_COLOURS).length > 0);
     const cells = fine ? scaledTo(fine, { x: 0, y: 0, width: fine.width, height: fine.height }, ...this.size) : this.cells();
     this.doc = this.grounded(docOfCells(cells, options, fine ? { fine, points: this.points() } : {}));
     drawSmall(this.preview, this.doc, SHOWN_SIDE);

@@ -89,7 +89,7 @@ function removeColour(letter, into = '.') {
   setDown();
   const at = LETTERS.indexOf(letter);
   const order = bench.state.colours.map((_, one) => one).filter((one) => one !== at);
-  return becomeOpened(reordered(bench.expected(), order, LETTERS.indexOf(into)), 'The session has no command for this, so the picture was opened anew. Undo takes it back.');
+  return becomeOpened(reordered(bench.expected(), order, LETTERS.indexOf(into)), 'The colour left the palette, and those behind it have other letters now. Undo takes it back.');
 }
 
 function deleteColour() {
@@ -105,11 +105,11 @@ function moveColour(by) {
   const order = bench.state.colours.map((_, one) => one);
   [order[at], order[to]] = [order[to], order[at]];
   tools.colour = LETTERS[to];
-  return becomeOpened(reordered(bench.expected(), order), '');
+  return becomeOpened(reordered(bench.expected(), order), 'The colours stand in another order now. Undo takes it back.');
 }
 
 async function becomeOpened(doc, text) {
-  if (await heard(bench.become(doc)) && text) say(text);
+  if (await heard(bench.become(doc))) say(text);
 }
 
 /** Makes the panel of colours. */

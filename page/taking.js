@@ -30,6 +30,8 @@ async function openBase(base, { name, isSaved = true, id = null, about = {}, str
 const openDoc = (doc, how) => openBase(baseOf(doc), how);
 const OPEN_FAULTS = { BadSize: 'its width or height is not from 1 to 120', BadCount: 'it has too few or too many clues', BadClue: 'a clue is no list of numbers', ClueTooLong: 'a clue is longer than its line', BadGoal: 'its goal does not fit its size', GoalDisagrees: 'its goal has other clues', MissingSize: 'it has no width or height', Repeated: 'a part of it stands there twice' };
 
+const NOT_READ = 'it is no picture and no puzzle that this page reads';
+
 /** What a fault says to the user, without names of the bench's own. */
 function faultText(fault) {
   if (fault instanceof FileFault) return fault.message;
@@ -43,6 +45,7 @@ function faultText(fault) {
 
 /** Takes a file (or a blob that was pasted); `handle` is the browser's own for writing it again. */
 async function takeFile(file, handle = null) {
+  say(''); // what was said of another file
   try {
     if (file.size > MOST_BYTES_READ) throw new FileFault('it has more than 16 MiB');
     const bytes = new Uint8Array(await file.arrayBuffer());
@@ -59,7 +62,7 @@ async function takeBytes(bytes, file, handle) {
   if (kind === 'ppm') return takePpm(bytes, name, handle);
   if (kind === 'xml') return takeXml(new TextDecoder().decode(bytes), name, handle);
   if (kind === 'non') return takeNon(bytes, name, handle);
-  if (kind === null) throw new FileFault('It is no picture and no puzzle that this page reads.');
+  if (kind === null) throw new FileFault(NOT_READ);
   return importImage(await imageOfFile(file, bytes, kind), name);
 }
 
@@ -80,6 +83,7 @@ async function takeXml(text, name, handle) {
 
 function takeNon(bytes, name, handle) {
   const text = new TextDecoder().decode(bytes);
+  if (!/^[ \t]*(width|height|rows|columns)\b/m.test(text)) throw new FileFault(NOT_READ);
   const title = /^[ \t]*title[ \t]+"?([^"\n\r]*)/m.exec(text)?.[1].trim() ?? '';
   return openNon(bytes, name, { title }, handle);
 }
@@ -112,13 +116,13 @@ async function openNon(text, name, about, handle = null) {
 /** The pixels of an image file, after the size in its head was looked at. */
 async function imageOfFile(file, bytes, kind) {
   const size = sizeOfImage(bytes, kind);
-  if (!size) throw new FileFault('Its head tells no size.');
+  if (!size) throw new FileFault('its size is not told at its beginning');
   boundSides(...size);
   let bitmap;
   try {
     bitmap = await createImageBitmap(file instanceof Blob && file.type ? file : new Blob([bytes], { type: `image/${kind}` }));
   } catch {
-    throw new FileFault('The browser does not read this picture.');
+    throw new FileFault('the browser does not read this picture');
   }
   boundSides(bitmap.width, bitmap.height); // a photo that was turned has its sides the other way round
   const pen = penOf(bitmap.width, bitmap.height);

@@ -1,19 +1,23 @@
 -- What is made: a certificate, or there is another picture.
-use Rattle.std.proofs.Common.{◌≡◌, ℕ, ◌+◌, ◌↔◌, List, [], ◌∷◌, None, Some, Ok, length, sym, ap, subst, ◌∙◌, arith}
+use Rattle.std.proofs.Common.{◌≡◌, ℕ, ◌+◌, ◌↔◌, List, [], ◌∷◌, Option, None, Some, Ok, length, sym, ap, subst, ◌∙◌, arith}
 use Rattle.picture.specs.CellSet.{HasCell}
 use Rattle.picture.specs.Document.{AreInside}
 use Rattle.picture.specs.Picture.{IsPicture}
 use Rattle.picture.specs.Rows.{width_of, cell_at}
-use Rattle.clues.specs.ClueBook.{clues_of}
+use Rattle.std.specs.Prelude.{IfSome}
+use Rattle.clues.specs.ClueBook.{Clues, clues_of}
 use Rattle.clues.specs.Solution.{IsOther}
 use Rattle.clues.specs.SolutionLaws.{solves_fewer}
 use Rattle.line_settle.specs.FactSets.{Leaves, SameShape, nothing_excluded}
 use Rattle.line_settle.specs.GridLaws.{shape_sym, shape_trans}
 use Rattle.second_search.specs.declared.tree_line.CellNumber.{CellNumber}
 use Rattle.second_search.specs.declared.tree_line.CertLine.{CertLine}
+use Rattle.second_search.specs.Laws.{SoundFacts}
+use Rattle.second_search.specs.Other.{AreSound}
+use Rattle.second_search.specs.Parts.{IsScene}
 use Rattle.certificate.specs.Cert.{Certificate, IsCert}
 use Rattle.certificate.specs.FirstFault.{CertFirstFault, FirstFaultBehind}
-use Rattle.certificate.specs.Making.{EachExcludes, HasNoFault, IsMade, Makes, NamesGivens, WritesTree}
+use Rattle.certificate.specs.Making.{BasesAreOne, EachExcludes, HasNoFault, HasOther, IsMade, Makes, NamesGivens, WritesTree}
 use Rattle.certificate.specs.Puzzle.{IsNamed, IsUnique, base_of, blank_for, with_givens}
 use Rattle.certificate.specs.Walk.{GivesBase}
 use Rattle.certificate.proofs.BaseLemmas.{given_left}
@@ -85,5 +89,23 @@ pub makes_some : (picture blank start : List (List ℕ)) (givens : List ℕ) (ce
 makes_some picture blank start givens cells lines cert height width is names h w b base e t c g l v =
     let P : List (List ℕ) → Type 0 = λ f. GivesBase picture f cells (Ok tt) start in
     some_made picture start givens cells lines cert is names (subst P (root_is picture blank start cells height width h w b) base) (e ∙ ap (with_givens picture cells) (root_is picture blank start cells height width h w b)) t.1 t.2 c g l v
+
+-- ---- the scene of a certificate
+
+pub made_scene : BasesAreOne → SoundFacts → (picture blank start : List (List ℕ)) (givens : List ℕ) (cells : List CellNumber) (clues : Clues) (height width : ℕ) → IsPicture picture → NamesGivens picture givens cells → height ≡ length picture → width ≡ width_of picture → blank ≡ nothing_excluded height width → start ≡ with_givens picture cells blank → clues ≡ clues_of picture → IsScene clues givens start picture
+made_scene bases sound picture blank start givens cells clues height width is names h w b e c =
+    let root = e ∙ ap (with_givens picture cells) (root_is picture blank start cells height width h w b) in
+    let P : List (List ℕ) → Type 0 = AreSound clues givens picture in
+    record {
+      is_picture = is;
+      has_clues = sym c;
+      sound = subst P (sym root) (sound.base clues givens picture (base_of picture cells) is (bases picture givens cells is names));
+    }
+
+pub near_other : (picture : List (List ℕ)) (givens : List ℕ) (clues : Clues) (near : Option (List (List ℕ))) (other : List (List ℕ)) → clues ≡ clues_of picture → near ≡ Some other → IfSome near (IsOther clues (HasCell givens) picture) → HasOther picture givens
+near_other picture givens clues near other c e h =
+    let P : Option (List (List ℕ)) → Type 0 = λ x. IfSome x (IsOther clues (HasCell givens) picture) in
+    let Q : Clues → Type 0 = λ k. IsOther k (HasCell givens) picture other in
+    (other, subst Q c (subst P e h))
 
 pub ruleset making = (makes_none, makes_some)

@@ -76,7 +76,11 @@ pub record IsMade (picture : List (List ℕ)) (givens : List ℕ) (cert : Certif
   pub version : (cert.version ≡ 1) ↔ (cert.givens ≡ [])
   pub excludes : EachExcludes picture (base_of picture cert.givens ∷ []) cert.lines
 
+-- there is another picture
+abbrev pub HasOther : List (List ℕ) → List ℕ → Type 0
+HasOther picture givens = (other : List (List ℕ)) × IsOther (clues_of picture) (HasCell givens) picture other
+
 -- a certificate, or there is another picture
 abbrev pub Makes : List (List ℕ) → List ℕ → Option Certificate → Type 0
-Makes picture givens None = (other : List (List ℕ)) × IsOther (clues_of picture) (HasCell givens) picture other
+Makes picture givens None = HasOther picture givens
 Makes picture givens (Some cert) = IsMade picture givens cert

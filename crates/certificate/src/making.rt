@@ -1,24 +1,28 @@
 //! The maker of certificates.
 
-ghost use Rattle.std.specs.Prelude.{◌≡◌, ◌≤◌, ◌<◌, ◌↔◌, [], length, IfErr, IfOk, OnOk};
+ghost use Rattle.std.specs.Prelude.{◌≡◌, ◌≤◌, ◌<◌, ◌↔◌, [], length, IfErr, IfOk, IsTrue, OnOk};
 ghost use Rattle.picture.specs.Document.{AreInside};
 ghost use Rattle.picture.specs.Rows.{width_of};
+ghost use Rattle.second_search.specs.Parts.{IsScene};
 ghost use Rattle.certificate.specs.Cert.{AreOrdered, AreWritable, IsCert};
-ghost use Rattle.certificate.specs.Making.{Makes, NamesGivens, NamesUpTo, WritesTree, lines_seen};
+ghost use Rattle.certificate.specs.Making.{HasOther, Makes, NamesGivens, NamesUpTo, WritesTree, lines_seen};
 ghost use Rattle.certificate.specs.Walk.{CanCheck};
 ghost use Rattle.line_settle.specs.FactSets.{SameShape};
 
 use crate::cert::Cert;
 use crate::checking::set_givens;
 use crate::fault::CertFault;
+use crate::laws::bases_are_one;
 use crate::places::cell_number;
 use clues::ClueBook;
 use clues::laws::clues_are_of_lines;
 use line_settle::laws::{forcing_closes_a_line, one_line_decides};
 use line_settle::{Facts, LineEngine, Meter};
 use picture::{CellSet, MAX_SIDE, Picture};
+use second_search::laws::sound_facts;
 use second_search::{
     CellNumber, CertLine, Decided, FIRST_BOUND, Ladder, Lines, MOST_CELLS, Scene, climb,
+    find_near_other,
 };
 use std::alloc::{AllocError, Global};
 
@@ -60,6 +64,31 @@ fn write_tree<E: LineEngine>(
         Decided::Tree(Lines::Dropped) => unreachable!(),
         Decided::OtherPicture(_) => Ok(None),
     }
+}
+
+// Whether there is another picture that differs in one window alone. There may be others where there is not.
+fn has_near_other<E: LineEngine>(
+    alloc: Global,
+    engine: &mut E,
+    scene: &Scene,
+) -> Result<bool, CertFault>
+    requires scene { IsScene scene.now.clues.now scene.now.givens.now scene.now.facts.now
+        scene.now.picture.now }
+    requires can { CanCheck scene.now.picture.now scene.now.clues.now (E.longest engine.old) }
+    ensures other { IfOk result (λ found. IsTrue found
+        → HasOther scene.now.picture.now scene.now.givens.now) }
+    ensures err { IfErr result (λ e. e ≡ CertFault.Memory) }
+    ensures same_longest { E.longest engine.new ≡ E.longest engine.old }
+    ensures calls { E.calls engine.old ≤ E.calls engine.new }
+{
+    clues_are_of_lines();
+    let _ = engine.calls();
+    let mut meter = NOTHING_DONE;
+    let near = find_near_other(alloc, engine, scene, &mut meter)?;
+    if let Some(_other) = near {
+        return Ok(true);
+    }
+    Ok(false)
 }
 
 #[tactic(auto, using(crate::proofs::NumberLemmas::naming))]
@@ -131,6 +160,8 @@ fn made<E: LineEngine>(
     ensures same_longest { E.longest engine.new ≡ E.longest engine.old }
     ensures calls { E.calls engine.old ≤ E.calls engine.new }
 {
+    bases_are_one();
+    sound_facts();
     let cells = given_cells(alloc, picture, givens)?;
     let mut facts = Facts::none(alloc, picture.height(), picture.width())?;
     let book = ClueBook::of(alloc, picture)?;
@@ -142,6 +173,10 @@ fn made<E: LineEngine>(
         facts: &facts,
         picture,
     };
+    let near = has_near_other(alloc, engine, &scene)?;
+    if near {
+        return Ok(None);
+    }
     let Some(lines) = write_tree(alloc, engine, &scene)? else {
         return Ok(None);
     };

@@ -26,3 +26,4 @@ pub mod AnswerLemmas
 pub mod CarryLemmas
 pub mod BreakLemmas
 pub mod NearLemmas
+pub mod NearClosedLemmas

@@ -8,7 +8,7 @@ ghost use Rattle.second_search.specs.Other.{AreSound, FindsFirst, FindsOther};
 ghost use Rattle.second_search.specs.Looking.{FindsFilling};
 
 use crate::ladder::{Decided, FIRST_BOUND, Ladder, MOST_CELLS, climb};
-use crate::near::find_in_parts;
+use crate::near_closed::find_near_other;
 use crate::scene::Scene;
 use clues::ClueBook;
 use clues::laws::clues_are_of_lines;
@@ -77,7 +77,7 @@ pub fn find_other<E: LineEngine>(
         evaluations: 0,
         trials: 0,
     };
-    let near = find_in_parts(alloc, engine, &scene, &mut meter)?;
+    let near = find_near_other(alloc, engine, &scene, &mut meter)?;
     if near.is_some() {
         return Ok(near);
     }
