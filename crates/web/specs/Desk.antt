@@ -18,6 +18,10 @@ use Rattle.web.specs.declared.desk.Seat.{Seat}
 abbrev pub place_of : List Seat → ℕ → Option ℕ
 place_of seats handle = position (λ seat. seat.handle == handle) seats
 
+-- the same benches are open, and no handle was given
+abbrev pub IsKept : Desk → Desk → Type 0
+IsKept old new = (new.seats.items ≡ old.seats.items) × (new.given ≡ old.given)
+
 -- ---- lines
 
 -- the number that tells how a session ended
@@ -33,10 +37,10 @@ RunsOver lines had has old new status =
 
 -- What is said to a bench at a place: that session, and the other benches are as before; or no bench has the handle.
 abbrev pub SaysAt : Option ℕ → List ℕ → Desk → Desk → ℕ → Type 0
-SaysAt None lines old new status = (status ≡ 5) × (new.seats.items ≡ old.seats.items)
+SaysAt None lines old new status = (status ≡ 5) × IsKept old new
 SaysAt (Some at) lines old new status =
-    (seat : Seat) × ((new.seats.items ≡ slice_set old.seats.items at seat)
-    × ((d : Seat) → (seat.handle ≡ (slice_index_or old.seats.items at d).handle) × RunsOver lines [] new.text.items (slice_index_or old.seats.items at d).bench seat.bench status))
+    (seat : Seat) × ((new.seats.items ≡ slice_set old.seats.items at seat) × ((new.given ≡ old.given)
+    × ((d : Seat) → (seat.handle ≡ (slice_index_or old.seats.items at d).handle) × RunsOver lines [] new.text.items (slice_index_or old.seats.items at d).bench seat.bench status)))
 
 -- what is said to the bench of a handle
 abbrev pub Says : ℕ → List ℕ → Desk → Desk → ℕ → Type 0
@@ -62,10 +66,6 @@ abbrev pub IsOpened : List ℕ → Options → Desk → Desk → ℕ → Type 0
 IsOpened file options old new handle =
     (handle ≡ old.given + 1) × ((new.given ≡ handle) × ((bench : Seen) × (IsStarted file options bench × (new.seats.items ≡ old.seats.items ++ seat handle bench ∷ []))))
 
--- the same benches are open, and no handle was given
-abbrev pub IsKept : Desk → Desk → Type 0
-IsKept old new = (new.seats.items ≡ old.seats.items) × (new.given ≡ old.given)
-
 -- what comes of a file that a bench is to be opened on
 abbrev pub Opens : List ℕ → Options → Desk → Desk → ℕ → ℕ → Type 0
 Opens file options old new status handle =
@@ -74,8 +74,8 @@ Opens file options old new status handle =
 
 -- the bench at a place is gone, or no bench has the handle
 abbrev pub ClosesAt : Option ℕ → Desk → Desk → ℕ → Type 0
-ClosesAt None old new status = (status ≡ 5) × (new.seats.items ≡ old.seats.items)
-ClosesAt (Some at) old new status = (status ≡ 0) × (new.seats.items ≡ remove old.seats.items at)
+ClosesAt None old new status = (status ≡ 5) × IsKept old new
+ClosesAt (Some at) old new status = (status ≡ 0) × ((new.seats.items ≡ remove old.seats.items at) × (new.given ≡ old.given))
 
 abbrev pub Closes : ℕ → Desk → Desk → ℕ → Type 0
 Closes handle old new status = ClosesAt (place_of old.seats.items handle) old new status
