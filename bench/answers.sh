@@ -69,7 +69,7 @@ for picture in "$folder"/*.ppm; do
         took+=("$(ask "$work/$name" "${words[@]}")")
         said+=("$(answer "${took[-1]}")")
     done
-    given=$(printf '%s\n' "${said[@]}" | grep -vx open | sort -u | wc -l)
+    given=$(printf '%s\n' "${said[@]}" | awk '$0 != "open"' | sort -u | wc -l)
     [ "$given" -le 1 ] || check=DIFFERS wrong=1
     printf '%-26s %-9s %6s %-9s %6s %8s %9s %-8s' "$(basename "$picture" .ppm)" "${said[0]}" "${took[0]}" "${said[1]}" \
         "${took[1]}" "$lines" "$bytes" "$check"
