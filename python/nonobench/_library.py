@@ -1,4 +1,4 @@
-"""The calls of libnonobench, and a desk to ask them on. docs/FORMATS.md has what each does."""
+"""The calls of libnonobench, and a desk to ask them on. c/nonobench.h has what each does."""
 
 from __future__ import annotations
 
