@@ -31,7 +31,7 @@ export async function beginningByKeys({ trial, page }) {
     await page.press('Control+a', '7', 'Tab', 'Control+a', '6', 'Enter');
     await page.until(() => bench.state !== null, 3000 * SLACK);
     assert.deepEqual(await page.run(() => [bench.state.columns, bench.state.rows]), [7, 6]);
-    await page.run(() => document.querySelector('.cell[tabindex="0"]').focus());
+    await page.until(() => document.activeElement.matches('.cell'), 3000 * SLACK); // the keyboard is at the picture
     await trial.press('ArrowRight', 'Enter', 'ArrowDown', 'Enter');
     assert.deepEqual((await trial.picture()).slice(0, 2), ['.a.....', '.a.....'], 'cells by keys');
     await page.hold('Shift', true);

@@ -6,11 +6,13 @@ import * as drawing from './page_drawing.mjs';
 import * as looks from './page_looks.mjs';
 import * as loss from './page_loss.mjs';
 import * as meaning from './page_meaning.mjs';
+import * as out from './page_out.mjs';
+import * as stored from './page_stored.mjs';
 import * as ways from './page_ways.mjs';
 
 const [folder, ...only] = [resolve(process.argv[2]), ...process.argv.slice(3)];
 const url = hookedPage(process.env.PAGE, folder);
-const tests = Object.entries({ ...drawing, ...loss, ...meaning, ...ways, ...looks })
+const tests = Object.entries({ ...drawing, ...loss, ...meaning, ...ways, ...stored, ...out, ...looks })
     .filter(([name, test]) => typeof test === 'function' && name !== 'hard' && (!only.length || only.includes(name)));
 const browser = new Browser();
 let failed = 0;

@@ -24,6 +24,7 @@ on('opened', () => {
   document.body.classList.remove('starting');
   $('start').hidden = true;
   Object.assign(cursor, { row: 0, col: 0 });
+  gridCell().focus({ preventScroll: true }); // what was used on the start screen is gone: the arrows go on here
 });
 on('closed', () => {
   document.body.classList.add('starting');

@@ -152,7 +152,8 @@ async function chooseFile() {
 
 /** Hears files that are dropped or pasted anywhere. A text that is pasted is a puzzle where it begins like one. */
 function hearFiles() {
-  addEventListener('dragover', (event) => {
+  // Both are taken: where what is under the pointer changes, a browser asks by the first, and would refuse the drop behind it.
+  for (const name of ['dragenter', 'dragover']) addEventListener(name, (event) => {
     if (![...event.dataTransfer.types].includes('Files')) return;
     event.preventDefault();
     event.dataTransfer.dropEffect = 'copy';

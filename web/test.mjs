@@ -79,6 +79,9 @@ test('what files, options and words are refused, and how it is said', async () =
   assert.deepEqual(faultOf(() => engine.open(new Uint8Array(16777217))), ['open', 'input too long']);
   assert.throws(() => engine.open(5), TypeError);
   assert.equal(engine.open(DIAGONAL, { background: null }).say('verdict\n'), 'ambiguous\n.a\na.\n');
+  for (const word of ['width', 'height', 'rows', 'columns', 'goal', 'catalogue', 'title']) {
+    assert.match(faultOf(() => engine.open(`# a puzzle\n  ${word} x\n`))[1], /^non /, word);
+  }
   const bench = engine.open('P3 2 1 255 1 2 3 4 5 6\n', { background: '4,5,6', history: 1 });
   assert.equal(bench.say('clues\npin 1 1\npin 1 2\nundo\nundo\n'), 'r 1: 1a\nc 1: 1a\nc 2: 0\nok\nok\nok\nrefused: UndoEmpty\n');
 });
@@ -181,6 +184,27 @@ test('a desk that is ended gives back what it and its benches held', async () =>
   };
   once();
   assert.equal(taken(calls, () => { for (let i = 0; i < 100; i += 1) once(); }), 0);
+});
+
+test('products and shifts of 128 bits are those of whole numbers', async () => {
+  const { calls } = await watched();
+  const out = calls.malloc(16n);
+  const halves = (n) => [BigInt.asIntN(64, n), BigInt.asIntN(64, n >> 64n)];
+  const got = () => [0, 8].map((at) => new DataView(calls.memory.buffer).getBigUint64(Number(out) + at, true)).reduce((low, high) => low | (high << 64n));
+  const words = [0n, 1n, 2n ** 32n - 1n, 2n ** 63n, 2n ** 64n - 1n, 2n ** 64n, 2n ** 96n + 2n ** 31n, 2n ** 127n, 2n ** 128n - 1n];
+  for (let i = 0n, n = 1n; i < 40n; i += 1n) words.push(n = BigInt.asUintN(128, n * 0x2545f4914f6cdd1d9e3779b97f4a7c15n + i));
+  for (const one of words) {
+    for (const other of words) {
+      calls.__multi3(out, ...halves(one), ...halves(other));
+      assert.equal(got(), BigInt.asUintN(128, one * other), `${one} * ${other}`);
+    }
+    for (let by = 0; by < 128; by += 1) {
+      calls.__lshrti3(out, ...halves(one), by);
+      assert.equal(got(), one >> BigInt(by), `${one} >> ${by}`);
+      calls.__ashlti3(out, ...halves(one), by);
+      assert.equal(got(), BigInt.asUintN(128, one << BigInt(by)), `${one} << ${by}`);
+    }
+  }
 });
 
 test('a text is taken in parts by the plain call, and stays', async () => {

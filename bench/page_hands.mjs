@@ -1,0 +1,74 @@
+// What the trials of the page's ways in and out have in common: files that are dropped, tabs of their own, downloads, menus.
+import assert from 'node:assert/strict';
+import { mkdirSync, readFileSync, readdirSync, rmSync, writeFileSync } from 'node:fs';
+import { join } from 'node:path';
+import { SIZES, SLACK, Trial } from './page_trial.mjs';
+
+export const examples = new URL('../examples/', import.meta.url);
+export const DUCK = ['...aa.....', '..aaaa....', 'bbaacaa...', '..aaaa....', '...aa....a', '..aaaaaaaa', '.aaaaaaaa.', '.aaaaaaa..', '..aaaaa...', '....b.b...'];
+export const NO_PICKERS = 'delete window.showSaveFilePicker; delete window.showOpenFilePicker;';
+export const frames = (page) => page.run(() => new Promise((go) => requestAnimationFrame(() => requestAnimationFrame(() => setTimeout(go, 0)))));
+export const said = (page) => page.run(() => document.getElementById('said').textContent);
+export const isOpen = (page, ms = 8000) => page.until(() => !document.body.classList.contains('starting') && bench.state !== null, ms * SLACK)
+    .catch(async () => { throw new Error(`nothing is open: ${await said(page)} ${page.faults.join('; ')} ${await page.run(() => `${document.body.className} ${document.hasFocus()} ${document.querySelector('dialog[open]')?.textContent}`)}`); });
+export const isKept = (page) => page.until(() => keep.keeper.isDone && keep.isKept, 5000 * SLACK);
+
+/** Writes a file to the folder and drops it on the middle of the window. */
+export async function drop(page, folder, name, content) {
+    mkdirSync(join(folder, 'in'), { recursive: true });
+    const path = join(folder, 'in', name);
+    writeFileSync(path, content);
+    const data = { items: [], files: [path], dragOperationsMask: 1 };
+    const [x, y] = await page.run(() => [innerWidth / 2, innerHeight / 2]);
+    const send = (type) => page.send('Input.dispatchDragEvent', { type, x, y, data });
+    await page.send('Page.bringToFront');
+    await send('dragEnter');
+    for (let tries = 0; tries < 100; tries++) { // until the page has heard that a file is over it
+        await send('dragOver');
+        if (await page.run(() => document.body.classList.contains('dropping'))) break;
+        await new Promise((go) => setTimeout(go, 30));
+    }
+    assert.ok(await page.run(() => document.body.classList.contains('dropping')), 'the page hears of a file that is over it');
+    await send('drop');
+    await page.until(() => !document.body.classList.contains('dropping'), 3000 * SLACK); // and that it was dropped
+}
+
+/** A tab of its own without file access, in a folder of its own for downloads. */
+export async function fresh(browser, url, folder, name, { size = SIZES.small, before = NO_PICKERS } = {}) {
+    const own = join(folder, name);
+    rmSync(own, { recursive: true, force: true });
+    mkdirSync(own, { recursive: true });
+    const page = await browser.page({ ...size, downloads: own });
+    await page.before(before);
+    const trial = new Trial(page, url, own);
+    await trial.load();
+    return { page, trial, own };
+}
+
+/** Nothing is kept from before. */
+export const clean = (page) => page.run(async () => { await keep.ready(); for (const record of await keep.keeper.list()) await keep.keeper.drop(record.id); });
+
+/** Goes on with the first that the browser keeps. */
+export async function goOn(page) {
+    await page.until(() => document.querySelector('#kept .kept'), 5000 * SLACK);
+    await page.click('#kept .kept');
+}
+
+/** The text of the first download with an ending. */
+export async function downloaded(page, own, ending) {
+    for (let tries = 0; tries < 200 * SLACK; tries++) {
+        const name = readdirSync(own).find((one) => one.endsWith(ending));
+        if (name) {
+            const content = readFileSync(join(own, name));
+            if (content.length) return { name, content };
+        }
+        await new Promise((go) => setTimeout(go, 25));
+    }
+    throw new Error(`no download ${ending}`);
+}
+
+export const act = (page, id) => page.run((one) => document.querySelector(`#out [data-action="${one}"]`).click(), id);
+export const menu = async (page, id) => {
+    await page.run(() => document.querySelector('#menus [popovertarget="menu-file"]').click());
+    await page.run((one) => document.querySelector(`#menu-file [data-action="${one}"]`).click(), id);
+};
