@@ -43,8 +43,8 @@ const RED: Rgb = Rgb { r: 255, g: 0, b: 0 };
 const OTHER: [u8; 16] = [0, 1, 0, 0, 1, 0, 0, 0, 0, 0, 0, 0, 0, 0, 0, 0];
 
 // A pair is judged under allowances, a given decides it, and a red cell is painted beside the given. The other picture is lent
-// again as long as it is kept, whatever is allowed, also where a certificate's call found it. Row 2 has a black cell; that it is not its first one follows from the first
-// column's one block, which the given is.
+// again as long as it is kept, whatever is allowed, also where a certificate's call found it. Row 2 has a black cell; that it is
+// not its first one follows from the first column's one block, which the given is.
 const SCRIPT: [(Call, Said); 19] = [
     (Call::Allow(0), Said::Done),
     (Call::Judge, Said::Undecided(1)),
