@@ -126,13 +126,18 @@ def promise_faults(lines):
 
 
 def definition_faults(lines):
-    """The names in bold of docs/DEFINITIONS.md that no file of a folder specs/ has."""
-    words = set(re.findall(r"[\w*']+", "\n".join(sources(".antt"))))
+    """The names in bold of docs/DEFINITIONS.md that are not defined in the folders specs/ of their section."""
+    held, folders = set(), ""
     for number, line in enumerate(lines, 1):
-        for bold in re.findall(r"\*\*(.+?)\*\*", line):
-            for name in names_in(bold):
-                if name not in words:
-                    yield number, f"a definition that stands in no specs/: {name}"
+        if line.startswith("#"):
+            held, folders = set(), " or ".join(re.findall(r"crates/\w+/specs", line))
+            for folder in re.findall(r"crates/\w+/specs", line):
+                for name in os.listdir(os.path.join(ROOT, folder)):
+                    with open(os.path.join(ROOT, folder, name), encoding="utf-8") as file:
+                        held |= set(re.findall(r"^ *(?:pub )?(?:record |data |enum |type )*(\w+)", file.read(), re.M))
+        for name in names_in(" ".join(re.findall(r"\*\*(.+?)\*\*", line))):
+            if name not in held:
+                yield number, f"a definition that does not stand in {folders}: {name}"
 
 
 def edit_faults(lines):
