@@ -259,7 +259,7 @@ def kit_fault():
 # Where the product's version is written: first where the program has it, then where it must stand, then where it may.
 VERSION = r"(\d+\.\d+\.\d+)"
 VERSIONS = [("crates/nonobench/src/words.rt", rf'\.version\("{VERSION}"\)', True),
-            ("docs/nonobench.1", rf"^\.Os nonobench {VERSION}$", True), ("CHANGELOG.md", rf"^## {VERSION}\b", True),
+            ("docs/nonobench.1", rf"^\.Ql nonobench {VERSION}$", True), ("CHANGELOG.md", rf"^## {VERSION}\b", True),
             ("python/pyproject.toml", rf'^version = "{VERSION}"$', True), ("c/nonobench.h", rf'"{VERSION}"', False),
             ("python/nonobench/__init__.py", rf'"{VERSION}"', False), ("web/nonobench.mjs", rf"['\"]{VERSION}['\"]", False)]
 
