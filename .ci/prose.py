@@ -258,19 +258,28 @@ def kit_fault():
 
 # Where the product's version is written: first where the program has it, then where it must stand, then where it may.
 VERSION = r"(\d+\.\d+\.\d+)"
-VERSIONS = [("crates/nonobench/src/words.rt", rf'\.version\("{VERSION}"\)', True),
-            ("docs/nonobench.1", rf"^\.Ql nonobench {VERSION}$", True), ("CHANGELOG.md", rf"^## {VERSION}\b", True),
-            ("python/pyproject.toml", rf'^version = "{VERSION}"$', True), ("c/nonobench.h", rf'"{VERSION}"', False),
-            ("python/nonobench/__init__.py", rf'"{VERSION}"', False), ("web/nonobench.mjs", rf"['\"]{VERSION}['\"]", False)]
+VERSIONS = [("crates/{answers,nonobench,web}/src", rf'"{VERSION}"', True), ("docs/nonobench.1", rf"\bversion {VERSION}", True),
+            ("CHANGELOG.md", rf"^## {VERSION}\b", True), ("python/pyproject.toml", rf'^version = "{VERSION}"$', True),
+            ("c/nonobench.h", rf'"{VERSION}"', False), ("python/nonobench", rf'"{VERSION}"', False),
+            ("web/nonobench.mjs", rf"['\"]{VERSION}['\"]", False)]
+
+
+def files_of(name):
+    """The files that a name with braces tells: it, or the sources in those folders."""
+    head, choice, tail = re.fullmatch(r"([^{]*)(\{.*\})?(.*)", name).groups()
+    for one in choice[1:-1].split(",") if choice else [""]:
+        path = os.path.join(ROOT, head + one + tail)
+        yield from sorted(os.path.join(path, file) for file in os.listdir(path) if file.endswith((".rt", ".py"))) if os.path.isdir(path) else [path]
 
 
 def version_faults():
     """What says another version than the program; of CHANGELOG.md the newest one counts."""
     truth = None
-    in_web = [os.path.join("crates", "web", "src", name) for name in os.listdir(os.path.join(ROOT, "crates", "web", "src"))]
-    for name, pattern, must in VERSIONS + [(name, rf'"{VERSION}"', False) for name in sorted(in_web) if name.endswith(".rt")]:
-        with open(os.path.join(ROOT, name), encoding="utf-8") as file:
-            found = re.findall(pattern, file.read(), re.M)
+    for name, pattern, must in VERSIONS:
+        found = []
+        for path in files_of(name):
+            with open(path, encoding="utf-8") as file:
+                found += re.findall(pattern, file.read(), re.M)
         found = found[:1] if name == "CHANGELOG.md" else found
         if not found and must:
             yield f"{name} has no version where it must stand"
