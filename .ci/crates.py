@@ -2,7 +2,7 @@
 """Keeps the list of crates in one order: .ci/crates.py [--write]
 
 crates.txt must name each crate behind those that it stands on, in the order of the table in docs/ARCHITECTURE.md, and
-crates/README.md must be what this script makes of crates.txt and the first paragraph of each crate's root file. With --write
+crates/README.md must be what this script makes of crates.txt and the first sentence of each crate's root file. With --write
 that file is written.
 """
 import re
@@ -13,7 +13,7 @@ ROOT = Path(__file__).resolve().parent.parent
 README = ROOT / 'crates' / 'README.md'
 HEAD = '''# Crates
 
-For somebody who looks for a place in the code: the crates in reading order, each behind those that it stands on. The last column leaves out what these stand on themselves. Doors stand in [ARCHITECTURE.md](../docs/ARCHITECTURE.md). Made by `.ci/crates.py --write` from `crates.txt` and the first words of each crate.
+For somebody who looks for a place in the code: the crates in reading order, each after those that it stands on. The last column leaves out what these stand on themselves. Doors stand in [ARCHITECTURE.md](../docs/ARCHITECTURE.md). Made by `.ci/crates.py --write`.
 
 | crate | what it holds | stands on |
 |---|---|---|
@@ -44,13 +44,13 @@ def nearest(crates, name):
 
 
 def told(crate):
-    """The first paragraph of a crate's root file, without its last full stop."""
+    """The first sentence of a crate's root file, without its full stop."""
     for name in ('lib.rt', 'main.rt'):
         file = ROOT / 'crates' / crate / 'src' / name
         if file.exists():
             found = re.match(r'(?://!.*\n)+', file.read_text(encoding='utf-8'))
             lines = [line[3:].strip() for line in found[0].splitlines()] if found else []
-            return ' '.join(lines[:lines.index('')] if '' in lines else lines).rstrip('.')
+            return ' '.join(lines[:lines.index('')] if '' in lines else lines).split('. ')[0].rstrip('.')
     return ''
 
 
