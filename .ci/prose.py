@@ -3,13 +3,16 @@
 
 For each *.md of the repository, or those that are named: a sentence above 40 words, a stiff phrase, a link or a path
 that does not exist. In README.md also a command that the gate does not run, and in docs/PROOF.md a line of a clause that
-stands in no source. And the file KIT has a line with the logic that `rt version` tells, where there is an rt.
+stands in no source; in docs/PROMISES.md a call or clause that no source has, in docs/DEFINITIONS.md a definition that no specs/
+has, and docs/MUST_FAIL.md has a row for each edit and no other. And the file KIT has a line with the logic that `rt version` tells, where there is an rt. Last it counts
+the words of all documents, a word being what has a letter or a digit: without blocks of code they may be MOST_IN_ALL.
 
 A block of README.md that begins with ```sh is run by .ci/tutorial, so its commands pass. A block that begins with
 ```sh build holds commands that only build or serve; each must begin as one of BUILDS. No other block may be named sh.
 
 Usage: .ci/prose.py [--short] [DOCUMENT ..]; --short prints the number of faults of each document alone.
 """
+import functools
 import os
 import re
 import shutil
@@ -18,6 +21,7 @@ import sys
 
 ROOT = os.path.dirname(os.path.dirname(os.path.abspath(__file__)))
 MOST_WORDS = 40
+MOST_IN_ALL, MOST_IN_README, README_MEAN = 20000, 800, 16
 STIFF = ["want of memory", "for want of", "wanting", "is had", "are had", "was had", "be had", "in front of which",
          "behind which", "thereof", "therein", "whereof", "hereby", "wherein"]
 # Folders in which a path that is named must exist, and commands that build, prove or serve rather than answer.
@@ -87,16 +91,79 @@ def anchors(path):
     return {re.sub(r"[^\w\- ]", "", head.lower()).replace(" ", "-") for head in heads}
 
 
-def sources():
-    """The texts of all code and definitions."""
+@functools.cache
+def sources(ending=(".rt", ".antt")):
+    """The texts of all code and definitions, or of those alone whose names have this ending."""
     texts = []
     for folder, folders, names in os.walk(os.path.join(ROOT, "crates")):
         folders[:] = [f for f in folders if f not in ("out", "must-fail", "proofs", "tests")]
         for name in names:
-            if name.endswith((".rt", ".antt")):
+            if name.endswith(ending):
                 with open(os.path.join(folder, name), encoding="utf-8") as file:
                     texts.append(file.read())
     return texts
+
+
+def names_in(text):
+    """The names in code of a text, each without what stands before its last `::`."""
+    for code in re.findall(r"`([^`]*)`", text):
+        name = code.split("::")[-1]
+        if re.fullmatch(r"\w+", name):
+            yield name
+
+
+def promise_faults(lines):
+    """The calls and clauses of docs/PROMISES.md that no source has."""
+    code = "\n".join(sources(".rt"))
+    known = set(re.findall(r"\b(?:fn|struct|enum|trait|const|type) (\w+)", code)) | {"Display"}
+    clauses = set(re.findall(r"\bensures\*? (\w+)", code)) | set(re.findall(r"\b[A-Z]\w+", code))
+    for number, line in enumerate(lines, 1):
+        cells = line.strip("|").split("|") if line.startswith("| ") else []
+        for at, held, what in (1, known, "call"), (2, clauses, "clause"):
+            for name in names_in(cells[at]) if len(cells) == 3 else ():
+                if name not in held:
+                    yield number, f"a {what} that stands in no source: {name}"
+
+
+def definition_faults(lines):
+    """The names in bold of docs/DEFINITIONS.md that are not defined in the folders specs/ of their section."""
+    held, folders = set(), ""
+    for number, line in enumerate(lines, 1):
+        if line.startswith("#"):
+            held, folders = set(), " or ".join(re.findall(r"crates/\w+/specs", line))
+            for folder in re.findall(r"crates/\w+/specs", line):
+                for name in os.listdir(os.path.join(ROOT, folder)):
+                    with open(os.path.join(ROOT, folder, name), encoding="utf-8") as file:
+                        held |= set(re.findall(r"^ *(?:pub )?(?:record |data |enum |type )*(\w+)", file.read(), re.M))
+        for name in names_in(" ".join(re.findall(r"\*\*(.+?)\*\*", line))):
+            if name not in held:
+                yield number, f"a definition that does not stand in {folders}: {name}"
+
+
+def edit_faults(lines):
+    """The rows of docs/MUST_FAIL.md without an edit, and the edits without a row."""
+    edits = {(os.path.basename(os.path.dirname(folder)), name[:-5])
+             for folder, _, names in os.walk(os.path.join(ROOT, "crates")) if os.path.basename(folder) == "must-fail"
+             for name in names if name.endswith(".edit")}
+    for number, line in enumerate(lines, 1):
+        row = re.match(r"\| `(\w+)` \| `(\w+)` \|", line)
+        if row and row.groups() not in edits:
+            yield number, f"a row without its edit: {'/'.join(row.groups())}"
+        elif row:
+            edits.discard(row.groups())
+    for edit in sorted(edits):
+        yield len(lines), f"an edit without its row: {'/'.join(edit)}"
+
+
+def words_of(lines):
+    return sum(1 for line in lines for word in line.split() if re.search(r"\w", word))
+
+
+def counted(name):
+    """The words of a document without its blocks of code, and those of the blocks."""
+    with open(os.path.join(ROOT, name), encoding="utf-8") as file:
+        found, lines = blocks(file.read())
+    return words_of(lines), sum(words_of(held) for _, _, held in found)
 
 
 def exists(path, folder):
@@ -104,6 +171,10 @@ def exists(path, folder):
     if re.search(r"[*{}<>$]|\b[A-Z]{2,}\b(?!\.md)|/out\b", path) and not path.endswith(".md"):
         return True
     return any(os.path.exists(os.path.join(base, path)) for base in (ROOT, folder))
+
+
+OF_DOCUMENT = {os.path.join("docs", "PROMISES.md"): promise_faults, os.path.join("docs", "DEFINITIONS.md"): definition_faults,
+               os.path.join("docs", "MUST_FAIL.md"): edit_faults}
 
 
 def faults_of(name):
@@ -137,6 +208,8 @@ def faults_of(name):
         for match in re.findall(r"(?<![\w./])[A-Z_]{3,}\.md\b", plain):
             if not any(os.path.exists(os.path.join(base, match)) for base in (ROOT, folder, os.path.join(ROOT, "docs"))):
                 yield number, f"a path to nothing: {match}"
+    if name in OF_DOCUMENT:
+        yield from OF_DOCUMENT[name](lines)
     if name == os.path.join("docs", "PROOF.md"):
         known = sources()
         for number, _, held in found:
@@ -182,6 +255,12 @@ def main():
             for number, fault in faults:
                 print(f"{name}:{number}: {fault}")
     if not named:
+        counts = {name: counted(name) for name in documents()}
+        prose, code = (sum(count[i] for count in counts.values()) for i in (0, 1))
+        print(f"prose: {prose} words in {len(counts)} documents, and {code} in their blocks of code")
+        if prose > MOST_IN_ALL:
+            total += 1
+            print(f"the documents have {prose} words, and may have {MOST_IN_ALL}")
         fault = kit_fault()
         if fault:
             total += 1

@@ -1,5 +1,6 @@
 // Tests in the browser of roles, labels and contrast, and of large pictures; pictures of the page for the documents.
 import assert from 'node:assert/strict';
+import { readFileSync } from 'node:fs';
 import { pause } from './page_browser.mjs';
 import { SIZES, SLACK, Trial, noise, ppmOf } from './page_trial.mjs';
 
@@ -130,4 +131,17 @@ export async function pictures({ trial, page, folder }) {
     await trial.action('play');
     await page.shot(`${folder}/page-play.png`);
     await page.press('Escape');
+    const duck = [...readFileSync(new URL('../examples/duck.png', import.meta.url))];
+    await page.run((bytes) => { takeFile(new File([new Uint8Array(bytes)], 'duck.png')); }, duck);
+    await page.until(() => document.querySelector('dialog[open] canvas') !== null, 10000 * SLACK);
+    await pause(1000);
+    await page.shot(`${folder}/import.png`);
+    await page.press('Escape');
+    await trial.example('computer');
+    await trial.judged();
+    await page.shot(`${folder}/icon.png`);
+    await trial.action('fix');
+    await page.click('#fix-give');
+    await page.until(() => bench.state.verdict.word === 'unique', 30000 * SLACK);
+    await page.shot(`${folder}/given.png`);
 }
