@@ -18,10 +18,24 @@ function proposalFor(image) {
   const dot = dotSize(image);
   const [columns, rows] = [image.width / dot, image.height / dot];
   const sampled = (wide, high) => scaledTo(image, { x: 0, y: 0, ...image }, wide, high, true);
-  if (columns <= MOST_CELLS && rows <= MOST_CELLS && columns * rows > 1) return { columns, rows, sharp: true, colours: coloursFor(sampled(columns, rows), { isExact: true, some: MOST_COLOURS }) };
+  if (columns <= MOST_CELLS && rows <= MOST_CELLS && columns * rows > 1) return { columns, rows, dot, sharp: true, colours: coloursFor(sampled(columns, rows), { isExact: true, some: MOST_COLOURS }) };
   const scale = 40 / Math.max(image.width, image.height);
   const colours = coloursFor(sampled(Math.min(MOST_POINTS, image.width), Math.min(MOST_POINTS, image.height)), { isExact: false, some: 6 });
-  return { columns: Math.max(1, Math.round(image.width * scale)), rows: Math.max(1, Math.round(image.height * scale)), sharp: false, colours };
+  return { columns: Math.max(1, Math.round(image.width * scale)), rows: Math.max(1, Math.round(image.height * scale)), dot: null, sharp: false, colours };
+}
+
+/** The part of an image without the lines at its edges that are transparent, or of the colour of its corner, all along. */
+function withoutMargin({ width, height, data }) {
+  const pixels = new Uint32Array(data.buffer, data.byteOffset, width * height);
+  const isMargin = (at) => (isTransparent(data, 0) ? isTransparent(data, at * 4) : pixels[at] === pixels[0]);
+  let [left, top, right, bottom] = [width, height, -1, -1];
+  for (let row = 0, at = 0; row < height; row++) {
+    for (let col = 0; col < width; col++, at++) {
+      if (isMargin(at)) continue;
+      [left, right, top, bottom] = [Math.min(left, col), Math.max(right, col), Math.min(top, row), row];
+    }
+  }
+  return right < 0 ? { x: 0, y: 0, width, height } : { x: left, y: top, width: right - left + 1, height: bottom - top + 1 };
 }
 
 /** An image as points of a canvas. */
@@ -69,14 +83,16 @@ class Importing {
     const crop = make('fieldset', {}, make('legend', {}, 'Part of the image, in pixels'),
       this.field('left', { label: 'Left', min: '0', max: width - 1, value: 0 }), this.field('top', { label: 'Top', min: '0', max: height - 1, value: 0 }),
       this.field('wide', { label: 'Width', min: '1', max: width, value: width }), this.field('high', { label: 'Height', min: '1', max: height, value: height }),
-      make('button', { type: 'button', onclick: () => this.take({ x: 0, y: 0, width, height }) }, 'All of it'));
+      make('div', { class: 'ground' }, make('button', { type: 'button', onclick: () => this.take({ x: 0, y: 0, width, height }) }, 'All of it'),
+        make('button', { type: 'button', id: 'import-trim', onclick: () => this.take(withoutMargin(this.full)) }, 'Without its margin')));
     const size = make('fieldset', {}, make('legend', {}, 'Cells'),
       this.field('columns', { label: 'Columns', min: '1', max: MOST_CELLS, value: columns, id: 'import-columns' }), this.field('rows', { label: 'Rows', min: '1', max: MOST_CELLS, value: rows, id: 'import-rows' }),
-      this.tick('keeps', 'Keep proportions', true), this.tick('sharp', 'One pixel a cell, not the mean', sharp));
+      this.tick('keeps', 'Keep proportions', true), this.tick('sharp', 'Pixel art: one pixel for each cell', sharp));
     this.colours = make('input', { type: 'range', min: '2', max: MOST_COLOURS, value: colours, id: 'import-colours' });
     this.threshold = make('input', { type: 'range', min: '1', max: '255', value: '128', id: 'import-threshold' });
     for (const name of ['colours', 'threshold']) this[name].addEventListener('input', () => this.change(name));
     this.count = make('output', {}, String(colours));
+    this.onlyTwo = make('div', { class: 'ground' }, make('label', {}, 'Dark is below', this.threshold), this.tick('inverted', 'Draw the light part'));
     this.shows = make('input', { type: 'checkbox', 'aria-label': 'Show the background as another colour' });
     this.shown = make('input', { type: 'color', value: '#ffffff', 'aria-label': 'Colour of the background' });
     this.shows.addEventListener('input', () => this.change('shows'));
@@ -85,9 +101,9 @@ class Importing {
       this.change('shown');
     });
     const inks = make('fieldset', {}, make('legend', {}, 'Colours'),
-      make('label', {}, 'With the background', this.colours, this.count),
-      this.tick('two', 'Two colours, by lightness'), make('label', {}, 'Dark below', this.threshold), this.tick('inverted', 'Draw the light part'),
-      make('div', { class: 'ground' }, 'Background', this.swatches), make('label', {}, this.shows, 'Show it as', this.shown));
+      make('label', {}, 'How many, with the background', this.colours, this.count),
+      this.tick('two', 'Two colours, by lightness'), this.onlyTwo,
+      make('div', { class: 'ground' }, 'Background', this.swatches), make('label', {}, this.shows, 'Show the background as', this.shown));
     this.content = make('div', { class: 'importing' },
       make('div', { class: 'pictures' }, make('figure', {}, this.source, make('figcaption', {}, 'Drag over the image to take a part of it.')), make('figure', {}, this.preview, this.facts)),
       make('div', { class: 'choices' }, size, inks, crop));
@@ -141,9 +157,13 @@ class Importing {
       if (name === 'rows') this.columns.value = clamp(Math.round(side(this.rows) / ratio), 1, MOST_CELLS);
       else if (['columns', 'keeps', 'left', 'top', 'wide', 'high'].includes(name)) this.rows.value = clamp(Math.round(side(this.columns) * ratio), 1, MOST_CELLS);
     }
+    const { dot } = this.proposal;
+    if (dot && this.sharp.checked && this.keeps.checked && ['left', 'top', 'wide', 'high'].includes(name)) { // a part of pixel art keeps its dots
+      [this.columns.value, this.rows.value] = [this.crop.width, this.crop.height].map((length) => clamp(Math.round(length / dot), 1, MOST_CELLS));
+    }
     if (name === 'two' && this.two.checked) this.threshold.value = thresholdFor(this.cells());
     this.count.value = this.colours.value;
-    this.threshold.disabled = this.inverted.disabled = !this.two.checked;
+    this.onlyTwo.hidden = !this.two.checked;
     this.colours.disabled = this.two.checked;
     this.size = [side(this.columns), side(this.rows)];
     if (this.isWaiting) return;
@@ -261,5 +281,7 @@ class Importing {
 async function importImage(image, name) {
   const importing = new Importing(image);
   const doc = await openDialog({ title: `${name}: a picture into a puzzle`, content: importing.content, wide: true, buttons: [{ name: 'Make the puzzle', value: () => importing.finished(), main: true }] });
-  return doc ? openDoc(doc, { name, isSaved: false }) : false;
+  if (!doc || !(await openDoc(doc, { name, isSaved: false }))) return false;
+  say(`${name} is a puzzle now. Export and print stand below the colours and in the menu File.`);
+  return true;
 }

@@ -204,7 +204,7 @@ function borderNumber(numbers, columns, rows) {
 // A background for what is transparent: the first of some plain colours that stands well apart from all others.
 function apartFrom(palette) {
   const labs = palette.map((triple) => oklabOf(...triple));
-  const tries = [[255, 255, 255], [224, 224, 224], [0, 0, 0], [160, 200, 230], [120, 120, 120], [230, 210, 170], [60, 60, 90]];
+  const tries = [[255, 255, 255], [224, 224, 224], [214, 228, 240], [216, 236, 214], [240, 222, 236], [190, 205, 220], [0, 0, 0], [160, 200, 230], [120, 120, 120], [230, 210, 170], [60, 60, 90]];
   const gap = (triple) => Math.min(...labs.map((lab) => farness(lab, oklabOf(...triple))), 9);
   return tries.find((triple) => gap(triple) > 0.005) ?? tries.reduce((best, triple) => (gap(triple) > gap(best) ? triple : best));
 }
