@@ -121,6 +121,37 @@ export async function refusedFiles({ page, folder }) {
     }
 }
 
+/** A file that is dropped or pasted while a dialog is open is taken: the dialog is left. */
+export async function droppedOnDialogs({ page, folder, trial }) {
+    const duck = readFileSync(new URL('duck.png', examples));
+    const opened = (wanted) => page.until((name) => bench.name === name, 5000 * SLACK, wanted);
+    await drop(page, folder, 'first.png', duck);
+    await page.until(() => document.querySelector('#dialog-title')?.textContent.startsWith('first'), 5000 * SLACK);
+    await drop(page, folder, 'second.png', duck); // beside the dialog and over it
+    await page.until(() => document.querySelector('#dialog-title')?.textContent.startsWith('second'), 5000 * SLACK);
+    assert.equal(await page.run(() => document.querySelectorAll('dialog').length), 1);
+    await page.press('Enter');
+    await isOpen(page);
+    assert.deepEqual(await trial.picture(), DUCK);
+    for (const [dialog, name] of [['play', 'flower'], ['resize', 'apple'], ['keys', 'heart']]) {
+        await page.run((id) => runAction(id), dialog);
+        await page.until(() => document.querySelector('dialog[open]'), 3000 * SLACK);
+        await drop(page, folder, `${name}.ppm`, readFileSync(new URL(`${name}.ppm`, examples)));
+        await opened(name);
+        assert.equal(await page.run(() => document.querySelectorAll('dialog').length), 0, `${dialog} is left`);
+    }
+    await page.run(() => runAction('keys'));
+    await page.run((text) => {
+        const clipboardData = new DataTransfer();
+        clipboardData.setData('text/plain', text);
+        dispatchEvent(new ClipboardEvent('paste', { clipboardData }));
+    }, readFileSync(new URL('boat.ppm', examples), 'utf8'));
+    await opened('pasted');
+    await page.run(() => runAction('keys'));
+    await drop(page, folder, 'none.bin', 'x'.padEnd(20, '\0'));
+    await page.until(() => document.getElementById('said').textContent.includes('none.bin is not opened'), 5000 * SLACK);
+}
+
 /** Clues without a goal open, and a search that would not end is stopped. */
 export async function cluesAlone({ browser, url, folder }) {
     const { page, trial, own } = await fresh(browser, url, folder, 'clues');

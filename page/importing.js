@@ -282,6 +282,6 @@ async function importImage(image, name) {
   const importing = new Importing(image);
   const doc = await openDialog({ title: `${name}: a picture into a puzzle`, content: importing.content, wide: true, buttons: [{ name: 'Make the puzzle', value: () => importing.finished(), main: true }] });
   if (!doc || !(await openDoc(doc, { name, isSaved: false }))) return false;
-  say(`${name} is a puzzle now. Export and print stand below the colours and in the menu File.`);
+  say(`${name} is a puzzle now. The menu File exports and prints it.`);
   return true;
 }

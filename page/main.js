@@ -19,6 +19,7 @@ for (const [id, name, short] of [['undo', 'Undo', '↶'], ['redo', 'Redo', '↷'
 }
 hearKeys();
 hearPointers();
+$('said').addEventListener('click', () => say(''));
 
 on('opened', () => {
   document.body.classList.remove('starting');
