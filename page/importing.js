@@ -2,6 +2,7 @@
 // drawn anew at each change.
 
 const MOST_WORKED = 480; // pixels a side that the dialog works on; a larger part is made smaller first
+const MOST_MIDDLE = 960; // pixels a side of a copy of the image
 const MOST_POINTS = 100; // pixels a side that its colours are found in
 const SHOWN_SIDE = 320; // pixels of the two pictures in the dialog
 
@@ -50,6 +51,7 @@ class Importing {
     this.proposal = proposalFor(image);
     this.full = image;
     this.canvas = canvasOfImage(image);
+    this.middle = this.smaller(MOST_MIDDLE); // what large parts are taken of: to make all of a photo smaller takes long
     this.worked = null; // the part that is taken, no larger than the dialog works on
     this.crop = { x: 0, y: 0, width: image.width, height: image.height }; // in pixels of the full image
     this.background = null;
@@ -179,6 +181,16 @@ class Importing {
     return this.doc;
   }
 
+  // The image with so many pixels a side at most.
+  smaller(most) {
+    const scale = Math.min(1, most / Math.max(this.full.width, this.full.height));
+    if (scale === 1) return { canvas: this.canvas, scale };
+    const pen = penOf(Math.max(1, Math.round(this.full.width * scale)), Math.max(1, Math.round(this.full.height * scale)));
+    pen.imageSmoothingQuality = 'high';
+    pen.drawImage(this.canvas, 0, 0, pen.canvas.width, pen.canvas.height);
+    return { canvas: pen.canvas, scale };
+  }
+
   // The part that is taken, as an image and a box in it; a large one is made smaller by the browser.
   part() {
     const { x, y, width, height } = this.crop;
@@ -189,7 +201,8 @@ class Importing {
     const box = { x: 0, y: 0, width: Math.max(1, Math.round(width * factor)), height: Math.max(1, Math.round(height * factor)) };
     const pen = penOf(box.width, box.height);
     pen.imageSmoothingQuality = 'high';
-    pen.drawImage(this.canvas, x, y, width, height, 0, 0, box.width, box.height);
+    const { canvas, scale } = Math.max(width, height) * this.middle.scale >= MOST_WORKED ? this.middle : { canvas: this.canvas, scale: 1 };
+    pen.drawImage(canvas, x * scale, y * scale, width * scale, height * scale, 0, 0, box.width, box.height);
     this.worked = { key, box, image: { width: box.width, height: box.height, data: pen.getImageData(0, 0, box.width, box.height).data } };
     return this.worked;
   }
@@ -247,7 +260,7 @@ class Importing {
       this.small = penOf(Math.max(1, Math.round(this.full.width * side)), Math.max(1, Math.round(this.full.height * side)));
       this.small.imageSmoothingEnabled = scale < 1;
       this.small.imageSmoothingQuality = 'high';
-      this.small.drawImage(this.canvas, 0, 0, this.small.canvas.width, this.small.canvas.height);
+      this.small.drawImage(this.middle.canvas, 0, 0, this.small.canvas.width, this.small.canvas.height);
     }
     const { width, height } = this.small.canvas;
     Object.assign(this.source, { width, height });

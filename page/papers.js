@@ -87,6 +87,7 @@ function svgPart(name, attributes, text = null) {
 /** A paper as an SVG element. */
 function svgOfPaper({ width, height, shapes }) {
   const svg = svgPart('svg', { viewBox: `0 0 ${width} ${height}`, 'font-family': 'system-ui, "Liberation Sans", sans-serif', role: 'img' });
+  svg.style.maxWidth = `${Math.round(width / 2)}mm`; // a cell of 20 is at most a centimetre wide on paper
   for (const shape of shapes) {
     const edge = shape.edge ? { stroke: PAPER_FAINT, 'stroke-width': shape.edge } : {};
     if (shape.kind === 'rect') svg.append(svgPart('rect', { x: shape.x, y: shape.y, width: shape.width, height: shape.height, fill: shape.fill, ...edge }));
