@@ -8,7 +8,7 @@ function openFix() {
   $('fix').hidden = false;
   $('fix').replaceChildren(
     make('h3', {}, 'Fix it'),
-    make('p', {}, 'Give cells: they are printed with the puzzle. Or repaint one cell.'),
+    make('p', {}, 'Two ways to make it the only solution: give cells, which are printed with the puzzle, or repaint one.'),
     make('div', { class: 'group' },
       make('button', { type: 'button', id: 'fix-give', onclick: giveCells }, 'Give cells'),
       make('button', { type: 'button', id: 'fix-paint', onclick: findRepaints }, 'Find cells to repaint'),

@@ -29,7 +29,7 @@ function playBar() {
     playButton('play-check', 'Check', checkPlay, { title: 'Marks the cells that are wrong' }),
     playButton('play-clear', 'Begin again', clearPlay),
     playButton('play-smaller', '−', () => zoomPlay(-1), { 'aria-label': 'Smaller cells' }), playButton('play-larger', '+', () => zoomPlay(1), { 'aria-label': 'Larger cells' }),
-    playButton('play-close', 'Back to the bench', () => $('play-room').close()));
+    playButton('play-close', 'Back to the picture', () => $('play-room').close()));
 }
 
 function playBoard() {
