@@ -5,7 +5,8 @@ For each *.md of the repository, or those that are named: a sentence above 40 wo
 that does not exist. In README.md also a command that the gate does not run, and in docs/PROOF.md a line of a clause that
 stands in no source; in docs/PROMISES.md a call or clause that no source has, in docs/DEFINITIONS.md a definition that no specs/
 has, and docs/MUST_FAIL.md has a row for each edit and no other. And the file KIT has a line with the logic that `rt version` tells, where there is an rt. Last it counts
-the words of all documents, a word being what has a letter or a digit: without blocks of code they may be MOST_IN_ALL.
+the words of all documents, a word being what has a letter or a digit: without blocks of code they may be MOST_IN_ALL, README.md
+MOST_IN_README with README_MEAN a sentence in the mean.
 
 A block of README.md that begins with ```sh is run by .ci/tutorial, so its commands pass. A block that begins with
 ```sh build holds commands that only build or serve; each must begin as one of BUILDS. No other block may be named sh.
@@ -166,6 +167,15 @@ def counted(name):
     return words_of(lines), sum(words_of(held) for _, _, held in found)
 
 
+def mean_sentence(name):
+    """How many words a sentence of a document's paragraphs and items has, in the mean; headings and tables are left out."""
+    with open(os.path.join(ROOT, name), encoding="utf-8") as file:
+        _, lines = blocks(file.read())
+    plain = ["" if re.match(r"#|\||!\[|<!--", line.strip()) else line for line in lines]
+    lengths = [words_of([sentence]) for _, unit in units(plain) for sentence in sentences(unit)]
+    return sum(lengths) / len(lengths)
+
+
 def exists(path, folder):
     path = path.rstrip(".,:;")
     if re.search(r"[*{}<>$]|\b[A-Z]{2,}\b(?!\.md)|/out\b", path) and not path.endswith(".md"):
@@ -261,6 +271,11 @@ def main():
         if prose > MOST_IN_ALL:
             total += 1
             print(f"the documents have {prose} words, and may have {MOST_IN_ALL}")
+        mean = mean_sentence("README.md")
+        print(f"prose: README has {counts['README.md'][0]} words, {mean:.1f} a sentence")
+        if counts["README.md"][0] > MOST_IN_README or mean > README_MEAN:
+            total += 1
+            print(f"README may have {MOST_IN_README} words, and {README_MEAN} a sentence")
         fault = kit_fault()
         if fault:
             total += 1
