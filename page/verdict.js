@@ -57,7 +57,7 @@ function makeVerdictPanel() {
   );
   $('audit').append(make('p', { id: 'verdict-heard', class: 'unseen', role: 'status' }));
   $('seconds').value = verdictView.seconds;
-  const stop = make('button', { type: 'button', id: 'stop', onclick: () => searches.stop() }, 'Stop');
+  const stop = make('button', { type: 'button', id: 'stop', title: 'Stop the search (.)', onclick: () => searches.stop() }, 'Stop');
   $('task').append(make('span', { id: 'task-name' }), make('span', { id: 'task-time', 'aria-hidden': 'true' }), stop);
 }
 
@@ -195,7 +195,7 @@ for (const action of [
   { id: 'other', name: 'Show the other picture', key: 'x', run: () => showOther(!sheet.other), can: () => isWord('ambiguous') },
   { id: 'fix', name: 'Fix it …', run: () => openFix(), can: () => isWord('ambiguous') },
   { id: 'search', name: 'Search for another picture', run: () => searches.judge(), can: () => isWord('undecided') && !searches.running },
-  { id: 'stop', name: 'Stop the search', run: () => searches.stop(), can: () => searches.running !== null },
+  { id: 'stop', name: 'Stop the search', key: '.', run: () => searches.stop(), can: () => searches.running !== null },
   { id: 'hatching', name: 'Hatching: off, differing, open', key: 'h', run: nextHatching },
 ]) addAction({ place: 'check', ...action });
 
