@@ -1,12 +1,17 @@
 #!/usr/bin/env python3
 """Reads the documents and says what a reader would stumble over.
 
-For each *.md of the repository, or those that are named: a sentence above 40 words, a stiff phrase, a link or a path
-that does not exist. In README.md also a command that the gate does not run, and in docs/PROOF.md a line of a clause that
-stands in no source; in docs/PROMISES.md a call or clause that no source has, in docs/DEFINITIONS.md a definition that no specs/
-has, and docs/MUST_FAIL.md has a row for each edit and no other. And the file KIT has a line with the logic that `rt version` tells, where there is an rt. Last it counts
-the words of all documents, a word being what has a letter or a digit: without blocks of code they may be MOST_IN_ALL, README.md
-MOST_IN_README with README_MEAN a sentence in the mean.
+For each *.md of the repository, or those that are named: a sentence above 40 words, a stiff phrase, a link or a path that
+does not exist. Of some documents also:
+- README.md: a command that the gate does not run, too many words, too long sentences in the mean;
+- docs/PROOF.md: a line of a clause that stands in no source;
+- docs/PROMISES.md: a call or a clause that no source has;
+- docs/DEFINITIONS.md: a name that is not defined in the folders of its section;
+- docs/MUST_FAIL.md: an edit without its row, or a row without its edit.
+
+Then it counts the words of all documents: a word has a letter or a digit, and blocks of code do not count. It compares the
+product's version, as `nonobench --version` prints it, wherever that is written; and the file KIT must have a line with the
+logic that `rt version` tells, where there is an rt.
 
 A block of README.md that begins with ```sh is run by .ci/tutorial, so its commands pass. A block that begins with
 ```sh build holds commands that only build or serve; each must begin as one of BUILDS. No other block may be named sh.
@@ -22,7 +27,7 @@ import sys
 
 ROOT = os.path.dirname(os.path.dirname(os.path.abspath(__file__)))
 MOST_WORDS = 40
-MOST_IN_ALL, MOST_IN_README, README_MEAN = 20000, 800, 16
+MOST_IN_ALL, MOST_IN_README, README_MEAN = 18000, 800, 16
 STIFF = ["want of memory", "for want of", "wanting", "is had", "are had", "was had", "be had", "in front of which",
          "behind which", "thereof", "therein", "whereof", "hereby", "wherein"]
 # Folders in which a path that is named must exist, and commands that build, prove or serve rather than answer.
@@ -251,6 +256,39 @@ def kit_fault():
     return f"KIT has no line with the logic of {told!r}, which rt version says"
 
 
+# Where the product's version is written: first where the program has it, then where it must stand, then where it may.
+VERSION = r"(\d+\.\d+\.\d+)"
+VERSIONS = [("crates/{answers,nonobench,web}/src", rf'"{VERSION}"', True), ("docs/nonobench.1", rf"\bversion {VERSION}", True),
+            ("CHANGELOG.md", rf"^## {VERSION}\b", True), ("python/pyproject.toml", rf'^version = "{VERSION}"$', True),
+            ("c/nonobench.h", rf'"{VERSION}"', False), ("python/nonobench", rf'"{VERSION}"', False),
+            ("web/nonobench.mjs", rf"['\"]{VERSION}['\"]", False)]
+
+
+def files_of(name):
+    """The files that a name with braces tells: it, or the sources in those folders."""
+    head, choice, tail = re.fullmatch(r"([^{]*)(\{.*\})?(.*)", name).groups()
+    for one in choice[1:-1].split(",") if choice else [""]:
+        path = os.path.join(ROOT, head + one + tail)
+        yield from sorted(os.path.join(path, file) for file in os.listdir(path) if file.endswith((".rt", ".py"))) if os.path.isdir(path) else [path]
+
+
+def version_faults():
+    """What says another version than the program; of CHANGELOG.md the newest one counts."""
+    truth = None
+    for name, pattern, must in VERSIONS:
+        found = []
+        for path in files_of(name):
+            with open(path, encoding="utf-8") as file:
+                found += re.findall(pattern, file.read(), re.M)
+        found = found[:1] if name == "CHANGELOG.md" else found
+        if not found and must:
+            yield f"{name} has no version where it must stand"
+        truth = truth or (found[0] if found else None)
+        for version in found:
+            if version != truth:
+                yield f"{name} has the version {version}, and the program {truth}"
+
+
 def main():
     words = sys.argv[1:]
     short = "--short" in words
@@ -276,8 +314,7 @@ def main():
         if counts["README.md"][0] > MOST_IN_README or mean > README_MEAN:
             total += 1
             print(f"README may have {MOST_IN_README} words, and {README_MEAN} a sentence")
-        fault = kit_fault()
-        if fault:
+        for fault in filter(None, [kit_fault(), *version_faults()]):
             total += 1
             print(fault)
     print(f"prose: {total} faults")
