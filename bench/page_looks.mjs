@@ -118,6 +118,8 @@ export async function nothingIsSent({ browser, url, folder }) {
 
 /** Pictures for the documents. */
 export async function pictures({ trial, page, folder }) {
+    await page.run(() => localStorage.clear()); // choices of other trials
+    await trial.load();
     await trial.example('apple');
     await trial.judged();
     await page.shot(`${folder}/page.png`);
