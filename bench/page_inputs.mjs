@@ -25,7 +25,11 @@ export class Hands {
     async press(selector) {
         await this.page.until((wanted) => document.querySelector(wanted)?.checkVisibility({ visibilityProperty: true }), 5000 * SLACK, selector);
         if (this.input === 'mouse') return this.page.click(selector);
-        if (this.input === 'touch') return this.page.tap(selector);
+        if (this.input === 'touch') {
+            await this.page.middle(selector); // it is scrolled into view, and a finger comes when that is drawn
+            await pause(120);
+            return this.page.tap(selector);
+        }
         await this.tabTo(selector);
         return this.page.press('Enter');
     }
@@ -45,7 +49,7 @@ export class Hands {
             choice.value = option;
             choice.dispatchEvent(new Event('change'));
         }, selector, value);
-        if (this.byKeys) await this.page.press('Tab');
+        while (this.byKeys && await this.page.run(() => document.activeElement.matches('select'))) await this.page.press('Tab'); // a choice takes letters itself
     }
 
     /** An entry of a menu. */
@@ -64,7 +68,10 @@ export class Hands {
     async tool(name) {
         if (this.byKeys) await this.page.press(await this.page.run((wanted) => document.querySelector(`[data-tool="${wanted}"]`).getAttribute('aria-keyshortcuts'), name));
         else await this.press(`[data-tool="${name}"]`);
-        return this.page.until((wanted) => tools.name === wanted, 2000 * SLACK, name); // a finger's click comes some time behind it
+        const isChosen = (ms) => this.page.until((wanted) => tools.name === wanted, ms * SLACK, name); // a finger's click comes some time behind it
+        if (this.input !== 'touch') return isChosen(2000);
+        // Behind a stroke and a scrolled bar headless Chromium makes no click of the first tap.
+        return isChosen(700).catch(() => this.press(`[data-tool="${name}"]`).then(() => isChosen(2000)));
     }
 
     /** Chooses a colour of the palette by its button, or by its number. */

@@ -51,7 +51,7 @@ async function findRepaints() {
   const found = await searches.job('Looking for cells to repaint', secondsChosen(), (copy) => repaintsFor(copy, state, state.verdict.other, (one) => listRepaint(state, one)));
   if (version !== searches.version) return;
   const none = verdictView.ended ? 'No single repaint was found in this time. A longer time may find some.' : 'No single repaint was found.';
-  fixSays(found?.length ? `${many(found.length, 'repaint')} found. Point at one to see it, choose it to paint it.` : none);
+  fixSays(found?.length ? `${many(found.length, 'repaint')} found. Choose one to paint it; point at one to see it first.` : none);
 }
 
 function listRepaint(state, one) {

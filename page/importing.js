@@ -295,6 +295,6 @@ async function importImage(image, name) {
   const importing = new Importing(image);
   const doc = await openDialog({ title: `${name}: a picture into a puzzle`, content: importing.content, wide: true, buttons: [{ name: 'Make the puzzle', value: () => importing.finished(), main: true }] });
   if (!doc || !(await openDoc(doc, { name, isSaved: false }))) return false;
-  say(`${name} is a puzzle now. The menu File exports and prints it.`);
+  say(`${name} is a puzzle now: the menu File exports and prints it.`);
   return true;
 }

@@ -16,7 +16,8 @@ function openPlay() {
   fitPlay();
   $('play-field').focus();
   const { word } = state.verdict;
-  playSays(word === 'unique' ? 'One solution. Good luck.' : word === 'ambiguous' ? 'This puzzle has more than one solution.' : 'It is not known whether this puzzle has one solution.');
+  const told = word === 'unique' ? 'One solution. Good luck.' : word === 'ambiguous' ? 'This puzzle has more than one solution.' : 'It is not known whether this puzzle has one solution.';
+  playSays(`${told}${state.givens.size ? ' Cells with a square are given.' : ''}`);
 }
 
 const playSays = (text) => { $('play-said').textContent = text; };
