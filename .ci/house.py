@@ -15,6 +15,8 @@ ROOT = pathlib.Path(__file__).resolve().parent.parent
 OTHERS = {'refused', 'tables'}
 WIDE = 100
 MOST_PARAMETERS = 6
+# what stands in these files the prover looks up by name
+PROVERS_NAMES = {'Answers.antt', 'Invariants.antt', 'Proof.antt'}
 
 
 def sources(part, ending):
@@ -119,8 +121,8 @@ def proof_lines():
                     yield place(file, number)
 
 
-def unnamed_definitions():
-    """Definitions and lemmas whose name stands nowhere else, where nothing but the prover's own search can find them."""
+def lone_definitions():
+    """Definitions and lemmas whose name stands nowhere else, with whether each is a row worked out at fixed values, which tests what it names."""
     texts = [text for part in ('specs', 'proofs') for _, text in sources(part, '.antt')] + [text for _, text in sources('src', '.rt')]
     words = {}
     for text in texts:
@@ -128,11 +130,24 @@ def unnamed_definitions():
             words[word] = words.get(word, 0) + 1
     for part in ('specs', 'proofs'):
         for file, text in sources(part, '.antt'):
+            if file.name in PROVERS_NAMES:
+                continue
             for found in re.finditer(r'(?m)^(?:(?:abbrev|unfoldable|opaque|pub)\s+)*([A-Za-z_][\w-]*)\s*:\s', text):
                 name = found[1]
                 heads_of = len(re.findall(rf'(?m)^{re.escape(name)}\b', text))
-                if words.get(name, 0) <= max(heads_of, 1) + (1 if re.search(rf'(?m)^(?:\w+\s+)+{re.escape(name)}\s*:', text) else 0) and 'Answers' not in file.name and 'Invariants' not in file.name:
-                    yield f'{place(file, text.count(chr(10), 0, found.start()) + 1)} {name}'
+                if words.get(name, 0) <= max(heads_of, 1) + (1 if re.search(rf'(?m)^(?:\w+\s+)+{re.escape(name)}\s*:', text) else 0):
+                    worked = bool(re.search(rf'(?m)^{re.escape(name)} = refl$', text))
+                    yield f'{place(file, text.count(chr(10), 0, found.start()) + 1)} {name}', worked
+
+
+def unnamed_definitions():
+    """Those that are no worked rows: nothing but the prover's own search can find them."""
+    return (found for found, worked in lone_definitions() if not worked)
+
+
+def worked_rows():
+    """Rows worked out beside a definition: nothing names them, and the check compares them."""
+    return (found for found, worked in lone_definitions() if worked)
 
 
 def shared_places():
@@ -156,6 +171,7 @@ COUNTS = (
     ('pairs of places that share six lines, in .rt', shared_places),
     ('source files without a first line', headless_files),
     ('definitions and lemmas that nothing names', unnamed_definitions),
+    ('rows worked out beside a definition', worked_rows),
     ('code lines', code_lines),
     ('code lines of session', lambda: code_lines('session')),
     ('lines of specs, lemmas and answers', proof_lines),

@@ -82,6 +82,7 @@ export class Page {
     }
 
     event(method, params) {
+        this.hears?.(method, params);
         if (method === 'Runtime.exceptionThrown') this.faults.push(params.exceptionDetails.exception?.description ?? params.exceptionDetails.text);
         if (method === 'Runtime.consoleAPICalled' && params.type === 'error') this.faults.push(params.args.map((one) => one.description ?? one.value).join(' '));
         if (method === 'Log.entryAdded' && params.entry.level === 'error') this.faults.push(`${params.entry.text} ${params.entry.url ?? ''}`);

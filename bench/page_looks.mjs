@@ -4,7 +4,8 @@ import { readFileSync } from 'node:fs';
 import { pause } from './page_browser.mjs';
 import { SIZES, SLACK, Trial, noise, ppmOf } from './page_trial.mjs';
 
-// Controls without a name, and texts whose contrast with what lies behind them is too low.
+// Controls without a name, texts whose contrast with what lies behind them is too low, roles outside what they belong to,
+// references to nothing, and what takes the focus though it is hidden.
 const COMPLAINTS = () => {
     const seen = [...document.querySelectorAll('button, input, select, textarea, a[href], [role=radio], [role=grid], [role=gridcell], [role=dialog], dialog, canvas[tabindex], section, aside, main, nav')]
         .filter((one) => one.checkVisibility({ visibilityProperty: true }) && !one.closest('[aria-hidden=true]'));
@@ -33,8 +34,33 @@ const COMPLAINTS = () => {
     }).filter(([ratio]) => ratio < 4.5).map(([ratio, one]) => `contrast ${ratio.toFixed(2)}: ${one.outerHTML.slice(0, 100)}`);
     const ids = [...document.querySelectorAll('[id]')].map((one) => one.id);
     const twice = ids.filter((id, at) => ids.indexOf(id) !== at).map((id) => `the id ${id} stands twice`);
-    return [...nameless, ...pale, ...twice];
+    const belongs = { radio: 'radiogroup', menuitem: 'menu', gridcell: 'row', row: 'grid' };
+    const strayed = [...document.querySelectorAll('[role]')].filter((one) => belongs[one.getAttribute('role')] && !one.parentElement.closest(`[role=${belongs[one.getAttribute('role')]}]`)).map((one) => `outside its ${belongs[one.getAttribute('role')]}: ${one.outerHTML.slice(0, 80)}`);
+    const unchosen = [...document.querySelectorAll('[role=radio]')].filter((one) => !one.hasAttribute('aria-checked')).map((one) => `no aria-checked: ${one.outerHTML.slice(0, 80)}`);
+    const dangling = ['aria-labelledby', 'aria-describedby', 'aria-controls'].flatMap((name) => [...document.querySelectorAll(`[${name}]`)].flatMap((one) => one.getAttribute(name).split(' ').filter((id) => !document.getElementById(id)).map((id) => `${name} of nothing: ${id}`)));
+    const buried = [...document.querySelectorAll('[aria-hidden=true] :is(button, input, select, a[href], [tabindex])')].filter((one) => one.checkVisibility()).map((one) => `hidden, but takes the focus: ${one.outerHTML.slice(0, 80)}`);
+    return [...nameless, ...pale, ...twice, ...strayed, ...unchosen, ...dangling, ...buried];
 };
+
+// What opens over the page: menus and dialogs, by their actions.
+const OVER = ['resize', 'keys', 'about', 'print', 'paste'];
+async function overThePage(trial, page, where) {
+    for (const place of ['file', 'edit', 'picture', 'view', 'check']) {
+        await page.run((one) => document.getElementById(`menu-${one}`).showPopover(), place);
+        assert.deepEqual(await page.run(COMPLAINTS), [], `${where}, the menu ${place}`);
+        await page.run((one) => document.getElementById(`menu-${one}`).hidePopover(), place);
+    }
+    for (const id of OVER) {
+        await page.run((one) => runAction(one), id);
+        await page.until(() => document.querySelector('dialog[open]'), 3000 * SLACK);
+        assert.deepEqual(await page.run(COMPLAINTS), [], `${where}, the dialog ${id}`);
+        await page.run(() => new Promise((go) => { const dialog = document.querySelector('dialog[open]'); dialog.addEventListener('close', () => setTimeout(go)); dialog.close(); }));
+    }
+    await page.run((bytes) => { takeFile(new File([Uint8Array.from(bytes)], 'duck.png')); }, [...readFileSync(new URL('../examples/duck.png', import.meta.url))]);
+    await page.until(() => document.querySelector('#import-facts')?.textContent, 5000 * SLACK);
+    assert.deepEqual(await page.run(COMPLAINTS), [], `${where}, a picture into a puzzle`);
+    await page.run(() => new Promise((go) => { const dialog = document.querySelector('dialog[open]'); dialog.addEventListener('close', () => setTimeout(go)); dialog.close(); }));
+}
 
 export async function rolesAndContrast({ browser, url, folder }) {
     for (const scheme of ['light', 'dark']) {
@@ -49,6 +75,7 @@ export async function rolesAndContrast({ browser, url, folder }) {
             await page.run(() => { if (document.getElementById('verdict-open').checkVisibility()) document.getElementById('verdict-open').click(); runAction('fix'); });
             assert.deepEqual(await page.run(COMPLAINTS), [], `${scheme}, ${name}, the bench`);
             await page.shot(`${folder}/page-${name}-${scheme}.png`);
+            await overThePage(trial, page, `${scheme}, ${name}`);
             await page.run(() => runAction('play'));
             assert.deepEqual(await page.run(COMPLAINTS), [], `${scheme}, ${name}, Play`);
             await page.close();
@@ -119,6 +146,8 @@ export async function nothingIsSent({ browser, url, folder }) {
 
 /** Pictures for the documents. */
 export async function pictures({ trial, page, folder }) {
+    await page.run(() => localStorage.clear()); // choices of other trials
+    await trial.load();
     await trial.example('apple');
     await trial.judged();
     await page.shot(`${folder}/page.png`);

@@ -98,3 +98,37 @@ export async function exportsAndPrint({ browser, url, folder }) {
     assert.equal(pdf.toString('latin1').match(/\/Type ?\/Page\b/g).length, 2);
     await page.close();
 }
+
+// Colours of points of the page as it is printed, each by its share of width and height.
+async function printedPoints(page, points) {
+    await page.send('Emulation.setEmulatedMedia', { media: 'print', features: [{ name: 'prefers-color-scheme', value: 'dark' }] });
+    const { data } = await page.send('Page.captureScreenshot', { format: 'png' });
+    return page.run(async (shot, all) => {
+        const image = Object.assign(new Image(), { src: `data:image/png;base64,${shot}` });
+        await image.decode();
+        const pen = Object.assign(document.createElement('canvas'), { width: image.width, height: image.height }).getContext('2d');
+        pen.drawImage(image, 0, 0);
+        return all.map(([x, y]) => [...pen.getImageData(Math.floor(x * image.width), Math.floor(y * image.height), 1, 1).data].slice(0, 3).join());
+    }, data, points);
+}
+
+/** Paper is white: neither a dark scheme nor hatching nor a dark background of the picture goes to the empty puzzle. */
+export async function printedOnWhite({ browser, url, folder }) {
+    const { page, trial, own } = await fresh(browser, url, folder, 'white');
+    await page.send('Emulation.setEmulatedMedia', { features: [{ name: 'prefers-color-scheme', value: 'dark' }] });
+    await page.run(() => openDoc({ rows: 3, columns: 3, maxval: 255, colours: [[0, 0, 40], [200, 40, 40], [255, 255, 255]], picture: ['a..', '.a.', '..b'], givens: new Set() }, { name: 'night' }));
+    await isOpen(page);
+    await trial.judged();
+    await page.run(() => { document.documentElement.dataset.scheme = 'dark'; setHatching('open'); window.print = () => {}; });
+    await page.press('Control+p');
+    await page.until(() => document.querySelector('dialog input'), 3000 * SLACK);
+    await page.press('Enter');
+    await page.until(() => document.querySelectorAll('.printed').length === 2, 5000 * SLACK);
+    assert.deepEqual(await printedPoints(page, [[0.002, 0.002], [0.002, 0.998], [0.5, 0.002]]), Array(3).fill('255,255,255'), 'the sheet');
+    const fills = await page.run(() => [...document.querySelectorAll('.printed')].map((sheet) => [...sheet.querySelectorAll('svg')[0].querySelectorAll('rect')].map((one) => one.getAttribute('fill'))));
+    assert.ok(!fills[0].includes('rgb(0 0 40)') && fills[1].includes('rgb(0 0 40)'), 'the background is on the solution alone');
+    assert.match(await trial.text('.printed .legend'), /red.*white.*background: dark blue/);
+    const { data } = await page.send('Page.printToPDF', { printBackground: true });
+    writeFileSync(join(own, 'night.pdf'), Buffer.from(data, 'base64'));
+    await page.close();
+}

@@ -43,10 +43,10 @@ function searchesOf(texts, seconds = 60) {
 }
 const pause = (ms) => new Promise((go) => setTimeout(go, ms));
 
-test('a verdict takes more splits in turn', async () => {
-    const { searches, log, seen } = searchesOf(['ok\nundecided 1000\n', 'ok\nambiguous\nba\nac\n']);
+test('a verdict has no allowance: the time alone ends it', async () => {
+    const { searches, log, seen } = searchesOf(['ok\nambiguous\nba\nac\n']);
     await searches.judge();
-    assert.deepEqual(log, ['start', 'open', 'allow 1000; verdict', 'allow 10000; verdict']);
+    assert.deepEqual(log, ['start', 'open', 'allow off; verdict']);
     assert.deepEqual(seen.judged, [{ kind: 'verdict', word: 'ambiguous', other: ['ba', 'ac'] }]);
     assert.equal(seen.told.at(-1), null);
     assert.deepEqual(seen.ended, []);

@@ -1,6 +1,7 @@
 #!/usr/bin/env bash
 # Tries the built page in headless Chromium: by mouse, keys and fingers, at three sizes of the window. What is shown is
-# compared with sessions of `nonobench work` on the same picture. It is no part of the gate, which has no browser.
+# compared with sessions of `nonobench work` on the same picture. A table at the end tells which of the page's points hold, by
+# size and input. It is no part of the gate, which has no browser.
 # Usage: bench/page_test.sh [FOLDER [TEST ..]], where FOLDER gets pictures of the page (none: a scratch folder).
 # PAGE is the built page (dist/nonobench.html), NONOBENCH the program (none: nothing is compared), SLACK a factor for the
 # bounds of time, CHROMIUM the browser.

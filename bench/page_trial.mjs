@@ -8,7 +8,7 @@ import { pathToFileURL } from 'node:url';
 
 export const SLACK = Number(process.env.SLACK ?? 1);
 export const SIZES = { small: { width: 1280, height: 800 }, large: { width: 1920, height: 1080 }, phone: { width: 390, height: 844, touch: true } };
-const HOOKS = 'Object.assign(window, { bench, sheet, searches, tools, play, keep, takeFile, actions, runAction, useColour, certificateText, selection, showSelection, resized, cursor });';
+const HOOKS = 'Object.assign(window, { bench, sheet, searches, tools, play, keep, takeFile, actions, runAction, useColour, certificateText, selection, showSelection, resized, cursor, openDoc, setHatching, setSeconds, saving });';
 // Notes each worker, so that a test can end one.
 const NOTE_WORKERS = `window.workers = []; const PlainWorker = window.Worker;
 window.Worker = class extends PlainWorker { constructor(...words) { super(...words); window.workers.push(this); } terminate() { this.isEnded = true; super.terminate(); } };`;

@@ -35,16 +35,16 @@ export async function droppedPng({ page, folder, trial }) {
     assert.equal(state.maxval, 255);
 }
 
-/** A photo that is pasted: its preview follows each change, its part, size and colours are what was chosen. */
+/** A photo of 12 megapixels that is pasted: its preview follows each change, its part, size and colours are what was chosen. */
 export async function pastedPhoto({ page, folder, trial }) {
     await page.run(async () => {
-        const canvas = Object.assign(document.createElement('canvas'), { width: 2400, height: 1600 });
+        const canvas = Object.assign(document.createElement('canvas'), { width: 4000, height: 3000 });
         const pen = canvas.getContext('2d');
-        const sky = pen.createLinearGradient(0, 0, 0, 1600);
+        const sky = pen.createLinearGradient(0, 0, 0, 3000);
         for (const [at, ink] of [[0, '#8fc7ff'], [0.6, '#eaf6ff'], [0.6, '#3c7a2c'], [1, '#204d18']]) sky.addColorStop(at, ink);
         pen.fillStyle = sky;
-        pen.fillRect(0, 0, 2400, 1600);
-        for (const [ink, ...box] of [['#e8d8b0', 800, 600, 800, 600], ['#c03028', 700, 450, 1000, 200], ['#503820', 1100, 850, 200, 350]]) {
+        pen.fillRect(0, 0, 4000, 3000);
+        for (const [ink, ...box] of [['#e8d8b0', 1330, 1125, 1330, 1125], ['#c03028', 1160, 845, 1670, 375], ['#503820', 1830, 1595, 330, 655]]) {
             pen.fillStyle = ink;
             pen.fillRect(...box);
         }
@@ -54,9 +54,9 @@ export async function pastedPhoto({ page, folder, trial }) {
         dispatchEvent(new ClipboardEvent('paste', { clipboardData }));
     });
     const facts = (text) => page.until((wanted) => document.querySelector('#import-facts')?.textContent.includes(wanted), 10000 * SLACK, text);
-    await facts('40 by 27 cells, 6 colours');
+    await facts('40 by 30 cells, 6 colours');
     const times = [];
-    for (const [id, value, wanted] of [['import-columns', '120', '120 by 80 cells'], ['import-colours', '16', 'colours'], ['import-colours', '2', '2 colours'], ['import-columns', '60', '60 by 40 cells'], ['import-colours', '8', 'colours']]) {
+    for (const [id, value, wanted] of [['import-columns', '120', '120 by 90 cells'], ['import-colours', '16', 'colours'], ['import-colours', '2', '2 colours'], ['import-columns', '60', '60 by 45 cells'], ['import-colours', '8', 'colours']]) {
         await page.run((one, text) => {
             const field = document.getElementById(one);
             field.value = text;
@@ -66,6 +66,16 @@ export async function pastedPhoto({ page, folder, trial }) {
         await facts(wanted);
         times.push(await page.run(() => Number(document.querySelector('#import-preview').dataset.ms)));
     }
+    for (const left of [300, 305, 310, 315]) { // a part is taken
+        await page.run((value) => {
+            const field = [...document.querySelectorAll('.importing label')].find((one) => one.textContent === 'Left').querySelector('input');
+            field.value = value;
+            field.dispatchEvent(new Event('input', { bubbles: true }));
+        }, left);
+        await frames(page);
+        times.push(await page.run(() => Number(document.querySelector('#import-preview').dataset.ms)));
+    }
+    await page.run(() => [...document.querySelectorAll('.importing button')].find((one) => one.textContent === 'All of it').click());
     const middle = [...times].sort((one, two) => one - two)[Math.floor(times.length / 2)];
     assert.ok(middle <= 100 * SLACK, `previews took ${times.join(', ')} ms`);
     await page.shot(join(folder, 'photo.png'));
@@ -75,11 +85,11 @@ export async function pastedPhoto({ page, folder, trial }) {
     });
     const at = (x, y) => [box[0] + box[2] * x, box[1] + box[3] * y];
     await page.drag([at(0.25, 0.25), at(0.4, 0.5), at(0.75, 0.75)]);
-    await facts('60 by 40 cells');
+    await facts('60 by 45 cells');
     await page.press('Enter');
     await isOpen(page);
     const state = await trial.state();
-    assert.deepEqual([state.columns, state.rows], [60, 40]);
+    assert.deepEqual([state.columns, state.rows], [60, 45]);
     assert.ok(state.colours.length > 4 && state.colours.length <= 8, String(state.colours.length));
 }
 
@@ -119,6 +129,37 @@ export async function refusedFiles({ page, folder }) {
         assert.match(await said(page), wanted, name);
         assert.equal(await page.run(() => bench.state), null, name);
     }
+}
+
+/** A file that is dropped or pasted while a dialog is open is taken: the dialog is left. */
+export async function droppedOnDialogs({ page, folder, trial }) {
+    const duck = readFileSync(new URL('duck.png', examples));
+    const opened = (wanted) => page.until((name) => bench.name === name, 5000 * SLACK, wanted);
+    await drop(page, folder, 'first.png', duck);
+    await page.until(() => document.querySelector('#dialog-title')?.textContent.startsWith('first'), 5000 * SLACK);
+    await drop(page, folder, 'second.png', duck); // beside the dialog and over it
+    await page.until(() => document.querySelector('#dialog-title')?.textContent.startsWith('second'), 5000 * SLACK);
+    assert.equal(await page.run(() => document.querySelectorAll('dialog').length), 1);
+    await page.press('Enter');
+    await isOpen(page);
+    assert.deepEqual(await trial.picture(), DUCK);
+    for (const [dialog, name] of [['play', 'flower'], ['resize', 'apple'], ['keys', 'heart']]) {
+        await page.run((id) => runAction(id), dialog);
+        await page.until(() => document.querySelector('dialog[open]'), 3000 * SLACK);
+        await drop(page, folder, `${name}.ppm`, readFileSync(new URL(`${name}.ppm`, examples)));
+        await opened(name);
+        assert.equal(await page.run(() => document.querySelectorAll('dialog').length), 0, `${dialog} is left`);
+    }
+    await page.run(() => runAction('keys'));
+    await page.run((text) => {
+        const clipboardData = new DataTransfer();
+        clipboardData.setData('text/plain', text);
+        dispatchEvent(new ClipboardEvent('paste', { clipboardData }));
+    }, readFileSync(new URL('boat.ppm', examples), 'utf8'));
+    await opened('pasted');
+    await page.run(() => runAction('keys'));
+    await drop(page, folder, 'none.bin', 'x'.padEnd(20, '\0'));
+    await page.until(() => document.getElementById('said').textContent.includes('none.bin is not opened'), 5000 * SLACK);
 }
 
 /** Clues without a goal open, and a search that would not end is stopped. */

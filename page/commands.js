@@ -55,6 +55,13 @@ function addPictureActions() {
     add(`shift-${name}`, `Shift ${name}`, `Alt+${key}`, () => shiftBy(down, across), 'shift');
   }
   add('resize', 'Resize…', 'Ctrl+Alt+S', resizeByDialog, 'size');
+  for (const word of ['row', 'column']) {
+    const at = () => (word === 'row' ? cursor.row : cursor.col) + 1;
+    const edit = (id, name, line) => add(`${id}-${word}`, name, null, () => { setDown(); sendStroke([line()]); }, 'lines');
+    edit('insert', `Insert a ${word} ${word === 'row' ? 'above' : 'on the left'}`, () => `insert ${word} ${at()}`);
+    edit('append', `Insert a ${word} ${word === 'row' ? 'below' : 'on the right'}`, () => `insert ${word} ${at() + 1}`);
+    edit('delete', `Delete the ${word}`, () => `delete ${word} ${at()}`);
+  }
 }
 
 // What floats is moved; a selection begins to float; without one all cells move round.

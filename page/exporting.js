@@ -38,21 +38,26 @@ async function exportCertificate() {
 
 // ---- the printed sheet
 
-function printedLegend(doc) {
+// The colours that are drawn, with their letters on wish, and the background where it is not white.
+function printedLegend(doc, letters) {
   const { colours } = eightBitDoc(doc);
-  const signs = LETTERS.slice(1, colours.length);
-  return make('p', { class: 'legend' }, ...[...signs].flatMap((letter, at) => {
+  const isWhite = colours[0].join() === '255,255,255';
+  const item = (triple, text) => {
     const swatch = svgPart('svg', { viewBox: '0 0 10 10', width: '0.9em', height: '0.9em' });
-    swatch.append(svgPart('rect', { x: 0, y: 0, width: 10, height: 10, fill: `#${plainHexOf(colours[at + 1])}`, stroke: '#555', 'stroke-width': 0.5 }));
-    return [make('span', {}, swatch, ` ${letter}`), ' '];
-  }));
+    swatch.append(svgPart('rect', { x: 0, y: 0, width: 10, height: 10, fill: `#${plainHexOf(triple)}`, stroke: '#555', 'stroke-width': 0.5 }));
+    return [make('span', {}, swatch, ` ${text}`), ' '];
+  };
+  const drawn = colours.slice(1).map((triple, at) => [LETTERS[at + 1], triple]).filter(([letter]) => doc.picture.some((row) => row.includes(letter)));
+  const inks = drawn.flatMap(([letter, triple]) => item(triple, `${letters ? `${letter}: ` : ''}${nameOf(triple, 255)}`));
+  return make('p', { class: 'legend' }, ...inks, ...(isWhite ? [] : item(colours[0], `background: ${nameOf(colours[0], 255)}`)));
 }
 
 /** Fills the part of the page that is printed: the puzzle, and on wish the solution on a second sheet. */
 function fillPrint({ title, letters, solution }) {
   const { doc, clues } = puzzleAtHand();
-  const facts = `${doc.columns} by ${doc.rows}${doc.givens.size ? `, ${many(doc.givens.size, 'cell')} given` : ''}`;
-  const sheets = [make('section', { class: 'printed' }, make('h1', {}, title), make('p', {}, facts), svgOfPaper(paperOf({ doc, clues }, { letters })), ...(letters ? [printedLegend(doc)] : []))];
+  const by = keep.about.author ? `, by ${keep.about.author}` : '';
+  const facts = `${doc.columns} by ${doc.rows}${doc.givens.size ? `, ${many(doc.givens.size, 'cell')} given` : ''}${by}`;
+  const sheets = [make('section', { class: 'printed' }, make('h1', {}, title), make('p', {}, facts), svgOfPaper(paperOf({ doc, clues }, { letters })), printedLegend(doc, letters))];
   if (solution) sheets.push(make('section', { class: 'printed' }, make('h1', {}, `${title}: solution`), svgOfPaper(paperOf({ doc, clues }, { letters, solution: true, clues: false }))));
   $('print').replaceChildren(...sheets);
 }
@@ -65,10 +70,9 @@ const PRINT_WARNINGS = {
 
 async function printPuzzle() {
   const title = make('input', { type: 'text', value: keep.about.title || bench.name, maxlength: '200' });
-  const letters = make('input', { type: 'checkbox', checked: true });
+  const letters = make('input', { type: 'checkbox' });
   const solution = make('input', { type: 'checkbox', checked: true });
   const content = make('div', { class: 'rows' }, make('label', {}, 'Title', title), make('label', {}, letters, 'Letters in place of colours, for black and white'), make('label', {}, solution, 'The solution on a second sheet'));
-  letters.checked = false;
   const warning = PRINT_WARNINGS[bench.state.verdict.word];
   if (warning) content.append(make('p', { class: 'wrong' }, warning));
   const go = await openDialog({ title: 'Print', content, buttons: [{ name: 'Print …', value: true, main: true }] });

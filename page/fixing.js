@@ -8,7 +8,7 @@ function openFix() {
   $('fix').hidden = false;
   $('fix').replaceChildren(
     make('h3', {}, 'Fix it'),
-    make('p', {}, 'Give cells: they are printed with the puzzle. Or repaint one cell.'),
+    make('p', {}, 'Two ways to make it the only solution: give cells, which are printed with the puzzle, or repaint one.'),
     make('div', { class: 'group' },
       make('button', { type: 'button', id: 'fix-give', onclick: giveCells }, 'Give cells'),
       make('button', { type: 'button', id: 'fix-paint', onclick: findRepaints }, 'Find cells to repaint'),
@@ -51,7 +51,7 @@ async function findRepaints() {
   const found = await searches.job('Looking for cells to repaint', secondsChosen(), (copy) => repaintsFor(copy, state, state.verdict.other, (one) => listRepaint(state, one)));
   if (version !== searches.version) return;
   const none = verdictView.ended ? 'No single repaint was found in this time. A longer time may find some.' : 'No single repaint was found.';
-  fixSays(found?.length ? `${many(found.length, 'repaint')} found. Point at one to see it, choose it to paint it.` : none);
+  fixSays(found?.length ? `${many(found.length, 'repaint')} found. Choose one to paint it; point at one to see it first.` : none);
 }
 
 function listRepaint(state, one) {

@@ -39,7 +39,7 @@ function make(name, attributes = {}, ...children) {
 
 let saidTimer = 0;
 
-/** Says something to the user, in the line at the top: `kind` is '' or 'alarm'. An alarm stays until it is dismissed. */
+/** Says something to the user, in the line at the top: `kind` is '' or 'alarm'. An alarm stays until it is clicked or something else is said. */
 function say(text, kind = '') {
   clearTimeout(saidTimer);
   $('said').dataset.kind = kind;

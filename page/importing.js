@@ -2,6 +2,7 @@
 // drawn anew at each change.
 
 const MOST_WORKED = 480; // pixels a side that the dialog works on; a larger part is made smaller first
+const MOST_MIDDLE = 960; // pixels a side of a copy of the image
 const MOST_POINTS = 100; // pixels a side that its colours are found in
 const SHOWN_SIDE = 320; // pixels of the two pictures in the dialog
 
@@ -18,10 +19,24 @@ function proposalFor(image) {
   const dot = dotSize(image);
   const [columns, rows] = [image.width / dot, image.height / dot];
   const sampled = (wide, high) => scaledTo(image, { x: 0, y: 0, ...image }, wide, high, true);
-  if (columns <= MOST_CELLS && rows <= MOST_CELLS && columns * rows > 1) return { columns, rows, sharp: true, colours: coloursFor(sampled(columns, rows), { isExact: true, some: MOST_COLOURS }) };
+  if (columns <= MOST_CELLS && rows <= MOST_CELLS && columns * rows > 1) return { columns, rows, dot, sharp: true, colours: coloursFor(sampled(columns, rows), { isExact: true, some: MOST_COLOURS }) };
   const scale = 40 / Math.max(image.width, image.height);
   const colours = coloursFor(sampled(Math.min(MOST_POINTS, image.width), Math.min(MOST_POINTS, image.height)), { isExact: false, some: 6 });
-  return { columns: Math.max(1, Math.round(image.width * scale)), rows: Math.max(1, Math.round(image.height * scale)), sharp: false, colours };
+  return { columns: Math.max(1, Math.round(image.width * scale)), rows: Math.max(1, Math.round(image.height * scale)), dot: null, sharp: false, colours };
+}
+
+/** The part of an image without the lines at its edges that are transparent, or of the colour of its corner, all along. */
+function withoutMargin({ width, height, data }) {
+  const pixels = new Uint32Array(data.buffer, data.byteOffset, width * height);
+  const isMargin = (at) => (isTransparent(data, 0) ? isTransparent(data, at * 4) : pixels[at] === pixels[0]);
+  let [left, top, right, bottom] = [width, height, -1, -1];
+  for (let row = 0, at = 0; row < height; row++) {
+    for (let col = 0; col < width; col++, at++) {
+      if (isMargin(at)) continue;
+      [left, right, top, bottom] = [Math.min(left, col), Math.max(right, col), Math.min(top, row), row];
+    }
+  }
+  return right < 0 ? { x: 0, y: 0, width, height } : { x: left, y: top, width: right - left + 1, height: bottom - top + 1 };
 }
 
 /** An image as points of a canvas. */
@@ -36,6 +51,7 @@ class Importing {
     this.proposal = proposalFor(image);
     this.full = image;
     this.canvas = canvasOfImage(image);
+    this.middle = this.smaller(MOST_MIDDLE); // what large parts are taken of: to make all of a photo smaller takes long
     this.worked = null; // the part that is taken, no larger than the dialog works on
     this.crop = { x: 0, y: 0, width: image.width, height: image.height }; // in pixels of the full image
     this.background = null;
@@ -69,14 +85,16 @@ class Importing {
     const crop = make('fieldset', {}, make('legend', {}, 'Part of the image, in pixels'),
       this.field('left', { label: 'Left', min: '0', max: width - 1, value: 0 }), this.field('top', { label: 'Top', min: '0', max: height - 1, value: 0 }),
       this.field('wide', { label: 'Width', min: '1', max: width, value: width }), this.field('high', { label: 'Height', min: '1', max: height, value: height }),
-      make('button', { type: 'button', onclick: () => this.take({ x: 0, y: 0, width, height }) }, 'All of it'));
+      make('div', { class: 'ground' }, make('button', { type: 'button', onclick: () => this.take({ x: 0, y: 0, width, height }) }, 'All of it'),
+        make('button', { type: 'button', id: 'import-trim', onclick: () => this.take(withoutMargin(this.full)) }, 'Without its margin')));
     const size = make('fieldset', {}, make('legend', {}, 'Cells'),
       this.field('columns', { label: 'Columns', min: '1', max: MOST_CELLS, value: columns, id: 'import-columns' }), this.field('rows', { label: 'Rows', min: '1', max: MOST_CELLS, value: rows, id: 'import-rows' }),
-      this.tick('keeps', 'Keep proportions', true), this.tick('sharp', 'One pixel a cell, not the mean', sharp));
+      this.tick('keeps', 'Keep proportions', true), this.tick('sharp', 'Pixel art: one pixel for each cell', sharp));
     this.colours = make('input', { type: 'range', min: '2', max: MOST_COLOURS, value: colours, id: 'import-colours' });
     this.threshold = make('input', { type: 'range', min: '1', max: '255', value: '128', id: 'import-threshold' });
     for (const name of ['colours', 'threshold']) this[name].addEventListener('input', () => this.change(name));
     this.count = make('output', {}, String(colours));
+    this.onlyTwo = make('div', { class: 'ground' }, make('label', {}, 'Dark is below', this.threshold), this.tick('inverted', 'Draw the light part'));
     this.shows = make('input', { type: 'checkbox', 'aria-label': 'Show the background as another colour' });
     this.shown = make('input', { type: 'color', value: '#ffffff', 'aria-label': 'Colour of the background' });
     this.shows.addEventListener('input', () => this.change('shows'));
@@ -85,9 +103,9 @@ class Importing {
       this.change('shown');
     });
     const inks = make('fieldset', {}, make('legend', {}, 'Colours'),
-      make('label', {}, 'With the background', this.colours, this.count),
-      this.tick('two', 'Two colours, by lightness'), make('label', {}, 'Dark below', this.threshold), this.tick('inverted', 'Draw the light part'),
-      make('div', { class: 'ground' }, 'Background', this.swatches), make('label', {}, this.shows, 'Show it as', this.shown));
+      make('label', {}, 'How many, with the background', this.colours, this.count),
+      this.tick('two', 'Two colours, by lightness'), this.onlyTwo,
+      make('div', { class: 'ground' }, 'Background', this.swatches), make('label', {}, this.shows, 'Show the background as', this.shown));
     this.content = make('div', { class: 'importing' },
       make('div', { class: 'pictures' }, make('figure', {}, this.source, make('figcaption', {}, 'Drag over the image to take a part of it.')), make('figure', {}, this.preview, this.facts)),
       make('div', { class: 'choices' }, size, inks, crop));
@@ -141,9 +159,13 @@ class Importing {
       if (name === 'rows') this.columns.value = clamp(Math.round(side(this.rows) / ratio), 1, MOST_CELLS);
       else if (['columns', 'keeps', 'left', 'top', 'wide', 'high'].includes(name)) this.rows.value = clamp(Math.round(side(this.columns) * ratio), 1, MOST_CELLS);
     }
+    const { dot } = this.proposal;
+    if (dot && this.sharp.checked && this.keeps.checked && ['left', 'top', 'wide', 'high'].includes(name)) { // a part of pixel art keeps its dots
+      [this.columns.value, this.rows.value] = [this.crop.width, this.crop.height].map((length) => clamp(Math.round(length / dot), 1, MOST_CELLS));
+    }
     if (name === 'two' && this.two.checked) this.threshold.value = thresholdFor(this.cells());
     this.count.value = this.colours.value;
-    this.threshold.disabled = this.inverted.disabled = !this.two.checked;
+    this.onlyTwo.hidden = !this.two.checked;
     this.colours.disabled = this.two.checked;
     this.size = [side(this.columns), side(this.rows)];
     if (this.isWaiting) return;
@@ -159,6 +181,16 @@ class Importing {
     return this.doc;
   }
 
+  // The image with so many pixels a side at most.
+  smaller(most) {
+    const scale = Math.min(1, most / Math.max(this.full.width, this.full.height));
+    if (scale === 1) return { canvas: this.canvas, scale };
+    const pen = penOf(Math.max(1, Math.round(this.full.width * scale)), Math.max(1, Math.round(this.full.height * scale)));
+    pen.imageSmoothingQuality = 'high';
+    pen.drawImage(this.canvas, 0, 0, pen.canvas.width, pen.canvas.height);
+    return { canvas: pen.canvas, scale };
+  }
+
   // The part that is taken, as an image and a box in it; a large one is made smaller by the browser.
   part() {
     const { x, y, width, height } = this.crop;
@@ -169,7 +201,8 @@ class Importing {
     const box = { x: 0, y: 0, width: Math.max(1, Math.round(width * factor)), height: Math.max(1, Math.round(height * factor)) };
     const pen = penOf(box.width, box.height);
     pen.imageSmoothingQuality = 'high';
-    pen.drawImage(this.canvas, x, y, width, height, 0, 0, box.width, box.height);
+    const { canvas, scale } = Math.max(width, height) * this.middle.scale >= MOST_WORKED ? this.middle : { canvas: this.canvas, scale: 1 };
+    pen.drawImage(canvas, x * scale, y * scale, width * scale, height * scale, 0, 0, box.width, box.height);
     this.worked = { key, box, image: { width: box.width, height: box.height, data: pen.getImageData(0, 0, box.width, box.height).data } };
     return this.worked;
   }
@@ -227,7 +260,7 @@ class Importing {
       this.small = penOf(Math.max(1, Math.round(this.full.width * side)), Math.max(1, Math.round(this.full.height * side)));
       this.small.imageSmoothingEnabled = scale < 1;
       this.small.imageSmoothingQuality = 'high';
-      this.small.drawImage(this.canvas, 0, 0, this.small.canvas.width, this.small.canvas.height);
+      this.small.drawImage(this.middle.canvas, 0, 0, this.small.canvas.width, this.small.canvas.height);
     }
     const { width, height } = this.small.canvas;
     Object.assign(this.source, { width, height });
@@ -261,5 +294,7 @@ class Importing {
 async function importImage(image, name) {
   const importing = new Importing(image);
   const doc = await openDialog({ title: `${name}: a picture into a puzzle`, content: importing.content, wide: true, buttons: [{ name: 'Make the puzzle', value: () => importing.finished(), main: true }] });
-  return doc ? openDoc(doc, { name, isSaved: false }) : false;
+  if (!doc || !(await openDoc(doc, { name, isSaved: false }))) return false;
+  say(`${name} is a puzzle now: the menu File exports and prints it.`);
+  return true;
 }

@@ -12,13 +12,14 @@ addEditActions();
 addPictureActions();
 addViewActions();
 addKeys();
-for (const [id, name] of [['undo', 'Undo'], ['redo', 'Redo'], ['zoom-out', '−'], ['fit', 'Fit'], ['zoom-in', '+']]) {
-  const button = actionButton(actions.get(id), { 'aria-label': actions.get(id).name, title: `${actions.get(id).name} (${actions.get(id).key.split(' ')[0]})` });
+for (const [id, name, short] of [['undo', 'Undo', '↶'], ['redo', 'Redo', '↷'], ['zoom-out', '−'], ['fit', 'Fit'], ['zoom-in', '+']]) {
+  const button = actionButton(actions.get(id), { 'aria-label': actions.get(id).name, title: `${actions.get(id).name} (${actions.get(id).key.split(' ')[0]})`, 'data-short': short });
   button.textContent = name;
   $('quick').append(button);
 }
 hearKeys();
 hearPointers();
+$('said').addEventListener('click', () => say(''));
 
 on('opened', () => {
   document.body.classList.remove('starting');

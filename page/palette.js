@@ -115,7 +115,9 @@ async function becomeOpened(doc, text) {
 /** Makes the panel of colours. */
 function makePalette() {
   const more = make('div', { class: 'group' });
-  $('colours').append(make('h2', {}, 'Colours'), palette.row, palette.text, make('div', { class: 'group' }, make('label', {}, 'Change ', palette.picker)), more);
+  const opens = make('button', { type: 'button', id: 'colours-open', 'aria-expanded': 'false', onclick: () => opens.setAttribute('aria-expanded', $('colours').classList.toggle('open')) }, 'Edit');
+  opens.setAttribute('aria-label', 'Edit the colours');
+  $('colours').append(make('h2', {}, 'Colours'), palette.row, opens, palette.text, make('div', { class: 'group' }, make('label', {}, 'Change ', palette.picker)), more);
   more.id = 'colour-more';
   const add = (id, name, run, can) => addAction({ id, name, place: 'colour-more', run, can });
   add('colour-add', 'Add', addColour, () => bench.state.colours.length < 16);

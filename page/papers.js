@@ -9,7 +9,8 @@ const longest = (clues) => Math.max(1, ...clues.map((blocks) => blocks.length));
 
 /**
  * A puzzle as `{ width, height, shapes }`. `puzzle` is { doc, clues }. `options`: `cell`; `clues` whether they are drawn;
- * `solution` whether the cells are filled (givens always are); `letters` for colours as letters, in clues and cells.
+ * `solution` whether the cells are filled (givens always are); `letters` for colours as letters, in clues and cells. The empty
+ * puzzle is white whatever the background is: what is not known yet is not background.
  */
 function paperOf({ doc, clues }, { cell = 20, clues: hasClues = true, solution = false, letters = false } = {}) {
   const shown = eightBitDoc(doc);
@@ -26,7 +27,7 @@ function paperOf({ doc, clues }, { cell = 20, clues: hasClues = true, solution =
 function drawPaperCells({ cell, left, top, letters, doc, shapes }, solution) {
   const ground = `rgb(${doc.colours[0].join(' ')})`;
   const isWhite = doc.colours[0].join() === '255,255,255';
-  if (!isWhite && !letters) shapes.push({ kind: 'rect', x: left, y: top, width: doc.columns * cell, height: doc.rows * cell, fill: ground });
+  if (!isWhite && !letters && solution) shapes.push({ kind: 'rect', x: left, y: top, width: doc.columns * cell, height: doc.rows * cell, fill: ground });
   doc.picture.forEach((row, r) => {
     for (let from = 0, to; from < row.length; from = to) {
       to = from + 1;
@@ -69,7 +70,8 @@ function drawPaperBlock({ cell, letters, doc, shapes }, block, x, y) {
   const text = block ? `${block.length}${letters ? block.letter : ''}` : '0';
   const triple = block ? doc.colours[LETTERS.indexOf(block.letter)] : null;
   const inset = cell * 0.06;
-  if (block && !letters) shapes.push({ kind: 'rect', x: x + inset, y: y + inset, width: cell - 2 * inset, height: cell - 2 * inset, fill: `rgb(${triple.join(' ')})` });
+  const isPale = block && lightness(triple) > 215; // on white paper its edge would not be seen
+  if (block && !letters) shapes.push({ kind: 'rect', x: x + inset, y: y + inset, width: cell - 2 * inset, height: cell - 2 * inset, fill: `rgb(${triple.join(' ')})`, edge: isPale ? cell / 30 : 0 });
   const size = Math.min(cell * 0.66, (cell * 0.86) / (text.length * 0.56));
   shapes.push({ kind: 'text', x: x + cell / 2, y: y + cell / 2, size, text, fill: block && !letters ? inkOver(triple) : PAPER_INK });
 }
@@ -85,8 +87,10 @@ function svgPart(name, attributes, text = null) {
 /** A paper as an SVG element. */
 function svgOfPaper({ width, height, shapes }) {
   const svg = svgPart('svg', { viewBox: `0 0 ${width} ${height}`, 'font-family': 'system-ui, "Liberation Sans", sans-serif', role: 'img' });
+  svg.style.maxWidth = `${Math.round(width / 2)}mm`; // a cell of 20 is at most a centimetre wide on paper
   for (const shape of shapes) {
-    if (shape.kind === 'rect') svg.append(svgPart('rect', { x: shape.x, y: shape.y, width: shape.width, height: shape.height, fill: shape.fill }));
+    const edge = shape.edge ? { stroke: PAPER_FAINT, 'stroke-width': shape.edge } : {};
+    if (shape.kind === 'rect') svg.append(svgPart('rect', { x: shape.x, y: shape.y, width: shape.width, height: shape.height, fill: shape.fill, ...edge }));
     else if (shape.kind === 'line') svg.append(svgPart('line', { x1: shape.x1, y1: shape.y1, x2: shape.x2, y2: shape.y2, stroke: PAPER_INK, 'stroke-width': shape.weight, 'stroke-linecap': 'square' }));
     else svg.append(svgPart('text', { x: shape.x, y: shape.y + shape.size * 0.36, 'font-size': shape.size, 'text-anchor': 'middle', fill: shape.fill }, shape.text));
   }
@@ -100,8 +104,12 @@ function canvasOfPaper({ width, height, shapes }) {
   pen.textAlign = 'center';
   for (const shape of shapes) {
     pen.fillStyle = shape.fill ?? PAPER_INK;
-    if (shape.kind === 'rect') pen.fillRect(shape.x, shape.y, shape.width, shape.height);
-    else if (shape.kind === 'line') {
+    if (shape.kind === 'rect') {
+      pen.fillRect(shape.x, shape.y, shape.width, shape.height);
+      if (!shape.edge) continue;
+      [pen.strokeStyle, pen.lineWidth] = [PAPER_FAINT, Math.max(1, shape.edge)];
+      pen.strokeRect(shape.x, shape.y, shape.width, shape.height);
+    } else if (shape.kind === 'line') {
       const half = Math.max(1, shape.weight) / 2;
       pen.fillRect(shape.x1 - half, shape.y1 - half, shape.x2 - shape.x1 + 2 * half, shape.y2 - shape.y1 + 2 * half);
     } else {

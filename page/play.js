@@ -16,7 +16,8 @@ function openPlay() {
   fitPlay();
   $('play-field').focus();
   const { word } = state.verdict;
-  playSays(word === 'unique' ? 'One solution. Good luck.' : word === 'ambiguous' ? 'This puzzle has more than one solution.' : 'It is not known whether this puzzle has one solution.');
+  const told = word === 'unique' ? 'One solution. Good luck.' : word === 'ambiguous' ? 'This puzzle has more than one solution.' : 'It is not known whether this puzzle has one solution.';
+  playSays(`${told}${state.givens.size ? ' Cells with a square are given.' : ''}`);
 }
 
 const playSays = (text) => { $('play-said').textContent = text; };
@@ -29,7 +30,7 @@ function playBar() {
     playButton('play-check', 'Check', checkPlay, { title: 'Marks the cells that are wrong' }),
     playButton('play-clear', 'Begin again', clearPlay),
     playButton('play-smaller', '−', () => zoomPlay(-1), { 'aria-label': 'Smaller cells' }), playButton('play-larger', '+', () => zoomPlay(1), { 'aria-label': 'Larger cells' }),
-    playButton('play-close', 'Back to the bench', () => $('play-room').close()));
+    playButton('play-close', 'Back to the picture', () => $('play-room').close()));
 }
 
 function playBoard() {

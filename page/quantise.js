@@ -24,17 +24,42 @@ const tripleOfKey = (key) => [key >> 16, (key >> 8) & 255, key & 255];
 const EXACT = 0xffffff; // which bits of a colour count
 const ALIKE = 0xf8f8f8; // colours whose samples differ in the last three bits alone count as one
 
-/** The colours of the pixels that are not transparent, each with its place in Oklab and how many pixels have it. */
-function spotsOf({ data }, bits = EXACT) {
-  const spots = new Map();
-  for (let at = 0; at < data.length; at += 4) {
-    if (isTransparent(data, at)) continue;
-    const key = keyOf(data, at);
-    const spot = spots.get(key & bits);
-    if (spot) spot.weight++;
-    else spots.set(key & bits, { triple: tripleOfKey(key), lab: oklabOf(...tripleOfKey(key)), weight: 1 });
+// What was worked out of an image, as long as the image is at hand: images do not change.
+const workedOut = new WeakMap();
+function once(image, what, work) {
+  if (!workedOut.has(image)) workedOut.set(image, new Map());
+  const known = workedOut.get(image);
+  if (!known.has(what)) known.set(what, work());
+  return known.get(what);
+}
+
+/** A colour: how many pixels have it, and its place in Oklab once that is asked for. */
+class Spot {
+  constructor(key) {
+    this.triple = tripleOfKey(key);
+    this.weight = 1;
+    this.place = null;
   }
-  return [...spots.values()];
+
+  get lab() {
+    return (this.place ??= oklabOf(...this.triple));
+  }
+}
+
+/** The colours of the pixels that are not transparent. */
+function spotsOf(image, bits = EXACT) {
+  return once(image, `spots ${bits}`, () => {
+    const spots = new Map();
+    const { data } = image;
+    for (let at = 0; at < data.length; at += 4) {
+      if (isTransparent(data, at)) continue;
+      const key = keyOf(data, at);
+      const spot = spots.get(key & bits);
+      if (spot) spot.weight++;
+      else spots.set(key & bits, new Spot(key));
+    }
+    return [...spots.values()];
+  });
 }
 
 function hasClear({ data }) {
@@ -112,12 +137,14 @@ function flatColours(image, most) {
 }
 
 /** At most so many triples that stand well for an image's colours; its own ones where there are no more than that. */
-function paletteFor(image, most) {
-  if (hasFewColours(image, most)) return spotsOf(image).sort((a, b) => b.weight - a.weight).map((spot) => spot.triple);
+const paletteFor = (image, most) => once(image, `palette ${most}`, () => foundPalette(image, most));
+
+function foundPalette(image, most) {
+  if (hasFewColours(image, most)) return [...spotsOf(image)].sort((a, b) => b.weight - a.weight).map((spot) => spot.triple);
   const flat = flatColours(image, most);
   if (flat.length === most) return flat;
   const all = spotsOf(image, ALIKE);
-  const gathered = gatheredSpots(all);
+  const gathered = once(image, 'gathered', () => gatheredSpots(all));
   const spots = gathered.length > most ? gathered : all;
   let groups = cutBoxes(spots, most);
   for (let round = 0; round < KMEANS_ROUNDS; round++) {
@@ -138,19 +165,27 @@ function paletteFor(image, most) {
 }
 const weightOf = (spots) => spots.reduce((sum, spot) => sum + spot.weight, 0);
 
-/** For each pixel the number of the nearest triple, or -1 where it is transparent. */
-function numbersFor({ data }, palette, bits = EXACT, known = new Map()) {
+// Colours that are alike, by a number below 32,768, and their place in Oklab, worked out once.
+const alikeOf = (data, at) => ((data[at] >> 3) << 10) | ((data[at + 1] >> 3) << 5) | (data[at + 2] >> 3);
+const alikePlaces = [];
+const alikeLab = (alike) => (alikePlaces[alike] ??= oklabOf(((alike >> 10) << 3) + 4, (((alike >> 5) & 31) << 3) + 4, ((alike & 31) << 3) + 4));
+
+/** For each pixel the number of the nearest triple, or -1 where it is transparent; `bits` as for spots. */
+function numbersFor({ data }, palette, bits = EXACT) {
   const labs = palette.map((triple) => oklabOf(...triple));
   const numbers = new Int8Array(data.length / 4);
+  const known = bits === EXACT ? new Map() : new Int8Array(32768).fill(-1);
   for (let at = 0; at < data.length; at += 4) {
-    if (isTransparent(data, at)) {
-      numbers[at / 4] = -1;
-      continue;
+    if (isTransparent(data, at)) numbers[at / 4] = -1;
+    else if (bits === EXACT) {
+      const key = keyOf(data, at);
+      if (!known.has(key)) known.set(key, nearestOf(labs, oklabOf(...tripleOfKey(key))));
+      numbers[at / 4] = known.get(key);
+    } else {
+      const alike = alikeOf(data, at);
+      if (known[alike] < 0) known[alike] = nearestOf(labs, alikeLab(alike));
+      numbers[at / 4] = known[alike];
     }
-    const key = keyOf(data, at);
-    let nearest = known.get(key & bits);
-    if (nearest === undefined) known.set(key & bits, (nearest = nearestOf(labs, oklabOf(...tripleOfKey(key)))));
-    numbers[at / 4] = nearest;
   }
   return numbers;
 }
@@ -204,7 +239,7 @@ function borderNumber(numbers, columns, rows) {
 // A background for what is transparent: the first of some plain colours that stands well apart from all others.
 function apartFrom(palette) {
   const labs = palette.map((triple) => oklabOf(...triple));
-  const tries = [[255, 255, 255], [224, 224, 224], [0, 0, 0], [160, 200, 230], [120, 120, 120], [230, 210, 170], [60, 60, 90]];
+  const tries = [[255, 255, 255], [224, 224, 224], [214, 228, 240], [216, 236, 214], [240, 222, 236], [190, 205, 220], [0, 0, 0], [160, 200, 230], [120, 120, 120], [230, 210, 170], [60, 60, 90]];
   const gap = (triple) => Math.min(...labs.map((lab) => farness(lab, oklabOf(...triple))), 9);
   return tries.find((triple) => gap(triple) > 0.005) ?? tries.reduce((best, triple) => (gap(triple) > gap(best) ? triple : best));
 }
@@ -227,9 +262,8 @@ function docOfCells(image, options, { fine = null, points = image } = {}) {
   }
   palette = paletteFor(points, clear ? options.colours - 1 : options.colours);
   const bits = hasFewColours(points, palette.length) ? EXACT : ALIKE;
-  const known = new Map(); // colours whose nearest one was found
-  numbers = numbersFor(image, palette, bits, known);
-  if (fine) numbers = mostOf(numbersFor(fine, palette, bits, known), fine.width / columns, numbers, columns);
+  numbers = numbersFor(image, palette, bits);
+  if (fine) numbers = mostOf(numbersFor(fine, palette, bits), fine.width / columns, numbers, columns);
   let ground = options.background ? palette.findIndex((triple) => String(triple) === String(options.background)) : -1;
   if (clear || !palette.length) {
     const triple = ground < 0 && options.background && !palette.some((one) => String(one) === String(options.background)) ? options.background : apartFrom(palette);

@@ -2,7 +2,6 @@
 // worker, so that a stroke never waits for it.
 
 const { Searches } = (() => {
-const STEPS = [1000, 10000, 99999, 'off']; // splits allowed in turn; what is found of a part is kept from one to the next
 const TICK = 250; // milliseconds between two looks at the clock
 const REST = 200; // milliseconds without a stroke before a verdict is searched for
 
@@ -41,14 +40,11 @@ class Copy {
     return answers;
   }
 
-  /** The verdict, with more and more splits until it is decided: the end of its time ends it. */
+  /** The verdict. No allowance bounds it, so the bench goes on by its other searches: only the end of the time ends it. */
   async verdict() {
-    for (const splits of STEPS) {
-      const [, verdict] = await this.say(`allow ${splits}`, 'verdict');
-      if (verdict.word !== 'undecided') return verdict;
-      this.note(`none within ${number(splits)} splits`);
-    }
-    throw new Error('a search without a bound came to no verdict');
+    const [, verdict] = await this.say('allow off', 'verdict');
+    if (verdict.word === 'undecided') throw new Error('a search without a bound came to no verdict');
+    return verdict;
   }
 
   /** Tells how far the search is. */

@@ -49,10 +49,10 @@ function newCard() {
 
 function openCard() {
   return make('section', { class: 'card', 'aria-labelledby': 'open-title' },
-    make('h2', { id: 'open-title' }, 'Open'),
+    make('h2', { id: 'open-title' }, 'Open a picture'),
     make('p', {}, 'Drop a file here, paste a picture (Ctrl+V), or choose one.'),
     make('p', { class: 'faint' }, 'PNG, JPEG, GIF or WebP: it becomes a puzzle. PPM, .non and Web Paint-by-Number\'s XML open as they are.'),
-    make('button', { type: 'button', id: 'open-go', onclick: () => chooseFile() }, 'Choose a file …'));
+    make('button', { type: 'button', class: 'main', id: 'open-go', onclick: () => chooseFile() }, 'Choose a file …'));
 }
 
 /** Goes on with what the browser keeps; where its strokes do not come to the same picture, with the picture alone. */
@@ -98,11 +98,11 @@ function exampleItem(source) {
 /** Shows the start screen, over what is open. */
 function showStart() {
   const list = make('ul', { class: 'tiles' });
-  const kept = make('section', { id: 'kept', class: 'card wide', 'aria-labelledby': 'kept-title', hidden: true }, make('h2', { id: 'kept-title' }, 'Go on'), list);
+  const kept = make('section', { id: 'kept', class: 'card wide', 'aria-labelledby': 'kept-title', hidden: true }, make('h2', { id: 'kept-title' }, 'Recent'), list);
   const examples = [...document.querySelectorAll('script[data-example]')].map(exampleItem).filter(Boolean);
   const shown = make('section', { id: 'examples', class: 'card wide', 'aria-labelledby': 'examples-title', hidden: examples.length === 0 }, make('h2', { id: 'examples-title' }, 'Examples'), make('ul', { class: 'tiles' }, ...examples));
   const back = bench.state ? [make('p', {}, make('button', { type: 'button', id: 'start-back', onclick: hideStart }, `Back to ${bench.name}`))] : [];
-  $('start').replaceChildren(make('p', { class: 'lead' }, 'Draw a picture, see its clues, and know whether it is the only solution.'), ...back, make('div', { class: 'cards' }, newCard(), openCard(), kept, shown));
+  $('start').replaceChildren(make('p', { class: 'lead' }, 'Draw a picture or open one. Its clues stand beside it, and whether it is their only solution. Then export the puzzle, or print it.'), ...back, make('div', { class: 'cards' }, newCard(), openCard(), kept, shown));
   $('start').hidden = false;
   $('work').hidden = true;
   document.body.classList.add('starting');

@@ -150,6 +150,21 @@ async function chooseFile() {
   return true;
 }
 
+// A dialog that is open gives way to a file: it is left as by Cancel.
+async function closeDialogs() {
+  for (const dialog of document.querySelectorAll('dialog[open]')) {
+    const closed = new Promise((go) => dialog.addEventListener('close', go, { once: true }));
+    dialog.close();
+    await closed;
+  }
+}
+
+async function takeDropped(files, handle) {
+  await closeDialogs();
+  if (!(await takeFile(files[0], handle)) || files.length === 1) return;
+  say(`The first of ${files.length} files is open: ${files[0].name}.`, 'alarm');
+}
+
 /** Hears files that are dropped or pasted anywhere. A text that is pasted is a puzzle where it begins like one. */
 function hearFiles() {
   // Both are taken: where what is under the pointer changes, a browser asks by the first, and would refuse the drop behind it.
@@ -162,21 +177,20 @@ function hearFiles() {
   addEventListener('dragleave', (event) => { if (!event.relatedTarget) document.body.classList.remove('dropping'); });
   addEventListener('drop', async (event) => {
     document.body.classList.remove('dropping');
-    const item = [...event.dataTransfer.items].find((one) => one.kind === 'file');
-    if (!item) return;
+    const items = [...event.dataTransfer.items].filter((one) => one.kind === 'file');
+    if (!items.length) return;
     event.preventDefault(); // else the browser would leave the page for the file
-    if (document.querySelector('dialog[open]')) return;
-    const file = item.getAsFile();
+    const files = items.map((item) => item.getAsFile());
     const late = new Promise((go) => setTimeout(go, 1000, null)); // the file itself is at hand already
-    const handle = await Promise.race([late, item.getAsFileSystemHandle?.().catch(() => null)]);
-    takeFile(file, handle?.kind === 'file' ? handle : null);
+    const handle = await Promise.race([late, items[0].getAsFileSystemHandle?.().catch(() => null)]);
+    takeDropped(files, handle?.kind === 'file' ? handle : null);
   });
   addEventListener('paste', (event) => {
-    if (isTyping(event.target) || document.querySelector('dialog[open]')) return;
     const file = [...event.clipboardData.files][0];
     const text = event.clipboardData.getData('text/plain');
-    if (file) takeFile(file);
-    else if (/^\s*(P3\s|<\?xml|<puzzle)/.test(text) || /^width [0-9]/m.test(text)) takeFile(new File([text], 'pasted'));
+    if (isTyping(event.target) && (!file || text)) return; // a field takes a text itself
+    if (file) takeDropped([file], null);
+    else if (/^\s*(P3\s|<\?xml|<puzzle)/.test(text) || /^width [0-9]/m.test(text)) takeDropped([new File([text], 'pasted')], null);
     else return;
     event.preventDefault();
   });

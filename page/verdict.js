@@ -50,13 +50,14 @@ function makeVerdictPanel() {
       make('p', { id: 'verdict-why' }),
       make('div', { id: 'verdict-do', class: 'group' }),
       make('div', { id: 'fix', hidden: true }),
-      make('dl', {}, make('dt', {}, 'Need guessing'), make('dd', { id: 'open' }), make('dt', {}, 'Changed clues'), make('dd', { id: 'changed' })),
+      make('dl', {}, make('dt', {}, 'Need guessing'), make('dd', { id: 'open' }), make('dt', {}, 'Clues that changed'), make('dd', { id: 'changed' })),
       make('p', {}, make('label', {}, 'Hatching ', choiceOf('hatching', HATCHINGS, (value) => setHatching(value)))),
       make('p', { id: 'legend', class: 'faint' }),
       make('p', {}, make('label', {}, 'Search after a stroke ', choiceOf('seconds', TIMES, setSeconds)))),
   );
+  $('audit').append(make('p', { id: 'verdict-heard', class: 'unseen', role: 'status' }));
   $('seconds').value = verdictView.seconds;
-  const stop = make('button', { type: 'button', id: 'stop', onclick: () => searches.stop() }, 'Stop');
+  const stop = make('button', { type: 'button', id: 'stop', title: 'Stop the search (.)', onclick: () => searches.stop() }, 'Stop');
   $('task').append(make('span', { id: 'task-name' }), make('span', { id: 'task-time', 'aria-hidden': 'true' }), stop);
 }
 
@@ -194,7 +195,7 @@ for (const action of [
   { id: 'other', name: 'Show the other picture', key: 'x', run: () => showOther(!sheet.other), can: () => isWord('ambiguous') },
   { id: 'fix', name: 'Fix it …', run: () => openFix(), can: () => isWord('ambiguous') },
   { id: 'search', name: 'Search for another picture', run: () => searches.judge(), can: () => isWord('undecided') && !searches.running },
-  { id: 'stop', name: 'Stop the search', run: () => searches.stop(), can: () => searches.running !== null },
+  { id: 'stop', name: 'Stop the search', key: '.', run: () => searches.stop(), can: () => searches.running !== null },
   { id: 'hatching', name: 'Hatching: off, differing, open', key: 'h', run: nextHatching },
 ]) addAction({ place: 'check', ...action });
 
@@ -225,11 +226,12 @@ on('judged', (state) => {
   sayVerdict(state);
 });
 
-// For those who hear the page: the verdict, where it is another one.
+// For those who hear the page: the verdict, where it is another one. Those who see it read it in the panel, and what the line
+// at the top says stays there.
 let saidVerdict = '';
 function sayVerdict(state) {
   const [title] = verdictTexts(state);
   if (title === saidVerdict || searches.running) return;
   saidVerdict = title;
-  say(`${title.slice(2)}.`);
+  $('verdict-heard').textContent = `${title.slice(2)}.`;
 }

@@ -217,10 +217,6 @@ image_of-crossing : (axis : Axis) (places : Places) (height width at : ℕ) → 
 image_of-crossing Across places height width at = refl
 image_of-crossing Down places height width at = refl
 
-lines_after-along : (axis : Axis) (places : Places) (height width : ℕ) → lines_after axis (moved_along axis places height width) ≡ count_after places (lines_before axis (still height width))
-lines_after-along Across places height width = refl
-lines_after-along Down places height width = refl
-
 old_line : (axis : Axis) (places : Places) (height width : ℕ) (picture : List (List ℕ)) (at : ℕ) → HasSize height width picture → AreAmong places (lines_before axis (still height width)) → at < count_after places (lines_before axis (still height width)) → (IsNewAt places at → ⊥) → IsOldLine (moved_along axis places height width) picture (edited_picture axis places picture) (line_at axis at)
 old_line axis places height width picture at has among within old =
     let count = lines_along-size axis height width picture has in

@@ -4,11 +4,10 @@ use Rattle.std.proofs.lemmas.Bool.Decides.{nat_tests}
 use Rattle.clues.specs.declared.places.Places.{Places}
 use Rattle.clues.specs.declared.places.Places.TheVariants.{Kept, Inserted, Deleted, Swapped}
 use Rattle.picture.specs.declared.line_id.LineId.{LineId}
-use Rattle.picture.specs.Rows.{HasLine, line_of, lines_along}
-use Rattle.picture.specs.declared.line_id.Axis.{Axis}
+use Rattle.picture.specs.Rows.{HasLine}
 use Rattle.clues.specs.Clue.{clue_of}
 use Rattle.clues.specs.ClueBook.{clue_at, clues_of}
-use Rattle.clues.specs.Change.{CanRefresh, Changes, Follows, IsTouched, KeepsClues, Moves, image_of, line_at, origin_of, places_along}
+use Rattle.clues.specs.Change.{CanRefresh, Changes, Follows, KeepsClues, Moves, image_of, line_at, origin_of, places_along}
 use Rattle.clues.specs.Places.{new_place, old_place, count_after, AreAmong}
 use Rattle.clues.specs.BookLaws.{clue_at-clues_of, has_clue-clues_of, length_along-clues_of}
 
@@ -51,14 +50,5 @@ clues_stand change old new follows = λ line has untouched from image.
     let is = follows.untouched line is_line untouched in
     let same : is.0 ≡ from = cc (origin_of-image change.moves is.0 line is.2, origin_of-image change.moves from line image) in
     clue_at-clues_of new line is_line ∙ (ap clue_of is.3 ∙ (sym (clue_at-clues_of old is.0 is.1) ∙ ap (clue_at (clues_of old)) same))
-
--- untouched lines may be looked up in another picture where they have the same cells
-pub follows_alike : (change : Changes) (old between new : List (List ℕ)) → Follows change old between → ((axis : Axis) → lines_along axis new ≡ lines_along axis between) → ((line : LineId) → HasLine new line → (IsTouched change line → ⊥) → line_of new line ≡ line_of between line) → Follows change old new
-follows_alike change old between new follows sizes alike = record {
-  sizes = λ axis. sizes axis ∙ follows.sizes axis;
-  untouched = λ line has untouched.
-      let from = follows.untouched line (rw (← sizes line.axis) has) untouched in
-      (from.0, from.1, from.2, alike line has untouched ∙ from.3);
-}
 
 pub ruleset moving = (old_place-new_place, new_place-among)

@@ -156,15 +156,6 @@ differ_back cells old new differ = record {
   only = λ i j in_rows in_columns other. differ.only i j (omega (arith, differ.row_count)) (omega (arith, differ.column_count)) (λ same. other (sym same));
 }
 
-pub nothing_differs : (old new : List (List ℕ)) → old ≡ new → DifferIn [] old new
-nothing_differs old new same = record {
-  row_count = ap length (sym same);
-  column_count = ap width_of (sym same);
-  inside = λ k within. absurd (omega arith);
-  differ = λ k within. absurd (omega arith);
-  only = λ i j in_rows in_columns other. absurd (other (ap (λ r. cell_at r i j) (sym same)));
-}
-
 -- the pictures before and after an edit that moves lines
 pub insertion_agrees : (b d : Design) (n : Note) (line : LineId) → IsStep b n d → n.edit ≡ InsertLine line → AgreesOff line b.rows d.rows
 insertion_agrees b d n line step is =

@@ -45,9 +45,6 @@ pub grid_same : (h w : ℕ) (value : ℕ → ℕ → ℕ) (rows : List (List ℕ
 grid_same h w value rows is same =
     same_grid h w (grid h w value) rows (grid_is_grid h w value) is (λ i j in_rows in_columns. cell_at-grid h w value i j in_rows in_columns ∙ same i j in_rows in_columns)
 
-pub grids_same : (h w : ℕ) (f g : ℕ → ℕ → ℕ) → ((i j : ℕ) → i < h → j < w → f i j ≡ g i j) → grid h w f ≡ grid h w g
-grids_same h w f g same = grid_same h w f (grid h w g) (grid_is_grid h w g) (λ i j in_rows in_columns. same i j in_rows in_columns ∙ sym (cell_at-grid h w g i j in_rows in_columns))
-
 -- outside a grid there is nothing
 pub cell_at-past_rows : (rows : List (List ℕ)) (i j : ℕ) → length rows ≤ i → cell_at rows i j ≡ 0
 cell_at-past_rows rows i j past = ap (λ row. get_or row j 0) (get_or_past rows i [] past)

@@ -57,16 +57,6 @@ whole_area e rows = record {
   other_columns = λ i j _ in_columns out. absurd (elim out [ inl a ↦ omega arith | inr b ↦ omega arith ]);
 }
 
-pub no_area : (e : Edit) (rows : List (List ℕ)) → ((i j x : ℕ) → colour_after e i j x ≡ x) → IsArea e rows 0 0 0 0
-no_area e rows leaves = record {
-  rows_fit = omega arith;
-  columns_fit = omega arith;
-  rows_ordered = omega arith;
-  columns_ordered = omega arith;
-  other_rows = λ i j _ _ _. leaves i j (cell_at rows i j);
-  other_columns = λ i j _ _ _. leaves i j (cell_at rows i j);
-}
-
 pub ruleset areas = (paint_inside, fill_inside, paint_area, fill_area, whole_area)
 
 module _ (e : Edit) (rows : List (List ℕ)) (top below left beyond : ℕ) (is : IsArea e rows top below left beyond) where

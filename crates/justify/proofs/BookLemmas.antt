@@ -4,13 +4,12 @@ use Rattle.std.proofs.Math.ListN.{get_or-append}
 use Rattle.std.proofs.Math.Seq.{get_or-append_seam}
 use Rattle.std.proofs.lemmas.Bool.{cases_eq}
 use Rattle.std.proofs.lemmas.List.{get_or_read}
-use Rattle.line_settle.specs.FactSets.{IsFacts}
 use Rattle.justify.specs.declared.step.Step.{Step}
 use Rattle.picture.specs.Rows.{line_of}
 use Rattle.justify.specs.Premises.{Mentions}
 use Rattle.justify.specs.Steps.{step_at, Draws}
 use Rattle.justify.specs.Book.{Account, account, IsAccount, AreFactsBehind, CanFollow, CanAdd, GainDrawn, IsDrawnBefore}
-use Rattle.line_settle.specs.GridLaws.{same_line_length, shape_refl, shape_trans}
+use Rattle.line_settle.specs.GridLaws.{same_line_length, shape_trans}
 
 pub step_before : (steps : List Step) (step : Step) (j : ℕ) → j < length steps → step_at (steps ++ step ∷ []) j ≡ step_at steps j
 step_before steps step j l = get_or-append steps (step ∷ []) _ j l
@@ -73,16 +72,6 @@ module _ (base : List (List ℕ)) (steps : List Step) (step : Step) (old new : L
           (λ p. (g.leaves row col k).1 ((b.leaves row col k).1 (p.0, λ d. p.1 (drawn_earlier row col k d)), λ d. p.1 (drawn_here row col k d))),
         );
       })
-
-pub account_none : (base : List (List ℕ)) → IsFacts base → IsAccount (account base [] base)
-account_none base is = record {
-  base_facts = is;
-  follows = λ n l. absurd (omega arith);
-  behind = record {
-    same_shape = shape_refl base;
-    leaves = λ row col k. ((λ s. (s, λ d. absurd (let b = d.before in omega arith))), (λ p. p.0));
-  };
-}
 
 pub account_more : (base : List (List ℕ)) (steps : List Step) (old new : List (List ℕ)) (step : Step) → IsAccount (account base steps old) → CanAdd (account base steps old) step → GainDrawn step old new → IsAccount (account base (steps ++ step ∷ []) new)
 account_more base steps old new step is can g = record {

@@ -9,7 +9,7 @@ use Rattle.justify.specs.declared.premise.Premise.{Premise}
 use Rattle.justify.specs.declared.step.Step.{Step}
 use Rattle.justify.specs.Premises.{premise_at}
 use Rattle.justify.specs.Book.{GainDrawn}
-use Rattle.line_settle.specs.GridLaws.{shape_refl, shape_trans}
+use Rattle.line_settle.specs.GridLaws.{shape_trans}
 
 -- one of the first n premises says that colour k is not in a cell
 pub record DrawnSoFar (line : LineId) (premises : List Premise) (n row col k : ℕ) : Type 0 where
@@ -22,12 +22,6 @@ pub record DrawnSoFar (line : LineId) (premises : List Premise) (n row col k : �
 pub record Gaining (line : LineId) (premises : List Premise) (n : ℕ) (old new : List (List ℕ)) : Type 0 where
   pub same_shape : SameShape old new
   pub leaves : (row col k : ℕ) → Leaves new row col k ↔ (Leaves old row col k × (DrawnSoFar line premises n row col k → ⊥))
-
-pub gaining_none : (line : LineId) (premises : List Premise) (old : List (List ℕ)) → Gaining line premises 0 old old
-gaining_none line premises old = record {
-  same_shape = shape_refl old;
-  leaves = λ row col k. ((λ s. (s, λ d. absurd (let b = d.below in omega arith))), (λ p. p.0));
-}
 
 same_cell : (facts : List (List ℕ)) (row col r c : ℕ) → row ≡ r → col ≡ c → cell_at facts row col ≡ cell_at facts r c
 same_cell facts row col r c e f = ap (λ n. cell_at facts n col) e ∙ ap (λ n. cell_at facts r n) f

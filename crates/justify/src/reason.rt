@@ -26,6 +26,13 @@ pub struct Reason {
     pub premises: Premises,
 }
 
+// An exclusion on a line: a cell by its place, and the colour that it cannot have.
+#[derive(Clone, Copy)]
+struct Exclusion {
+    at: u8,
+    colour: u8,
+}
+
 impl Book {
     /// Why a colour from 0 to 15 is not in a cell, where the base leaves it: the step of the book that drew it, and what of
     /// its premises is needed for this exclusion alone. None where the colour is still left. The book has to be a
@@ -53,7 +60,7 @@ impl Book {
         let clue = clues.clue(line);
         let cells = self.base().line_len(line);
         let at = place_along(line, row, col);
-        let premises = needed(clue, step, cells, at, colour)?;
+        let premises = needed(clue, step, cells, Exclusion { at, colour })?;
         Ok(Some(Reason {
             step: place,
             line,
@@ -63,19 +70,15 @@ impl Book {
 }
 
 // The premises of a step, on a line of so many cells, that are needed for one of the exclusions that it draws.
-fn needed(
-    clue: &Clue,
-    step: &Step,
-    cells: u8,
-    place: u8,
-    colour: u8,
-) -> Result<Premises, AllocError>
+fn needed(clue: &Clue, step: &Step, cells: u8, exclusion: Exclusion) -> Result<Premises, AllocError>
     requires short { cells ≤ MOST_CELLS }
     requires inside { (i : ℕ) → Mentions step.now.premises i → i < cells }
-    requires place { place < cells }
-    requires in_colours { colour < 16 }
-    requires forced { ForcesFrom clue.now cells (Says step.now.premises) place colour }
-    ensures { IfOk result (Supports clue.now cells step.now.premises place colour) }
+    requires place { exclusion.at < cells }
+    requires in_colours { exclusion.colour < 16 }
+    requires forced { ForcesFrom clue.now cells (Says step.now.premises) exclusion.at
+        exclusion.colour }
+    ensures { IfOk result
+        (Supports clue.now cells step.now.premises exclusion.at exclusion.colour) }
 {
     let mut left = [0; MOST_CELLS];
     let mut drawn = [0; MOST_CELLS];
@@ -84,8 +87,7 @@ fn needed(
         clue,
         cells,
         &step.premises,
-        place,
-        colour,
+        exclusion,
         &mut left[..count],
         &mut drawn[..count],
     )
@@ -96,8 +98,7 @@ fn needed_on(
     clue: &Clue,
     cells: u8,
     premises: &Premises,
-    place: u8,
-    colour: u8,
+    exclusion: Exclusion,
     left: &mut [u16],
     drawn: &mut [u16],
 ) -> Result<Premises, AllocError>
@@ -105,12 +106,14 @@ fn needed_on(
     requires drawn_room { length drawn.old ≡ cells }
     requires short { cells ≤ MOST_CELLS }
     requires inside { (i : ℕ) → Mentions premises.now i → i < cells }
-    requires place { place < cells }
-    requires in_colours { colour < 16 }
-    requires forced { ForcesFrom clue.now cells (Says premises.now) place colour }
-    ensures { IfOk result (Supports clue.now cells premises.now place colour) }
+    requires place { exclusion.at < cells }
+    requires in_colours { exclusion.colour < 16 }
+    requires forced { ForcesFrom clue.now cells (Says premises.now) exclusion.at
+        exclusion.colour }
+    ensures { IfOk result
+        (Supports clue.now cells premises.now exclusion.at exclusion.colour) }
 {
     leave_rest(premises.as_slice(), left);
-    mark(drawn, place, colour);
+    mark(drawn, exclusion.at, exclusion.colour);
     needed_for(premises.allocator(), clue, drawn, left)
 }

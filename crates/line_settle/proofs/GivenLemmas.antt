@@ -75,7 +75,7 @@ one_base picture is givens same h facts others b c = same_inside picture facts o
 
 -- ---- no givens
 
-full_base : (picture : List (List ℕ)) → IsPicture picture → (givens : List ℕ) → ((row col : ℕ) → HasCell givens row col → ⊥) → IsBase givens picture (nothing_excluded (length picture) (width_of picture))
+pub full_base : (picture : List (List ℕ)) → IsPicture picture → (givens : List ℕ) → ((row col : ℕ) → HasCell givens row col → ⊥) → IsBase givens picture (nothing_excluded (length picture) (width_of picture))
 full_base picture is givens n = record {
   same_shape = full_shape picture is;
   left = λ row col k h w.

@@ -1,9 +1,9 @@
 -- Lines whose cells show a colour, and lines without blocks.
-use Rattle.std.proofs.Common.{◌≡◌, ◌≢◌, ℕ, zero, suc, ◌+◌, ◌^◌, ◌<◌, ◌≤◌, ◌++◌, ◌↔◌, List, [], ◌∷◌, length, get_or, drop, drop-cons, replicate, refl, sym, ap, subst, ◌∙◌, arith, add-one, inl, inr}
+use Rattle.std.proofs.Common.{◌≡◌, ◌≢◌, ℕ, zero, suc, ◌+◌, ◌^◌, ◌<◌, ◌≤◌, ◌++◌, ◌↔◌, List, [], ◌∷◌, length, get_or, drop, drop-cons, replicate, refl, sym, ap, subst, ◌∙◌, arith, add-one, inl, inr, true, bit_and}
 use Rattle.std.specs.Prelude.{IsBitSet, IsTrue, Option, Some, None, MatchOption, is_some}
 use Rattle.std.specs.List.{All}
 use Rattle.std.proofs.Math.ListN.{get_or-eq_default}
-use Rattle.std.proofs.lemmas.Bool.{cases_lt}
+use Rattle.std.proofs.lemmas.Bool.{cases_eq, cases_lt}
 use Rattle.std.proofs.lemmas.Nat.{pow_pos}
 use Rattle.std.proofs.lemmas.List.{length-map, length-replicate, get_or-map, drop_all}
 use Rattle.std.proofs.lemmas.List.Elements.{All-get_or, All-from_get_or}
@@ -22,6 +22,7 @@ use Rattle.line_settle.specs.MaskLaws.{only_is_power, lowest_of_power}
 use Rattle.line_settle.proofs.FittingLemmas.{allows_bit, bit_allows}
 use Rattle.line_settle.proofs.NarrowLemmas.{zeros, narrows_dead}
 use Rattle.line_settle.proofs.ClueLemmas.{no_block}
+use Rattle.line_settle.proofs.StateSetLemmas.{allowed_both, both_allowed}
 
 -- a mask's only colour is its lowest
 only_shown : (mask k : ℕ) → mask < 2 ^ 16 → IsOnly mask k → IsShown mask
@@ -177,3 +178,16 @@ pub narrows_not_blank : (left out : List ℕ) → (All (λ mask. IsTrue (allows 
 narrows_not_blank left out n o =
     narrows_dead [] left out o (λ h. n (All-from_get_or (λ mask. IsTrue (allows mask 0)) left 0
     (λ i l. bit_allows _ 0 (let P : ℕ → Type 0 = λ k. IsBitSet (get_or left i 0) k in subst P (only_background h.0 i h.1.has_clue) (h.1.keeps i l)))))
+
+-- background in common with one cell more
+pub common_more : (left : List ℕ) (common n : ℕ) → ((allows common 0 ≡ true) ↔ ((i : ℕ) → i < n → allows (get_or left i 0) 0 ≡ true)) → (allows (bit_and common (get_or left n 0)) 0 ≡ true) ↔ ((i : ℕ) → i < n + 1 → allows (get_or left i 0) 0 ≡ true)
+common_more left common n e =
+    let P : ℕ → Type 0 = λ i. allows (get_or left i 0) 0 ≡ true in (
+      (λ h i l.
+          let both = allowed_both common (get_or left n 0) 0 h in
+          elim (cases_eq i n) [
+            | inl s ↦ subst P (sym s) both.1
+            | inr d ↦ e.0 both.0 i (omega arith)
+          ]),
+      (λ each. both_allowed common (get_or left n 0) 0 (e.1 (λ i l. each i (omega arith))) (each n (omega arith))),
+    )

@@ -1,25 +1,21 @@
 -- Sets of the states of a pattern, moved by a cell.
 use Rattle.std.proofs.Common.{◌≡◌, ◌≢◌, ℕ, zero, suc, ◌+◌, ◌-◌, ◌*◌, ◌/◌, ◌%◌, ◌^◌, ◌<◌, ◌≤◌, ◌↔◌, ◌⊎◌, Bool, true, false, ◌==◌, ◌&&◌, ◌||◌, List, bit_and, bit_or, refl, sym, ap, subst, ◌∙◌, arith, inl, inr, eq-eqb, length, get_or, replicate}
-use Rattle.std.specs.Int.{bit_at, bit_not, trailing_zeros, w16, w128}
+use Rattle.std.specs.Int.{bit_at, bit_not, trailing_zeros, w16}
 use Rattle.std.proofs.Math.Pow.{pow_mono}
 use Rattle.std.proofs.lemmas.Bool.{cases_eq, cases_lt, and_parts, and_from, or_cases, or_left, or_right, false≢true, eqb-true}
 use Rattle.std.proofs.lemmas.Nat.{and_le_l}
-use Rattle.std.proofs.lemmas.Nat.Bits.{bit_at-trailing_zeros, bit_at_clear_same, bit_at_clear_other, bit_at_mask_inside, bit_at_mask_below, bit_at_mask_above}
-use Rattle.std.proofs.lemmas.Grind.{one_shifted}
-use Rattle.picture.specs.declared.picture.TheConstants.{MAX_SIDE}
+use Rattle.std.proofs.lemmas.Nat.Bits.{bit_at_lowest, bit_at-trailing_zeros, bit_at_clear_same, bit_at_clear_other, bit_at_mask_inside, bit_at_mask_below, bit_at_mask_above}
 use Rattle.clues.specs.declared.block.Block.{Block}
 use Rattle.clues.specs.Clue.{IsClue}
-use Rattle.line_settle.specs.declared.state_sets.Moves.{Moves}
-use Rattle.line_settle.specs.declared.state_sets.PatternSets.{PatternSets}
 use Rattle.line_settle.specs.Spelling.{pattern_of, allows, waits, finish_step, reach_step}
 use Rattle.line_settle.specs.Positions.{has}
 use Rattle.line_settle.specs.Laying.{meets, gap_before, state_behind}
-use Rattle.line_settle.specs.StateSets.{AreStates, MovesBy, AreNext, AreWaiting, HasColours, ArePatternSets}
+use Rattle.line_settle.specs.StateSets.{AreStates, MoveSets, MovesBy, AreNext, AreWaiting, HasColours, StateSets, ArePatternSets}
 use Rattle.picture.specs.BitLaws.{bit_below}
 use Rattle.line_settle.proofs.BitLemmas.{allows_is, allows_or, allows_none, allows_shifted}
 use Rattle.line_settle.proofs.FittingLemmas.{allows_bit}
 use Rattle.line_settle.proofs.NarrowLemmas.{zeros}
-use Rattle.line_settle.proofs.PositionLemmas.{has_and, has_or, has_none, has_place, has_above, has_down, has_up_first, has_up}
+use Rattle.line_settle.proofs.PositionLemmas.{has_and, has_or, has_none, has_above, has_down, none_moved_up, moved_up}
 use Rattle.line_settle.proofs.StateLemmas.{Step, waits_at_end}
 use Rattle.line_settle.proofs.StepLemmas.{crosses_finish, finish_crosses, step_reaches, reached_by_step}
 use Rattle.line_settle.proofs.BlockLemmas.{PieceAt, block_at, piece_of, state_next, state_at_end, waits_for_block, gap_waits_not, inside_waits_not}
@@ -50,27 +46,47 @@ in_width w a i l h = elim (cases_lt i w) [
   | inr m ↦ absurd (false≢true (sym (has_above w a i l m) ∙ h))
 ]
 
-pub has_member : (a : ℕ) → a < 2 ^ 128 → a ≢ 0 → (i : ℕ) × (has a i ≡ true)
+odd_has : (a : ℕ) → a % 2 ≡ 1 → has a 0 ≡ true
 unfolding has
-has_member a l n = (trailing_zeros w128 a, eq-eqb _ _ (bit_at-trailing_zeros w128 a (omega arith) l).1)
+odd_has a e = eq-eqb _ _ (bit_at_lowest a ∙ e)
 
-up_in : (a q : ℕ) → has (a * 2 % 340282366920938463463374607431768211456) q ≡ true → (j : ℕ) × (q ≡ j + 1) × (has a j ≡ true)
-up_in a zero h = absurd (false≢true (sym (has_up_first a) ∙ h))
-up_in a (suc j) h =
-    let l : suc j < 128 = in_width 128 (a * 2 % 340282366920938463463374607431768211456) (suc j) (omega arith) h in
-    (j, omega arith, sym (has_up a j (omega arith)) ∙ h)
+below_power : (n : ℕ) → n < 2 ^ n
+below_power zero = omega arith
+below_power (suc n) = let h = below_power n in omega arith
 
-in_up : (a j q : ℕ) → q ≡ j + 1 → j < 127 → has a j ≡ true → has (a * 2 % 340282366920938463463374607431768211456) q ≡ true
-in_up a j q e l h =
-    let P : ℕ → Type 0 = λ n. has (a * 2 % 340282366920938463463374607431768211456) n ≡ true in
-    subst P (let s : suc j ≡ q = omega arith in s) (has_up a j l ∙ h)
+-- a set of positions below a width that is not empty has a member
+member_below : (w a : ℕ) → a < 2 ^ w → a ≢ 0 → (i : ℕ) × (has a i ≡ true)
+member_below zero a l n = absurd (omega arith)
+member_below (suc w) a l n = elim (cases_eq (a % 2) 1) [
+  | inl e ↦ (0, odd_has a e)
+  | inr d ↦
+      let half : a / 2 < 2 ^ w = omega arith in
+      let some : a / 2 ≢ 0 = (λ e. n (omega arith)) in
+      let m = member_below w (a / 2) half some in
+      (m.0 + 1, sym (has_down 1 a m.0) ∙ m.1)
+]
+
+pub has_member : (a : ℕ) → a ≢ 0 → (i : ℕ) × (has a i ≡ true)
+has_member a n = member_below a a (below_power a) n
+
+up_in : (w a q : ℕ) → 0 < w → has (a * 2 % 2 ^ w) q ≡ true → (j : ℕ) × (q ≡ j + 1) × (has a j ≡ true)
+up_in w a zero p h = absurd (false≢true (sym (none_moved_up w a p) ∙ h))
+up_in w a (suc j) p h =
+    let some : 0 < 2 ^ w = (let m = pow_mono (let z : 0 ≤ w = omega arith in z) in omega arith) in
+    let l : suc j < w = in_width w (a * 2 % 2 ^ w) (suc j) (omega arith) h in
+    (j, omega arith, sym (moved_up w a j (omega arith)) ∙ h)
+
+in_up : (w a j q : ℕ) → q ≡ j + 1 → j + 1 < w → has a j ≡ true → has (a * 2 % 2 ^ w) q ≡ true
+in_up w a j q e l h =
+    let P : ℕ → Type 0 = λ n. has (a * 2 % 2 ^ w) n ≡ true in
+    subst P (let s : suc j ≡ q = omega arith in s) (moved_up w a j l ∙ h)
 
 -- ---- over a cell
 
-moved_into : (pattern : List ℕ) (mask : ℕ) (before : ℕ → Bool) (moves : Moves) (from q : ℕ) → MovesBy pattern mask moves → AreStates pattern before from → has (bit_or (bit_and from moves.advancing * 2 % 340282366920938463463374607431768211456) (bit_and from moves.resting)) q ≡ true → (q < length pattern) × (reach_step pattern mask before q ≡ true)
-moved_into pattern mask before moves from q by is h = elim (in_or (bit_and from moves.advancing * 2 % 340282366920938463463374607431768211456) (bit_and from moves.resting) q h) [
+moved_into : (w : ℕ) (pattern : List ℕ) (mask : ℕ) (before : ℕ → Bool) (moves : MoveSets) (from q : ℕ) → 0 < w → MovesBy w pattern mask moves → AreStates pattern before from → has (bit_or (bit_and from moves.advancing * 2 % 2 ^ w) (bit_and from moves.resting)) q ≡ true → (q < length pattern) × (reach_step pattern mask before q ≡ true)
+moved_into w pattern mask before moves from q wide by is h = elim (in_or (bit_and from moves.advancing * 2 % 2 ^ w) (bit_and from moves.resting) q h) [
   | inl a ↦
-      let u = up_in (bit_and from moves.advancing) q a in
+      let u = up_in w (bit_and from moves.advancing) q wide a in
       let p = in_and from moves.advancing u.0 u.2 in
       let s = (is.each u.0).0 p.0 in
       let m = (by.advancing u.0).0 p.1 in
@@ -84,31 +100,31 @@ moved_into pattern mask before moves from q by is h = elim (in_or (bit_and from 
       (s.0, step_reaches pattern mask before q 0 q s.1 m.2 step)
 ]
 
-into_moved : (pattern : List ℕ) (mask : ℕ) (before : ℕ → Bool) (moves : Moves) (from q : ℕ) → MovesBy pattern mask moves → AreStates pattern before from → q < length pattern → reach_step pattern mask before q ≡ true → has (bit_or (bit_and from moves.advancing * 2 % 340282366920938463463374607431768211456) (bit_and from moves.resting)) q ≡ true
-into_moved pattern mask before moves from q by is h t =
+into_moved : (w : ℕ) (pattern : List ℕ) (mask : ℕ) (before : ℕ → Bool) (moves : MoveSets) (from q : ℕ) → 0 < w → MovesBy w pattern mask moves → AreStates pattern before from → q < length pattern → reach_step pattern mask before q ≡ true → has (bit_or (bit_and from moves.advancing * 2 % 2 ^ w) (bit_and from moves.resting)) q ≡ true
+into_moved w pattern mask before moves from q wide by is h t =
     let r = reached_by_step pattern mask before q h t in
     let few = by.short in
     elim r.step [
       | inl a ↦
           let s = (is.each r.from).1 ((let l = a.0 in omega arith), r.was) in
           let m = (by.advancing r.from).1 (a.0, ap (allows mask) (sym a.1) ∙ r.allowed) in
-          left_in (bit_and from moves.advancing * 2 % 340282366920938463463374607431768211456) (bit_and from moves.resting) q
-          (in_up (bit_and from moves.advancing) r.from q a.2 (let l = a.0 in omega arith) (and_in from moves.advancing r.from s m))
+          left_in (bit_and from moves.advancing * 2 % 2 ^ w) (bit_and from moves.resting) q
+          (in_up w (bit_and from moves.advancing) r.from q a.2 (let l = a.0 in omega arith) (and_in from moves.advancing r.from s m))
       | inr b ↦
           let P : ℕ → Type 0 = λ n. has (bit_and from moves.resting) n ≡ true in
           let l : r.from < length pattern = (let e = b.2 in omega arith) in
           let s = (is.each r.from).1 (l, r.was) in
           let m = (by.resting r.from).1 (l, b.1, ap (allows mask) (sym b.0) ∙ r.allowed) in
-          right_in (bit_and from moves.advancing * 2 % 340282366920938463463374607431768211456) (bit_and from moves.resting) q (subst P (sym b.2) (and_in from moves.resting r.from s m))
+          right_in (bit_and from moves.advancing * 2 % 2 ^ w) (bit_and from moves.resting) q (subst P (sym b.2) (and_in from moves.resting r.from s m))
     ]
 
-pub forward_states : (pattern : List ℕ) (mask : ℕ) (before : ℕ → Bool) (moves : Moves) (from : ℕ) → MovesBy pattern mask moves → AreStates pattern before from → AreStates pattern (reach_step pattern mask before) (bit_or (bit_and from moves.advancing * 2 % 340282366920938463463374607431768211456) (bit_and from moves.resting))
-forward_states pattern mask before moves from by is = record {
-  each = λ q. ((λ h. moved_into pattern mask before moves from q by is h), (λ p. into_moved pattern mask before moves from q by is p.0 p.1));
+pub forward_states : (w : ℕ) (pattern : List ℕ) (mask : ℕ) (before : ℕ → Bool) (moves : MoveSets) (from : ℕ) → 0 < w → MovesBy w pattern mask moves → AreStates pattern before from → AreStates pattern (reach_step pattern mask before) (bit_or (bit_and from moves.advancing * 2 % 2 ^ w) (bit_and from moves.resting))
+forward_states w pattern mask before moves from wide by is = record {
+  each = λ q. ((λ h. moved_into w pattern mask before moves from q wide by is h), (λ p. into_moved w pattern mask before moves from q wide by is p.0 p.1));
 }
 
-back_into : (pattern : List ℕ) (mask : ℕ) (behind : ℕ → Bool) (moves : Moves) (later q : ℕ) → MovesBy pattern mask moves → AreStates pattern behind later → has (bit_or (bit_and (later / 2) moves.advancing) (bit_and later moves.resting)) q ≡ true → (q < length pattern) × (finish_step pattern mask behind q ≡ true)
-back_into pattern mask behind moves later q by is h = elim (in_or (bit_and (later / 2) moves.advancing) (bit_and later moves.resting) q h) [
+back_into : (w : ℕ) (pattern : List ℕ) (mask : ℕ) (behind : ℕ → Bool) (moves : MoveSets) (later q : ℕ) → MovesBy w pattern mask moves → AreStates pattern behind later → has (bit_or (bit_and (later / 2) moves.advancing) (bit_and later moves.resting)) q ≡ true → (q < length pattern) × (finish_step pattern mask behind q ≡ true)
+back_into w pattern mask behind moves later q by is h = elim (in_or (bit_and (later / 2) moves.advancing) (bit_and later moves.resting) q h) [
   | inl a ↦
       let p = in_and (later / 2) moves.advancing q a in
       let s = (is.each (q + 1)).0 (sym (has_down 1 later q) ∙ p.0) in
@@ -123,8 +139,8 @@ back_into pattern mask behind moves later q by is h = elim (in_or (bit_and (late
       (s.0, crosses_finish pattern mask behind q 0 (record { next = q; step = step; allowed = m.2; reaches_good = s.1 }))
 ]
 
-into_back : (pattern : List ℕ) (mask : ℕ) (behind : ℕ → Bool) (moves : Moves) (later q : ℕ) → MovesBy pattern mask moves → AreStates pattern behind later → q < length pattern → finish_step pattern mask behind q ≡ true → has (bit_or (bit_and (later / 2) moves.advancing) (bit_and later moves.resting)) q ≡ true
-into_back pattern mask behind moves later q by is h t =
+into_back : (w : ℕ) (pattern : List ℕ) (mask : ℕ) (behind : ℕ → Bool) (moves : MoveSets) (later q : ℕ) → MovesBy w pattern mask moves → AreStates pattern behind later → q < length pattern → finish_step pattern mask behind q ≡ true → has (bit_or (bit_and (later / 2) moves.advancing) (bit_and later moves.resting)) q ≡ true
+into_back w pattern mask behind moves later q by is h t =
     let c = finish_crosses pattern mask behind q t in
     elim c.1.step [
       | inl a ↦
@@ -137,12 +153,17 @@ into_back pattern mask behind moves later q by is h t =
           right_in (bit_and (later / 2) moves.advancing) (bit_and later moves.resting) q (and_in later moves.resting q s m)
     ]
 
-pub back_states : (pattern : List ℕ) (mask : ℕ) (behind : ℕ → Bool) (moves : Moves) (later : ℕ) → MovesBy pattern mask moves → AreStates pattern behind later → AreStates pattern (finish_step pattern mask behind) (bit_or (bit_and (later / 2) moves.advancing) (bit_and later moves.resting))
-back_states pattern mask behind moves later by is = record {
-  each = λ q. ((λ h. back_into pattern mask behind moves later q by is h), (λ p. into_back pattern mask behind moves later q by is p.0 p.1));
+pub back_states : (w : ℕ) (pattern : List ℕ) (mask : ℕ) (behind : ℕ → Bool) (moves : MoveSets) (later : ℕ) → MovesBy w pattern mask moves → AreStates pattern behind later → AreStates pattern (finish_step pattern mask behind) (bit_or (bit_and (later / 2) moves.advancing) (bit_and later moves.resting))
+back_states w pattern mask behind moves later by is = record {
+  each = λ q. ((λ h. back_into w pattern mask behind moves later q by is h), (λ p. into_back w pattern mask behind moves later q by is p.0 p.1));
 }
 
-pub ruleset moving = (forward_states, back_states)
+-- the same as they are put together
+pub forward_is : (w from on rest moved up stay all : ℕ) → moved ≡ bit_and from on → up ≡ moved * 2 % 2 ^ w → stay ≡ bit_and from rest → all ≡ bit_or up stay → bit_or (bit_and from on * 2 % 2 ^ w) (bit_and from rest) ≡ all
+forward_is w from on rest moved up stay all m u s a = cc
+
+pub back_is : (later on rest lower moved stay all : ℕ) → lower ≡ later / 2 → moved ≡ bit_and lower on → stay ≡ bit_and later rest → all ≡ bit_or moved stay → bit_or (bit_and (later / 2) on) (bit_and later rest) ≡ all
+back_is later on rest lower moved stay all l m s a = cc
 
 -- ---- the moves of a mask
 
@@ -229,8 +250,8 @@ all_taken next colours rest advancing q e t = (
   ]),
 )
 
-pub moves_made : (pattern : List ℕ) (sets : PatternSets) (mask advancing resting : ℕ) → ArePatternSets pattern sets → ((q : ℕ) → (has advancing q ≡ true) ↔ ((k : ℕ) × (allows (bit_and mask sets.colours) k ≡ true) × (has (get_or sets.next k 0) q ≡ true))) → ((q : ℕ) → (has resting q ≡ true) ↔ ((has sets.waiting q ≡ true) × (allows (bit_and mask sets.colours) 0 ≡ true))) → MovesBy pattern mask (record { advancing = advancing; resting = resting })
-moves_made pattern sets mask advancing resting are on stay = record {
+pub moves_made : (w : ℕ) (pattern : List ℕ) (sets : StateSets) (mask advancing resting : ℕ) → ArePatternSets w pattern sets → ((q : ℕ) → (has advancing q ≡ true) ↔ ((k : ℕ) × (allows (bit_and mask sets.colours) k ≡ true) × (has (get_or sets.next k 0) q ≡ true))) → ((q : ℕ) → (has resting q ≡ true) ↔ ((has sets.waiting q ≡ true) × (allows (bit_and mask sets.colours) 0 ≡ true))) → MovesBy w pattern mask (record { advancing = advancing; resting = resting })
+moves_made w pattern sets mask advancing resting are on stay = record {
   short = are.short;
   advancing = λ q. (
     (λ h.
@@ -254,8 +275,8 @@ moves_made pattern sets mask advancing resting are on stay = record {
 }
 
 -- a mask with all the pattern's colours lets every state move
-pub all_moves : (pattern : List ℕ) (sets : PatternSets) (mask : ℕ) → ArePatternSets pattern sets → bit_and mask sets.colours ≡ sets.colours → MovesBy pattern mask (record { advancing = sets.inner; resting = sets.waiting })
-all_moves pattern sets mask are e =
+pub all_moves : (w : ℕ) (pattern : List ℕ) (sets : StateSets) (mask : ℕ) → ArePatternSets w pattern sets → bit_and mask sets.colours ≡ sets.colours → MovesBy w pattern mask (record { advancing = sets.inner; resting = sets.waiting })
+all_moves w pattern sets mask are e =
     let P : ℕ → Type 0 = λ m. (k : ℕ) → allows m k ≡ true → allows mask k ≡ true in
     let each : P sets.colours = subst P e (λ k a. (allowed_both mask sets.colours k a).0) in
     let l = are.is_end in
@@ -273,15 +294,8 @@ all_moves pattern sets mask are e =
 
 -- ---- the sets of a pattern
 
-pub place_power : (k : ℕ) → k < 128 → 1 * 2 ^ k % 340282366920938463463374607431768211456 ≡ 2 ^ k
-place_power k h = (one_shifted k 340282366920938463463374607431768211455 refl h).0
-
-pub between_ordered : (start end : ℕ) → start ≤ end → end < 128 → 1 * 2 ^ start % 340282366920938463463374607431768211456 ≤ 1 * 2 ^ end % 340282366920938463463374607431768211456
-between_ordered start end h l =
-    let a = place_power start (omega arith) in
-    let b = place_power end l in
-    let m = pow_mono h in
-    omega arith
+pub between_ordered : (start end a b : ℕ) → start ≤ end → a ≡ 2 ^ start → b ≡ 2 ^ end → a ≤ b
+between_ordered start end a b h e f = let m = pow_mono h in omega arith
 
 between_is : (start end q : ℕ) → (has (2 ^ end - 2 ^ start) q ≡ true) ↔ ((start ≤ q) × (q < end))
 unfolding has
@@ -296,11 +310,11 @@ between_is start end q = (
   (λ p. ap (λ x. x == 1) (bit_at_mask_inside start end q p.0 p.1)),
 )
 
-pub between : (start end q : ℕ) → start ≤ end → end < 128 → (has (1 * 2 ^ end % 340282366920938463463374607431768211456 - 1 * 2 ^ start % 340282366920938463463374607431768211456) q ≡ true) ↔ ((start ≤ q) × (q < end))
-between start end q h l =
+pub between : (start end a b set q : ℕ) → a ≡ 2 ^ start → b ≡ 2 ^ end → set ≡ b - a → (has set q ≡ true) ↔ ((start ≤ q) × (q < end))
+between start end a b set q e f g =
     let P : ℕ → Type 0 = λ n. (has n q ≡ true) ↔ ((start ≤ q) × (q < end)) in
-    let e : 2 ^ end - 2 ^ start ≡ 1 * 2 ^ end % 340282366920938463463374607431768211456 - 1 * 2 ^ start % 340282366920938463463374607431768211456 = (let a = place_power start (omega arith) in let b = place_power end l in cc) in
-    subst P e (between_is start end q)
+    let same : 2 ^ end - 2 ^ start ≡ set = cc in
+    subst P same (between_is start end q)
 
 -- a run of one colour more
 pub run_next : (pattern old new : List ℕ) (set colour start end : ℕ) → ((q : ℕ) → (has set q ≡ true) ↔ ((start ≤ q) × (q < end))) → ((i k : ℕ) → has (get_or new k 0) i ≡ (has (get_or old k 0) i || (has set i && colour == k))) → start ≤ end → AreNext pattern start old → ((q : ℕ) → start ≤ q → q < end → get_or pattern (q + 1) 0 ≡ colour) → AreNext pattern end new
@@ -347,42 +361,32 @@ piece_waits pattern q len colour s e m p is to t h l w = elim (cases_lt t s) [
   ]
 ]
 
-has_one_place : (k t : ℕ) → k < 128 → has (1 * 2 ^ k % 340282366920938463463374607431768211456) t ≡ true → t ≡ k
-has_one_place k t l h = eqb-true _ _ (sym (has_place k t l) ∙ h)
-
-one_place_has : (k t : ℕ) → k < 128 → t ≡ k → has (1 * 2 ^ k % 340282366920938463463374607431768211456) t ≡ true
-one_place_has k t l e = has_place k t l ∙ eq-eqb _ _ e
-
-pub waiting_more : (pattern : List ℕ) (q len colour s e waiting : ℕ) (m : Bool) → PieceAt pattern q m len colour → s ≡ q + gap_before m → e ≡ s + len → length pattern ≤ MAX_SIDE + 1 → AreWaiting pattern q waiting → AreWaiting pattern e (bit_or waiting (1 * 2 ^ s % 340282366920938463463374607431768211456))
-waiting_more pattern q len colour s e waiting m p is to few are =
+pub waiting_more : (pattern : List ℕ) (q len colour s e waiting one : ℕ) (m : Bool) → PieceAt pattern q m len colour → s ≡ q + gap_before m → e ≡ s + len → ((t : ℕ) → has one t ≡ (t == s)) → AreWaiting pattern q waiting → AreWaiting pattern e (bit_or waiting one)
+waiting_more pattern q len colour s e waiting one m p is to place are =
     let in_pattern = p.block_is.within in
     let some = p.block_is.has_cells in
-    let one : ℕ = 1 * 2 ^ s % 340282366920938463463374607431768211456 in
-    let low : s < 128 = omega arith in
     let here : waits pattern s ≡ true = ap (waits pattern) is ∙ waits_for_block pattern (q + gap_before m) len colour p.block_is in
     λ t. (
       (λ h. elim (in_or waiting one t h) [
         | inl a ↦ let w = (are t).0 a in ((let l = w.0 in omega arith), w.1)
-        | inr a ↦ let y = has_one_place s t low a in ((omega arith), ap (waits pattern) y ∙ here)
+        | inr a ↦ let y = eqb-true _ _ (sym (place t) ∙ a) in ((omega arith), ap (waits pattern) y ∙ here)
       ]),
       (λ w. elim (cases_lt t q) [
         | inl l ↦ left_in waiting one t ((are t).1 (l, w.1))
-        | inr g ↦ right_in waiting one t (one_place_has s t low (piece_waits pattern q len colour s e m p is to t g w.0 w.1))
+        | inr g ↦ right_in waiting one t (place t ∙ eq-eqb _ _ (piece_waits pattern q len colour s e m p is to t g w.0 w.1))
       ]),
     )
 
-pub waiting_all : (pattern : List ℕ) (q waiting : ℕ) → q + 1 ≡ length pattern → length pattern ≤ MAX_SIDE + 1 → AreWaiting pattern q waiting → AreWaiting pattern (length pattern) (bit_or waiting (1 * 2 ^ q % 340282366920938463463374607431768211456))
-waiting_all pattern q waiting end few are =
-    let one : ℕ = 1 * 2 ^ q % 340282366920938463463374607431768211456 in
-    let low : q < 128 = omega arith in
+pub waiting_all : (pattern : List ℕ) (q waiting one : ℕ) → q + 1 ≡ length pattern → ((t : ℕ) → has one t ≡ (t == q)) → AreWaiting pattern q waiting → AreWaiting pattern (length pattern) (bit_or waiting one)
+waiting_all pattern q waiting one end place are =
     λ t. (
       (λ h. elim (in_or waiting one t h) [
         | inl a ↦ let w = (are t).0 a in ((let l = w.0 in omega arith), w.1)
-        | inr a ↦ let y = has_one_place q t low a in ((omega arith), ap (waits pattern) y ∙ waits_at_end pattern q (omega arith))
+        | inr a ↦ let y = eqb-true _ _ (sym (place t) ∙ a) in ((omega arith), ap (waits pattern) y ∙ waits_at_end pattern q (omega arith))
       ]),
       (λ w. elim (cases_lt t q) [
         | inl l ↦ left_in waiting one t ((are t).1 (l, w.1))
-        | inr g ↦ right_in waiting one t (one_place_has q t low (let l = w.0 in omega arith))
+        | inr g ↦ right_in waiting one t (place t ∙ eq-eqb _ _ (let l = w.0 in omega arith))
       ]),
     )
 
@@ -426,5 +430,3 @@ none_waiting pattern = λ q. ((λ h. absurd (in_none q h)), (λ p. absurd (omega
 
 pub first_colour : (pattern : List ℕ) → HasColours pattern 0 1
 first_colour pattern = record { background = refl; each = λ q l. absurd (omega arith) }
-
-pub ruleset setting = (between_ordered, between, run_next)

@@ -1,19 +1,16 @@
 -- What the sweep over a line keeps from cell to cell.
-use Rattle.std.proofs.Common.{◌≡◌, ◌≢◌, ℕ, zero, suc, ◌+◌, ◌^◌, ◌<◌, ◌≤◌, ◌↔◌, ◌⊎◌, Bool, true, ◌||◌, List, [], ◌∷◌, bit_and, bit_or, refl, sym, ap, subst, ◌∙◌, arith, inl, inr, eq-eqb, length, get_or, drop, drop-cons, replicate}
+use Rattle.std.proofs.Common.{◌≡◌, ◌≢◌, ℕ, zero, suc, ◌+◌, ◌^◌, ◌<◌, ◌≤◌, ◌↔◌, ◌⊎◌, Bool, true, ◌||◌, ◌==◌, not, ne_eqb, List, [], ◌∷◌, bit_and, bit_or, refl, sym, ap, subst, ◌∙◌, arith, inl, inr, eq-eqb, length, get_or, drop, drop-cons, replicate}
 use Rattle.std.proofs.Math.ListN.{set, drop_of_length-le}
 use Rattle.std.proofs.Math.Seq.{drop-length}
-use Rattle.std.proofs.lemmas.Bool.{cases_eq, cases_lt, or_cases, or_left, or_right, false≢true, eqb-true}
+use Rattle.std.proofs.lemmas.Bool.{cases_eq, cases_lt, or_cases, or_left, or_right, false≢true, eqb-true, eqb-false, not-true, not_from_false}
 use Rattle.std.proofs.lemmas.List.{length-set, length-replicate, get_or-set_same, get_or-set_other, get_or-drop, drop-set-lt}
-use Rattle.std.proofs.lemmas.Nat.{and_le_r}
 use Rattle.clues.specs.declared.block.Block.{Block}
 use Rattle.clues.specs.Clue.{IsClue}
-use Rattle.line_settle.specs.declared.state_sets.PatternSets.{PatternSets}
-use Rattle.line_settle.specs.declared.sweep.Reached.{Reached}
 use Rattle.line_settle.specs.LeavingOut.{LeavesOut}
-use Rattle.line_settle.specs.Marking.{finish_marked, finishes_marked, reach_marked, reaches_marked, AreReached, AreBehind, SweepsOut}
+use Rattle.line_settle.specs.Marking.{finish_marked, finishes_marked, reach_marked, reaches_marked, AreReached, AreBehind, ReachedSets, SweepsOut}
 use Rattle.line_settle.specs.Positions.{has}
 use Rattle.line_settle.specs.Spelling.{pattern_of, allows, finish_step, finishes, reach_step, reaches}
-use Rattle.line_settle.specs.StateSets.{AreStates, Shares, ArePatternSets}
+use Rattle.line_settle.specs.StateSets.{AreStates, Shares, StateSets, ArePatternSets}
 use Rattle.picture.specs.BitLaws.{bit_below}
 use Rattle.line_settle.specs.MaskLaws.{full_has}
 use Rattle.line_settle.proofs.BitLemmas.{allows_none}
@@ -73,10 +70,9 @@ shares_meet pattern f g a b is are s =
 meets_share : (pattern : List ℕ) (f g : ℕ → Bool) (a b : ℕ) → AreStates pattern f a → AreStates pattern g b → Meets pattern f g → Shares a b
 meets_share pattern f g a b is are m = (m.state, (is.each m.state).1 (m.inside, m.is_before), (are.each m.state).1 (m.inside, m.is_later))
 
-some_shared : (a b : ℕ) → b < 2 ^ 128 → bit_and a b ≢ 0 → Shares a b
-some_shared a b l n =
-    let below = and_le_r a b in
-    let m = has_member (bit_and a b) (omega arith) n in
+some_shared : (a b : ℕ) → bit_and a b ≢ 0 → Shares a b
+some_shared a b n =
+    let m = has_member (bit_and a b) n in
     let p = in_and a b m.0 m.1 in
     (m.0, p.0, p.1)
 
@@ -86,14 +82,14 @@ shared_some a b s e = in_none s.0 (let P : ℕ → Type 0 = λ n. has n s.0 ≡ 
 or_none : (a b : ℕ) → bit_or a b ≡ 0 → (q : ℕ) → has a q ≡ true → ⊥
 or_none a b e q h = in_none q (let P : ℕ → Type 0 = λ n. has n q ≡ true in subst P e (left_in a b q h))
 
-pub either_shares : (a b c d : ℕ) → b < 2 ^ 128 → d < 2 ^ 128 → (bit_or (bit_and a b) (bit_and c d) ≢ 0) ↔ (Shares a b ⊎ Shares c d)
-either_shares a b c d l m = (
+pub either_shares : (a b c d : ℕ) → (bit_or (bit_and a b) (bit_and c d) ≢ 0) ↔ (Shares a b ⊎ Shares c d)
+either_shares a b c d = (
   (λ n. elim (cases_eq (bit_and a b) 0) [
     | inl e ↦ elim (cases_eq (bit_and c d) 0) [
       | inl f ↦ absurd (n (ap (λ x. bit_or x (bit_and c d)) e ∙ ap (λ x. bit_or 0 x) f))
-      | inr f ↦ inr (some_shared c d m f)
+      | inr f ↦ inr (some_shared c d f)
     ]
-    | inr e ↦ inl (some_shared a b l e)
+    | inr e ↦ inl (some_shared a b e)
   ]),
   (λ s e. elim s [
     | inl x ↦ in_none x.0 (let P : ℕ → Type 0 = λ n. has n x.0 ≡ true in subst P e (left_in (bit_and a b) (bit_and c d) x.0 (and_in a b x.0 x.1 x.2)))
@@ -101,10 +97,18 @@ either_shares a b c d l m = (
   ]),
 )
 
+-- the same as they are put together
+pub meets_is : (a b c d x y z : ℕ) (none : Bool) → x ≡ bit_and a b → y ≡ bit_and c d → z ≡ bit_or x y → none ≡ (z == 0) → (not none ≡ true) ↔ (Shares a b ⊎ Shares c d)
+meets_is a b c d x y z none e f g h =
+    let P : ℕ → Type 0 = λ n. (n ≢ 0) ↔ (Shares a b ⊎ Shares c d) in
+    let same : bit_or (bit_and a b) (bit_and c d) ≡ z = cc in
+    let s = subst P same (either_shares a b c d) in
+    ((λ t. s.0 (eqb-false z 0 (sym h ∙ not-true none t))), (λ t. not_from_false none (h ∙ ne_eqb z 0 (s.1 t))))
+
 -- ---- from the back
 
-pub at_end : (pattern left drawn : List ℕ) (sets : PatternSets) (n : ℕ) → n ≡ length left → ArePatternSets pattern sets → AreReached pattern (finishes pattern (drop n left)) (finishes_marked pattern (drop n left) (drop n drawn)) (record { all = sets.last; marked = 0 })
-at_end pattern left drawn sets n e are =
+pub at_end : (w : ℕ) (pattern left drawn : List ℕ) (sets : StateSets) (n : ℕ) → n ≡ length left → ArePatternSets w pattern sets → AreReached pattern (finishes pattern (drop n left)) (finishes_marked pattern (drop n left) (drop n drawn)) (record { all = sets.last; marked = 0 })
+at_end w pattern left drawn sets n e are =
     let d : drop n left ≡ [] = ap (λ k. drop k left) e ∙ drop-length left in
     let P : List ℕ → Type 0 = λ ms. AreReached pattern (finishes pattern ms) (finishes_marked pattern ms (drop n drawn)) (record { all = sets.last; marked = 0 }) in
     let l = are.is_end in
@@ -119,7 +123,7 @@ at_end pattern left drawn sets n e are =
     })
 
 -- the states behind cell i give those before it
-pub before_cell : (pattern left drawn : List ℕ) (i : ℕ) (from : Reached) → i < length left → length drawn ≡ length left → AreReached pattern (finish_step pattern (get_or left i 0) (finishes pattern (drop (suc i) left))) (finish_marked pattern (get_or left i 0) (bit_and (get_or left i 0) (get_or drawn i 0)) (finishes pattern (drop (suc i) left)) (finishes_marked pattern (drop (suc i) left) (drop (suc i) drawn))) from → AreReached pattern (finishes pattern (drop i left)) (finishes_marked pattern (drop i left) (drop i drawn)) from
+pub before_cell : (pattern left drawn : List ℕ) (i : ℕ) (from : ReachedSets) → i < length left → length drawn ≡ length left → AreReached pattern (finish_step pattern (get_or left i 0) (finishes pattern (drop (suc i) left))) (finish_marked pattern (get_or left i 0) (bit_and (get_or left i 0) (get_or drawn i 0)) (finishes pattern (drop (suc i) left)) (finishes_marked pattern (drop (suc i) left) (drop (suc i) drawn))) from → AreReached pattern (finishes pattern (drop i left)) (finishes_marked pattern (drop i left) (drop i drawn)) from
 before_cell pattern left drawn i from l e r =
     let m = drop-cons left i 0 l in
     let d = drop-cons drawn i 0 (let k : i < length drawn = omega arith in k) in
@@ -127,7 +131,7 @@ before_cell pattern left drawn i from l e r =
     let Q : List ℕ → Type 0 = λ ds. AreReached pattern (finishes pattern (get_or left i 0 ∷ drop (suc i) left)) (finishes_marked pattern (get_or left i 0 ∷ drop (suc i) left) ds) from in
     subst P (sym m) (subst Q (sym d) r)
 
-pub noted_more : (pattern left drawn plain marked : List ℕ) (i : ℕ) (later : Reached) → i < length plain → i < length marked → AreReached pattern (finishes pattern (drop (suc i) left)) (finishes_marked pattern (drop (suc i) left) (drop (suc i) drawn)) later → ((j : ℕ) → suc i ≤ j → j < length left → AreBehind pattern left drawn plain marked j) → (j : ℕ) → i ≤ j → j < length left → AreBehind pattern left drawn (set plain i later.all) (set marked i later.marked) j
+pub noted_more : (pattern left drawn plain marked : List ℕ) (i : ℕ) (later : ReachedSets) → i < length plain → i < length marked → AreReached pattern (finishes pattern (drop (suc i) left)) (finishes_marked pattern (drop (suc i) left) (drop (suc i) drawn)) later → ((j : ℕ) → suc i ≤ j → j < length left → AreBehind pattern left drawn plain marked j) → (j : ℕ) → i ≤ j → j < length left → AreBehind pattern left drawn (set plain i later.all) (set marked i later.marked) j
 noted_more pattern left drawn plain marked i later l m r before j h k = elim (cases_eq j i) [
   | inl e ↦
       let P : ℕ → Type 0 = λ n. AreBehind pattern left drawn (set plain i later.all) (set marked i later.marked) n in
@@ -149,8 +153,8 @@ noted_more pattern left drawn plain marked i later l m r before j h k = elim (ca
 
 -- ---- from the front
 
-pub at_first : (pattern left drawn : List ℕ) (sets : PatternSets) → ArePatternSets pattern sets → AreReached pattern (reaches pattern left 0) (reaches_marked pattern left drawn 0) (record { all = 1; marked = 0 })
-at_first pattern left drawn sets are =
+pub at_first : (w : ℕ) (pattern left drawn : List ℕ) (sets : StateSets) → ArePatternSets w pattern sets → AreReached pattern (reaches pattern left 0) (reaches_marked pattern left drawn 0) (record { all = 1; marked = 0 })
+at_first w pattern left drawn sets are =
     let l = are.is_end in
     record {
       all_are = record {
@@ -162,8 +166,21 @@ at_first pattern left drawn sets are =
       marked_are = record { each = λ q. ((λ h. absurd (in_none q h)), (λ p. absurd (false≢true p.1))) };
     }
 
+pub first_reached : (w : ℕ) (pattern left drawn : List ℕ) (sets : StateSets) (all marked : ℕ) → all ≡ 1 → marked ≡ 0 → ArePatternSets w pattern sets → AreReached pattern (reaches pattern left 0) (reaches_marked pattern left drawn 0) (record { all = all; marked = marked })
+first_reached w pattern left drawn sets all marked e f are =
+    let r = at_first w pattern left drawn sets are in
+    let S : ℕ → Type 0 = λ n. AreStates pattern (reaches pattern left 0) n in
+    let T : ℕ → Type 0 = λ n. AreStates pattern (reaches_marked pattern left drawn 0) n in
+    record { all_are = subst S (sym e) r.all_are; marked_are = subst T (sym f) r.marked_are }
+
+pub end_reached : (w : ℕ) (pattern left drawn : List ℕ) (sets : StateSets) (n marked : ℕ) → n ≡ length left → marked ≡ 0 → ArePatternSets w pattern sets → AreReached pattern (finishes pattern (drop n left)) (finishes_marked pattern (drop n left) (drop n drawn)) (record { all = sets.last; marked = marked })
+end_reached w pattern left drawn sets n marked e f are =
+    let r = at_end w pattern left drawn sets n e are in
+    let T : ℕ → Type 0 = λ k. AreStates pattern (finishes_marked pattern (drop n left) (drop n drawn)) k in
+    record { all_are = r.all_are; marked_are = subst T (sym f) r.marked_are }
+
 -- behind cell i of a line that has the same masks before it, and this mask there
-pub behind_cell : (pattern left new drawn : List ℕ) (i mask : ℕ) (from : Reached) → SameBefore i new left → get_or new i 0 ≡ mask → AreReached pattern (reach_step pattern mask (reaches pattern left i)) (reach_marked pattern mask (bit_and mask (get_or drawn i 0)) (reaches pattern left i) (reaches_marked pattern left drawn i)) from → AreReached pattern (reaches pattern new (suc i)) (reaches_marked pattern new drawn (suc i)) from
+pub behind_cell : (pattern left new drawn : List ℕ) (i mask : ℕ) (from : ReachedSets) → SameBefore i new left → get_or new i 0 ≡ mask → AreReached pattern (reach_step pattern mask (reaches pattern left i)) (reach_marked pattern mask (bit_and mask (get_or drawn i 0)) (reaches pattern left i) (reaches_marked pattern left drawn i)) from → AreReached pattern (reaches pattern new (suc i)) (reaches_marked pattern new drawn (suc i)) from
 behind_cell pattern left new drawn i mask from same e r =
     let d = get_or drawn i 0 in
     let all : (q : ℕ) → q < length pattern → reaches pattern new i q ≡ reaches pattern left i q = same_reached pattern new left i same in
@@ -199,7 +216,7 @@ same_at a b i d =
     ap (λ n. get_or a n 0) z ∙ (sym (get_or-drop i a 0 0) ∙ (ap (λ l. get_or l 0 0) d ∙ (get_or-drop i b 0 0 ∙ ap (λ n. get_or b n 0) (sym z))))
 
 -- with all sixteen colours in cell i a line is marked exactly where the sets on the two sides share a state
-pub test_marked : (pattern old left drawn plain marked : List ℕ) (i : ℕ) (on : Reached) → 0 < length pattern → i < length left → length drawn ≡ length left → drop (suc i) left ≡ drop (suc i) old → AreBehind pattern old drawn plain marked i → AreReached pattern (reach_step pattern 65535 (reaches pattern left i)) (reach_marked pattern 65535 (bit_and 65535 (get_or drawn i 0)) (reaches pattern left i) (reaches_marked pattern left drawn i)) on → (Shares on.marked (get_or plain i 0) ⊎ Shares on.all (get_or marked i 0)) ↔ (finishes_marked pattern (set left i 65535) drawn 0 ≡ true)
+pub test_marked : (pattern old left drawn plain marked : List ℕ) (i : ℕ) (on : ReachedSets) → 0 < length pattern → i < length left → length drawn ≡ length left → drop (suc i) left ≡ drop (suc i) old → AreBehind pattern old drawn plain marked i → AreReached pattern (reach_step pattern 65535 (reaches pattern left i)) (reach_marked pattern 65535 (bit_and 65535 (get_or drawn i 0)) (reaches pattern left i) (reaches_marked pattern left drawn i)) on → (Shares on.marked (get_or plain i 0) ⊎ Shares on.all (get_or marked i 0)) ↔ (finishes_marked pattern (set left i 65535) drawn 0 ≡ true)
 test_marked pattern old left drawn plain marked i on p l e d b r =
     let new = set left i 65535 in
     let len = length-set left i 65535 in
@@ -290,17 +307,17 @@ swept_out pattern drawn old left i p h small s f = record {
 }
 
 -- what the sweep keeps in front of cell i
-pub record SweptTo (sets : PatternSets) (drawn plain marked old left : List ℕ) (from : Reached) (i : ℕ) : Type 0 where
+pub record SweptTo (w : ℕ) (sets : StateSets) (drawn plain marked old left : List ℕ) (from : ReachedSets) (i : ℕ) : Type 0 where
   pub small : (t : ℕ) → get_or left t 0 < 2 ^ 16
-  pub from_is : (pattern : List ℕ) → ArePatternSets pattern sets → AreReached pattern (reaches pattern left i) (reaches_marked pattern left drawn i) from
-  pub so_far : (pattern : List ℕ) → ArePatternSets pattern sets → ((j : ℕ) → j < length old → AreBehind pattern old drawn plain marked j) → (finishes_marked pattern old drawn 0 ≡ true → ⊥) → SweepsOut pattern drawn old left i
+  pub from_is : (pattern : List ℕ) → ArePatternSets w pattern sets → AreReached pattern (reaches pattern left i) (reaches_marked pattern left drawn i) from
+  pub so_far : (pattern : List ℕ) → ArePatternSets w pattern sets → ((j : ℕ) → j < length old → AreBehind pattern old drawn plain marked j) → (finishes_marked pattern old drawn 0 ≡ true → ⊥) → SweepsOut pattern drawn old left i
 
 -- the states behind cell i with these colours there
-abbrev pub Reaches : PatternSets → List ℕ → List ℕ → ℕ → ℕ → Reached → Type 0
-Reaches sets drawn left i mask on = (pattern : List ℕ) → ArePatternSets pattern sets → AreReached pattern (reach_step pattern mask (reaches pattern left i)) (reach_marked pattern mask (bit_and mask (get_or drawn i 0)) (reaches pattern left i) (reaches_marked pattern left drawn i)) on
+abbrev pub Reaches : ℕ → StateSets → List ℕ → List ℕ → ℕ → ℕ → ReachedSets → Type 0
+Reaches w sets drawn left i mask on = (pattern : List ℕ) → ArePatternSets w pattern sets → AreReached pattern (reach_step pattern mask (reaches pattern left i)) (reach_marked pattern mask (bit_and mask (get_or drawn i 0)) (reaches pattern left i) (reaches_marked pattern left drawn i)) on
 
-pub step_kept : (sets : PatternSets) (drawn plain marked old left : List ℕ) (from on next : Reached) (i : ℕ) → i < length left → length drawn ≡ length left → SweptTo sets drawn plain marked old left from i → Reaches sets drawn left i 65535 on → Reaches sets drawn left i (get_or left i 0) next → Shares on.marked (get_or plain i 0) ⊎ Shares on.all (get_or marked i 0) → SweptTo sets drawn plain marked old left next (suc i)
-step_kept sets drawn plain marked old left from on next i l e t ons nexts shares = record {
+pub step_kept : (w : ℕ) (sets : StateSets) (drawn plain marked old left : List ℕ) (from on next : ReachedSets) (i : ℕ) → i < length left → length drawn ≡ length left → SweptTo w sets drawn plain marked old left from i → Reaches w sets drawn left i 65535 on → Reaches w sets drawn left i (get_or left i 0) next → Shares on.marked (get_or plain i 0) ⊎ Shares on.all (get_or marked i 0) → SweptTo w sets drawn plain marked old left next (suc i)
+step_kept w sets drawn plain marked old left from on next i l e t ons nexts shares = record {
   small = t.small;
   from_is = λ pattern are. behind_cell pattern left left drawn i (get_or left i 0) next (same_here left i) refl (nexts pattern are);
   so_far = λ pattern are tables none.
@@ -311,8 +328,8 @@ step_kept sets drawn plain marked old left from on next i l e t ons nexts shares
       ((test_marked pattern old left drawn plain marked i on (omega arith) l e (drop_more left old i n s.behind) (tables i (omega arith)) (ons pattern are)).0 shares);
 }
 
-pub step_out : (sets : PatternSets) (drawn plain marked old left : List ℕ) (from on : Reached) (i : ℕ) → i < length left → length drawn ≡ length left → SweptTo sets drawn plain marked old left from i → Reaches sets drawn left i 65535 on → (Shares on.marked (get_or plain i 0) ⊎ Shares on.all (get_or marked i 0) → ⊥) → SweptTo sets drawn plain marked old (set left i 65535) on (suc i)
-step_out sets drawn plain marked old left from on i l e t ons none_shared = record {
+pub step_out : (w : ℕ) (sets : StateSets) (drawn plain marked old left : List ℕ) (from on : ReachedSets) (i : ℕ) → i < length left → length drawn ≡ length left → SweptTo w sets drawn plain marked old left from i → Reaches w sets drawn left i 65535 on → (Shares on.marked (get_or plain i 0) ⊎ Shares on.all (get_or marked i 0) → ⊥) → SweptTo w sets drawn plain marked old (set left i 65535) on (suc i)
+step_out w sets drawn plain marked old left from on i l e t ons none_shared = record {
   small = λ j. elim (cases_eq j i) [
     | inl w ↦ let P : ℕ → Type 0 = λ n. get_or (set left i 65535) n 0 < 2 ^ 16 in subst P (sym w) (let g = get_or-set_same left i 65535 0 l in omega arith)
     | inr n ↦ let g = get_or-set_other left i j 65535 0 n in let k = t.small j in omega arith

@@ -27,8 +27,16 @@ reaches_marked pattern masks drawn zero q = false
 reaches_marked pattern masks drawn (suc i) q =
     reach_marked pattern (slice_index masks i) (bit_and (slice_index masks i) (slice_index drawn i)) (reaches pattern masks i) (reaches_marked pattern masks drawn i) q
 
+-- states that are reached as numbers, by the numbers that words are
+pub record ReachedSets : Type 0 where
+  pub all : ℕ
+  pub marked : ℕ
+
+abbrev pub reached_of : {W : Type 0} → (W → ℕ) → Reached W → ReachedSets
+reached_of bits from = record { all = bits from.all; marked = bits from.marked }
+
 -- the states that lines come to, and those that marked lines come to
-pub record AreReached (pattern : List ℕ) (all marked : ℕ → Bool) (from : Reached) : Type 0 where
+pub record AreReached (pattern : List ℕ) (all marked : ℕ → Bool) (from : ReachedSets) : Type 0 where
   pub all_are : AreStates pattern all from.all
   pub marked_are : AreStates pattern marked from.marked
 

@@ -1,6 +1,5 @@
 -- Sets of the states of a pattern: state q is bit q of a number.
-use Rattle.std.specs.Prelude.{◌≡◌, ℕ, ◌+◌, ◌^◌, ◌<◌, ◌≤◌, ◌↔◌, List, Bool, true, length, slice_index}
-use Rattle.picture.specs.declared.picture.TheConstants.{MAX_SIDE}
+use Rattle.std.specs.Prelude.{◌≡◌, ℕ, ◌+◌, ◌^◌, ◌<◌, ◌≤◌, ◌↔◌, List, Bool, true, length, slice_index, map}
 use Rattle.line_settle.specs.declared.state_sets.Moves.{Moves}
 use Rattle.line_settle.specs.declared.state_sets.PatternSets.{PatternSets}
 use Rattle.line_settle.specs.Spelling.{allows, waits}
@@ -14,9 +13,18 @@ pub record AreStates (pattern : List ℕ) (test : ℕ → Bool) (set : ℕ) : Ty
 abbrev pub Shares : ℕ → ℕ → Type 0
 Shares a b = (q : ℕ) × (has a q ≡ true) × (has b q ≡ true)
 
--- which states a cell with one of the mask's colours leads on to the next one, and which it can leave as they are
-pub record MovesBy (pattern : List ℕ) (mask : ℕ) (moves : Moves) : Type 0 where
-  pub short : length pattern ≤ MAX_SIDE + 1
+-- a cell's moves as numbers, by the numbers that words are
+pub record MoveSets : Type 0 where
+  pub advancing : ℕ
+  pub resting : ℕ
+
+abbrev pub moves_of : {W : Type 0} → (W → ℕ) → Moves W → MoveSets
+moves_of bits moves = record { advancing = bits moves.advancing; resting = bits moves.resting }
+
+-- Which states a cell with one of the mask's colours leads on to the next one, and which it can leave as they are. All
+-- states are below the width.
+pub record MovesBy (width : ℕ) (pattern : List ℕ) (mask : ℕ) (moves : MoveSets) : Type 0 where
+  pub short : length pattern ≤ width
   pub advancing : (q : ℕ) → (has moves.advancing q ≡ true) ↔ ((q + 1 < length pattern) × (allows mask (slice_index pattern (q + 1)) ≡ true))
   pub resting : (q : ℕ) → (has moves.resting q ≡ true) ↔ ((q < length pattern) × (waits pattern q ≡ true) × (allows mask 0 ≡ true))
 
@@ -33,11 +41,22 @@ pub record HasColours (pattern : List ℕ) (n colours : ℕ) : Type 0 where
   pub background : allows colours 0 ≡ true
   pub each : (q : ℕ) → q < n → allows colours (slice_index pattern (q + 1)) ≡ true
 
--- the sets that tell how a pattern's states move
-pub record ArePatternSets (pattern : List ℕ) (sets : PatternSets) : Type 0 where
+-- the sets of a pattern's states as numbers, by the numbers that words are
+pub record StateSets : Type 0 where
+  pub next : List ℕ
+  pub waiting : ℕ
+  pub colours : ℕ
+  pub inner : ℕ
+  pub last : ℕ
+
+abbrev pub sets_of : {W : Type 0} → (W → ℕ) → PatternSets W → StateSets
+sets_of bits sets = record { next = map bits sets.next.now; waiting = bits sets.waiting; colours = sets.colours; inner = bits sets.inner; last = bits sets.last }
+
+-- the sets that tell how a pattern's states move, all of them below the width
+pub record ArePatternSets (width : ℕ) (pattern : List ℕ) (sets : StateSets) : Type 0 where
   pub end : ℕ
   pub is_end : end + 1 ≡ length pattern
-  pub short : length pattern ≤ MAX_SIDE + 1
+  pub short : length pattern ≤ width
   pub next : AreNext pattern end sets.next
   pub waiting : AreWaiting pattern (length pattern) sets.waiting
   pub colours : HasColours pattern end sets.colours

@@ -6,6 +6,7 @@ ghost use Rattle.line_settle.specs.FactSets.{IsBase, IsOpen, MakesBaseRow, SameS
 
 use crate::facts::Facts;
 use picture::Document;
+use picture::laws::cells_are_members;
 use std::alloc::{AllocError, Global};
 
 impl Facts {
@@ -15,6 +16,10 @@ impl Facts {
     {
         let height = document.picture.height();
         let mut facts = Facts::none(alloc, height, document.picture.width())?;
+        cells_are_members();
+        if document.givens.is_empty() {
+            return Ok(facts);
+        }
         for row in 0..height {
             make_base_row(document, &mut facts, row);
         }

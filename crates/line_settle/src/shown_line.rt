@@ -29,11 +29,15 @@ pub fn narrow_without_blocks(left: &[u16], out: &mut [u16]) -> Outcome
     }
 }
 
-// Whether background is left in each cell.
+// Whether background is left in each cell. All cells are looked at, so that some can be together.
 fn allow_background(left: &[u16]) -> bool
     ensures { IsTrue result ↔ All (λ mask. IsTrue (allows mask 0)) left.now }
 {
-    left.iter().all(|mask| allows(*mask, 0))
+    let mut common = u16::MAX;
+    for mask in left {
+        common &= *mask;
+    }
+    allows(common, 0)
 }
 
 /// Whether each cell has just one colour left.

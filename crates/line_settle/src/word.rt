@@ -1,6 +1,6 @@
 //! Words: numbers whose bits are a set of positions, so that one form of the passes serves lines of any length.
 
-ghost use Rattle.std.specs.Prelude.{◌≡◌, ℕ, ◌+◌, ◌*◌, ◌/◌, ◌%◌, ◌^◌, ◌<◌, ◌≤◌, ◌==◌, ◌&&◌, ◌||◌, bit_and, bit_or, bit_xor};
+ghost use Rattle.std.specs.Prelude.{◌≡◌, ℕ, ◌+◌, ◌-◌, ◌*◌, ◌/◌, ◌%◌, ◌^◌, ◌<◌, ◌≤◌, ◌==◌, ◌&&◌, ◌||◌, bit_and, bit_or, bit_xor};
 ghost use Rattle.std.proofs.Common.{lit≤};
 ghost use Rattle.line_settle.specs.Positions.{has, AreSpans, AreSpansOf};
 
@@ -25,7 +25,8 @@ pub trait Word: Copy + Drop {
     /// The set of one position.
     fn place(at: usize) -> Self
         requires { at < width }
-        ensures { (i : ℕ) → has (bits result) i ≡ (i == at) };
+        ensures value { bits result ≡ 2 ^ at }
+        ensures each { (i : ℕ) → has (bits result) i ≡ (i == at) };
 
     /// The positions of both sets.
     fn and(self, other: Self) -> Self
@@ -42,6 +43,11 @@ pub trait Word: Copy + Drop {
     /// The sum of the numbers, without a last carry.
     fn plus(self, other: Self) -> Self
         ensures { bits result ≡ (bits self + bits other) % 2 ^ width };
+
+    /// The number less one that is not greater.
+    fn minus(self, other: Self) -> Self
+        requires { bits other ≤ bits self }
+        ensures { bits result ≡ bits self - bits other };
 
     /// The positions so many steps lower.
     fn down(self, steps: usize) -> Self
@@ -120,6 +126,11 @@ impl Word for u64 {
     }
 
     #[inline]
+    fn minus(self, other: u64) -> u64 {
+        self - other
+    }
+
+    #[inline]
     fn down(self, steps: usize) -> u64 {
         self >> steps
     }
@@ -194,6 +205,11 @@ impl Word for u128 {
     #[inline]
     fn plus(self, other: u128) -> u128 {
         self.wrapping_add(other)
+    }
+
+    #[inline]
+    fn minus(self, other: u128) -> u128 {
+        self - other
     }
 
     #[inline]

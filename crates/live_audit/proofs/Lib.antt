@@ -5,6 +5,7 @@ pub mod CarryLemmas
 pub mod DepthLemmas
 pub mod CertifyLemmas
 pub mod LearnLemmas
+pub mod KnownLemmas
 pub mod ColourLemmas
 pub mod RenumberLemmas
 pub mod OrderLemmas

@@ -1,10 +1,12 @@
--- The law of lists of calls, and one of other pictures.
+-- The law of lists of calls, one of verdicts behind a certificate's call, and one of other pictures.
 use Rattle.std.specs.Prelude.{◌≡◌, ◌≤◌, ℕ, List}
 use Rattle.picture.specs.Document.{AreColoured}
 use Rattle.edits.specs.Design.{Design}
-use Rattle.live_audit.specs.Bench.{Seen, IsAudited}
-use Rattle.live_audit.specs.Calls.{Call, AreRight, Lead, after_calls, machine}
-use Rattle.live_audit.specs.Verdict.{IsOtherFor}
+use Rattle.live_audit.specs.declared.verdict.Verdict.{Verdict}
+use Rattle.live_audit.specs.declared.verdict.Verdict.TheVariants.{Undecided}
+use Rattle.live_audit.specs.Bench.{Seen, IsAudited, nothing_done}
+use Rattle.live_audit.specs.Calls.{Call, AreRight, IsSearched, Lead, after_calls, machine}
+use Rattle.live_audit.specs.Verdict.{IsOtherFor, Tells}
 
 -- After any list of edits, undos and redos, verdicts, allowances and certificates, accepted or refused, the state is audited,
 -- history and allowance are the machine's, and each answer was right: so each verdict was true of the document that the machine
@@ -14,6 +16,15 @@ pub record ListsStayAudited : Type 0 where
   pub machine_is : (calls : List Call) (old new : Seen) → Lead calls old new → machine new.history new.allowance ≡ after_calls (machine old.history old.allowance) calls
   pub calls : (calls : List Call) (old new : Seen) → Lead calls old new → old.calls ≤ new.calls
   pub answers : (calls : List Call) (old new : Seen) → Lead calls old new → AreRight (machine old.history old.allowance) calls
+
+-- A verdict is decided, and its work is none: no part is searched, no line evaluated.
+pub record SearchesNothing (old new : Seen) (verdict : Verdict) : Type 0 where
+  pub decided : (splits : ℕ) → verdict ≡ Undecided splits → ⊥
+  pub work : new.work ≡ record { edit = old.work.edit; search = nothing_done; parts = 0; splits = 0 }
+
+-- So is each verdict that is asked right after a certificate's call that was not refused, whatever the allowance.
+abbrev pub CertifiedVerdictsSearchNothing : Type 0
+CertifiedVerdictsSearchNothing = (old between new : Seen) (verdict : Verdict) → IsSearched old between → Tells between new verdict → SearchesNothing between new verdict
 
 -- Another picture for a document has colours of the document's palette alone, since clues name no others.
 abbrev pub OthersAreColoured : Type 0

@@ -1,8 +1,9 @@
-//! Laws of lists of calls and of other pictures. Each function does nothing, and its contract is the law.
+//! Laws of lists of calls, of verdicts behind a certificate and of other pictures. Each function does nothing, and its contract is the law.
 
-ghost use Rattle.live_audit.specs.Laws.{ListsStayAudited, OthersAreColoured};
+ghost use Rattle.live_audit.specs.Laws.{CertifiedVerdictsSearchNothing, ListsStayAudited, OthersAreColoured};
 
 use clues::laws::clues_are_of_lines;
+use second_search::laws::allowances_break_off;
 
 #[tactic(auto, using(crate::proofs::CallLemmas::lists))]
 /// After any list of edits, undos and redos, verdicts, allowances and certificates, accepted or refused, the state is
@@ -11,6 +12,14 @@ use clues::laws::clues_are_of_lines;
 pub fn lists_stay_audited()
     ensures { ListsStayAudited }
 {}
+
+/// A verdict that is asked right after a certificate's call that was not refused is decided, and searches nothing: no line
+/// is evaluated, whatever the allowance.
+pub fn certified_verdicts_search_nothing()
+    ensures { CertifiedVerdictsSearchNothing }
+{
+    allowances_break_off();
+}
 
 #[tactic(auto, using(crate::proofs::RenumberLemmas::others))]
 /// Another picture for a document, as a verdict shows one, has colours of the document's palette alone.

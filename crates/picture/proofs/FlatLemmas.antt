@@ -1,8 +1,8 @@
 -- Rows that lie in one flat list.
-use Rattle.std.proofs.Common.{◌≡◌, ℕ, zero, suc, ◌+◌, ◌*◌, ◌-◌, ◌<◌, ◌≤◌, List, [], ◌∷◌, ◌++◌, length, get_or, set, take, drop, map, replicate, arith, refl, ap, ◌∙◌, sym, subst}
+use Rattle.std.proofs.Common.{◌≡◌, ℕ, zero, suc, ◌+◌, ◌*◌, ◌-◌, ◌<◌, ◌≤◌, List, [], ◌∷◌, ◌++◌, length, get_or, take, drop, map, replicate, arith, refl, ap, ◌∙◌, sym, subst}
 use Rattle.std.proofs.Common.{inl, inr}
-use Rattle.std.proofs.lemmas.List.{get_or_past, length-drop, take-append-drop, take-replicate, drop-replicate, length-set, length-map, get_or-map, ext_get_or, get_or-set_same, get_or-set_other}
-use Rattle.std.proofs.lemmas.Bool.{cases_lt, cases_eq}
+use Rattle.std.proofs.lemmas.List.{get_or_past, length-drop, take-append-drop, take-replicate, drop-replicate, length-map, get_or-map, ext_get_or}
+use Rattle.std.proofs.lemmas.Bool.{cases_lt}
 use Rattle.std.specs.Cmp.Lexicographic.{pointwise}
 use Rattle.std.specs.Prelude.{IsTrue}
 use Rattle.std.proofs.Common.{Bool, eqb}
@@ -14,7 +14,7 @@ use Rattle.picture.specs.Rows.{rows_of, width_of, row_at, cell_at, line_along, l
 use Rattle.picture.specs.Picture.{IsPicture, AreCells}
 use Rattle.picture.specs.Line.{spaced}
 use Rattle.picture.proofs.LineLemmas.{length-spaced, get_or-spaced}
-use Rattle.picture.specs.FlatLaws.{length-rows_of, row_at-rows_of, place_inside, length-row, cell_at-rows_of}
+use Rattle.picture.specs.FlatLaws.{length-rows_of, place_inside, length-row, cell_at-rows_of}
 
 pub cell_at_small : (height width : ℕ) (cells : List ℕ) (limit : ℕ) → length cells ≡ height * width → 0 < limit → ((k : ℕ) → get_or cells k 0 < limit) → (i j : ℕ) → cell_at (rows_of height width cells) i j < limit
 cell_at_small height width cells limit count some small i j =
@@ -75,22 +75,6 @@ column_is_spaced height width cells j in_row =
     ∙ sym (get_or-map (λ (row : List ℕ). get_or row j 0) (rows_of height width cells) i [] 0 (omega (arith, length-rows_of height width cells))))
 
 -- ---- one cell changed
-
-pub are_cells_set : (height width : ℕ) (cells : List ℕ) (k x : ℕ) → AreCells height width cells → x < 16 → AreCells height width (set cells k x)
-are_cells_set height width cells k x is small = record {
-  has_row = is.has_row;
-  rows_fit = is.rows_fit;
-  has_column = is.has_column;
-  columns_fit = is.columns_fit;
-  count = length-set cells k x ∙ is.count;
-  colours = λ n. elim (cases_eq n k) [
-    | inl e ↦ elim (cases_lt k (length cells)) [
-      | inl lt ↦ rw (e, get_or-set_same cells k x 0 lt) small
-      | inr past ↦ rw (get_or_past (set cells k x) n 0 (omega (arith, length-set cells k x, e))) (omega arith)
-    ]
-    | inr other ↦ rw (get_or-set_other cells k n x 0 other) (is.colours n)
-  ];
-}
 
 -- ---- all background, and equal rows
 

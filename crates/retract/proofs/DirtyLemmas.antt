@@ -42,13 +42,6 @@ pub record AreDirtyBelow (axis : Axis) (at : ℕ) (moves : Moves) (old new : Clu
   pub decided : (line : LineId) → line.axis ≡ axis → line.at < at → IsDecided moves old new before after dirty line
   pub others : (line : LineId) → (line.axis ≡ axis → ⊥) → HasName dirty line ↔ HasName first line
 
-pub below_none : (axis : Axis) (moves : Moves) (old new : Clues) (before after : List (List ℕ)) (first : Lines) → ((line : LineId) → line.axis ≡ axis → HasName first line → ⊥) → AreDirtyBelow axis 0 moves old new before after first first
-below_none axis moves old new before after first none = record {
-  inside = λ line along named. absurd (none line along named);
-  decided = λ line along h. absurd (omega (arith, h));
-  others = λ line other. (λ h. h, λ h. h);
-}
-
 same_name : (one other : LineId) → one.axis ≡ other.axis → one.at ≡ other.at → one ≡ other
 same_name one other axis at = λ i. record { axis = axis i; at = at i }
 

@@ -14,89 +14,73 @@ use clues::{Change, ClueBook};
 use line_settle::Facts;
 use picture::{Axis, LineId, LineSet};
 
-// The lines that may say something new, where `before` was known of the old picture's cells and `after` is known now.
-pub(crate) fn dirty_lines(
-    old: &ClueBook,
-    new: &ClueBook,
-    change: &Change,
-    before: &Facts,
-    after: &Facts,
-) -> LineSet
-    requires books { HaveBooks change.now.moves old.now new.now }
-    requires facts { HaveFacts change.now.moves before.now after.now }
-    ensures { AreDirty change.now.moves old.now new.now before.now after.now result }
+// The clues of the old picture and of the new one, the change between them, and what is known of the cells of each.
+#[derive(Clone, Copy)]
+pub(crate) struct Sides<'a> {
+    pub old: &'a ClueBook,
+    pub new: &'a ClueBook,
+    pub change: &'a Change,
+    pub before: &'a Facts,
+    pub after: &'a Facts,
+}
+
+// The lines that may say something new.
+pub(crate) fn dirty_lines(sides: &Sides<'_>) -> LineSet
+    requires books { HaveBooks sides.now.change.now.moves sides.now.old.now sides.now.new.now }
+    requires facts { HaveFacts sides.now.change.now.moves sides.now.before.now sides.now.after.now }
+    ensures { AreDirty sides.now.change.now.moves sides.now.old.now sides.now.new.now
+        sides.now.before.now sides.now.after.now result }
 {
     let mut dirty = LineSet::empty();
-    put_dirty(&mut dirty, Axis::Across, old, new, change, before, after);
-    put_dirty(&mut dirty, Axis::Down, old, new, change, before, after);
+    put_dirty(&mut dirty, Axis::Across, sides);
+    put_dirty(&mut dirty, Axis::Down, sides);
     dirty
 }
 
 // Puts the dirty lines along an axis.
-fn put_dirty(
-    dirty: &mut LineSet,
-    axis: Axis,
-    old: &ClueBook,
-    new: &ClueBook,
-    change: &Change,
-    before: &Facts,
-    after: &Facts,
-)
-    requires books { HaveBooks change.now.moves old.now new.now }
-    requires facts { HaveFacts change.now.moves before.now after.now }
+fn put_dirty(dirty: &mut LineSet, axis: Axis, sides: &Sides<'_>)
+    requires books { HaveBooks sides.now.change.now.moves sides.now.old.now sides.now.new.now }
+    requires facts { HaveFacts sides.now.change.now.moves sides.now.before.now sides.now.after.now }
     requires none { (line : LineId) → line.axis ≡ axis → HasName dirty.old line → ⊥ }
-    ensures along { AreDirtyAlong axis change.now.moves old.now new.now before.now after.now
-        dirty.new }
+    ensures along { AreDirtyAlong axis sides.now.change.now.moves sides.now.old.now
+        sides.now.new.now sides.now.before.now sides.now.after.now dirty.new }
     ensures others { (line : LineId) → (line.axis ≡ axis → ⊥)
         → HasName dirty.new line ↔ HasName dirty.old line }
 {
-    let in_place = stays_in_place(old, new, change, axis);
-    for at in 0..line_count(new, axis) {
+    let in_place = stays_in_place(sides.old, sides.new, sides.change, axis);
+    for at in 0..line_count(sides.new, axis) {
         let line = LineId { axis, at };
-        if !is_clean(in_place, old, new, change, before, after, line) {
+        if !is_clean(in_place, sides, line) {
             dirty.put(line);
         }
     }
 }
 
 // Whether a new line is clean, where it is known whether lines of its axis are in place.
-fn is_clean(
-    in_place: bool,
-    old: &ClueBook,
-    new: &ClueBook,
-    change: &Change,
-    before: &Facts,
-    after: &Facts,
-    line: LineId,
-) -> bool
-    requires in_place { IsTrue in_place ↔ IsInPlace change.now.moves line.axis }
-    requires books { HaveBooks change.now.moves old.now new.now }
-    requires facts { HaveFacts change.now.moves before.now after.now }
-    requires line { HasLine after.now line }
-    ensures { IsTrue result ↔ IsClean change.now.moves old.now new.now before.now after.now line }
+fn is_clean(in_place: bool, sides: &Sides<'_>, line: LineId) -> bool
+    requires in_place { IsTrue in_place ↔ IsInPlace sides.now.change.now.moves line.axis }
+    requires books { HaveBooks sides.now.change.now.moves sides.now.old.now sides.now.new.now }
+    requires facts { HaveFacts sides.now.change.now.moves sides.now.before.now sides.now.after.now }
+    requires line { HasLine sides.now.after.now line }
+    ensures { IsTrue result ↔ IsClean sides.now.change.now.moves sides.now.old.now
+        sides.now.new.now sides.now.before.now sides.now.after.now line }
 {
-    in_place && says_the_same(old, new, change, before, after, line)
+    in_place && says_the_same(sides, line)
 }
 
 // Whether the old line that a new line is has the same clue, and the same is known of its cells.
-fn says_the_same(
-    old: &ClueBook,
-    new: &ClueBook,
-    change: &Change,
-    before: &Facts,
-    after: &Facts,
-    line: LineId,
-) -> bool
-    requires books { HaveBooks change.now.moves old.now new.now }
-    requires facts { HaveFacts change.now.moves before.now after.now }
-    requires line { HasLine after.now line }
-    ensures { IsTrue result ↔ SaysTheSame change.now.moves old.now new.now before.now after.now
-        line }
+fn says_the_same(sides: &Sides<'_>, line: LineId) -> bool
+    requires books { HaveBooks sides.now.change.now.moves sides.now.old.now sides.now.new.now }
+    requires facts { HaveFacts sides.now.change.now.moves sides.now.before.now sides.now.after.now }
+    requires line { HasLine sides.now.after.now line }
+    ensures { IsTrue result ↔ SaysTheSame sides.now.change.now.moves sides.now.old.now
+        sides.now.new.now sides.now.before.now sides.now.after.now line }
 {
-    let Some(from) = change.origin(line) else {
+    let Some(from) = sides.change.origin(line) else {
         return false;
     };
-    old.clue(from).same(new.clue(line)) && same_line(before, from, after, line)
+    sides.old.clue(from).same(sides.new.clue(line))
+        && same_line(sides.before, from, sides.after, line)
 }
 
 // Whether the same is known of the cells of two lines.

@@ -11,7 +11,7 @@ ghost use Rattle.justify.specs.Book.{AreTrimmed, IsDerivation};
 ghost use Rattle.retract.specs.Standing.{AreStanding, HaveBooks};
 ghost use Rattle.retract.specs.Dirty.{AreDirty};
 
-use crate::dirty::dirty_lines;
+use crate::dirty::{Sides, dirty_lines};
 use crate::standing::standing_line;
 use clues::laws::images_are_lines;
 use clues::{Change, ClueBook};
@@ -56,7 +56,14 @@ pub fn keep(
         → IfOk result (λ kept. EachOutside CanFit new.now kept.book.facts kept.dirty) }
 {
     let kept = standing(alloc, book, old, new, change, base)?;
-    let dirty = dirty_lines(old, new, change, book.facts(), kept.facts());
+    let sides = Sides {
+        old,
+        new,
+        change,
+        before: book.facts(),
+        after: kept.facts(),
+    };
+    let dirty = dirty_lines(&sides);
     Ok(Kept { book: kept, dirty })
 }
 

@@ -33,7 +33,7 @@ use Rattle.second_search.proofs.LookLemmas.{below_next}
 
 -- ---- a cell in a set, or not
 
-in_or_not : (cells : List ℕ) (row col : ℕ) → HasCell cells row col ⊎ (HasCell cells row col → ⊥)
+pub in_or_not : (cells : List ℕ) (row col : ℕ) → HasCell cells row col ⊎ (HasCell cells row col → ⊥)
 in_or_not cells row col = elim (cases_eq (bit_and (get_or cells row 0) (2 ^ col)) 0) [
   | inl e ↦ inr (λ h. h e)
   | inr d ↦ inl d
@@ -79,7 +79,7 @@ picked_shape cells one other rect = record {
 
 -- ---- the facts of a part
 
-own_power : OnlyIsClosed → (picture : List (List ℕ)) (row col : ℕ) → col < length (row_at picture row) → cell_at (only picture) row col ≡ 2 ^ cell_at picture row col
+pub own_power : OnlyIsClosed → (picture : List (List ℕ)) (row col : ℕ) → col < length (row_at picture row) → cell_at (only picture) row col ≡ 2 ^ cell_at picture row col
 own_power law picture row col l = only_is_power (cell_at (only picture) row col) (cell_at picture row col) (λ j. (
   (λ s. ((law.leaves picture row col j).0 s).1),
   (λ e. (law.leaves picture row col j).1 (l, e)),

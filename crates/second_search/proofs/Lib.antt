@@ -27,3 +27,7 @@ pub mod CarryLemmas
 pub mod BreakLemmas
 pub mod NearLemmas
 pub mod NearClosedLemmas
+pub mod FitLemmas
+pub mod LeastLemmas
+pub mod CostLemmas
+pub mod DearLemmas

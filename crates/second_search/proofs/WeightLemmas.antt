@@ -47,7 +47,7 @@ weight_within few many w = rows_le many few (sym w.same_shape.rows) (λ i. row_l
 
 -- ---- a cell held
 
-weight_with_cell : (facts : List (List ℕ)) (i j x : ℕ) → i < length facts → j < length (row_at facts i) → weight (with_cell facts i j x) + cell_at facts i j ≡ weight facts + x
+pub weight_with_cell : (facts : List (List ℕ)) (i j x : ℕ) → i < length facts → j < length (row_at facts i) → weight (with_cell facts i j x) + cell_at facts i j ≡ weight facts + x
 unfolding weight row_weight
 weight_with_cell facts i j x h l =
     let rows = total_set row_weight facts i (set (row_at facts i) j x) [] h in

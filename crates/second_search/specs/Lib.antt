@@ -13,3 +13,4 @@ pub mod Through
 pub mod Judging
 pub mod Answering
 pub mod Carrying
+pub mod Costs

@@ -1,5 +1,6 @@
 //! Laws of the definitions in `specs/`. Each function does nothing, and its contract is the law.
 
+ghost use Rattle.second_search.specs.Costs.{CostsAreThere, CostsDecide};
 ghost use Rattle.second_search.specs.Laws.{AllowancesBreakOff, FillingsAreOfFacts, FillingsStay, PartsAreApart, PartsAreOneList, PartsDecide, SoundFacts};
 ghost use Rattle.second_search.specs.Searching.{CostsAreUnique};
 
@@ -61,6 +62,22 @@ pub fn costs_are_unique()
     ensures { CostsAreUnique }
 {
     least_is_unique();
+}
+
+/// The search of facts in the fixed order ends, so that each part of a scene has a cost.
+pub fn costs_are_there()
+    ensures { CostsAreThere }
+{
+    only_is_closed();
+}
+
+/// Under an allowance a picture is left undecided exactly where a part costs more: the first such part is the one at which its
+/// search is broken off.
+pub fn costs_decide()
+    ensures { CostsDecide }
+{
+    only_is_closed();
+    costs_are_unique();
 }
 
 #[tactic(auto, using(crate::proofs::BreakLemmas::break_off))]

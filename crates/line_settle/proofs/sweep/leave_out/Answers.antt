@@ -1,7 +1,7 @@
-use Rattle.std.proofs.Common.{◌≡◌, ◌+◌, ◌<◌, List, subst, length, replicate}
+use Rattle.std.proofs.Common.{◌≡◌, ◌+◌, ◌<◌, List, true, sym, subst, length, replicate}
 use Rattle.clues.specs.declared.block.Block.{Block}
 use Rattle.line_settle.specs.Spelling.{pattern_of}
-use Rattle.line_settle.specs.StateSets.{ArePatternSets}
+use Rattle.line_settle.specs.Marking.{SweepsOut, finishes_marked}
 use Rattle.line_settle.proofs.BlockLemmas.{no_room}
 use Rattle.line_settle.proofs.MarkedLemmas.{forces_unmarked}
 use Rattle.line_settle.proofs.SweepLemmas.{leaves_out, leaves_all}
@@ -16,14 +16,24 @@ returns-then-not-has_room c =
     let P : List Block → Type 0 = λ bs. length old + 1 < length (pattern_of bs) in
     leaves_all c.args.clue.now c.args.drawn.now old c.fill.new.self told.clue full (subst P told.blocks long)
 
-pub returns : goal.returns
-returns c =
+pub returns-then-left-lt-NEAR : goal.returns-then-left-lt-NEAR
+returns-then-left-lt-NEAR c =
     let clue = c.args.clue.now in
-    let pattern = pattern_of clue in
     let old = c.args.left.now in
     let drawn = c.args.drawn.now in
     let told = c.blocks-blocks.ensures in
-    let P : List Block → Type 0 = λ bs. ArePatternSets (pattern_of bs) c.of-sets.result in
-    let are = subst P told.blocks c.of-sets.ensures in
-    leaves_out clue drawn old c.sweep.new.left told.clue
-    (c.sweep.ensures pattern are (c.note_behind.ensures pattern are) (forces_unmarked clue old drawn told.clue c.requires.forced))
+    let P : List Block → Type 0 = λ bs. SweepsOut (pattern_of bs) drawn old c.leave_out_by.new.left (length old) in
+    let Q : List Block → Type 0 = λ bs. finishes_marked (pattern_of bs) old drawn 0 ≡ true → ⊥ in
+    let none = subst Q (sym told.blocks) (forces_unmarked clue old drawn told.clue c.requires.forced) in
+    leaves_out clue drawn old c.leave_out_by.new.left told.clue (subst P told.blocks (c.leave_out_by.ensures none))
+
+pub returns-else-left-lt-NEAR : goal.returns-else-left-lt-NEAR
+returns-else-left-lt-NEAR c =
+    let clue = c.args.clue.now in
+    let old = c.args.left.now in
+    let drawn = c.args.drawn.now in
+    let told = c.blocks-blocks.ensures in
+    let P : List Block → Type 0 = λ bs. SweepsOut (pattern_of bs) drawn old c.leave_out_by-else-left-lt-NEAR.new.left (length old) in
+    let Q : List Block → Type 0 = λ bs. finishes_marked (pattern_of bs) old drawn 0 ≡ true → ⊥ in
+    let none = subst Q (sym told.blocks) (forces_unmarked clue old drawn told.clue c.requires.forced) in
+    leaves_out clue drawn old c.leave_out_by-else-left-lt-NEAR.new.left told.clue (subst P told.blocks (c.leave_out_by-else-left-lt-NEAR.ensures none))

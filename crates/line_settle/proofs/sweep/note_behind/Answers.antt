@@ -1,17 +1,20 @@
-use Rattle.std.proofs.Common.{◌≡◌, ℕ, suc, ◌-◌, refl, subst, arith, length, drop, get_or}
+use Rattle.std.proofs.Common.{◌≡◌, ◌≤◌, ◌<◌, ℕ, List, suc, ◌-◌, refl, sym, subst, arith, length, drop, get_or, map, set}
 use Rattle.line_settle.specs.Spelling.{finishes}
-use Rattle.line_settle.specs.Marking.{finishes_marked, AreReached}
-use Rattle.line_settle.proofs.SweepLemmas.{at_end, before_cell, noted_more}
+use Rattle.line_settle.specs.Marking.{finishes_marked, AreReached, AreBehind, reached_of}
+use Rattle.line_settle.specs.StateSets.{sets_of}
+use Rattle.std.proofs.lemmas.List.{length-map, map-set}
+use Rattle.line_settle.proofs.SweepLemmas.{end_reached, before_cell, noted_more}
 use Rattle.line_settle.proofs.sweep.note_behind.Goals as goal
 
 pub loop-i-init : goal.loop-i-init
-loop-i-init c = record {
-  later_is = λ pattern are. at_end pattern c.args.left.now c.args.drawn.now c.args.sets.now (length c.args.left.now) refl are;
+loop-i-init g c = record {
+  later_is = λ pattern are. end_reached g.W.Word.width pattern c.args.left.now c.args.drawn.now (sets_of g.W.Word.bits c.args.sets.now) (length c.args.left.now) (g.W.Word.bits c.low.result) refl c.low.ensures are;
   noted = λ pattern are j h l. absurd (omega arith);
 }
 
 pub loop-i-preserved : goal.loop-i-preserved
-loop-i-preserved c =
+loop-i-preserved g c =
+    let bits = g.W.Word.bits in
     let left = c.args.left.now in
     let drawn = c.args.drawn.now in
     let i : ℕ = c.loop-i.i - 1 in
@@ -19,16 +22,23 @@ loop-i-preserved c =
     let up : c.loop-i.i ≡ suc i = omega arith in
     record {
       later_is = λ pattern are.
-          let P : ℕ → Type 0 = λ n. AreReached pattern (finishes pattern (drop n left)) (finishes_marked pattern (drop n left) (drop n drawn)) c.loop-i.later in
+          let P : ℕ → Type 0 = λ n. AreReached pattern (finishes pattern (drop n left)) (finishes_marked pattern (drop n left) (drop n drawn)) (reached_of bits c.loop-i.later) in
           let later = subst P up (c.loop-i.invariant.later_is pattern are) in
-          before_cell pattern left drawn i c.back-later.result (omega arith) (omega arith)
+          before_cell pattern left drawn i (reached_of bits c.back-later.result) (omega arith) (omega arith)
           (c.back-later.ensures pattern m (finishes pattern (drop (suc i) left)) (finishes_marked pattern (drop (suc i) left) (drop (suc i) drawn)) are (c.moves_by.ensures pattern are) later);
       noted = λ pattern are.
-          let P : ℕ → Type 0 = λ n. AreReached pattern (finishes pattern (drop n left)) (finishes_marked pattern (drop n left) (drop n drawn)) c.loop-i.later in
+          let P : ℕ → Type 0 = λ n. AreReached pattern (finishes pattern (drop n left)) (finishes_marked pattern (drop n left) (drop n drawn)) (reached_of bits c.loop-i.later) in
           let later = subst P up (c.loop-i.invariant.later_is pattern are) in
-          noted_more pattern left drawn c.loop-i.plain c.loop-i.marked i c.loop-i.later (omega arith) (omega arith) later
-          (λ j h l. c.loop-i.invariant.noted pattern are j (omega arith) l);
+          let plain = map bits c.loop-i.plain in
+          let marked = map bits c.loop-i.marked in
+          let l = length-map c.loop-i.plain bits in
+          let m = length-map c.loop-i.marked bits in
+          let A : List ℕ → Type 0 = λ xs. (j : ℕ) → i ≤ j → j < length left → AreBehind pattern left drawn xs (set marked i (bits c.loop-i.later.marked)) j in
+          let B : List ℕ → Type 0 = λ ys. (j : ℕ) → i ≤ j → j < length left → AreBehind pattern left drawn (map bits (set c.loop-i.plain i c.loop-i.later.all)) ys j in
+          let more = noted_more pattern left drawn plain marked i (reached_of bits c.loop-i.later) (omega arith) (omega arith) later
+          (λ j h l. c.loop-i.invariant.noted pattern are j (omega arith) l) in
+          subst B (sym (map-set bits c.loop-i.marked i c.loop-i.later.marked)) (subst A (sym (map-set bits c.loop-i.plain i c.loop-i.later.all)) more);
     }
 
 pub returns : goal.returns
-returns c = λ pattern are i l. c.loop-i.invariant.noted pattern are i (omega arith) l
+returns g c = λ pattern are i l. c.loop-i.invariant.noted pattern are i (omega arith) l

@@ -12,15 +12,15 @@ loop-at-preserved c =
     elim c.if-not-is_clean.branch [
       | then-not-is_clean w ↦
           rw w.dirty-is
-          (below_dirty c.args.axis c.loop-at.at c.args.change.now.moves c.args.old.now c.args.new.now c.args.before.now c.args.after.now c.args.dirty.now c.loop-at.dirty line refl refl c.loop-at.invariant w.put.new.self
+          (below_dirty c.args.axis c.loop-at.at c.args.sides.now.change.now.moves c.args.sides.now.old.now c.args.sides.now.new.now c.args.sides.now.before.now c.args.sides.now.after.now c.args.dirty.now c.loop-at.dirty line refl refl c.loop-at.invariant w.put.new.self
           (λ clean. false≢true (sym w.if-not-is_clean.true ∙ c.is_clean.ensures.1 clean)) w.put.ensures.members)
       | else-not-is_clean w ↦
           rw w.dirty-is
-          (below_clean c.args.axis c.loop-at.at c.args.change.now.moves c.args.old.now c.args.new.now c.args.before.now c.args.after.now c.args.dirty.now c.loop-at.dirty line refl refl c.loop-at.invariant
+          (below_clean c.args.axis c.loop-at.at c.args.sides.now.change.now.moves c.args.sides.now.old.now c.args.sides.now.new.now c.args.sides.now.before.now c.args.sides.now.after.now c.args.dirty.now c.loop-at.dirty line refl refl c.loop-at.invariant
           (c.is_clean.ensures.0 w.if-not-is_clean.false))
     ]
 
 pub returns-clause-along : goal.returns-clause-along
 returns-clause-along c =
-    below_all c.args.axis c.loop-at.at c.args.change.now.moves c.args.old.now c.args.new.now c.args.before.now c.args.after.now c.args.dirty.now c.loop-at.dirty
+    below_all c.args.axis c.loop-at.at c.args.sides.now.change.now.moves c.args.sides.now.old.now c.args.sides.now.new.now c.args.sides.now.before.now c.args.sides.now.after.now c.args.dirty.now c.loop-at.dirty
     (omega (arith, c.line_count-at-end.ensures.value, c.requires.books.after c.args.axis, c.requires.facts.new_sizes c.args.axis)) c.loop-at.invariant

@@ -1,10 +1,11 @@
+use Rattle.std.proofs.Common.{map}
 use Rattle.line_settle.proofs.StateSetLemmas.{Taken}
 use Rattle.line_settle.proofs.state_sets.PatternSets.advancing_by.Given as goal
 
 abbrev pub invariant-colours : goal.invariant-colours
-invariant-colours l = record {
-  taken : Taken l.self.next l.colours l.rest l.advancing;
+invariant-colours g l = record {
+  taken : Taken (map g.W.Word.bits l.self.next.now) l.colours l.rest (g.W.Word.bits l.advancing);
 }
 
 abbrev pub decreases-colours : goal.decreases-colours
-decreases-colours l = l.rest
+decreases-colours g l = l.rest

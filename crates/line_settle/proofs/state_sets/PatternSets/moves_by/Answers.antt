@@ -1,8 +1,9 @@
+use Rattle.line_settle.specs.StateSets.{sets_of}
 use Rattle.line_settle.proofs.StateSetLemmas.{moves_made, all_moves}
 use Rattle.line_settle.proofs.state_sets.PatternSets.moves_by.Goals as goal
 
 pub returns-then-colours-self : goal.returns-then-colours-self
-returns-then-colours-self c = λ pattern are. all_moves pattern c.args.self.now c.args.mask are c.if-colours-self.true
+returns-then-colours-self g c = λ pattern are. all_moves g.W.Word.width pattern (sets_of g.W.Word.bits c.args.self.now) c.args.mask are c.if-colours-self.true
 
 pub returns : goal.returns
-returns c = λ pattern are. moves_made pattern c.args.self.now c.args.mask c.advancing_by.result c.resting_by.result are c.advancing_by.ensures c.resting_by.ensures
+returns g c = λ pattern are. moves_made g.W.Word.width pattern (sets_of g.W.Word.bits c.args.self.now) c.args.mask (g.W.Word.bits c.advancing_by.result) (g.W.Word.bits c.resting_by.result) are c.advancing_by.ensures c.resting_by.ensures

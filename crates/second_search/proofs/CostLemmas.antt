@@ -1,0 +1,267 @@
+-- Facts have a cost: they come to something, and what waits then weighs less.
+use Rattle.std.proofs.Common.{◌≡◌, ℕ, zero, suc, ◌+◌, ◌^◌, ◌<◌, ◌≤◌, ◌⊎◌, ◌==◌, true, Option, None, Some, List, [], ◌∷◌, ◌++◌, length, get_or, map, refl, sym, ap, subst, ◌∙◌, arith, inl, inr, eqb-true}
+use Rattle.std.specs.Prelude.{IsBitSet}
+use Rattle.std.specs.List.{All, filter, range_with_len}
+use Rattle.std.specs.Int.{bit_at, trailing_zeros, w16}
+use Rattle.std.proofs.lemmas.Bool.{cases_eq, cases_lt}
+use Rattle.std.proofs.lemmas.List.{get_or_past, get_or-map, length-map}
+use Rattle.std.proofs.lemmas.List.Elements.{filter_passes}
+use Rattle.std.proofs.Math.Pow.{pow_pos}
+use Rattle.picture.specs.Rows.{width_of, row_at, cell_at, with_cell}
+use Rattle.picture.specs.Picture.{IsPicture}
+use Rattle.picture.specs.BitLaws.{bit_below, bit_is_set, fewer_le, power_has}
+use Rattle.clues.specs.ClueBook.{Clues}
+use Rattle.line_settle.specs.Branches.{branches, colours_of, held}
+use Rattle.line_settle.specs.FactSets.{IsFacts, IsLeast, SameShape}
+use Rattle.line_settle.specs.GridLaws.{at_with_cell, off_with_cell, shape_with_cell}
+use Rattle.line_settle.specs.MaskLaws.{lowest_of_power, only_is_power}
+use Rattle.line_settle.specs.Masks.{IsOnly}
+use Rattle.propagate.specs.Closing.{EachFits}
+use Rattle.split_choice.specs.declared.cell.Cell.{Cell}
+use Rattle.second_search.specs.declared.coming.Coming.{Coming}
+use Rattle.second_search.specs.declared.coming.Coming.TheVariants.{Dies, Ends, Splits}
+use Rattle.second_search.specs.Looking.{IsFirstUnsettled, Shows}
+use Rattle.second_search.specs.Parts.{IsBefore}
+use Rattle.second_search.specs.Searching.{Comes, HasCost, Searches, SettlesTo, none_waits, is_dead, is_known, is_other, is_split}
+use Rattle.second_search.proofs.FitLemmas.{both_or_not}
+use Rattle.second_search.proofs.LeastLemmas.{facts_lower, fits_or_dead, least_is_there}
+use Rattle.second_search.proofs.PickLemmas.{find_below, outside_is_0}
+use Rattle.second_search.proofs.TreeLemmas.{ended_lighter, split_lighter, within_lighter}
+use Rattle.second_search.proofs.WeightLemmas.{load}
+
+-- ---- equal or not
+
+same_row : (a b : List ℕ) → (a ≡ b) ⊎ (a ≡ b → ⊥)
+same_row [] [] = inl refl
+same_row [] (y ∷ ys) = inr (λ e. absurd cc)
+same_row (x ∷ xs) [] = inr (λ e. absurd cc)
+same_row (x ∷ xs) (y ∷ ys) = elim (cases_eq x y) [
+  | inr d ↦ inr (λ e. d cc)
+  | inl e ↦ elim (same_row xs ys) [ inr d ↦ inr (λ f. d cc) | inl f ↦ inl cc ]
+]
+
+same_grid : (a b : List (List ℕ)) → (a ≡ b) ⊎ (a ≡ b → ⊥)
+same_grid [] [] = inl refl
+same_grid [] (y ∷ ys) = inr (λ e. absurd cc)
+same_grid (x ∷ xs) [] = inr (λ e. absurd cc)
+same_grid (x ∷ xs) (y ∷ ys) = elim (same_row x y) [
+  | inr d ↦ inr (λ e. d cc)
+  | inl e ↦ elim (same_grid xs ys) [ inr d ↦ inr (λ f. d cc) | inl f ↦ inl cc ]
+]
+
+-- ---- the first place
+
+first_below : (P : ℕ → Type 0) → ((i : ℕ) → P i ⊎ (P i → ⊥)) → (n : ℕ) → ((i : ℕ) × ((i < n) × (P i × ((j : ℕ) → j < i → P j → ⊥)))) ⊎ ((i : ℕ) → i < n → P i → ⊥)
+first_below P by zero = inr (λ i l. absurd (omega arith))
+first_below P by (suc n) = elim (first_below P by n) [
+  | inl found ↦ inl (found.0, ((let l = found.1.0 in omega arith), found.1.1))
+  | inr none ↦ elim (by n) [
+    | inl here ↦ inl (n, (omega arith, (here, none)))
+    | inr not_here ↦ inr (λ i l. elim (cases_eq i n) [
+      | inl e ↦ (λ p. not_here (subst P e p))
+      | inr d ↦ none i (omega arith)
+    ])
+  ]
+]
+
+-- ---- settled cells
+
+abbrev IsPower : ℕ → ℕ → Type 0
+IsPower mask k = mask ≡ 2 ^ k
+
+settled_or_not : (mask : ℕ) → mask < 2 ^ 16 → ((k : ℕ) × IsOnly mask k) ⊎ ((k : ℕ) → IsOnly mask k → ⊥)
+settled_or_not mask small = elim (find_below (IsPower mask) (λ k. cases_eq mask (2 ^ k)) 16) [
+  | inl found ↦ inl (found.0, (let P : ℕ → Type 0 = λ m. IsOnly m found.0 in subst P (sym found.1.1) (power_has found.0)))
+  | inr none ↦ inr (λ k o. none k (bit_below mask 16 k small ((o k).1 refl)) (only_is_power mask k o))
+]
+
+abbrev IsUnsettledAt : List (List ℕ) → ℕ → ℕ → Type 0
+IsUnsettledAt facts row col = (k : ℕ) → IsOnly (cell_at facts row col) k → ⊥
+
+unsettled_or_not : (facts : List (List ℕ)) (row col : ℕ) → IsFacts facts → IsUnsettledAt facts row col ⊎ (IsUnsettledAt facts row col → ⊥)
+unsettled_or_not facts row col is = elim (settled_or_not (cell_at facts row col) (is.masks row col)) [
+  | inl s ↦ inr (λ n. n s.0 s.1)
+  | inr n ↦ inl n
+]
+
+abbrev HasUnsettled : List (List ℕ) → ℕ → Type 0
+HasUnsettled facts row = (col : ℕ) × ((col < width_of facts) × IsUnsettledAt facts row col)
+
+row_or_not : (facts : List (List ℕ)) (row : ℕ) → IsFacts facts → HasUnsettled facts row ⊎ (HasUnsettled facts row → ⊥)
+row_or_not facts row is = elim (find_below (IsUnsettledAt facts row) (λ col. unsettled_or_not facts row col is) (width_of facts)) [
+  | inl found ↦ inl found
+  | inr none ↦ inr (λ f. none f.0 f.1.0 f.1.1)
+]
+
+abbrev cell_named : ℕ → ℕ → Cell
+cell_named row col = record { row = row; col = col }
+
+first_unsettled : (facts : List (List ℕ)) (row col : ℕ) → IsFacts facts → row < length facts → col < width_of facts → IsUnsettledAt facts row col
+    → ((r : ℕ) → r < row → HasUnsettled facts r → ⊥) → ((c : ℕ) → c < col → IsUnsettledAt facts row c → ⊥) → IsFirstUnsettled facts (cell_named row col)
+first_unsettled facts row col is h w un above left = record {
+  is = record { in_rows = h; in_columns = w; unsettled = un };
+  before = λ r c l b. elim (settled_or_not (cell_at facts r c) (is.masks r c)) [
+    | inl s ↦ s
+    | inr n ↦ absurd (elim b [
+      | inl lt ↦ above r lt (c, (l, n))
+      | inr e ↦ let P : ℕ → Type 0 = λ i. IsUnsettledAt facts i c in left c e.1 (subst P e.0 n)
+    ])
+  ];
+}
+
+-- the first cell that is not settled, or all are
+unsettled_or_all : (facts : List (List ℕ)) → IsFacts facts → ((cell : Cell) × IsFirstUnsettled facts cell) ⊎ ((row col : ℕ) → row < length facts → col < width_of facts → (k : ℕ) × IsOnly (cell_at facts row col) k)
+unsettled_or_all facts is = elim (first_below (HasUnsettled facts) (λ row. row_or_not facts row is) (length facts)) [
+  | inr none ↦ inr (λ row col h w. elim (settled_or_not (cell_at facts row col) (is.masks row col)) [
+    | inl s ↦ s
+    | inr n ↦ absurd (none row h (col, (w, n)))
+  ])
+  | inl found ↦
+      let row = found.0 in
+      elim (first_below (IsUnsettledAt facts row) (λ col. unsettled_or_not facts row col is) (width_of facts)) [
+        | inl at ↦ inl (cell_named row at.0, first_unsettled facts row at.0 is found.1.0 at.1.0 at.1.1.0 found.1.1.1 at.1.1.1)
+        | inr none ↦ let some = found.1.1.0 in absurd (none some.0 some.1.0 some.1.1)
+      ]
+]
+
+-- ---- the picture of settled facts
+
+abbrev colours_in : List ℕ → List ℕ
+colours_in = map (trailing_zeros w16)
+
+abbrev shown : List (List ℕ) → List (List ℕ)
+shown facts = map colours_in facts
+
+shown_shape : (facts : List (List ℕ)) → SameShape (shown facts) facts
+shown_shape facts = record {
+  rows = length-map facts colours_in;
+  each = λ i. elim (cases_lt i (length facts)) [
+    | inl l ↦ ap length (get_or-map colours_in facts i [] [] l) ∙ length-map (row_at facts i) (trailing_zeros w16)
+    | inr p ↦ ap length (get_or_past (shown facts) i [] (let n = length-map facts colours_in in omega arith)) ∙ sym (ap length (get_or_past facts i [] p))
+  ];
+}
+
+shown_at : (facts : List (List ℕ)) (row col : ℕ) → row < length facts → col < length (row_at facts row) → cell_at (shown facts) row col ≡ trailing_zeros w16 (cell_at facts row col)
+shown_at facts row col h w = ap (λ (x : List ℕ). get_or x col 0) (get_or-map colours_in facts row [] [] h) ∙ get_or-map (trailing_zeros w16) (row_at facts row) col 0 0 w
+
+colour_is : (mask k : ℕ) → mask < 2 ^ 16 → IsOnly mask k → (k < 16) × (trailing_zeros w16 mask ≡ k)
+colour_is mask k small o =
+    let l = bit_below mask 16 k small ((o k).1 refl) in
+    let e = only_is_power mask k o in
+    (l, ap (trailing_zeros w16) e ∙ lowest_of_power k l (pow_pos k) (let s = small in omega arith))
+
+shows : (facts : List (List ℕ)) → IsFacts facts → ((row col : ℕ) → row < length facts → col < width_of facts → (k : ℕ) × IsOnly (cell_at facts row col) k) → Shows facts (shown facts)
+shows facts is all =
+    let shape = shown_shape facts in
+    let rows = shape.rows in
+    let first = shape.each 0 in
+    let only : (row col : ℕ) → row < length facts → col < width_of facts → IsOnly (cell_at facts row col) (cell_at (shown facts) row col) = λ row col h w.
+    let k = all row col h w in
+    let rect = is.rectangular row h in
+    let e : cell_at (shown facts) row col ≡ k.0 = shown_at facts row col h (omega arith) ∙ (colour_is (cell_at facts row col) k.0 (is.masks row col) k.1).1 in
+    let P : ℕ → Type 0 = λ x. IsOnly (cell_at facts row col) x in
+    subst P (sym e) k.1
+    in
+    record {
+      is_picture = record {
+        has_row = (let a = is.has_row in omega arith);
+        rows_fit = (let a = is.rows_fit in omega arith);
+        has_column = (let a = is.has_column in omega arith);
+        columns_fit = (let a = is.columns_fit in omega arith);
+        rectangular = λ i m. (let a = is.rectangular i (omega arith) in let b = shape.each i in omega arith);
+        colours = colours only;
+      };
+      same_shape = shape;
+      only = only;
+    }
+  where
+    colours : ((row col : ℕ) → row < length facts → col < width_of facts → IsOnly (cell_at facts row col) (cell_at (shown facts) row col)) → (i j : ℕ) → cell_at (shown facts) i j < 16
+    colours only i j =
+        let each = (shown_shape facts).each i in
+        elim (cases_lt i (length facts)) [
+          | inr p ↦ let e = ap length (get_or_past facts i [] p) in let z = outside_is_0 (shown facts) i j (omega arith) in omega arith
+          | inl l ↦ elim (cases_lt j (width_of facts)) [
+            | inr q ↦ let rect = is.rectangular i l in let z = outside_is_0 (shown facts) i j (omega arith) in omega arith
+            | inl m ↦ (colour_is (cell_at facts i j) (cell_at (shown facts) i j) (is.masks i j) (only i j l m)).0
+          ]
+        ]
+
+-- ---- what facts come to
+
+abbrev ComesToSome : Clues → List (List ℕ) → Type 0
+ComesToSome clues facts = (coming : Coming) × Comes clues facts coming
+
+settled_comes : (clues : Clues) (facts settled : List (List ℕ)) → SettlesTo clues facts settled → ComesToSome clues facts
+settled_comes clues facts settled to = elim (unsettled_or_all settled to.are_facts) [
+  | inl at ↦ (Splits settled at.0, (to, at.1))
+  | inr all ↦ (Ends (shown settled), (settled, (to, shows settled to.are_facts all)))
+]
+
+comes_to_some : (clues : Clues) (facts : List (List ℕ)) → IsFacts facts → ComesToSome clues facts
+comes_to_some clues facts is =
+    let least = least_is_there clues facts is in
+    elim (fits_or_dead clues facts least.0 least.1.0 least.1.1) [
+      | inr dead ↦ (Dies, dead)
+      | inl fits ↦ settled_comes clues facts least.0 (record { are_facts = least.1.0; least = least.1.1; fits = fits })
+    ]
+
+-- ---- what waits
+
+abbrev AreFacts : List (List (List ℕ)) → Type 0
+AreFacts [] = Unit {0}
+AreFacts (facts ∷ others) = IsFacts facts × AreFacts others
+
+facts_append : (xs ys : List (List (List ℕ))) → AreFacts xs → AreFacts ys → AreFacts (xs ++ ys)
+facts_append [] ys a b = b
+facts_append (x ∷ xs) ys a b = (a.0, facts_append xs ys a.1 b)
+
+held_facts : (facts : List (List ℕ)) (row col : ℕ) → IsFacts facts → row < length facts → col < width_of facts → (ks : List ℕ) → All (λ k. (bit_at (cell_at facts row col) k == 1) ≡ true) ks → AreFacts (held facts row col ks)
+held_facts facts row col is h w [] a = tt
+held_facts facts row col is h w (k ∷ ks) a =
+    let s = bit_is_set (cell_at facts row col) k (eqb-true (bit_at (cell_at facts row col) k) 1 (a 0 0 (omega arith))) in
+    let le = fewer_le (2 ^ k) (cell_at facts row col) (λ j t. let P : ℕ → Type 0 = λ i. IsBitSet (cell_at facts row col) i in subst P (sym ((power_has k j).0 t)) s) in
+    (facts_lower facts row col (2 ^ k) is h w le, held_facts facts row col is h w ks (λ i d m. a (suc i) d (omega arith)))
+
+branch_facts : (facts : List (List ℕ)) (row col : ℕ) → IsFacts facts → row < length facts → col < width_of facts → AreFacts (branches facts row col (cell_at facts row col))
+unfolding colours_of
+branch_facts facts row col is h w =
+    let mask = cell_at facts row col in
+    held_facts facts row col is h w (filter (λ k. bit_at mask k == 1) (range_with_len 0 16)) (filter_passes (λ k. bit_at mask k == 1) (range_with_len 0 16))
+
+-- ---- the search
+
+abbrev Ended : Clues → List (List ℕ) → List (List (List ℕ)) → Type 0
+Ended clues known waiting = (found : Option (List (List ℕ))) × ((n : ℕ) × Searches clues known waiting found n)
+
+goes_on : (clues : Clues) (known facts : List (List ℕ)) (others : List (List (List ℕ))) → ((waiting : List (List (List ℕ))) → load waiting < load (facts ∷ others) → AreFacts waiting → Ended clues known waiting) → AreFacts others
+    → (coming : Coming) → Comes clues facts coming → Ended clues known (facts ∷ others)
+goes_on clues known facts others on a Dies c =
+    let r = on others (ended_lighter facts others) a in
+    (r.0, (r.1.0, is_dead facts others r.0 r.1.0 c r.1.1))
+goes_on clues known facts others on a (Ends picture) c = elim (same_grid picture known) [
+  | inr d ↦ (Some picture, (0, is_other facts others picture c d))
+  | inl e ↦
+      let r = on others (ended_lighter facts others) a in
+      let P : List (List ℕ) → Type 0 = λ x. Comes clues facts (Ends x) in
+      (r.0, (r.1.0, is_known facts others r.0 r.1.0 (subst P e c) r.1.1))
+]
+goes_on clues known facts others on a (Splits settled cell) c =
+    let is = c.0.are_facts in
+    let at = c.1.is in
+    let front = branches settled cell.row cell.col (cell_at settled cell.row cell.col) in
+    let less = split_lighter settled others cell is at in
+    let most = within_lighter facts settled others c.0.least.holds in
+    let r = on (front ++ others) (omega arith) (facts_append front others (branch_facts settled cell.row cell.col is at.in_rows at.in_columns) a) in
+    (r.0, (suc r.1.0, is_split facts others settled cell r.0 r.1.0 c r.1.1))
+
+search_ends : (n : ℕ) (clues : Clues) (known : List (List ℕ)) (waiting : List (List (List ℕ))) → load waiting < n → AreFacts waiting → Ended clues known waiting
+search_ends zero clues known waiting l a = absurd (omega arith)
+search_ends (suc n) clues known [] l a = (None, (0, none_waits))
+search_ends (suc n) clues known (facts ∷ others) l a =
+    let c = comes_to_some clues facts a.0 in
+    goes_on clues known facts others (λ waiting m b. search_ends n clues known waiting (omega arith) b) a.1 c.0 c.1
+
+pub cost_is_there : (clues : Clues) (known facts : List (List ℕ)) → IsFacts facts → (n : ℕ) × HasCost clues known facts n
+cost_is_there clues known facts is =
+    let ended = search_ends (suc (load (facts ∷ []))) clues known (facts ∷ []) (omega arith) (is, tt) in
+    (ended.1.0, (ended.0, ended.1.1))

@@ -1,0 +1,298 @@
+-- Facts have least closed facts over them: while some line forces an exclusion, one colour more is excluded.
+use Rattle.std.proofs.Common.{◌≡◌, ℕ, zero, suc, ◌+◌, ◌^◌, ◌<◌, ◌≤◌, ◌⊎◌, ◌↔◌, List, [], length, get_or, bit_and, refl, sym, ap, subst, ◌∙◌, arith, inl, inr}
+use Rattle.std.specs.Prelude.{IsBitSet}
+use Rattle.std.specs.Int.{bit_not, w16}
+use Rattle.std.proofs.lemmas.Bool.{cases_eq, cases_lt}
+use Rattle.std.proofs.lemmas.List.{get_or_past, length-map}
+use Rattle.std.proofs.Math.Pow.{pow_mono}
+use Rattle.picture.specs.declared.line_id.Axis.{Axis}
+use Rattle.picture.specs.declared.line_id.Axis.TheVariants.{Across, Down}
+use Rattle.picture.specs.declared.line_id.LineId.{LineId}
+use Rattle.picture.specs.Rows.{width_of, row_at, cell_at, with_cell, line_along, line_of, lines_along, HasLine}
+use Rattle.picture.specs.BitLaws.{bit_below, bit_or_not, fewer_le, no_bit, power_has}
+use Rattle.clues.specs.declared.block.Block.{Block}
+use Rattle.clues.specs.ClueBook.{Clues, clue_at}
+use Rattle.line_settle.specs.Fitting.{CanFit, CanHave, Forces}
+use Rattle.line_settle.specs.FactSets.{IsClosed, IsClosedLine, IsFacts, IsLeast, IsWithin, Leaves, SameShape, col_on, row_on}
+use Rattle.line_settle.specs.FitLaws.{tighter_can_fit, tighter_have, within_tighter}
+use Rattle.line_settle.specs.GridLaws.{at_with_cell, cell_on, off_with_cell, same_has_line, shape_refl, shape_sym, shape_trans, shape_with_cell}
+use Rattle.line_settle.specs.MaskLaws.{without_bit}
+use Rattle.propagate.specs.Closing.{EachFits, HasDeadLine}
+use Rattle.second_search.proofs.FitLemmas.{AreSmall, both_or_not, fit_or_not, have_or_not}
+use Rattle.second_search.proofs.GrowLemmas.{place_inside}
+use Rattle.second_search.proofs.PickLemmas.{find_below}
+use Rattle.second_search.proofs.WeightLemmas.{weight, weight_with_cell}
+
+abbrev line_named : Axis → ℕ → LineId
+line_named axis at = record { axis = axis; at = at }
+
+small_line : (facts : List (List ℕ)) (line : LineId) → IsFacts facts → AreSmall (line_of facts line)
+small_line facts line is i =
+    let e = cell_on facts line i in
+    let m = is.masks (row_on line.axis line.at i) (col_on line.axis line.at i) in
+    omega arith
+
+-- ---- all lines
+
+-- a line has a property, or none has
+pub some_line : (facts : List (List ℕ)) (P : LineId → Type 0) → ((line : LineId) → P line ⊎ (P line → ⊥))
+    → ((line : LineId) × (HasLine facts line × P line)) ⊎ ((line : LineId) → HasLine facts line → P line → ⊥)
+some_line facts P by = elim (along Across) [
+  | inl found ↦ inl (line_named Across found.0, found.1)
+  | inr no_row ↦ elim (along Down) [
+    | inl found ↦ inl (line_named Down found.0, found.1)
+    | inr no_column ↦ inr (λ line. none no_row no_column line.axis line.at)
+  ]
+]
+  where
+    along : (axis : Axis) → ((at : ℕ) × ((at < lines_along axis facts) × P (line_named axis at))) ⊎ ((at : ℕ) → at < lines_along axis facts → P (line_named axis at) → ⊥)
+    along axis = find_below (λ at. P (line_named axis at)) (λ at. by (line_named axis at)) (lines_along axis facts)
+
+    none : ((at : ℕ) → at < lines_along Across facts → P (line_named Across at) → ⊥) → ((at : ℕ) → at < lines_along Down facts → P (line_named Down at) → ⊥) → (axis : Axis) (at : ℕ) → at < lines_along axis facts → P (line_named axis at) → ⊥
+    none r c Across at l p = r at l p
+    none r c Down at l p = c at l p
+
+-- ---- a line that forces something
+
+-- a colour that is left on a line, and that no list which fits has there
+record IsForced (clue : List Block) (left : List ℕ) (i k : ℕ) : Type 0 where
+  is_left : IsBitSet (get_or left i 0) k
+  forces : Forces clue left i k
+
+abbrev ForcesSome : List Block → List ℕ → Type 0
+ForcesSome clue left = (i : ℕ) × ((i < length left) × ((k : ℕ) × ((k < 16) × IsForced clue left i k)))
+
+forced_or_not : (clue : List Block) (left : List ℕ) (i k : ℕ) → AreSmall left → IsForced clue left i k ⊎ (IsForced clue left i k → ⊥)
+forced_or_not clue left i k small = elim (bit_or_not (get_or left i 0) k) [
+  | inr n ↦ inr (λ f. n f.is_left)
+  | inl s ↦ elim (have_or_not clue left i k small) [
+    | inl h ↦ inr (λ f. f.forces h)
+    | inr n ↦ inl (record { is_left = s; forces = n })
+  ]
+]
+
+forces_or_not : (clue : List Block) (left : List ℕ) → AreSmall left → ForcesSome clue left ⊎ (ForcesSome clue left → ⊥)
+forces_or_not clue left small = elim (find_below (λ i. (k : ℕ) × ((k < 16) × IsForced clue left i k)) at_place (length left)) [
+  | inl found ↦ inl found
+  | inr none ↦ inr (λ f. none f.0 f.1.0 f.1.1)
+]
+  where
+    at_place : (i : ℕ) → ((k : ℕ) × ((k < 16) × IsForced clue left i k)) ⊎ ((k : ℕ) × ((k < 16) × IsForced clue left i k) → ⊥)
+    at_place i = elim (find_below (λ k. IsForced clue left i k) (λ k. forced_or_not clue left i k small) 16) [
+      | inl found ↦ inl found
+      | inr none ↦ inr (λ f. none f.0 f.1.0 f.1.1)
+    ]
+
+closed_line : (clue : List Block) (left : List ℕ) → AreSmall left → (ForcesSome clue left → ⊥) → IsClosedLine clue left
+closed_line clue left small none i k s = elim (have_or_not clue left i k small) [
+  | inl h ↦ h
+  | inr n ↦ absurd (none (i, (inside, (k, (bit_below (get_or left i 0) 16 k (small i) s, record { is_left = s; forces = n })))))
+]
+  where
+    inside : i < length left
+    inside = elim (cases_lt i (length left)) [
+      | inl l ↦ l
+      | inr p ↦ absurd (no_bit k (let P : ℕ → Type 0 = λ m. IsBitSet m k in subst P (get_or_past left i 0 p) s))
+    ]
+
+-- ---- one colour less
+
+pub within_refl : (a : List (List ℕ)) → IsWithin a a
+within_refl a = record { same_shape = shape_refl a; leaves = λ row col k l. l }
+
+within_trans : (a b c : List (List ℕ)) → IsWithin a b → IsWithin b c → IsWithin a c
+within_trans a b c x y = record { same_shape = shape_trans x.same_shape y.same_shape; leaves = λ r d k s. x.leaves r d k (y.leaves r d k s) }
+
+abbrev less : ℕ → ℕ → ℕ
+less mask k = bit_and mask (bit_not w16 (2 ^ k))
+
+two_below : (k : ℕ) → k < 16 → 2 ^ k < 2 ^ 16
+two_below k l = let most = pow_mono {i = k} {j = 15} (omega arith) in omega arith
+
+has_less : (mask k : ℕ) → mask < 2 ^ 16 → k < 16 → (j : ℕ) → IsBitSet (less mask k) j ↔ (IsBitSet mask j × (j ≡ k → ⊥))
+has_less mask k m l j =
+    let both = without_bit mask (2 ^ k) j m (two_below k l) in (
+      (λ s. let p = both.0 s in (p.0, (λ e. p.1 ((power_has k j).1 e)))),
+      (λ p. both.1 (p.0, (λ s. p.1 ((power_has k j).0 s)))),
+    )
+
+less_is_less : (mask k : ℕ) → mask < 2 ^ 16 → k < 16 → IsBitSet mask k → less mask k < mask
+less_is_less mask k m l s =
+    let le = fewer_le (less mask k) mask (λ j t. ((has_less mask k m l j).0 t).0) in
+    elim (cases_eq (less mask k) mask) [
+      | inl e ↦ let P : ℕ → Type 0 = λ x. IsBitSet x k in absurd (((has_less mask k m l k).0 (subst P (sym e) s)).1 refl)
+      | inr d ↦ omega arith
+    ]
+
+-- facts with a smaller mask in a cell are facts
+lower : (facts : List (List ℕ)) (row col x : ℕ) → row < length facts → col < length (row_at facts row) → x ≤ cell_at facts row col → (r c : ℕ) → cell_at (with_cell facts row col x) r c ≤ cell_at facts r c
+lower facts row col x h wide le r c = elim (both_or_not (cases_eq r row) (cases_eq c col)) [
+  | inr off ↦ let e = off_with_cell facts row col x r c off in omega arith
+  | inl e ↦
+      let P : ℕ → Type 0 = λ i. cell_at (with_cell facts row col x) i c ≤ cell_at facts i c in
+      let Q : ℕ → Type 0 = λ i. cell_at (with_cell facts row col x) row i ≤ cell_at facts row i in
+      let same = at_with_cell facts row col x h wide in
+      subst P (sym e.0) (subst Q (sym e.1) (omega arith))
+]
+
+pub facts_lower : (facts : List (List ℕ)) (row col x : ℕ) → IsFacts facts → row < length facts → col < width_of facts → x ≤ cell_at facts row col → IsFacts (with_cell facts row col x)
+facts_lower facts row col x is h w le =
+    let shape = shape_with_cell facts row col x in
+    let rect = is.rectangular row h in
+    let rows = shape.rows in
+    let first = shape.each 0 in
+    let small = lower facts row col x h (omega arith) le in
+    record {
+      has_row = (let a = is.has_row in omega arith);
+      rows_fit = (let a = is.rows_fit in omega arith);
+      has_column = (let a = is.has_column in omega arith);
+      columns_fit = (let a = is.columns_fit in omega arith);
+      rectangular = λ i m. (let a = is.rectangular i (omega arith) in let b = shape.each i in omega arith);
+      masks = λ i j. (let a = is.masks i j in let b = small i j in omega arith);
+    }
+
+abbrev with_less : List (List ℕ) → ℕ → ℕ → ℕ → List (List ℕ)
+with_less facts row col k = with_cell facts row col (less (cell_at facts row col) k)
+
+module _ (facts : List (List ℕ)) (row col k : ℕ) (is : IsFacts facts) (h : row < length facts) (w : col < width_of facts) (l : k < 16) where
+  wide : col < length (row_at facts row)
+  wide = let e = is.rectangular row h in omega arith
+
+  shape : SameShape facts (with_less facts row col k)
+  shape = shape_with_cell facts row col (less (cell_at facts row col) k)
+
+  -- what is left then is what was left, but for that colour there
+  left_then : (r c j : ℕ) → Leaves facts r c j → ((r ≡ row) × ((c ≡ col) × (j ≡ k)) → ⊥) → Leaves (with_less facts row col k) r c j
+  left_then r c j s n = elim (same_place r c) [
+    | inr off ↦ let P : ℕ → Type 0 = λ m. IsBitSet m j in subst P (sym (off_with_cell facts row col (less (cell_at facts row col) k) r c off)) s
+    | inl e ↦
+        let P : ℕ → Type 0 = λ i. Leaves facts i c j in
+        let Q : ℕ → Type 0 = λ i. Leaves facts row i j in
+        let V : ℕ → Type 0 = λ i. Leaves (with_less facts row col k) i c j in
+        let W : ℕ → Type 0 = λ i. Leaves (with_less facts row col k) row i j in
+        let here : Leaves facts row col j = subst Q e.1 (subst P e.0 s) in
+        let M : ℕ → Type 0 = λ m. IsBitSet m j in
+        let there : Leaves (with_less facts row col k) row col j = subst M (sym (at_with_cell facts row col (less (cell_at facts row col) k) h wide)) ((has_less (cell_at facts row col) k (is.masks row col) l j).1 (here, (λ f. n (e.0, (e.1, f))))) in
+        subst V (sym e.0) (subst W (sym e.1) there)
+  ]
+    where
+      same_place : (r c : ℕ) → ((r ≡ row) × (c ≡ col)) ⊎ ((r ≡ row) × (c ≡ col) → ⊥)
+      same_place r c = both_or_not (cases_eq r row) (cases_eq c col)
+
+  facts_then : IsFacts (with_less facts row col k)
+  facts_then = facts_lower facts row col (less (cell_at facts row col) k) is h w (fewer_le (less (cell_at facts row col) k) (cell_at facts row col) (λ j t. ((has_less (cell_at facts row col) k (is.masks row col) l j).0 t).0))
+
+  within_then : IsWithin facts (with_less facts row col k)
+  within_then = record {
+    same_shape = shape;
+    leaves = λ r c j s. elim (both_or_not (cases_eq r row) (cases_eq c col)) [
+      | inr off ↦ let P : ℕ → Type 0 = λ m. IsBitSet m j in subst P (off_with_cell facts row col (less (cell_at facts row col) k) r c off) s
+      | inl e ↦
+          let P : ℕ → Type 0 = λ i. Leaves (with_less facts row col k) i c j in
+          let Q : ℕ → Type 0 = λ i. Leaves (with_less facts row col k) row i j in
+          let V : ℕ → Type 0 = λ i. Leaves facts i c j in
+          let W : ℕ → Type 0 = λ i. Leaves facts row i j in
+          let M : ℕ → Type 0 = λ m. IsBitSet m j in
+          let here : IsBitSet (less (cell_at facts row col) k) j = subst M (at_with_cell facts row col (less (cell_at facts row col) k) h wide) (subst Q e.1 (subst P e.0 s)) in
+          subst V (sym e.0) (subst W (sym e.1) ((has_less (cell_at facts row col) k (is.masks row col) l j).0 here).0)
+    ];
+  }
+
+  lighter_then : Leaves facts row col k → weight (with_less facts row col k) < weight facts
+  lighter_then s =
+      let sum = weight_with_cell facts row col (less (cell_at facts row col) k) h wide in
+      let lt = less_is_less (cell_at facts row col) k (is.masks row col) l s in
+      omega arith
+
+-- ---- closed facts
+
+-- facts that lie inside all closed ones over others
+record LieInside (clues : Clues) (base facts : List (List ℕ)) : Type 0 where
+  are_facts : IsFacts facts
+  holds : IsWithin base facts
+  inside : (others : List (List ℕ)) → IsClosed clues others → IsWithin base others → IsWithin facts others
+
+abbrev HasLeast : Clues → List (List ℕ) → Type 0
+HasLeast clues base = (settled : List (List ℕ)) × (IsFacts settled × IsLeast clues base settled)
+
+-- what a line forces can be excluded
+force_one : (clues : Clues) (base facts : List (List ℕ)) (line : LineId) (i k : ℕ) → LieInside clues base facts → HasLine facts line → i < length (line_of facts line) → k < 16 → IsForced (clue_at clues line) (line_of facts line) i k
+    → (more : List (List ℕ)) × ((weight more < weight facts) × LieInside clues base more)
+force_one clues base facts line i k a has l small forced =
+    let is = a.are_facts in
+    let row = row_on line.axis line.at i in
+    let col = col_on line.axis line.at i in
+    let place = place_inside facts line.axis line.at i is has l in
+    let M : ℕ → Type 0 = λ m. IsBitSet m k in
+    let s : Leaves facts row col k = subst M (cell_on facts line i) forced.is_left in
+    let more = with_less facts row col k in (
+      more,
+      (
+        lighter_then facts row col k is place.0 place.1 small s,
+        record {
+          are_facts = facts_then facts row col k is place.0 place.1 small;
+          holds = within_trans base facts more a.holds (within_then facts row col k is place.0 place.1 small);
+          inside = λ others closed w.
+              let in_facts = a.inside others closed w in
+              record {
+                same_shape = shape_trans (shape_sym (shape facts row col k is place.0 place.1 small)) in_facts.same_shape;
+                leaves = λ r c j t. left_then facts row col k is place.0 place.1 small r c j (in_facts.leaves r c j t) (λ e.
+                    let P : ℕ → Type 0 = λ x. Leaves others x c j in
+                    let Q : ℕ → Type 0 = λ x. Leaves others row x j in
+                    let R : ℕ → Type 0 = λ x. Leaves others row col x in
+                    let here : Leaves others row col k = subst R e.1.1 (subst Q e.1.0 (subst P e.0 t)) in
+                    let on : IsBitSet (get_or (line_of others line) i 0) k = subst M (sym (cell_on others line i)) here in
+                    let have = closed line (same_has_line facts others line in_facts.same_shape has) i k on in
+                    forced.forces (tighter_have (clue_at clues line) (line_of facts line) (line_of others line) (within_tighter facts others in_facts line) i k have));
+              };
+        },
+      ),
+    )
+
+settle : (n : ℕ) (clues : Clues) (base facts : List (List ℕ)) → weight facts < n → LieInside clues base facts → HasLeast clues base
+settle zero clues base facts l a = absurd (omega arith)
+settle (suc n) clues base facts l a =
+    let P : LineId → Type 0 = λ line. ForcesSome (clue_at clues line) (line_of facts line) in
+    elim (some_line facts P (λ line. forces_or_not (clue_at clues line) (line_of facts line) (small_line facts line a.are_facts))) [
+      | inl found ↦
+          let f = found.1.1 in
+          let next = force_one clues base facts found.0 f.0 f.1.1.0 a found.1.0 f.1.0 f.1.1.1.0 f.1.1.1.1 in
+          settle n clues base next.0 (let less = next.1.0 in omega arith) next.1.1
+      | inr none ↦ (
+        facts,
+        (
+          a.are_facts,
+          record {
+            closed = λ line has. closed_line (clue_at clues line) (line_of facts line) (small_line facts line a.are_facts) (none line has);
+            holds = a.holds;
+            least = a.inside;
+          },
+        ),
+      )
+    ]
+
+pub least_is_there : (clues : Clues) (facts : List (List ℕ)) → IsFacts facts → HasLeast clues facts
+least_is_there clues facts is = settle (suc (weight facts)) clues facts facts (omega arith) (record { are_facts = is; holds = within_refl facts; inside = λ others closed w. w })
+
+-- ---- lines that no list fits
+
+pub fits_or_dead : (clues : Clues) (base settled : List (List ℕ)) → IsFacts settled → IsLeast clues base settled → EachFits clues settled ⊎ HasDeadLine clues base
+fits_or_dead clues base settled is least =
+    let P : LineId → Type 0 = λ line. CanFit (clue_at clues line) (line_of settled line) → ⊥ in
+    elim (some_line settled P unfit_or_not) [
+      | inl found ↦ inr (record {
+        line = found.0;
+        has = same_has_line settled base found.0 (shape_sym least.holds.same_shape) found.1.0;
+        dead = λ others closed w fit. found.1.1 (tighter_can_fit (clue_at clues found.0) (line_of settled found.0) (line_of others found.0) (within_tighter settled others (least.least others closed w) found.0) fit);
+      })
+      | inr none ↦ inl (λ line has. elim (fit_or_not (clue_at clues line) (line_of settled line) (small_line settled line is)) [
+        | inl fit ↦ fit
+        | inr n ↦ absurd (none line has n)
+      ])
+    ]
+  where
+    unfit_or_not : (line : LineId) → (CanFit (clue_at clues line) (line_of settled line) → ⊥) ⊎ ((CanFit (clue_at clues line) (line_of settled line) → ⊥) → ⊥)
+    unfit_or_not line = elim (fit_or_not (clue_at clues line) (line_of settled line) (small_line settled line is)) [
+      | inl fit ↦ inr (λ n. n fit)
+      | inr n ↦ inl n
+    ]
