@@ -176,7 +176,7 @@ def mean_sentence(name):
     """How many words a sentence of a document's paragraphs and items has, in the mean; headings and tables are left out."""
     with open(os.path.join(ROOT, name), encoding="utf-8") as file:
         _, lines = blocks(file.read())
-    plain = ["" if re.match(r"#|\||!\[|<!--", line.strip()) else line for line in lines]
+    plain = ["" if re.match(r"#|\||!\[|<", line.strip()) else line for line in lines]
     lengths = [words_of([sentence]) for _, unit in units(plain) for sentence in sentences(unit)]
     return sum(lengths) / len(lengths)
 
