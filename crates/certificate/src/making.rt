@@ -1,28 +1,24 @@
 //! The maker of certificates.
 
-ghost use Rattle.std.specs.Prelude.{◌≡◌, ◌≤◌, ◌<◌, ◌↔◌, [], length, IfErr, IfOk, IsTrue, OnOk};
+ghost use Rattle.std.specs.Prelude.{◌≡◌, ◌≤◌, ◌<◌, ◌↔◌, [], length, IfErr, IfOk, OnOk};
 ghost use Rattle.picture.specs.Document.{AreInside};
 ghost use Rattle.picture.specs.Rows.{width_of};
-ghost use Rattle.second_search.specs.Parts.{IsScene};
 ghost use Rattle.certificate.specs.Cert.{AreOrdered, AreWritable, IsCert};
-ghost use Rattle.certificate.specs.Making.{HasOther, Makes, NamesGivens, NamesUpTo, WritesTree, lines_seen};
+ghost use Rattle.certificate.specs.Making.{Makes, NamesGivens, NamesUpTo, WritesTree, lines_seen};
 ghost use Rattle.certificate.specs.Walk.{CanCheck};
 ghost use Rattle.line_settle.specs.FactSets.{SameShape};
 
 use crate::cert::Cert;
 use crate::checking::set_givens;
 use crate::fault::CertFault;
-use crate::laws::bases_are_one;
 use crate::places::cell_number;
 use clues::ClueBook;
 use clues::laws::clues_are_of_lines;
 use line_settle::laws::{forcing_closes_a_line, one_line_decides};
 use line_settle::{Facts, LineEngine, Meter};
 use picture::{CellSet, MAX_SIDE, Picture};
-use second_search::laws::sound_facts;
 use second_search::{
     CellNumber, CertLine, Decided, FIRST_BOUND, Ladder, Lines, MOST_CELLS, Scene, climb,
-    find_near_other,
 };
 use std::alloc::{AllocError, Global};
 
@@ -34,7 +30,7 @@ const LADDER: Ladder = Ladder {
     keeps: true,
 };
 
-const NOTHING_DONE: Meter = Meter {
+pub(crate) const NOTHING_DONE: Meter = Meter {
     evaluations: 0,
     trials: 0,
 };
@@ -66,31 +62,6 @@ fn write_tree<E: LineEngine>(
     }
 }
 
-// Whether there is another picture that differs in one window alone. There may be others where there is not.
-fn has_near_other<E: LineEngine>(
-    alloc: Global,
-    engine: &mut E,
-    scene: &Scene,
-) -> Result<bool, CertFault>
-    requires scene { IsScene scene.now.clues.now scene.now.givens.now scene.now.facts.now
-        scene.now.picture.now }
-    requires can { CanCheck scene.now.picture.now scene.now.clues.now (E.longest engine.old) }
-    ensures other { IfOk result (λ found. IsTrue found
-        → HasOther scene.now.picture.now scene.now.givens.now) }
-    ensures err { IfErr result (λ e. e ≡ CertFault.Memory) }
-    ensures same_longest { E.longest engine.new ≡ E.longest engine.old }
-    ensures calls { E.calls engine.old ≤ E.calls engine.new }
-{
-    clues_are_of_lines();
-    let _ = engine.calls();
-    let mut meter = NOTHING_DONE;
-    let near = find_near_other(alloc, engine, scene, &mut meter)?;
-    if let Some(_other) = near {
-        return Ok(true);
-    }
-    Ok(false)
-}
-
 #[tactic(auto, using(crate::proofs::NumberLemmas::naming))]
 // Puts the numbers of the given cells of a row behind those of the rows before it.
 fn put_row(
@@ -114,8 +85,8 @@ fn put_row(
 }
 
 #[tactic(auto, using(crate::proofs::NumberLemmas::naming))]
-// The givens by their numbers, in the order of rows.
-fn given_cells(
+/// The givens by their numbers, in the order of rows.
+pub(crate) fn given_cells(
     alloc: Global,
     picture: &Picture,
     givens: &CellSet,
@@ -160,8 +131,6 @@ fn made<E: LineEngine>(
     ensures same_longest { E.longest engine.new ≡ E.longest engine.old }
     ensures calls { E.calls engine.old ≤ E.calls engine.new }
 {
-    bases_are_one();
-    sound_facts();
     let cells = given_cells(alloc, picture, givens)?;
     let mut facts = Facts::none(alloc, picture.height(), picture.width())?;
     let book = ClueBook::of(alloc, picture)?;
@@ -173,23 +142,15 @@ fn made<E: LineEngine>(
         facts: &facts,
         picture,
     };
-    let near = has_near_other(alloc, engine, &scene)?;
-    if near {
-        return Ok(None);
-    }
     let Some(lines) = write_tree(alloc, engine, &scene)? else {
         return Ok(None);
     };
     Ok(Some(with_version(cells, lines)))
 }
 
-/// Makes a certificate of a picture with exactly these givens: `check_cert` accepts it, so there is no other picture with the
-/// clues and, in the givens, the colours. It has version 1 exactly where there are none. The answer is None exactly where there
-/// is another picture. No line of the picture may be longer than the engine takes.
-///
-/// The tree is written while it is searched, and a refused growth is answered as the error. Nothing is said of its length. The
-/// engine's calls do not fall; how many lines are evaluated is not said.
-pub fn make_cert<E: LineEngine>(
+/// Makes a certificate as `make_cert` does, and looks for no near picture first: for a caller that has looked already. What is
+/// promised is the same.
+pub fn climb_cert<E: LineEngine>(
     alloc: Global,
     engine: &mut E,
     picture: &Picture,

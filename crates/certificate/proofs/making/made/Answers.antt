@@ -4,7 +4,7 @@ use Rattle.second_search.specs.declared.tree_line.CertLine.{CertLine}
 use Rattle.certificate.specs.Making.{WritesTree, lines_seen}
 use Rattle.certificate.specs.Puzzle.{with_givens}
 use Rattle.certificate.specs.Walk.{GivesBase}
-use Rattle.certificate.proofs.MadeLemmas.{made_scene, makes_none, makes_some}
+use Rattle.certificate.proofs.MadeLemmas.{makes_none, makes_some}
 use Rattle.certificate.proofs.making.made.Goals as goal
 
 pub returns-in_default-clause-makes : goal.returns-in_default-clause-makes
@@ -26,11 +26,3 @@ returns-clause-makes g c =
     let Q : List CellNumber → Type 0 = λ givens. start ≡ with_givens c.args.picture.now givens blank in
     let R : Option (Vec CertLine Global) → Type 0 = λ lines. WritesTree c.args.picture.now start (lines_seen lines) in
     makes_some c.args.picture.now blank start c.args.givens.now cells c.in-Some.lines.items c.with_version.result c.height.result c.width.result c.height.ensures.picture c.in_ok-cells.ensures.named c.height.ensures.value c.width.ensures.value c.in_ok-facts.ensures.value (subst P c.deref.ensures.value c.in_ok-set_givens.ensures.base) (subst Q c.deref.ensures.value c.in_ok-set_givens.ensures.facts) (subst R c.in-Some.is c.in_ok-lines.ensures.writes) c.with_version.ensures.cert c.with_version.ensures.givens c.with_version.ensures.lines c.with_version.ensures.version
-
-pub has_near_other-requires-clause-scene : goal.has_near_other-requires-clause-scene
-has_near_other-requires-clause-scene g c =
-    let start = c.set_givens.new.facts in
-    let blank = c.in_ok-facts.facts in
-    let cells = c.in_ok-cells.cells.items in
-    let Q : List CellNumber → Type 0 = λ givens. start ≡ with_givens c.args.picture.now givens blank in
-    made_scene c.bases_are_one.ensures c.sound_facts.ensures c.args.picture.now blank start c.args.givens.now cells c.in_ok-book.book c.height.result c.width.result c.height.ensures.picture c.in_ok-cells.ensures.named c.height.ensures.value c.width.ensures.value c.in_ok-facts.ensures.value (subst Q c.deref.ensures.value c.in_ok-set_givens.ensures.facts) c.in_ok-book.ensures

@@ -1,0 +1,103 @@
+//! The maker that looks for near pictures before it writes a certificate.
+
+ghost use Rattle.std.specs.Prelude.{◌≡◌, ◌≤◌, length, IfErr, IfOk, IsTrue};
+ghost use Rattle.picture.specs.Document.{AreInside};
+ghost use Rattle.picture.specs.Rows.{width_of};
+ghost use Rattle.second_search.specs.Parts.{IsScene};
+ghost use Rattle.certificate.specs.Making.{HasOther, Makes};
+ghost use Rattle.certificate.specs.Walk.{CanCheck};
+
+use crate::cert::Cert;
+use crate::checking::set_givens;
+use crate::fault::CertFault;
+use crate::laws::bases_are_one;
+use crate::making::{NOTHING_DONE, climb_cert, given_cells};
+use clues::ClueBook;
+use clues::laws::clues_are_of_lines;
+use line_settle::{Facts, LineEngine};
+use picture::{CellSet, Picture};
+use second_search::laws::sound_facts;
+use second_search::{Scene, find_near_other};
+use std::alloc::{AllocError, Global};
+
+// Whether a scene has another picture that differs in one window alone. There may be others where it has not.
+fn has_near_other<E: LineEngine>(
+    alloc: Global,
+    engine: &mut E,
+    scene: &Scene,
+) -> Result<bool, CertFault>
+    requires scene { IsScene scene.now.clues.now scene.now.givens.now scene.now.facts.now
+        scene.now.picture.now }
+    requires can { CanCheck scene.now.picture.now scene.now.clues.now (E.longest engine.old) }
+    ensures other { IfOk result (λ found. IsTrue found
+        → HasOther scene.now.picture.now scene.now.givens.now) }
+    ensures err { IfErr result (λ e. e ≡ CertFault.Memory) }
+    ensures same_longest { E.longest engine.new ≡ E.longest engine.old }
+    ensures calls { E.calls engine.old ≤ E.calls engine.new }
+{
+    clues_are_of_lines();
+    let _ = engine.calls();
+    let mut meter = NOTHING_DONE;
+    let near = find_near_other(alloc, engine, scene, &mut meter)?;
+    if let Some(_other) = near {
+        return Ok(true);
+    }
+    Ok(false)
+}
+
+// The same of a picture with some givens.
+fn is_near_other<E: LineEngine>(
+    alloc: Global,
+    engine: &mut E,
+    picture: &Picture,
+    givens: &CellSet,
+) -> Result<bool, CertFault>
+    requires inside { AreInside givens.now picture.now }
+    requires wide { width_of picture.now ≤ E.longest engine.old }
+    requires tall { length picture.now ≤ E.longest engine.old }
+    ensures other { IfOk result (λ found. IsTrue found → HasOther picture.now givens.now) }
+    ensures err { IfErr result (λ e. e ≡ CertFault.Memory) }
+    ensures same_longest { E.longest engine.new ≡ E.longest engine.old }
+    ensures calls { E.calls engine.old ≤ E.calls engine.new }
+{
+    bases_are_one();
+    sound_facts();
+    let cells = given_cells(alloc, picture, givens)?;
+    let mut facts = Facts::none(alloc, picture.height(), picture.width())?;
+    let book = ClueBook::of(alloc, picture)?;
+    set_givens(picture, &mut facts, &cells)?;
+    let _ = facts.height();
+    let scene = Scene {
+        clues: &book,
+        givens,
+        facts: &facts,
+        picture,
+    };
+    has_near_other(alloc, engine, &scene)
+}
+
+/// Makes a certificate of a picture with exactly these givens: `check_cert` accepts it, so there is no other picture with the
+/// clues and, in the givens, the colours. It has version 1 exactly where there are none. The answer is None exactly where there
+/// is another picture. No line of the picture may be longer than the engine takes.
+///
+/// Near pictures are looked for first. The tree is written while it is searched, and a refused growth is answered as the error.
+/// Nothing is said of its length. The engine's calls do not fall; how many lines are evaluated is not said.
+pub fn make_cert<E: LineEngine>(
+    alloc: Global,
+    engine: &mut E,
+    picture: &Picture,
+    givens: &CellSet,
+) -> Result<Option<Cert>, AllocError>
+    requires inside { AreInside givens.now picture.now }
+    requires wide { width_of picture.now ≤ E.longest engine.old }
+    requires tall { length picture.now ≤ E.longest engine.old }
+    ensures makes { IfOk result (Makes picture.now givens.now) }
+    ensures same_longest { E.longest engine.new ≡ E.longest engine.old }
+    ensures calls { E.calls engine.old ≤ E.calls engine.new }
+{
+    match is_near_other(alloc, engine, picture, givens) {
+        Ok(true) => Ok(None),
+        Ok(false) => climb_cert(alloc, engine, picture, givens),
+        Err(_) => Err(AllocError),
+    }
+}
