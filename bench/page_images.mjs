@@ -3,9 +3,9 @@ import assert from 'node:assert/strict';
 import { test } from 'node:test';
 import { load } from '../page/test/load.mjs';
 
-const { scaledTo, dotSize, sizeOfImage, flatColours, paletteFor, docOfCells, thresholdFor, oklabOf } = load(
-    ['answers.js', 'hub.js', 'mirror.js', 'ppm.js', 'images.js', 'docs.js', 'quantise.js'],
-    ['scaledTo', 'dotSize', 'sizeOfImage', 'flatColours', 'paletteFor', 'docOfCells', 'thresholdFor', 'oklabOf'],
+const { scaledTo, dotSize, sizeOfImage, flatColours, paletteFor, docOfCells, thresholdFor, oklabOf, withoutMargin } = load(
+    ['answers.js', 'hub.js', 'mirror.js', 'ppm.js', 'images.js', 'docs.js', 'quantise.js', 'proposing.js'],
+    ['scaledTo', 'dotSize', 'sizeOfImage', 'flatColours', 'paletteFor', 'docOfCells', 'thresholdFor', 'oklabOf', 'withoutMargin'],
 );
 // An image of rows of signs; '-' is transparent.
 function imageOf(rows, colours) {
@@ -115,6 +115,17 @@ test('what is transparent is background, apart from all colours that are drawn',
     assert.notDeepEqual(white.colours[0], COLOURS.w);
     const nothing = docOfCells(imageOf(['--', '--'], COLOURS), { colours: 4 });
     assert.deepEqual(nothing.picture, ['..', '..']);
+});
+
+test('the background stays light beside white and a pale colour', () => {
+    const doc = docOfCells(imageOf(['-w-', 'cwr'], { ...COLOURS, c: [232, 211, 168] }), { colours: 5 });
+    assert.ok(doc.colours[0].every((sample) => sample > 180), String(doc.colours[0]));
+});
+
+test('the margin of an image', () => {
+    assert.deepEqual(withoutMargin(imageOf(['----', '-r--', '--w-', '----', '----'], COLOURS)), { x: 1, y: 1, width: 2, height: 2 });
+    assert.deepEqual(withoutMargin(imageOf(['www', 'wkw', 'wwk'], COLOURS)), { x: 1, y: 1, width: 2, height: 2 });
+    assert.deepEqual(withoutMargin(imageOf(['ww', 'ww'], COLOURS)), { x: 0, y: 0, width: 2, height: 2 });
 });
 
 test('a cell has the colour that most of its part has', () => {

@@ -4,40 +4,10 @@
 const MOST_WORKED = 480; // pixels a side that the dialog works on; a larger part is made smaller first
 const MOST_MIDDLE = 960; // pixels a side of a copy of the image
 const MOST_POINTS = 100; // pixels a side that its colours are found in
+const SKETCH_POINTS = 40; // pixels a side that the colours of a sketch are found in
+const SLOW_MS = 40; // where the last preview took longer, a sketch comes first
+const SKETCH_REST = 150; // milliseconds without a change before the preview follows a sketch
 const SHOWN_SIDE = 320; // pixels of the two pictures in the dialog
-
-/** How many colours an image has with a background: all where each pixel counts and they are few, its flat ones, or some. */
-function coloursFor(image, { isExact, some }) {
-  const clear = Number(hasClear(image));
-  const most = MOST_COLOURS - clear;
-  const own = isExact && hasFewColours(image, most) ? spotsOf(image) : flatColours(image, most);
-  return own.length ? Math.max(2, own.length + clear) : some;
-}
-
-/** What the dialog proposes for an image: one cell a dot of a pixel picture, else 40 cells on the longer side. */
-function proposalFor(image) {
-  const dot = dotSize(image);
-  const [columns, rows] = [image.width / dot, image.height / dot];
-  const sampled = (wide, high) => scaledTo(image, { x: 0, y: 0, ...image }, wide, high, true);
-  if (columns <= MOST_CELLS && rows <= MOST_CELLS && columns * rows > 1) return { columns, rows, dot, sharp: true, colours: coloursFor(sampled(columns, rows), { isExact: true, some: MOST_COLOURS }) };
-  const scale = 40 / Math.max(image.width, image.height);
-  const colours = coloursFor(sampled(Math.min(MOST_POINTS, image.width), Math.min(MOST_POINTS, image.height)), { isExact: false, some: 6 });
-  return { columns: Math.max(1, Math.round(image.width * scale)), rows: Math.max(1, Math.round(image.height * scale)), dot: null, sharp: false, colours };
-}
-
-/** The part of an image without the lines at its edges that are transparent, or of the colour of its corner, all along. */
-function withoutMargin({ width, height, data }) {
-  const pixels = new Uint32Array(data.buffer, data.byteOffset, width * height);
-  const isMargin = (at) => (isTransparent(data, 0) ? isTransparent(data, at * 4) : pixels[at] === pixels[0]);
-  let [left, top, right, bottom] = [width, height, -1, -1];
-  for (let row = 0, at = 0; row < height; row++) {
-    for (let col = 0; col < width; col++, at++) {
-      if (isMargin(at)) continue;
-      [left, right, top, bottom] = [Math.min(left, col), Math.max(right, col), Math.min(top, row), row];
-    }
-  }
-  return right < 0 ? { x: 0, y: 0, width, height } : { x: left, y: top, width: right - left + 1, height: bottom - top + 1 };
-}
 
 /** An image as points of a canvas. */
 function canvasOfImage({ width, height, data }) {
@@ -57,7 +27,8 @@ class Importing {
     this.background = null;
     this.scaled = new Map(); // what was made last of the part, as cells and as points
     this.doc = null;
-    this.isWaiting = false;
+    this.isWaiting = false; // for the document of the last change
+    Object.assign(this, { frame: 0, timer: 0, spent: 0 });
     this.make();
     this.change();
   }
@@ -168,10 +139,12 @@ class Importing {
     this.onlyTwo.hidden = !this.two.checked;
     this.colours.disabled = this.two.checked;
     this.size = [side(this.columns), side(this.rows)];
-    if (this.isWaiting) return;
     this.isWaiting = true;
-    requestAnimationFrame(() => {
-      if (this.isWaiting) this.show();
+    this.frame ||= requestAnimationFrame(() => {
+      this.frame = 0;
+      if (!this.isWaiting) return;
+      if (this.spent > SLOW_MS) this.sketch();
+      else this.show();
     });
   }
 
@@ -228,21 +201,44 @@ class Importing {
     return scaled;
   }
 
-  show() {
-    this.isWaiting = false;
-    const begun = performance.now();
+  options() {
     const options = { colours: Number(this.colours.value), background: this.background };
-    if (this.two.checked) Object.assign(options, { threshold: Number(this.threshold.value), inverted: this.inverted.checked });
+    return this.two.checked ? { ...options, threshold: Number(this.threshold.value), inverted: this.inverted.checked } : options;
+  }
+
+  // A preview of single pixels at once, where the machine is slow; the one that counts follows when the user rests.
+  sketch() {
+    const begun = performance.now();
+    clearTimeout(this.timer);
+    this.timer = setTimeout(() => this.isWaiting && this.show(), SKETCH_REST);
+    const pick = (columns, rows) => scaledTo(this.full, this.crop, columns, rows, true);
+    const points = pick(Math.min(SKETCH_POINTS, this.crop.width), Math.min(SKETCH_POINTS, this.crop.height));
+    this.doc = this.grounded(docOfCells(pick(...this.size), this.options(), { points }));
+    this.draw();
+    this.preview.dataset.ms = (performance.now() - begun).toFixed(1);
+  }
+
+  show() {
+    const begun = performance.now();
+    const isFirst = !this.timer; // no sketch of it was drawn
+    clearTimeout(this.timer);
+    Object.assign(this, { isWaiting: false, timer: 0 });
+    const options = this.options();
     const times = this.size[0] * this.size[1] > 5000 ? 2 : 3;
     // Of a drawing in flat colours single pixels are taken: means across its edges would be colours of their own.
     const fine = this.sharp.checked || this.two.checked ? null : this.cells(times, flatColours(this.points(), MOST_COLOURS).length > 0);
     const cells = fine ? scaledTo(fine, { x: 0, y: 0, width: fine.width, height: fine.height }, ...this.size) : this.cells();
     this.doc = this.grounded(docOfCells(cells, options, fine ? { fine, points: this.points() } : {}));
+    this.draw();
+    this.spent = performance.now() - begun;
+    if (isFirst) this.preview.dataset.ms = this.spent.toFixed(1);
+  }
+
+  draw() {
     drawSmall(this.preview, this.doc, SHOWN_SIDE);
     this.drawSource();
     this.showSwatches();
     this.facts.textContent = `${this.doc.columns} by ${this.doc.rows} cells, ${many(this.doc.colours.length, 'colour')} with the background`;
-    this.preview.dataset.ms = (performance.now() - begun).toFixed(1);
   }
 
   // The document with its background shown as the colour that was chosen, where no other colour is that one.
