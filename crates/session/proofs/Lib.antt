@@ -7,6 +7,5 @@ pub mod ReportLemmas
 pub mod RoomLemmas
 pub mod RunLemmas
 pub mod ShownLemmas
-pub mod TableLemmas
 pub mod TextLemmas
 pub mod WordLemmas

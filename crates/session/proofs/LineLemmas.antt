@@ -11,9 +11,9 @@ use borrow.Rule.Slice.PartMut.{put_mid}
 use Rattle.std.proofs.Math.Seq.{take-append-add, drop-drop}
 use Rattle.std.proofs.lemmas.List.Splits.{length-slice_split}
 use Rattle.std.specs.Io.KnownBytes.{Keeps}
-use Rattle.std.proofs.KnownBytes.{Consumes-kept, Consumes-nil, Consumes-trans}
+use Rattle.std.proofs.KnownBytes.{Consumes-kept, Consumes-trans}
 use Rattle.session.specs.declared.lines.Lines.{Lines}
-use Rattle.session.specs.Lines.{BreaksOff, CutsNone, CutsOne, Drafts, NoFeed, TakesPiece, Waits, all_pieces, ended_lines_of, ended_pieces, is_feed, lines_of, has_word, request_by, request_of, steps_left}
+use Rattle.session.specs.Lines.{BreaksOff, CutsOne, Drafts, NoFeed, TakesPiece, Waits, all_pieces, ended_lines_of, ended_pieces, is_feed, lines_of, has_word, request_by, request_of, steps_left}
 use Rattle.session.specs.Parse.{command_of, command_of_words}
 use Rattle.session.specs.declared.fault.CommandFault.TheVariants.{LongLine}
 use Rattle.session.specs.declared.request.Request.TheVariants.{Nothing, Refused}
@@ -199,10 +199,6 @@ all_skipped taken now same = ap (λ (xs : List ℕ). drop (length xs) now) same 
 
 -- ---- a call
 
--- no byte has come yet
-pub drafts_none : (had : Option (List ℕ)) (l : Lines) → Drafts had had l l []
-drafts_none had l = record { came = []; read = Consumes-nil had; raw = []; cut = append-nil l.inbox; no_feed = tt; kept = refl; end = λ h. h; behind = λ met. (refl, met); steps = omega arith }
-
 -- bytes came, and wait
 pub drafts_wait : (had mid have : Option (List ℕ)) (old now new : Lines) (draft : List ℕ) (more : Bool) → Drafts had mid old now draft → Waits mid have now new more → Drafts had have old new draft
 drafts_wait had mid have old now new draft more d w = record {
@@ -304,27 +300,6 @@ cuts_last had have old now draft d none met some = record {
     behind = d.behind;
   };
   asks = ap (λ (xs : List ℕ). request_of (strip_carriage_return xs)) d.kept ∙ front_decides d.raw;
-}
-  where
-    true_is_not_false : true ≡ false → ⊥
-    true_is_not_false e = cc
-
--- no line is left
-pub cuts_none : (had have : Option (List ℕ)) (old now : Lines) (draft : List ℕ) → Drafts had have old now draft → now.inbox ≡ [] → now.ended ≡ true → length draft ≡ 0
-    → CutsNone had have old now
-cuts_none had have old now draft d none met empty = record {
-  cuts = record {
-    came = d.came;
-    read = d.read;
-    lines = λ rest may.
-        ap lines_of (at_end had have old now draft d none rest (may met) ∙ none_kept draft d.raw d.kept empty)
-        ∙ sym (ap lines_of (ap (λ (xs : List ℕ). xs ++ rest) none ∙ may met));
-    ended = λ on rest. absurd (true_is_not_false (sym met ∙ on));
-    end = d.end;
-    behind = d.behind;
-  };
-  waiting = none;
-  met = met;
 }
   where
     true_is_not_false : true ≡ false → ⊥

@@ -21,10 +21,17 @@ use Rattle.session.specs.Words.{is_word, words_of}
 
 -- ---- values, word by word from the left
 
+-- the next word, and the words behind it
+abbrev pub word_at : List (List ℕ) → Result (List ℕ × List (List ℕ)) CommandFault
+word_at [] = Err WordCount
+word_at (word ∷ words) = Ok (word, words)
+
 -- the value of the next word, and the words behind it
 abbrev pub field_at : {X : Type 0} → (List ℕ → Option X) → CommandFault → List (List ℕ) → Result (X × List (List ℕ)) CommandFault
-field_at value fault [] = Err WordCount
-field_at value fault (word ∷ words) = ok_or (value word) fault >>= λ x. Ok (x, words)
+field_at value fault words = do
+  word ← word_at words
+  x ← ok_or (value word.0) fault
+  Ok (x, word.1)
 
 abbrev pub place_at : List (List ℕ) → Result (ℕ × List (List ℕ)) CommandFault
 place_at words = field_at place_of BadNumber words
@@ -175,8 +182,7 @@ IsBounded (command.Allow allowance) = IfSome allowance (λ splits. splits < 1000
 
 -- a second word where the first wants one, and the words behind the verb
 abbrev pub verb_behind : List (List ℕ × Verb) → List (List ℕ) → Result (Verb × List (List ℕ)) CommandFault
-verb_behind table [] = Err WordCount
-verb_behind table (second ∷ words) = ok_or (named second table) UnknownWord >>= λ verb. Ok (verb, words)
+verb_behind table words = field_at (λ second. named second table) UnknownWord words
 
 abbrev pub verb_from : Option Start → List (List ℕ) → Result (Verb × List (List ℕ)) CommandFault
 verb_from None words = Err UnknownWord
@@ -203,6 +209,10 @@ unfoldable pub command_of : List ℕ → Result Command CommandFault
 command_of line = if nat_lt 200 (length line) then Err LongLine else command_of_words (words_of line)
 
 -- ---- what functions that read words answer
+
+-- a word, and the words that are left
+abbrev pub word_seen : Bor (List ℕ) × Bor (List ℕ) → List ℕ × List (List ℕ)
+word_seen x = (x.0.now, words_of x.1.now)
 
 -- a value, and the words that are left
 abbrev pub field_seen : {X : Type 0} → X × Bor (List ℕ) → X × List (List ℕ)

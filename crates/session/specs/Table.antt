@@ -1,5 +1,5 @@
 -- The table of commands: the words with which each begins, and how many words stand behind them.
-use Rattle.std.specs.Prelude.{ℕ, List, [], ◌∷◌, ◌++◌, codes, Option, None, Some, if◌then◌else◌}
+use Rattle.std.specs.Prelude.{ℕ, List, [], ◌∷◌, codes, Option, None, Some, if◌then◌else◌}
 use Rattle.picture.specs.declared.line_id.Axis.TheVariants.{Across, Down}
 use Rattle.session.specs.declared.verb.Verb.{Verb}
 use Rattle.session.specs.declared.verb.Verb.TheVariants.{Paint, Fill, Recolour, Insert, Delete, Swap, AddColour, SetColour, Pin, Unpin, Undo, Redo, Clues, Map, Verdict, Why, Certify, WritePpm, WriteNon, Report, Allow}
@@ -12,9 +12,9 @@ abbrev pub named : {X : Type 0} → List ℕ → List (List ℕ × X) → Option
 named word [] = None
 named word (entry ∷ entries) = if is_word word entry.0 then Some entry.1 else named word entries
 
--- edits that one word names
-abbrev pub editing : List (List ℕ × Start)
-editing =
+-- the first words of all commands: edits, what is shown or asked, and words that a second one completes
+abbrev pub first_words : List (List ℕ × Start)
+first_words =
     (codes "paint", Whole Paint)
     ∷ (codes "fill", Whole Fill)
     ∷ (codes "recolour", Whole Recolour)
@@ -22,33 +22,19 @@ editing =
     ∷ (codes "unpin", Whole Unpin)
     ∷ (codes "undo", Whole Undo)
     ∷ (codes "redo", Whole Redo)
-    ∷ []
-
--- what is shown or asked by one word
-abbrev pub asking : List (List ℕ × Start)
-asking =
-    (codes "clues", Whole Clues)
+    ∷ (codes "clues", Whole Clues)
     ∷ (codes "map", Whole Map)
     ∷ (codes "verdict", Whole Verdict)
     ∷ (codes "why", Whole Why)
     ∷ (codes "certify", Whole Certify)
     ∷ (codes "report", Whole Report)
     ∷ (codes "allow", Whole Allow)
-    ∷ []
-
--- what a second word completes
-abbrev pub beginning : List (List ℕ × Start)
-beginning =
-    (codes "insert", Inserting)
+    ∷ (codes "insert", Inserting)
     ∷ (codes "delete", Deleting)
     ∷ (codes "swap", Swapping)
     ∷ (codes "colour", Colouring)
     ∷ (codes "write", Writing)
     ∷ []
-
--- the first words of all commands
-abbrev pub first_words : List (List ℕ × Start)
-first_words = editing ++ (asking ++ beginning)
 
 -- and their second words
 abbrev pub second_words : Start → List (List ℕ × Verb)

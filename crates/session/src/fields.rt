@@ -2,7 +2,7 @@
 
 ghost use Rattle.std.specs.Prelude.{◌≡◌, ◌<◌, length, ◌==◌, ◌+◌, IfOk, IfSome};
 ghost use Rattle.picture.specs.Reading.{Reads};
-ghost use Rattle.session.specs.Parse.{allowance_at, allowance_of, cell_at, colour_at, field_seen, place_at, rgb_at, sample_at};
+ghost use Rattle.session.specs.Parse.{allowance_at, allowance_of, cell_at, colour_at, field_seen, place_at, rgb_at, sample_at, word_at, word_seen};
 ghost use Rattle.session.specs.Words.{words_of};
 
 use crate::fault::CommandFault;
@@ -28,30 +28,32 @@ pub(crate) fn has_words(line: &[u8], count: usize) -> bool
     }
 }
 
+// The next word, and what stands behind it.
+pub(crate) fn read_word(rest: &[u8]) -> Result<(&[u8], &[u8]), CommandFault>
+    ensures { Reads word_seen result (word_at (words_of rest.now)) }
+{
+    match next_word(rest) {
+        Some(word) => Ok(word),
+        None => Err(CommandFault::WordCount),
+    }
+}
+
 // A place, and what stands behind it.
 pub(crate) fn read_place(rest: &[u8]) -> Result<(u8, &[u8]), CommandFault>
     ensures { Reads field_seen result (place_at (words_of rest.now)) }
 {
-    let Some((word, behind)) = next_word(rest) else {
-        return Err(CommandFault::WordCount);
-    };
-    match place_in(word) {
-        Some(place) => Ok((place, behind)),
-        None => Err(CommandFault::BadNumber),
-    }
+    let (word, behind) = read_word(rest)?;
+    let place = place_in(word).ok_or(CommandFault::BadNumber)?;
+    Ok((place, behind))
 }
 
 // A sample, and what stands behind it.
 fn read_sample(rest: &[u8]) -> Result<(u16, &[u8]), CommandFault>
     ensures { Reads field_seen result (sample_at (words_of rest.now)) }
 {
-    let Some((word, behind)) = next_word(rest) else {
-        return Err(CommandFault::WordCount);
-    };
-    match sample_in(word) {
-        Some(sample) => Ok((sample, behind)),
-        None => Err(CommandFault::BadNumber),
-    }
+    let (word, behind) = read_word(rest)?;
+    let sample = sample_in(word).ok_or(CommandFault::BadNumber)?;
+    Ok((sample, behind))
 }
 
 // A colour, and what stands behind it.
@@ -59,13 +61,9 @@ pub(crate) fn read_colour(rest: &[u8]) -> Result<(u8, &[u8]), CommandFault>
     ensures value { Reads field_seen result (colour_at (words_of rest.now)) }
     ensures small { IfOk result (λ x. x.0 < 16) }
 {
-    let Some((word, behind)) = next_word(rest) else {
-        return Err(CommandFault::WordCount);
-    };
-    match colour_in(word) {
-        Some(colour) => Ok((colour, behind)),
-        None => Err(CommandFault::BadColour),
-    }
+    let (word, behind) = read_word(rest)?;
+    let colour = colour_in(word).ok_or(CommandFault::BadColour)?;
+    Ok((colour, behind))
 }
 
 // Three samples.
@@ -108,11 +106,7 @@ pub(crate) fn read_allowance(rest: &[u8]) -> Result<(Option<u32>, &[u8]), Comman
     ensures value { Reads field_seen result (allowance_at (words_of rest.now)) }
     ensures small { IfOk result (λ x. IfSome x.0 (λ splits. splits < 100000)) }
 {
-    let Some((word, behind)) = next_word(rest) else {
-        return Err(CommandFault::WordCount);
-    };
-    match allowance_in(word) {
-        Some(splits) => Ok((splits, behind)),
-        None => Err(CommandFault::BadNumber),
-    }
+    let (word, behind) = read_word(rest)?;
+    let splits = allowance_in(word).ok_or(CommandFault::BadNumber)?;
+    Ok((splits, behind))
 }

@@ -1,13 +1,13 @@
 //! The words with which commands begin.
 
-ghost use Rattle.std.specs.Prelude.{◌≡◌, ◌∷◌, []};
+ghost use Rattle.std.specs.Prelude.{◌≡◌};
 ghost use Rattle.picture.specs.Reading.{Reads};
 ghost use Rattle.session.specs.Parse.{field_seen, verb_at, verb_behind};
-ghost use Rattle.session.specs.Table.{asking, beginning, editing, first_words, named, second_words, words_wanted};
+ghost use Rattle.session.specs.Table.{first_words, named, second_words, words_wanted};
 ghost use Rattle.session.specs.Words.{words_of};
 
 use crate::fault::CommandFault;
-use crate::words::{is_word, next_word};
+use crate::fields::read_word;
 use picture::Axis;
 
 // A command without its values.
@@ -64,94 +64,31 @@ impl Verb {
     }
 }
 
-// An edit that one word names, an undo or a redo.
-fn edit_in(word: &[u8]) -> Option<Start>
-    ensures { result ≡ named word.now editing }
-{
-    if is_word(word, b"paint") {
-        Some(Start::Whole(Verb::Paint))
-    } else if is_word(word, b"fill") {
-        Some(Start::Whole(Verb::Fill))
-    } else if is_word(word, b"recolour") {
-        Some(Start::Whole(Verb::Recolour))
-    } else if is_word(word, b"pin") {
-        Some(Start::Whole(Verb::Pin))
-    } else if is_word(word, b"unpin") {
-        Some(Start::Whole(Verb::Unpin))
-    } else if is_word(word, b"undo") {
-        Some(Start::Whole(Verb::Undo))
-    } else if is_word(word, b"redo") {
-        Some(Start::Whole(Verb::Redo))
-    } else {
-        None
-    }
-}
-
-// What is shown or asked by one word.
-fn question_in(word: &[u8]) -> Option<Start>
-    ensures { result ≡ named word.now asking }
-{
-    if is_word(word, b"clues") {
-        Some(Start::Whole(Verb::Clues))
-    } else if is_word(word, b"map") {
-        Some(Start::Whole(Verb::Map))
-    } else if is_word(word, b"verdict") {
-        Some(Start::Whole(Verb::Verdict))
-    } else if is_word(word, b"why") {
-        Some(Start::Whole(Verb::Why))
-    } else if is_word(word, b"certify") {
-        Some(Start::Whole(Verb::Certify))
-    } else if is_word(word, b"report") {
-        Some(Start::Whole(Verb::Report))
-    } else if is_word(word, b"allow") {
-        Some(Start::Whole(Verb::Allow))
-    } else {
-        None
-    }
-}
-
-// A word that a second one completes.
-fn beginning_in(word: &[u8]) -> Option<Start>
-    ensures { result ≡ named word.now beginning }
-{
-    if is_word(word, b"insert") {
-        Some(Start::Inserting)
-    } else if is_word(word, b"delete") {
-        Some(Start::Deleting)
-    } else if is_word(word, b"swap") {
-        Some(Start::Swapping)
-    } else if is_word(word, b"colour") {
-        Some(Start::Colouring)
-    } else if is_word(word, b"write") {
-        Some(Start::Writing)
-    } else {
-        None
-    }
-}
-
 // What a first word says.
 fn start_in(word: &[u8]) -> Option<Start>
     ensures { result ≡ named word.now first_words }
 {
-    if let Some(start) = edit_in(word) {
-        return Some(start);
-    }
-    if let Some(start) = question_in(word) {
-        return Some(start);
-    }
-    beginning_in(word)
-}
-
-// One of two verbs, by the word that completes it.
-fn either(word: &[u8], one: &[u8], other: &[u8], first: Verb, second: Verb) -> Option<Verb>
-    ensures { result ≡ named word.now ((one.now, first) ∷ (other.now, second) ∷ []) }
-{
-    if is_word(word, one) {
-        Some(first)
-    } else if is_word(word, other) {
-        Some(second)
-    } else {
-        None
+    match word {
+        b"paint" => Some(Start::Whole(Verb::Paint)),
+        b"fill" => Some(Start::Whole(Verb::Fill)),
+        b"recolour" => Some(Start::Whole(Verb::Recolour)),
+        b"pin" => Some(Start::Whole(Verb::Pin)),
+        b"unpin" => Some(Start::Whole(Verb::Unpin)),
+        b"undo" => Some(Start::Whole(Verb::Undo)),
+        b"redo" => Some(Start::Whole(Verb::Redo)),
+        b"clues" => Some(Start::Whole(Verb::Clues)),
+        b"map" => Some(Start::Whole(Verb::Map)),
+        b"verdict" => Some(Start::Whole(Verb::Verdict)),
+        b"why" => Some(Start::Whole(Verb::Why)),
+        b"certify" => Some(Start::Whole(Verb::Certify)),
+        b"report" => Some(Start::Whole(Verb::Report)),
+        b"allow" => Some(Start::Whole(Verb::Allow)),
+        b"insert" => Some(Start::Inserting),
+        b"delete" => Some(Start::Deleting),
+        b"swap" => Some(Start::Swapping),
+        b"colour" => Some(Start::Colouring),
+        b"write" => Some(Start::Writing),
+        _ => None,
     }
 }
 
@@ -159,26 +96,18 @@ fn either(word: &[u8], one: &[u8], other: &[u8], first: Verb, second: Verb) -> O
 fn completed(start: Start, word: &[u8]) -> Option<Verb>
     ensures { result ≡ named word.now (second_words start) }
 {
-    let (row, column) = (Axis::Across, Axis::Down);
-    match start {
-        Start::Whole(_) => None,
-        Start::Inserting => either(
-            word,
-            b"row",
-            b"column",
-            Verb::Insert(row),
-            Verb::Insert(column),
-        ),
-        Start::Deleting => either(
-            word,
-            b"row",
-            b"column",
-            Verb::Delete(row),
-            Verb::Delete(column),
-        ),
-        Start::Swapping => either(word, b"row", b"column", Verb::Swap(row), Verb::Swap(column)),
-        Start::Colouring => either(word, b"add", b"set", Verb::AddColour, Verb::SetColour),
-        Start::Writing => either(word, b"ppm", b"non", Verb::WritePpm, Verb::WriteNon),
+    match (start, word) {
+        (Start::Inserting, b"row") => Some(Verb::Insert(Axis::Across)),
+        (Start::Inserting, b"column") => Some(Verb::Insert(Axis::Down)),
+        (Start::Deleting, b"row") => Some(Verb::Delete(Axis::Across)),
+        (Start::Deleting, b"column") => Some(Verb::Delete(Axis::Down)),
+        (Start::Swapping, b"row") => Some(Verb::Swap(Axis::Across)),
+        (Start::Swapping, b"column") => Some(Verb::Swap(Axis::Down)),
+        (Start::Colouring, b"add") => Some(Verb::AddColour),
+        (Start::Colouring, b"set") => Some(Verb::SetColour),
+        (Start::Writing, b"ppm") => Some(Verb::WritePpm),
+        (Start::Writing, b"non") => Some(Verb::WriteNon),
+        _ => None,
     }
 }
 
@@ -186,13 +115,9 @@ fn completed(start: Start, word: &[u8]) -> Option<Verb>
 fn read_second(start: Start, rest: &[u8]) -> Result<(Verb, &[u8]), CommandFault>
     ensures { Reads field_seen result (verb_behind (second_words start) (words_of rest.now)) }
 {
-    let Some((word, behind)) = next_word(rest) else {
-        return Err(CommandFault::WordCount);
-    };
-    match completed(start, word) {
-        Some(verb) => Ok((verb, behind)),
-        None => Err(CommandFault::UnknownWord),
-    }
+    let (word, behind) = read_word(rest)?;
+    let verb = completed(start, word).ok_or(CommandFault::UnknownWord)?;
+    Ok((verb, behind))
 }
 
 #[tactic(auto, unfolding(crate::specs::Parse::verb_at))]
