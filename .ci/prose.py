@@ -9,9 +9,8 @@ does not exist. Of some documents also:
 - docs/DEFINITIONS.md: a name that is not defined in the folders of its section;
 - docs/MUST_FAIL.md: an edit without its row, or a row without its edit.
 
-Then it counts the words of all documents: a word has a letter or a digit, and blocks of code do not count. It compares the
-product's version, as `nonobench --version` prints it, wherever that is written; and the file KIT must have a line with the
-logic that `rt version` tells, where there is an rt.
+Then it counts the words of all documents: a word has a letter or a digit, and blocks of code do not count. And the file KIT
+must have a line with the logic that `rt version` tells, where there is an rt.
 
 A block of README.md that begins with ```sh is run by .ci/tutorial, so its commands pass. A block that begins with
 ```sh build holds commands that only build or serve; each must begin as one of BUILDS. No other block may be named sh.
@@ -256,39 +255,6 @@ def kit_fault():
     return f"KIT has no line with the logic of {told!r}, which rt version says"
 
 
-# Where the product's version is written: first where the program has it, then where it must stand, then where it may.
-VERSION = r"(\d+\.\d+\.\d+)"
-VERSIONS = [("crates/{answers,nonobench,web}/src", rf'"{VERSION}"', True), ("docs/nonobench.1", rf"\bversion {VERSION}", True),
-            ("CHANGELOG.md", rf"^## {VERSION}\b", True), ("python/pyproject.toml", rf'^version = "{VERSION}"$', True),
-            ("c/nonobench.h", rf'"{VERSION}"', False), ("python/nonobench", rf'"{VERSION}"', False),
-            ("web/nonobench.mjs", rf"['\"]{VERSION}['\"]", False)]
-
-
-def files_of(name):
-    """The files that a name with braces tells: it, or the sources in those folders."""
-    head, choice, tail = re.fullmatch(r"([^{]*)(\{.*\})?(.*)", name).groups()
-    for one in choice[1:-1].split(",") if choice else [""]:
-        path = os.path.join(ROOT, head + one + tail)
-        yield from sorted(os.path.join(path, file) for file in os.listdir(path) if file.endswith((".rt", ".py"))) if os.path.isdir(path) else [path]
-
-
-def version_faults():
-    """What says another version than the program; of CHANGELOG.md the newest one counts."""
-    truth = None
-    for name, pattern, must in VERSIONS:
-        found = []
-        for path in files_of(name):
-            with open(path, encoding="utf-8") as file:
-                found += re.findall(pattern, file.read(), re.M)
-        found = found[:1] if name == "CHANGELOG.md" else found
-        if not found and must:
-            yield f"{name} has no version where it must stand"
-        truth = truth or (found[0] if found else None)
-        for version in found:
-            if version != truth:
-                yield f"{name} has the version {version}, and the program {truth}"
-
-
 def main():
     words = sys.argv[1:]
     short = "--short" in words
@@ -314,7 +280,8 @@ def main():
         if counts["README.md"][0] > MOST_IN_README or mean > README_MEAN:
             total += 1
             print(f"README may have {MOST_IN_README} words, and {README_MEAN} a sentence")
-        for fault in filter(None, [kit_fault(), *version_faults()]):
+        fault = kit_fault()
+        if fault:
             total += 1
             print(fault)
     print(f"prose: {total} faults")
