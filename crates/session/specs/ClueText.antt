@@ -3,6 +3,7 @@ use Rattle.std.specs.Prelude.{ℕ, ◌+◌, List, [], ◌∷◌, ◌++◌, map, 
 use Rattle.std.specs.List.{join_with_byte}
 use Rattle.picture.specs.declared.line_id.Axis.{Axis}
 use Rattle.picture.specs.declared.line_id.Axis.TheVariants.{Across, Down}
+use Rattle.picture.specs.declared.line_id.LineId.{LineId}
 use Rattle.clues.specs.declared.block.Block.{Block}
 use Rattle.clues.specs.ClueBook.{Clues}
 
@@ -32,6 +33,10 @@ lines_text letter number (clue ∷ clues) = line_text letter number clue ++ line
 abbrev pub letter_of : Axis → ℕ
 letter_of Across = 114
 letter_of Down = 99
+
+-- the letter and the number of a line, from 1
+abbrev pub name_text : LineId → List ℕ
+name_text line = letter_of line.axis ∷ 32 ∷ decimal (line.at + 1)
 
 -- the clues of the rows and then of the columns
 abbrev pub clues_text : Clues → List ℕ

@@ -9,12 +9,16 @@ use Rattle.edits.specs.Design.{Design}
 use Rattle.session.specs.ClueText.{clues_text}
 use Rattle.session.specs.Shown.{letter, map_text, picture_text}
 
+-- a number and the byte behind it
+abbrev pub number_before : ℕ → ℕ → List ℕ
+number_before end n = decimal n ++ end ∷ []
+
 -- a number and a space, and the last number of a line
 abbrev pub first_number : ℕ → List ℕ
-first_number n = decimal n ++ 32 ∷ []
+first_number n = number_before 32 n
 
 abbrev pub last_number : ℕ → List ℕ
-last_number n = decimal n ++ 10 ∷ []
+last_number n = number_before 10 n
 
 abbrev pub size_text : List (List ℕ) → List ℕ
 size_text rows = codes "size " ++ (first_number (length rows) ++ last_number (width_of rows))

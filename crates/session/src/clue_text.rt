@@ -1,11 +1,11 @@
 //! Clues as text, a line for each row and column.
 
-ghost use Rattle.std.specs.Prelude.{◌≡◌, ◌≤◌, ◌++◌, decimal, length, IfOk, OnOk};
+ghost use Rattle.std.specs.Prelude.{◌≡◌, ◌≤◌, ◌+◌, ◌++◌, decimal, length, IfOk, OnOk};
 ghost use Rattle.std.specs.List.{flat_map};
 ghost use Rattle.clues.specs.Clue.{IsBlock, IsClue};
 ghost use Rattle.clues.specs.ClueBook.{clues_along};
 ghost use Rattle.session.specs.Room.{TakesRoom};
-ghost use Rattle.session.specs.ClueText.{behind, block_text, clue_text, letter_of, line_text, lines_text, clues_text};
+ghost use Rattle.session.specs.ClueText.{behind, block_text, clue_text, letter_of, line_text, lines_text, clues_text, name_text};
 
 use clues::{Block, ClueBook};
 use itoa::Buffer;
@@ -35,19 +35,23 @@ fn push_lines(text: &mut Vec<u8>, book: &ClueBook, axis: Axis) -> Result<(), All
         ≡ text.old.items ++ lines_text (letter_of axis) 1 (clues_along axis book.now)) }
 {
     for at in 0..line_count(book, axis) {
-        let clue = book.clue(LineId { axis, at });
-        push_line(
-            text,
-            letter_of_axis(axis),
-            usize::from(at) + 1,
-            clue.blocks(),
-        )?;
+        let line = LineId { axis, at };
+        push_line(text, line, book.clue(line).blocks())?;
     }
     Ok(())
 }
 
+// A line's letter, `r` for a row and `c` for a column, and its number from 1.
+pub(crate) fn push_name(text: &mut Vec<u8>, line: LineId) -> Result<(), AllocError>
+    ensures { OnOk result (text.new.items ≡ text.old.items ++ name_text line) }
+{
+    text.push(letter_of(line.axis))?;
+    text.push(b' ')?;
+    push_number(text, usize::from(line.at) + 1)
+}
+
 // `r` for a row and `c` for a column.
-pub(crate) fn letter_of_axis(axis: Axis) -> u8
+fn letter_of(axis: Axis) -> u8
     ensures { result ≡ letter_of axis }
 {
     match axis {
@@ -67,23 +71,17 @@ fn line_count(book: &ClueBook, axis: Axis) -> u8
     }
 }
 
-// A line's letter, number and clue.
-fn push_line(
-    text: &mut Vec<u8>,
-    letter: u8,
-    number: usize,
-    blocks: &[Block],
-) -> Result<(), AllocError>
+#[tactic(auto, using(std::proofs::lemmas::List::append_assoc))]
+// A line's name and its clue.
+fn push_line(text: &mut Vec<u8>, line: LineId, blocks: &[Block]) -> Result<(), AllocError>
     requires { IsClue blocks.now }
-    ensures { OnOk result (text.new.items ≡ text.old.items ++ line_text letter number blocks.now) }
+    ensures { OnOk result (text.new.items
+        ≡ text.old.items ++ line_text (letter_of line.axis) (line.at + 1) blocks.now) }
 {
-    text.push(letter)?;
-    text.push(b' ')?;
-    push_number(text, number)?;
+    push_name(text, line)?;
     text.extend_from_slice(b": ")?;
     push_clue(text, blocks)?;
-    text.push(b'\n')?;
-    Ok(())
+    text.extend_from_slice(b"\n")
 }
 
 // The blocks of a clue with spaces between them, or `0`.

@@ -4,24 +4,22 @@ ghost use Rattle.std.specs.Prelude.{◌≡◌, ◌∷◌, ◌++◌, [], decimal,
 ghost use Rattle.std.specs.List.{flat_map};
 ghost use Rattle.session.specs.ReasonText.{letters_left, premise_text, premises_text, reason_text};
 
-use crate::clue_text::{letter_of_axis, push_number};
+use crate::clue_text::{push_name, push_number};
 use crate::shown::{has_colour, letter_of};
 use justify::{Premise, Reason};
 use picture::MAX_COLOURS;
 use std::alloc::AllocError;
 
+#[tactic(auto, using(std::proofs::lemmas::List::append_assoc))]
 // The line of a reason, and its premises where it has some: `by r 1 given 1=a`.
 pub(crate) fn push_reason(text: &mut Vec<u8>, reason: &Reason) -> Result<(), AllocError>
     ensures { OnOk result (text.new.items
         ≡ text.old.items ++ reason_text reason.now.line reason.now.premises) }
 {
     text.extend_from_slice(b"by ")?;
-    text.push(letter_of_axis(reason.line.axis))?;
-    text.push(b' ')?;
-    push_number(text, usize::from(reason.line.at) + 1)?;
+    push_name(text, reason.line)?;
     push_premises(text, reason.premises.as_slice())?;
-    text.push(b'\n')?;
-    Ok(())
+    text.extend_from_slice(b"\n")
 }
 
 // The premises, where there are some.

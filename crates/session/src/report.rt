@@ -4,7 +4,7 @@ ghost use Rattle.std.specs.Prelude.{◌≡◌, ◌<◌, ◌≤◌, ◌+◌, ◌+
 ghost use Rattle.picture.specs.Rows.{cell_at, row_at, width_of};
 ghost use Rattle.edits.specs.Design.{design_of};
 ghost use Rattle.session.specs.Room.{TakesRoom};
-ghost use Rattle.session.specs.Report.{audit_text, colour_line, colour_lines, colours_text, document_text, ending_text, first_number, given_line, front_text, givens_text, last_number, open_cells, open_in_row, row_givens, size_text};
+ghost use Rattle.session.specs.Report.{audit_text, colour_line, colour_lines, colours_text, document_text, ending_text, given_line, front_text, givens_text, number_before, open_cells, open_in_row, row_givens, size_text};
 
 use crate::clue_text::{push_clues, push_number};
 use crate::shown::{letter_of, push_map, push_picture};
@@ -32,24 +32,13 @@ pub(crate) fn push_front(
 }
 
 #[tactic(auto, using(crate::proofs::RoomLemmas::long_numbers))]
-// A number and a space.
-fn push_first(text: &mut Vec<u8>, number: usize) -> Result<(), AllocError>
-    ensures items { OnOk result (text.new.items ≡ text.old.items ++ first_number number) }
+// A number, and the byte behind it: a space, or the end of the line.
+fn push_before(text: &mut Vec<u8>, number: usize, end: u8) -> Result<(), AllocError>
+    ensures items { OnOk result (text.new.items ≡ text.old.items ++ number_before end number) }
     ensures room { TakesRoom text.old text.new 21 result }
 {
     push_number(text, number)?;
-    text.push(b' ')?;
-    Ok(())
-}
-
-#[tactic(auto, using(crate::proofs::RoomLemmas::long_numbers))]
-// The last number of a line.
-fn push_last(text: &mut Vec<u8>, number: usize) -> Result<(), AllocError>
-    ensures items { OnOk result (text.new.items ≡ text.old.items ++ last_number number) }
-    ensures room { TakesRoom text.old text.new 21 result }
-{
-    push_number(text, number)?;
-    text.push(b'\n')?;
+    text.push(end)?;
     Ok(())
 }
 
@@ -70,8 +59,8 @@ fn push_size(text: &mut Vec<u8>, picture: &Picture) -> Result<(), AllocError>
     ensures { OnOk result (text.new.items ≡ text.old.items ++ size_text picture.now) }
 {
     text.extend_from_slice(b"size ")?;
-    push_first(text, usize::from(picture.height()))?;
-    push_last(text, usize::from(picture.width()))
+    push_before(text, usize::from(picture.height()), b' ')?;
+    push_before(text, usize::from(picture.width()), b'\n')
 }
 
 #[tactic(auto, using(std::proofs::lemmas::List::append_assoc))]
@@ -80,9 +69,9 @@ fn push_colours(text: &mut Vec<u8>, palette: &Palette) -> Result<(), AllocError>
     ensures { OnOk result (text.new.items ≡ text.old.items ++ colours_text palette.now) }
 {
     text.extend_from_slice(b"colours ")?;
-    push_first(text, usize::from(palette.len()))?;
+    push_before(text, usize::from(palette.len()), b' ')?;
     text.extend_from_slice(b"maxval ")?;
-    push_last(text, usize::from(palette.maxval()))?;
+    push_before(text, usize::from(palette.maxval()), b'\n')?;
     push_triples(text, palette)
 }
 
@@ -104,9 +93,9 @@ fn push_colour(text: &mut Vec<u8>, number: u8, rgb: Rgb) -> Result<(), AllocErro
 {
     text.push(letter_of(number))?;
     text.push(b' ')?;
-    push_first(text, usize::from(rgb.r))?;
-    push_first(text, usize::from(rgb.g))?;
-    push_last(text, usize::from(rgb.b))
+    push_before(text, usize::from(rgb.r), b' ')?;
+    push_before(text, usize::from(rgb.g), b' ')?;
+    push_before(text, usize::from(rgb.b), b'\n')
 }
 
 // A line for each given, in row order.
@@ -150,8 +139,8 @@ fn push_given(text: &mut Vec<u8>, row: u8, col: u8) -> Result<(), AllocError>
     ensures { OnOk result (text.new.items ≡ text.old.items ++ given_line row col) }
 {
     text.extend_from_slice(b"given ")?;
-    push_first(text, usize::from(row) + 1)?;
-    push_last(text, usize::from(col) + 1)
+    push_before(text, usize::from(row) + 1, b' ')?;
+    push_before(text, usize::from(col) + 1, b'\n')
 }
 
 #[tactic(auto, using(std::proofs::lemmas::List::append_assoc))]
@@ -164,7 +153,7 @@ fn push_audit(text: &mut Vec<u8>, clues: &ClueBook, map: &Facts) -> Result<(), A
     text.extend_from_slice(b"map\n")?;
     push_map(text, map)?;
     text.extend_from_slice(b"open ")?;
-    push_last(text, open_cells(map))
+    push_before(text, open_cells(map), b'\n')
 }
 
 #[tactic(auto, using(crate::proofs::ReportLemmas::sums))]
@@ -209,6 +198,6 @@ pub(crate) fn push_ending(
     text.extend_from_slice(b"verdict ")?;
     text.extend_from_slice(verdict)?;
     text.extend_from_slice(b"\nhistory ")?;
-    push_first(text, past)?;
-    push_last(text, future)
+    push_before(text, past, b' ')?;
+    push_before(text, future, b'\n')
 }

@@ -17,12 +17,9 @@ loop-at-preserved c =
     let clues = clues_along c.args.axis c.args.book.now in
     let at = c.loop-at.at in
     let text = c.loop-at.text.items in
-    let blocks = c.blocks-in-loop-at.result.now in
     let line =
     c.in_ok-push_line.ensures
-    ∙ ap (λ (l : ℕ). text ++ line_text l (c.from.result + 1) blocks) c.letter_of_axis.ensures
-    ∙ ap (λ (n : ℕ). text ++ line_text letter (n + 1) blocks) c.from.ensures
-    ∙ ap (λ (clue : List Block). text ++ line_text letter (at + 1) clue) (c.blocks-in-loop-at.ensures.blocks ∙ c.clue-clue.ensures.value) in
+    ∙ ap (λ (clue : List Block). text ++ line_text letter (at + 1) clue) (c.blocks-in-loop-at.ensures.blocks ∙ c.clue.ensures.value) in
     pushed c.args.text.now.items text c.push_line.new.text.items (lines_text letter 1 (take at clues)) (line_text letter (at + 1) (get_or clues at [])) (lines_text letter 1 (take (at + 1) clues))
     c.loop-at.invariant line (lines_text-more letter clues at (omega arith))
 
