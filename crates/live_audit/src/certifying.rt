@@ -4,14 +4,14 @@ ghost use Rattle.std.specs.Prelude.{◌≡◌, ◌≤◌, IfOk};
 ghost use Rattle.edits.specs.Design.{design_of};
 ghost use Rattle.live_audit.specs.Certify.{Certifies};
 
-use certificate::{Cert, make_cert};
+use certificate::{Cert, climb_cert};
 use clues::laws::{books_are_their_clues, clues_are_of_lines};
 use edits::laws::marks_are_givens;
 use line_settle::LineEngine;
 use picture::{Document, MAX_SIDE};
 use std::alloc::{AllocError, Global};
 
-/// Makes a certificate of a document with its colours numbered as they appear.
+/// Makes a certificate of a document with its colours numbered as they appear. No near picture is looked for.
 pub(crate) fn certify_ordered<E: LineEngine>(
     alloc: Global,
     engine: &mut E,
@@ -29,5 +29,5 @@ pub(crate) fn certify_ordered<E: LineEngine>(
     let _ = document.palette.len();
     let document = document.ordered()?;
     let _ = document.picture.height();
-    make_cert(alloc, engine, &document.picture, &document.givens)
+    climb_cert(alloc, engine, &document.picture, &document.givens)
 }

@@ -8,5 +8,5 @@ returns-clause-certifies g c =
     let d = c.args.document.now in
     let o = c.in_ok-document in
     let others = same_others c.clues_are_of_lines.ensures c.books_are_their_clues.ensures d o.document c.len.ensures.palette d.coloured c.height.ensures.picture c.height-2.ensures.picture o.ensures.content o.ensures.shown in
-    joined (design_of d) c.make_cert.result others
-    (certified c.marks_are_givens.ensures d o.document c.make_cert.result d.inside o.ensures.content c.make_cert.ensures.makes)
+    joined (design_of d) c.climb_cert.result others
+    (certified c.marks_are_givens.ensures d o.document c.climb_cert.result d.inside o.ensures.content c.climb_cert.ensures.makes)
