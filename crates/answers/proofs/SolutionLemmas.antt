@@ -107,7 +107,7 @@ solved_pair d picture cert found file again check of marks =
     let only : IsOnlyPicture picture (Some (background_in d)) cert = record { document = document; certificate = found; reads_file = file; reads_cert = again; is_unique = is_unique d found of } in
     let none : GivesNothing d → found.givens ≡ [] = λ nothing. none_named document.rows found.givens of.proof.inside (λ row col named. nothing row col ((marks.named row col).1 named)) in
     let plain : GivesNothing d → IsCheckOf picture (Some (background_in d)) cert (Ok plain_line) = λ nothing.
-        let P : List CellNumber → Type 0 = λ x. IsCheckOf picture (Some (background_in d)) cert (Ok (accepted_text x)) in
-        subst P (none nothing) check
+    let P : List CellNumber → Type 0 = λ x. IsCheckOf picture (Some (background_in d)) cert (Ok (accepted_text x)) in
+    subst P (none nothing) check
     in
     record { only = only; plain = plain; one = λ nothing. plain_lines picture (Some (background_in d)) cert only (plain nothing) }
