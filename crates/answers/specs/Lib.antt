@@ -5,3 +5,4 @@ pub mod Laws
 pub mod Open
 pub mod Run
 pub mod Start
+pub mod Solution
