@@ -21,9 +21,9 @@ use Rattle.justify.specs.Laws.{DerivationsStayInside}
 use Rattle.propagate.specs.Closing.{HasDeadLine, PutsCrossing}
 use Rattle.propagate.specs.declared.fault.CloseFault.{CloseFault}
 use Rattle.propagate.specs.declared.fault.CloseFault.TheVariants.{Dead, Memory}
-use Rattle.propagate.specs.ClosingBooks.{ClosesBook, IsClosedBook, SufficeToClose}
+use Rattle.propagate.specs.ClosingBooks.{ClosesBook, IsClosedBook}
 use Rattle.propagate.specs.Turns.{cells_drawn, steps_added, Grows, Turn}
-use Rattle.picture.specs.LineSetLaws.{no_names_counted, put_all_counts}
+use Rattle.picture.specs.LineSetLaws.{put_all_counts}
 use Rattle.line_settle.specs.GridLaws.{same_has_line, shape_sym, shape_trans}
 use Rattle.line_settle.specs.FitLaws.{counting_adds, tighter_fits, within_tighter}
 use Rattle.propagate.proofs.ClosingLemmas.{Closing, closing_ends, closing_goes_on, within_trans}
@@ -150,20 +150,6 @@ book_closes clues longest dirty start now agenda m0 m c0 c stay is d b none =
       };
       fits = ends.fits refl;
     }
-
-pub book_worked : (clues : Clues) (longest : ℕ) (dirty : Lines) (start now : Account) (agenda : Lines) (m0 m : Meter) (c0 c : ℕ) → ClosingBook clues longest dirty start now agenda m0 m c0 c → agenda ≡ no_names
-    → (evaluations : ℕ) × Counts evaluations 0 m0 m c0 c × SufficeToClose dirty (steps_added start now) evaluations
-book_worked clues longest dirty start now agenda m0 m c0 c b none =
-    let P : List Step → Type 0 = λ steps. SufficeToClose dirty steps b.evaluations in
-    let w = b.working in
-    let more = w.at_most in
-    let less = w.at_least in
-    let n = ap name_count none in
-    let z : name_count no_names ≡ 0 = no_names_counted in (
-      b.evaluations,
-      b.counts,
-      subst P (sym (added_behind clues start now b.added b.grows)) (record { at_least_lines = omega arith; at_least_steps = w.steps; at_most = omega arith }),
-    )
 
 -- a line that no list fits now has none under closed facts that hold the base
 pub book_dies : (clues : Clues) (longest : ℕ) (start now : Account) (agenda : Lines) (line : LineId) → DerivationsStayInside → IsAccount start → IsDerivation clues start → Closing clues longest start.facts now.facts agenda

@@ -30,19 +30,6 @@ no_name_is_empty lines h = same_lines lines no_names (λ line. ((λ s. absurd (h
 pub few_names : (lines : Lines) → IsLineSet lines → name_count lines ≤ 240
 few_names lines is = omega (arith, ones-le 120 lines.rows is.rows_within, ones-le 120 lines.columns is.columns_within)
 
-put_again : (old new : Lines) (line : LineId) → PutsName old new line → HasName old line → new ≡ old
-put_again old new line p h = same_lines new old (λ other. (
-  (λ s. elim ((p other).0 s) [ inl o ↦ o | inr e ↦ let P : LineId → Type 0 = λ x. HasName old x in subst P (sym e) h ]),
-  (λ s. (p other).1 (inl s)),
-))
-
--- one line more at most, and none less
-pub put_counts : (old new : Lines) (line : LineId) → PutsName old new line → (name_count old ≤ name_count new) × (name_count new ≤ name_count old + 1)
-put_counts old new line p = elim (members.decided old line) [
-  | inl h ↦ let e = ap name_count (put_again old new line p h) in (omega arith, omega arith)
-  | inr n ↦ let e = more_put old new line p n in (omega arith, omega arith)
-]
-
 -- one line less
 pub take_counts : (old new : Lines) (line : LineId) → HasName old line → TakesOutName old new line → name_count old ≡ name_count new + 1
 take_counts old new line h t = sym (fewer_out old new line t h)

@@ -15,13 +15,13 @@ use Rattle.justify.specs.Laws.{DerivationsStayInside}
 use Rattle.propagate.specs.declared.fault.CloseFault.{CloseFault}
 use Rattle.propagate.specs.declared.fault.CloseFault.TheVariants.{Dead, Memory}
 use Rattle.propagate.specs.Closing.{AreClosable}
-use Rattle.propagate.specs.Schedule.{AreAfter, IsAfterSchedule, IsDeadInTurn, RunsSchedule}
+use Rattle.propagate.specs.Schedule.{AreAfter, IsDeadInTurn, RunsSchedule}
 use Rattle.propagate.specs.Turns.{Grows, TakesTurn, TakeTurns, Turn}
 use Rattle.propagate.specs.Laws.{SchedulesFillBooks}
 use Rattle.line_settle.specs.GridLaws.{same_has_line, shape_refl, shape_trans}
 use Rattle.propagate.proofs.ClosingLemmas.{same_sizes, within_trans}
 use Rattle.propagate.proofs.ScheduleLemmas.{schedules_lead_inside}
-use Rattle.propagate.proofs.GrowLemmas.{grown, grows_none, grows_on}
+use Rattle.propagate.proofs.GrowLemmas.{grows_none, grows_on}
 
 -- Behind some lines of a schedule: what the rest of it comes to from here, the whole of it comes to from the start.
 pub record Scheduled (clues : Clues) (longest : ℕ) (start now : Account) (lines rest : List LineId) : Type 0 where
@@ -73,12 +73,6 @@ next_in_turn clues longest start now lines n none l s =
 
 pub none_left : (lines : List LineId) (n : ℕ) → length lines ≤ n → drop n lines ≡ []
 none_left lines n l = drop_all n lines l
-
-pub schedule_ends : (clues : Clues) (longest : ℕ) (start now : Account) (lines rest : List LineId) → rest ≡ [] → Scheduled clues longest start now lines rest → IsAfterSchedule clues start lines now
-schedule_ends clues longest start now lines rest none s =
-    let P : List LineId → Type 0 = λ ls. Scheduled clues longest start now lines ls in
-    let all = subst P none s in
-    record { grows = grown clues start now all.added all.grows; in_turn = all.in_turn now refl; facts = all.facts now.facts refl }
 
 -- a fault of a schedule: either a line is dead in its turn, or memory was refused
 pub schedule_fails : (clues : Clues) (start : Account) (lines : List LineId) (fault : CloseFault) → (fault ≡ Dead → IsDeadInTurn clues start.facts lines) → RunsSchedule clues start lines (Err fault)

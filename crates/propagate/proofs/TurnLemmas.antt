@@ -38,12 +38,6 @@ pub record CrossesSoFar (line : LineId) (premises : List Premise) (n : ℕ) (lin
   pub names : (other : LineId) → HasName lines other ↔ CrossesOne line premises n other
   pub few : name_count lines ≤ n
 
-pub crosses_none : (line : LineId) (premises : List Premise) (lines : Lines) → ((other : LineId) → ¬ HasName lines other) → name_count lines ≡ 0 → CrossesSoFar line premises 0 lines
-crosses_none line premises lines none count = record {
-  names = λ other. ((λ s. absurd (none other s)), (λ c. absurd (let b = c.below in omega arith)));
-  few = omega arith;
-}
-
 pub named_or_not : (mask at : ℕ) → IsBitSet mask at ⊎ (¬ IsBitSet mask at)
 named_or_not mask at = elim (cases_eq (bit_and mask (2 ^ at)) 0) [ inl e ↦ inr (λ s. s e) | inr n ↦ inl n ]
 

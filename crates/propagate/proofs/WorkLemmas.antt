@@ -10,7 +10,7 @@ use Rattle.std.proofs.lemmas.Nat.Bits.{bit_at-lt, bit_at-suc, bit_at-zero, bit_a
 use Rattle.picture.specs.declared.line_id.Axis.{Axis}
 use Rattle.picture.specs.declared.line_id.Axis.TheVariants.{Across, Down}
 use Rattle.picture.specs.declared.line_id.LineId.{LineId}
-use Rattle.picture.specs.LineSet.{Lines, HasName, PutsNames, TakesOutName, mask_along, name_count, no_names}
+use Rattle.picture.specs.LineSet.{Lines, HasName, PutsNames, TakesOutName, mask_along, name_count}
 use Rattle.picture.specs.Rows.{width_of, row_at, cell_at, line_along, line_of, lines_along, HasLine}
 use Rattle.clues.specs.ClueBook.{Clues, clue_at}
 use Rattle.line_settle.specs.declared.line_engine.Outcome.{Outcome}
@@ -24,7 +24,7 @@ use Rattle.picture.specs.Crossing.{crossing}
 use Rattle.picture.specs.BitLaws.{fewer_le, bit_is_set, same_bits, no_bit}
 use Rattle.line_settle.specs.GridLaws.{cell_along}
 use Rattle.line_settle.specs.FitLaws.{counting_adds}
-use Rattle.picture.specs.LineSetLaws.{no_names_counted, put_all_counts}
+use Rattle.picture.specs.LineSetLaws.{put_all_counts}
 use Rattle.propagate.proofs.NameLemmas.{take_counts}
 
 -- ---- cells that differ
@@ -287,11 +287,3 @@ module _ (clues : Clues) (dirty : Lines) (base old new : List (List ℕ)) (agend
         at_least = λ e. (let x : Dead ≡ Narrowed = sym dead ∙ e in absurd cc);
         some = λ h. (omega arith);
       }
-
-pub working_ends : (clues : Clues) (dirty : Lines) (base facts : List (List ℕ)) (agenda : Lines) (outcome : Outcome) (m0 m1 : Meter) (c0 c1 : ℕ) → Working clues dirty base facts agenda m0 m1 c0 c1 → agenda ≡ no_names → Works clues dirty base facts outcome m0 m1 c0 c1
-working_ends clues dirty base facts agenda outcome m0 m1 c0 c1 w none =
-    let n = ap name_count none in
-    let z : name_count no_names ≡ 0 = no_names_counted in
-    let a = w.at_most in
-    let b = w.at_least in
-    record { evaluations = w.evaluations; cells = w.cells; counts = w.counts; draws = w.draws; at_most = omega arith; at_least = λ _. (omega arith); some = λ h. (omega arith) }
