@@ -1,9 +1,11 @@
 -- A certificate's call: what is searched first, and the certificate that is made then.
-use Rattle.std.proofs.Common.{◌≤◌, arith, List, Option, Result, Ok, Err, IfOk, OnOk, inr, sym, ap, subst, ◌∙◌}
+use Rattle.std.proofs.Common.{◌≡◌, ◌≤◌, arith, List, Option, Result, Ok, Err, IfOk, OnOk, inr, sym, ap, subst, ◌∙◌}
 use Rattle.certificate.specs.Cert.{Certificate}
 use Rattle.second_search.specs.declared.keeper.KeptPart.{KeptPart}
+use Rattle.live_audit.specs.declared.verdict.Ruling.{Ruling}
+use Rattle.live_audit.specs.declared.verdict.Ruling.TheVariants as ruling
 use Rattle.live_audit.specs.Bench.{Seen}
-use Rattle.live_audit.specs.Calls.{IsAsBefore, IsSearched, Learns}
+use Rattle.live_audit.specs.Calls.{IsAsBefore, IsAtOnce, IsSearched, Learns, RulesAtOnce}
 use Rattle.live_audit.specs.Certify.{Certifies}
 use Rattle.live_audit.proofs.CertifyLemmas.{certified_now}
 
@@ -25,12 +27,14 @@ pub record IsProved {X : Type 0} (old new : Seen) (result : Result (Option Certi
   pub certifies : IfOk result (Certifies old.history.document)
   pub judges : OnOk result (IsSearched old new)
   pub learns : Learns old new
+  pub at_once : OnOk result (IsAtOnce old new)
   pub calls : old.calls ≤ new.calls
 
-pub proved_on : {X : Type 0} (old between new : Seen) (result : Result (Option Certificate) X) → IsSearched old between → Learns old between → old.calls ≤ between.calls → IfOk result (Certifies between.history.document) → IsAsBefore between new → between.calls ≤ new.calls → IsProved old new result
-proved_on old between new result h l first c e then = record {
+pub proved_on : {X : Type 0} (old between new : Seen) (result : Result (Option Certificate) X) (r : Ruling) → (r ≡ ruling.Ambiguous → ⊥) → RulesAtOnce old between r → IsSearched old between → Learns old between → old.calls ≤ between.calls → IfOk result (Certifies between.history.document) → IsAsBefore between new → between.calls ≤ new.calls → IsProved old new result
+proved_on old between new result r other once h l first c e then = record {
   certifies = certified_now result _ _ (ap (λ (s : Seen). s.history.document) l.same) c;
   judges = on_ok result (IsSearched old new) (searched_on old between new e h);
   learns = learnt_on old between new e h l;
+  at_once = on_ok result (IsAtOnce old new) (λ i f. absurd (other (once i f).0));
   calls = omega arith;
 }

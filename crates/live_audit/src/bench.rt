@@ -7,7 +7,7 @@ ghost use Rattle.edits.specs.declared.fault.EditFault.TheVariants.{Memory};
 ghost use Rattle.edits.specs.Design.{design_of};
 ghost use Rattle.edits.specs.History.{IsPlanFor, advanced};
 ghost use Rattle.live_audit.specs.Bench.{Begins, FitsDepth, IsAudited};
-ghost use Rattle.live_audit.specs.Calls.{Accepts, CarriesOn, IsAsBefore, IsSearched, Learns, Refuses};
+ghost use Rattle.live_audit.specs.Calls.{Accepts, CarriesOn, IsAsBefore, IsAtOnce, IsSearched, Learns, Refuses, RulesAtOnce};
 ghost use Rattle.live_audit.specs.Certify.{Certifies};
 ghost use Rattle.live_audit.specs.Reason.{Explains};
 ghost use Rattle.live_audit.specs.Stroke.{Edits, Redoes, Undoes};
@@ -261,18 +261,22 @@ impl<E: LineEngine + Drop, A: Agenda + Drop> Bench<E, A> {
     /// A certificate of the present document with its colours numbered as they appear: the checker accepts it for the ordered
     /// picture, and its givens are exactly the document's. None exactly where there is another picture with the present one's
     /// clues and, in the givens, its colours. It knows no allowance: it begins as a verdict without one and keeps what that
-    /// finds, so a verdict after it searches nothing. Work stays that of the last verdict. Where a growth is refused, all is as
-    /// before but for `calls`, which do not fall, and for what was found of the parts.
+    /// finds, so a verdict after it searches nothing. Where another filling is kept already, it answers at once, and nothing
+    /// changes. Work stays that of the last verdict. Where a growth is refused, all is as before but for `calls`, which do not
+    /// fall, and for what was found of the parts.
     pub fn certify(&mut self) -> Result<Option<Cert>, AllocError>
         ensures certifies { IfOk result (Certifies self.old.history.document) }
         ensures judges { OnOk result (IsSearched self.old self.new) }
         ensures learns { Learns self.old self.new }
+        ensures at_once { OnOk result (IsAtOnce self.old self.new) }
         ensures calls { self.old.calls ≤ self.new.calls }
         ensures audited { IsAudited self.new }
     {
-        match self.learn()? {
+        let ruling = self.learn()?;
+        match ruling {
             Ruling::Ambiguous => Ok(None),
-            Ruling::Unique | Ruling::Undecided { .. } => self.prove(),
+            Ruling::Unique => self.prove(),
+            Ruling::Undecided { .. } => self.prove(),
         }
     }
 
@@ -280,10 +284,12 @@ impl<E: LineEngine + Drop, A: Agenda + Drop> Bench<E, A> {
     fn learn(&mut self) -> Result<Ruling, AllocError>
         ensures judges { OnOk result (IsSearched self.old self.new) }
         ensures learns { Learns self.old self.new }
+        ensures at_once { IfOk result (RulesAtOnce self.old self.new) }
         ensures ruling { IfOk result (IsRulingOn self.old.history.document None self.new.kept) }
         ensures calls { self.old.calls ≤ self.new.calls }
         ensures audited { IsAudited self.new }
     {
+        let _ = self.engine.calls();
         let mut search = NOTHING_DONE;
         let mut parts = 0;
         let mut splits = 0;

@@ -1,5 +1,6 @@
-use Rattle.std.proofs.Common.{◌∙◌, ap, inr}
+use Rattle.std.proofs.Common.{◌∙◌, ap, arith, inr}
 use Rattle.live_audit.specs.Bench.{Seen}
+use Rattle.live_audit.proofs.KnownLemmas.{at_once}
 use Rattle.live_audit.proofs.VerdictLemmas.{learnt_so, ruled_so, searched_so}
 use Rattle.live_audit.proofs.bench.Bench.learn.Goals as goal
 
@@ -19,3 +20,8 @@ returns-clause-learns g c =
 pub returns-clause-ruling : goal.returns-clause-ruling
 returns-clause-ruling g c =
     ruled_so _ _ _ c.in_ok-ruling.ruling (c.document.ensures ∙ ap (λ (s : Seen). s.history.document) c.self.view_is) c.in_ok-ruling.ensures.ruling
+
+pub returns-clause-at_once : goal.returns-clause-at_once
+returns-clause-at_once g c =
+    let s = c.self.inside in
+    at_once c.document.result.now s.studio s.audit.clues s.audit.book s.keeper _ s.allowance s.work c.args.self.now c.in_ok-ruling.ruling _ _ _ _ _ _ _ _ (omega (arith, c.calls.ensures)) c.self.view_is c.in_ok-ruling.ensures.judges
