@@ -135,7 +135,7 @@ cell_inside picture facts cell s h =
 
 leads : (picture facts : List (List ℕ)) (line : CertLine) (next : List (List (List ℕ))) → SameShape picture facts → Stands (clues_of picture) picture facts line next → Leads picture facts line next
 leads picture facts (Line number) next s h = (line_number picture facts number s h.0, (h.1.0, ((h.1.1.0.outcome, h.1.1.0.gains), h.1.1.1)))
-leads picture facts (Split cell) next s h = (cell_inside picture facts cell s h.0, h.1)
+leads picture facts (Split cell) next s h = (cell_inside picture facts cell s h.0, h.1.0)
 leads picture facts (Dead number) next s h = (line_number picture facts number s h.0, h.1.0, h.1.1)
 leads picture facts Done next s h = h
 
@@ -153,7 +153,7 @@ excludes : OneLineDecides → (picture facts : List (List ℕ)) (line : CertLine
 excludes law picture facts (Line number) next h = λ gained forced same.
     let mine = h.1.1.0 in
     mine.more (ap (λ (fs : List (List ℕ)). line_of fs (line_id number)) (sym same) ∙ narrowed_masks law (clue_at (clues_of picture) (line_id number)) (line_of facts (line_id number)) (line_of gained (line_id number)) (line_of h.1.0 (line_id number)) forced.0 mine.outcome forced.1.narrows mine.gains.narrows)
-excludes law picture facts (Split cell) next h = tt
+excludes law picture facts (Split cell) next h = h.1.1
 excludes law picture facts (Dead number) next h = tt
 excludes law picture facts Done next h = tt
 

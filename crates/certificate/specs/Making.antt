@@ -10,6 +10,7 @@ use Rattle.propagate.specs.Filling.{Fills}
 use Rattle.second_search.specs.declared.tree_line.CellNumber.{CellNumber}
 use Rattle.second_search.specs.declared.tree_line.CertLine.{CertLine}
 use Rattle.second_search.specs.declared.tree_line.CertLine.TheVariants.{Line, Split, Dead, Done}
+use Rattle.second_search.specs.Trees.{IsUnsettledAt}
 use Rattle.certificate.specs.Cert.{AreOrdered, AreWritable, Certificate, IsCert}
 use Rattle.certificate.specs.FirstFault.{CertFirstFault, FirstFault, Leads}
 use Rattle.certificate.specs.Puzzle.{HasCellNumbers, IsAmong, IsForced, IsUnique, base_of, line_id, numbered}
@@ -17,10 +18,11 @@ use Rattle.certificate.specs.Tree.{IsProof}
 
 -- ---- the lines
 
--- a `line` excludes something: the facts with all that it forces are others
+-- A `line` excludes something: the facts with all that it forces are others. A `split` is of a cell in which not just one colour is
+-- left.
 abbrev pub Excludes : List (List ℕ) → List (List ℕ) → CertLine → Type 0
 Excludes picture facts (Line number) = (gained : List (List ℕ)) → IsForced picture facts (line_id number) gained → gained ≡ facts → ⊥
-Excludes picture facts (Split cell) = Unit {0}
+Excludes picture facts (Split cell) = IsUnsettledAt facts cell
 Excludes picture facts (Dead number) = Unit {0}
 Excludes picture facts Done = Unit {0}
 
@@ -28,7 +30,7 @@ Excludes picture facts Done = Unit {0}
 abbrev pub HasNoFault : List (List ℕ) → List (List (List ℕ)) → List CertLine → Type 0
 HasNoFault picture waits lines = (n : ℕ) → FirstFault picture waits n lines None
 
--- each `line` excludes something, where branches with these facts wait
+-- each `line` excludes something and no `split` is of a settled cell, where branches with these facts wait
 abbrev pub EachExcludes : List (List ℕ) → List (List (List ℕ)) → List CertLine → Type 0
 EachExcludes picture [] [] = Unit {0}
 EachExcludes picture (facts ∷ others) [] = Unit {0}
@@ -65,7 +67,7 @@ pub record NamesUpTo (givens : List ℕ) (row col : ℕ) (cells : List CellNumbe
 
 -- A certificate with exactly these givens that has no fault: so it proves the picture, and there is no other with its givens or,
 -- which is the same, those of the set. It can be written and is read as itself. It has version 1 exactly where there are no
--- givens, and each `line` excludes something.
+-- givens. Each `line` excludes something, and no `split` is of a settled cell.
 pub record IsMade (picture : List (List ℕ)) (givens : List ℕ) (cert : Certificate) : Type 0 where
   pub is_cert : IsCert cert
   pub accepted : CertFirstFault picture cert None

@@ -23,8 +23,8 @@ pub record NamesMarks (d : Design) (cells : List CellNumber) : Type 0 where
   pub named : (row col : ℕ) → IsGiven d row col ↔ IsAmong (numbered row col) cells
 
 -- A certificate of a document with exactly its givens: the checker finds no fault, so the lines prove the picture, and there is no
--- other. It can be written and is read as itself. It has version 1 exactly where there are no givens, and each `line` excludes
--- something.
+-- other. It can be written and is read as itself. It has version 1 exactly where there are no givens. Each `line` excludes
+-- something, and no `split` is of a settled cell.
 pub record IsCertificateFor (d : Design) (cert : Certificate) : Type 0 where
   pub is_cert : IsCert cert
   pub accepted : CertFirstFault d.rows cert None

@@ -20,6 +20,7 @@ use Rattle.line_settle.specs.declared.line_engine.Outcome.{Outcome}
 use Rattle.line_settle.specs.declared.line_engine.Outcome.TheVariants.{Narrowed, Dead as NoneFits}
 use Rattle.line_settle.specs.Crossing.{CrossesChange}
 use Rattle.line_settle.specs.Fitting.{CanFit}
+use Rattle.line_settle.specs.Masks.{IsOnly}
 use Rattle.line_settle.specs.FactSets.{Gains, IsClosedLine, IsFacts, IsWithin, Leaves, SameShape, row_on}
 use Rattle.line_settle.specs.FitLaws.{tighter_can_fit, within_tighter}
 use Rattle.line_settle.specs.ForceLaws.{gains_grows, gains_inside, on_or_not}
@@ -46,7 +47,7 @@ use Rattle.second_search.specs.declared.ladder.Decided.TheVariants.{Tree}
 use Rattle.second_search.specs.Branching.{FillsSome, Search, places, search_of}
 use Rattle.line_settle.specs.Branches.{branches, colours_of, held}
 use Rattle.second_search.specs.Looking.{FindsFilling, Shows}
-use Rattle.second_search.specs.Trees.{Adds, Advances, AreNone, AreTree, Continues, Decides, EachFitsAlong, ForcesMore, HasCellNumber, HasLineNumber, IsComparedTo, IsDeadLine, IsOtherIn, Says, Settles, ShowsOnly, Stands, Turns, TurnsOn, Walks, Writes, line_id, split_at}
+use Rattle.second_search.specs.Trees.{Adds, Advances, AreNone, AreTree, Continues, Decides, EachFitsAlong, ForcesMore, HasCellNumber, HasLineNumber, IsComparedTo, IsDeadLine, IsOtherIn, IsUnsettledAt, Says, Settles, ShowsOnly, Stands, Turns, TurnsOn, Walks, Writes, line_id, split_at}
 use Rattle.second_search.proofs.FindLemmas.{Among, AreAlike, alike_both, among_kept, each_colour, held_alike, held_some, some_behind, some_both, some_front, some_held}
 use Rattle.second_search.proofs.EndLemmas.{shown_clues}
 use Rattle.second_search.proofs.LookLemmas.{shown_fills}
@@ -274,7 +275,7 @@ module _ (clues : Clues) (known : List (List ℕ)) where
       subst P (sym s.1.1.1) (shape_trans e s.1.1.0.gains.same_shape, tt)
   step_alike first facts (Split cell) next e s =
       let P : List (List (List ℕ)) → Type 0 = AreAlike first in
-      subst P (sym s.1) (held_alike first facts (cell.row - 1) (cell.col - 1) e (colours_of (cell_at facts (cell.row - 1) (cell.col - 1))))
+      subst P (sym s.1.0) (held_alike first facts (cell.row - 1) (cell.col - 1) e (colours_of (cell_at facts (cell.row - 1) (cell.col - 1))))
   step_alike first facts (Dead number) next e s = let P : List (List (List ℕ)) → Type 0 = AreAlike first in subst P (sym s.1.1) tt
   step_alike first facts Done next e s = let P : List (List (List ℕ)) → Type 0 = AreAlike first in subst P (sym s.1) tt
 
@@ -293,7 +294,7 @@ module _ (own : OnlyIsClosed) (closing : ClosingKeepsFillings) (clues : Clues) (
   step_fills facts picture (Split cell) next e s d f =
       let P : List (List (List ℕ)) → Type 0 = λ x. FillsSome clues x picture in
       let i = inside_row facts picture cell f.is_picture f.same_shape s.0 in
-      subst P (sym s.1) (split_some clues facts picture (cell.row - 1) (cell.col - 1) i.0 i.1 f)
+      subst P (sym s.1.0) (split_some clues facts picture (cell.row - 1) (cell.col - 1) i.0 i.1 f)
   step_fills facts picture (Dead number) next e s d f = absurd (dead_has_none closing clues facts picture (line_id number) (line_there facts number s.0) s.1.0 f)
   step_fills facts picture Done next e s d f = absurd (d (only_known clues known facts picture e s.0 f))
 
@@ -307,7 +308,7 @@ module _ (own : OnlyIsClosed) (closing : ClosingKeepsFillings) (clues : Clues) (
       ]
   step_back facts picture (Split cell) next s f =
       let P : List (List (List ℕ)) → Type 0 = λ x. FillsSome clues x picture in
-      split_back clues facts picture cell s.0 (subst P s.1 f)
+      split_back clues facts picture cell s.0 (subst P s.1.0 f)
   step_back facts picture (Dead number) next s f =
       let P : List (List (List ℕ)) → Type 0 = λ x. FillsSome clues x picture in
       absurd (subst P s.1.1 f)
@@ -409,11 +410,14 @@ splits_turn clues known old new cell number is at er ec e adds =
     let split : front ≡ split_at facts number = ap (λ (x : ℕ). branches facts x cell.col (cell_at facts x cell.col)) r ∙ ap (λ (y : ℕ). branches facts (number.row - 1) y (cell_at facts (number.row - 1) y)) c in
     let rows = at.in_rows in
     let columns = at.in_columns in
+    let R : ℕ → Type 0 = λ x. (k : ℕ) → IsOnly (cell_at facts x cell.col) k → ⊥ in
+    let C : ℕ → Type 0 = λ y. (k : ℕ) → IsOnly (cell_at facts (number.row - 1) y) k → ⊥ in
+    let open_there : IsUnsettledAt facts number = subst C c (subst R r at.unsettled) in
     let P : List (List (List ℕ)) → Type 0 = λ x. load x < load (facts ∷ old.pending.behind) in
     record {
       lines = Split number ∷ [];
       adds = adds;
-      walks = (front, ((((let a : 0 < number.row = omega arith in a), (let a : number.row ≤ length facts = omega arith in a), (let a : 0 < number.col = omega arith in a), (let a : number.col ≤ width_of facts = omega arith in a)), split), sym same));
+      walks = (front, ((((let a : 0 < number.row = omega arith in a), (let a : number.row ≤ length facts = omega arith in a), (let a : 0 < number.col = omega arith in a), (let a : number.col ≤ width_of facts = omega arith in a)), (split, open_there)), sym same));
       lighter = subst P (sym same) (split_lighter facts old.pending.behind cell is at);
     }
 

@@ -7,6 +7,7 @@ use Rattle.clues.specs.ClueBook.{Clues, clue_at}
 use Rattle.line_settle.specs.declared.line_engine.Outcome.{Outcome}
 use Rattle.line_settle.specs.declared.line_engine.Outcome.TheVariants.{Narrowed, Dead as NoneFits}
 use Rattle.line_settle.specs.Fitting.{CanFit}
+use Rattle.line_settle.specs.Masks.{IsOnly}
 use Rattle.line_settle.specs.FactSets.{Gains, IsWithin, Leaves}
 use Rattle.propagate.specs.Filling.{Fills}
 use Rattle.split_choice.specs.Choosing.{IsUnsettled}
@@ -49,6 +50,10 @@ split_at facts cell = branches facts (cell.row - 1) (cell.col - 1) (cell_at fact
 abbrev pub ShowsOnly : List (List ℕ) → List (List ℕ) → Type 0
 ShowsOnly picture facts = (row col k : ℕ) → Leaves facts row col k → k ≡ cell_at picture row col
 
+-- not just one colour is left in a cell
+abbrev pub IsUnsettledAt : List (List ℕ) → CellNumber → Type 0
+IsUnsettledAt facts cell = (k : ℕ) → IsOnly (cell_at facts (cell.row - 1) (cell.col - 1)) k → ⊥
+
 -- ---- the next line
 
 -- the facts gain all that a line forces, and that is something
@@ -57,12 +62,12 @@ pub record ForcesMore (clues : Clues) (facts : List (List ℕ)) (line : LineId) 
   pub gains : Gains (clue_at clues line) line facts gained outcome
   pub more : line_of facts line ≡ line_of gained line → ⊥
 
--- A line that may come next on a branch, and the branches that it leads to: what the line forces is more than is known; a cell has
--- a branch for each of its colours; no list fits the line; no colour is left but the known picture's.
+-- A line that may come next on a branch, and the branches that it leads to: what the line forces is more than is known; a cell in
+-- which not just one colour is left has a branch for each of them; no list fits the line; no colour is left but the known picture's.
 abbrev pub Stands : Clues → List (List ℕ) → List (List ℕ) → CertLine → List (List (List ℕ)) → Type 0
 Stands clues known facts (Line number) next =
     HasLineNumber facts number × ((gained : List (List ℕ)) × (ForcesMore clues facts (line_id number) gained × (next ≡ gained ∷ [])))
-Stands clues known facts (Split cell) next = HasCellNumber facts cell × (next ≡ split_at facts cell)
+Stands clues known facts (Split cell) next = HasCellNumber facts cell × ((next ≡ split_at facts cell) × IsUnsettledAt facts cell)
 Stands clues known facts (Dead number) next =
     HasLineNumber facts number × ((CanFit (clue_at clues (line_id number)) (line_of facts (line_id number)) → ⊥) × (next ≡ []))
 Stands clues known facts Done next = ShowsOnly known facts × (next ≡ [])
