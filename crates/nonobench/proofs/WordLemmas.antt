@@ -1,14 +1,20 @@
 -- The words of the command line, as the parser's contract has them.
-use Rattle.std.proofs.Common.{◌≡◌, ◌≤◌, ℕ, decimal, List, length, codes, Option, None, Some, Result, Ok, Err, option_map, refl, sym, ap, subst, ◌∙◌, arith}
+use Rattle.std.proofs.Common.{◌≡◌, ◌≤◌, ℕ, decimal, List, length, codes, Option, None, Some, Result, Ok, Err, option_map, true, refl, sym, ap, subst, ◌∙◌, arith, inl, inr}
 use Rattle.std.proofs.lemmas.Fmt.{parse-decimal}
 use Rattle.std.specs.Str.Parse.{ParsesUnsigned}
-use Rattle.clap.specs.Words.{ReadsOne, Row, Text, first_of, first_value, one_text, rows_of, subcommand_name_of, subcommand_rows_of}
+use Rattle.clap.specs.declared.builder.value_parser.ValueParser.{ValueParser}
+use Rattle.clap.specs.declared.error.Error.{Error}
+use Rattle.clap.specs.declared.error.kind.ErrorKind.TheVariants.{OutOfMemory}
+use Rattle.clap.specs.Words.{ReadsOne, Row, Text, first_of, first_value, kind_of, one_text, rows_of, subcommand_name_of, subcommand_rows_of, takes}
 use Rattle.clap.specs.declared.parser.matches.ArgMatches.{ArgMatches}
 use Rattle.clap.specs.declared.parser.matches.Found.{Found}
 use Rattle.clap.proofs.WalkLemmas.{first_value-rows, one_text-rows}
 use Rattle.answers.specs.declared.fault.ProgramFault.{ProgramFault}
+use Rattle.answers.specs.declared.fault.ProgramFault.TheVariants as fault
 use Rattle.nonobench.specs.declared.words.Task.{Task}
-use Rattle.nonobench.specs.Words.{Given, IsAsked, IsCheck, IsWork, given_in, given_of}
+use Rattle.nonobench.specs.declared.words.Task.TheVariants.{Clues, Work, Check, Help}
+use Rattle.nonobench.specs.Program.{AreFormats, ParsesAs, program_app}
+use Rattle.nonobench.specs.Words.{Given, IsAsked, IsCheck, IsTaskOf, IsUntaken, IsWork, given_in, given_of}
 
 -- ---- values
 
@@ -87,3 +93,30 @@ depth_read {E} n text (Some m) gives parses few is reads =
 depth_read {E} n text None gives parses few is reads =
     let r : Result ℕ E = Err reads.0 in
     absurd (no_error reads.0 n r refl (parse-decimal 16 n text r (omega (arith, few)) (omega (arith, few)) is (parses text r reads.1)))
+
+-- ---- the task
+
+untaken_more : (One Other : Type 0) → (One → Other) → (r : Result Task ProgramFault) → IsUntaken One r → IsUntaken Other r
+untaken_more One Other f (Ok Clues) u = u
+untaken_more One Other f (Ok (Work file options)) u = u
+untaken_more One Other f (Ok (Check file cert background)) u = u
+untaken_more One Other f (Ok (Help text)) u = f u
+untaken_more One Other f (Err (fault.Words text)) u = f u
+untaken_more One Other f (Err (fault.Ppm x)) u = u
+untaken_more One Other f (Err (fault.Non x)) u = u
+untaken_more One Other f (Err (fault.Edit x)) u = u
+untaken_more One Other f (Err fault.NoPicture) u = u
+untaken_more One Other f (Err (fault.Cert x)) u = u
+untaken_more One Other f (Err fault.Memory) u = u
+untaken_more One Other f (Err fault.TooLong) u = u
+untaken_more One Other f (Err fault.NotText) u = u
+untaken_more One Other f (Err fault.Background) u = u
+untaken_more One Other f (Err fault.BackgroundOfNon) u = u
+untaken_more One Other f (Err fault.Read) u = u
+untaken_more One Other f (Err fault.Write) u = u
+
+pub taken : (words : List Text) (m : ArgMatches) (r : Result Task ProgramFault) → (formats : ValueParser) × (AreFormats formats × ParsesAs formats words (Ok m)) → IsAsked (subcommand_rows_of m) r → IsTaskOf words r
+taken words m r p asked = inr (p.0, (p.1.0, inl (subst (λ (x : Option (Text × List Row)). IsAsked x r) p.1.1 asked)))
+
+pub not_taken : (words : List Text) (e : Error) (r : Result Task ProgramFault) → (formats : ValueParser) × (AreFormats formats × ParsesAs formats words (Err e)) → IsUntaken (kind_of e ≡ OutOfMemory → ⊥) r → IsTaskOf words r
+not_taken words e r p said = inr (p.0, (p.1.0, inr (untaken_more (kind_of e ≡ OutOfMemory → ⊥) (takes (program_app p.0) words ≡ true → ⊥) (λ n t. n (p.1.1 t)) r said)))

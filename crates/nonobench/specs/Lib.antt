@@ -1,3 +1,4 @@
 pub mod Ending
 pub mod Work
+pub mod Program
 pub mod Words

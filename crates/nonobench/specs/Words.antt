@@ -1,6 +1,7 @@
 -- What the words ask for, by the values that the parser of words found.
 use Rattle.std.specs.Prelude.{◌≡◌, ◌⊎◌, ℕ, ◌<◌, ◌≤◌, ◌↔◌, true, List, [], codes, decimal, unwrap_or, Option, None, Some, Result, Ok, Err}
-use Rattle.clap.specs.Words.{Row, Text, first_of, first_value, one_of, one_text}
+use Rattle.clap.specs.Words.{Row, Text, first_of, first_value, one_of, one_text, subcommand_of, takes}
+use Rattle.clap.specs.declared.builder.value_parser.ValueParser.{ValueParser}
 use Rattle.clap.specs.declared.parser.matches.Found.{Found}
 use Rattle.picture.specs.declared.rgb.Rgb.{Rgb}
 use Rattle.answers.specs.declared.fault.ProgramFault.{ProgramFault}
@@ -8,6 +9,7 @@ use Rattle.answers.specs.declared.fault.ProgramFault.TheVariants as fault
 use Rattle.answers.specs.declared.options.Options.{Options}
 use Rattle.answers.specs.Background.{background_of}
 use Rattle.answers.specs.Start.{IsLawful}
+use Rattle.nonobench.specs.Program.{AreFormats, program_app}
 use Rattle.nonobench.specs.declared.words.Task.{Task}
 use Rattle.nonobench.specs.declared.words.Task.TheVariants.{Clues, Work, Check, Help}
 
@@ -104,3 +106,11 @@ IsUntaken Not (Ok (Check file cert background)) = ⊥
 IsUntaken Not (Ok (Help text)) = Not
 IsUntaken Not (Err (fault.Words text)) = Not
 IsUntaken Not (Err e) = e ≡ fault.Memory
+
+-- What words ask for: a session or a check as the parser's definition of the program's command line reads them; or they are not
+-- taken, where that definition does not take them or memory was wanting.
+abbrev pub IsTaskBy : ValueParser → List Text → Result Task ProgramFault → Type 0
+IsTaskBy formats words r = IsAsked (subcommand_of (program_app formats) words) r ⊎ IsUntaken (takes (program_app formats) words ≡ true → ⊥) r
+
+abbrev pub IsTaskOf : List Text → Result Task ProgramFault → Type 0
+IsTaskOf words r = (r ≡ Err fault.Memory) ⊎ ((formats : ValueParser) × (AreFormats formats × IsTaskBy formats words r))

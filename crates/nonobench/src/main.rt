@@ -3,6 +3,7 @@
 //! The clues and the check are calls of the crate `answers`, which other programs can make too.
 #![tactic(auto)]
 
+mod command;
 mod ending;
 mod input;
 mod words;

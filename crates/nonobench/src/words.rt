@@ -1,16 +1,18 @@
 //! The words of the command line.
 
 ghost use Rattle.std.specs.Prelude.{◌≡◌, ◌↔◌, ◌<◌, ◌≤◌, ◌≢◌, ℕ, Some, [], codes, decimal, true, IfOk};
+ghost use Rattle.clap.specs.Walk.{texts};
 ghost use Rattle.clap.specs.Words.{first_value, found_of, kind_of, one_text, subcommand_rows_of};
 ghost use Rattle.nonobench.specs.declared.words.Task.TheVariants.{Clues};
-ghost use Rattle.nonobench.specs.Words.{IsAsked, IsCheck, IsLawfulTask, IsUntaken, IsWork, background_asked, given_of};
+ghost use Rattle.nonobench.specs.Words.{IsAsked, IsCheck, IsLawfulTask, IsTaskOf, IsUntaken, IsWork, background_asked, given_of};
 
+use crate::command::parsed;
 use answers::{Options, ProgramFault, background_in};
 use clap::error::ErrorKind;
-use clap::{Arg, ArgMatches, Command, Error, value_parser};
+use clap::{ArgMatches, Error};
 use edits::MAX_DEPTH;
 use picture::Rgb;
-use std::alloc::{AllocError, Global};
+use std::alloc::Global;
 
 /// What the words ask the program for. Paths are as they were given.
 #[derive(Debug, PartialEq, Eq, Drop)]
@@ -32,23 +34,23 @@ pub enum Task<'a> {
     Help(String),
 }
 
-// What a file can be.
-static FORMATS: [&str; 2] = ["ppm", "non"];
-
 // How many edits can be undone where no number is given.
 const DEPTH: u16 = 100;
 
 /// Reads the words behind the program's own name. Without a word the clues are asked for.
 ///
-/// Words that the parser refuses are a fault that carries the parser's text.
+/// File, certificate, format, background and history are those of the words, as the parser reads
+/// them. Words that it refuses are a fault that carries its text.
 pub fn read_words<'a>(alloc: Global, words: &'a [&str]) -> Result<Task<'a>, ProgramFault>
     ensures none { words.entry.now ≡ [] → result ≡ Ok Clues }
     ensures lawful { IfOk result IsLawfulTask }
+    ensures asked { words.entry.now ≢ [] → IsTaskOf (texts words.entry.now) result }
 {
     if words.is_empty() {
         return Ok(Task::Clues);
     }
-    match command(alloc)?.try_get_matches_from(words) {
+    let parsed = parsed(alloc, words)?;
+    match parsed {
         Ok(matches) => task_of(&matches),
         Err(error) => untaken(alloc, &error),
     }
@@ -160,90 +162,4 @@ fn untaken<'a>(alloc: Global, error: &Error) -> Result<Task<'a>, ProgramFault>
     } else {
         Ok(Task::Help(text))
     }
-}
-
-// The words that are taken. Each stands in a function of its own, since the parser's values are long to prove about.
-fn command<'a>(alloc: Global) -> Result<Command<'a>, AllocError> {
-    named(alloc)?
-        .subcommand(work_command(alloc)?)?
-        .subcommand(check_command(alloc)?)
-}
-
-fn named<'a>(alloc: Global) -> Result<Command<'a>, AllocError> {
-    let command = Command::new(alloc, "nonobench")
-        .about(
-            "Multicolour nonograms. Without words: the clues of the P3 picture on standard input.",
-        )
-        .version("0.1.0")
-        .bin_name("nonobench")?
-        .no_binary_name(true)
-        .subcommand_required(true);
-    Ok(command)
-}
-
-// The words of a session.
-fn work_command<'a>(alloc: Global) -> Result<Command<'a>, AllocError> {
-    Command::new(alloc, "work")
-        .about("Opens a picture or a puzzle, and answers each line of standard input")
-        .after_help("Example: echo verdict | nonobench work heart.ppm")
-        .arg(opened(alloc))?
-        .arg(format(alloc))?
-        .arg(background(alloc))?
-        .arg(history(alloc))
-}
-
-// The words of the check.
-fn check_command<'a>(alloc: Global) -> Result<Command<'a>, AllocError> {
-    Command::new(alloc, "check")
-        .about("Checks a certificate: whether the picture is the only one with its clues")
-        .after_help("Example: nonobench check heart.ppm heart.cert")
-        .arg(picture(alloc))?
-        .arg(cert(alloc))?
-        .arg(background(alloc))
-}
-
-fn opened<'a>(alloc: Global) -> Arg<'a> {
-    Arg::new(alloc, "file")
-        .value_name("FILE")
-        .required(true)
-        .help("The picture, as a P3 text, or the puzzle, as a .non text")
-}
-
-fn format<'a>(alloc: Global) -> Arg<'a> {
-    Arg::new(alloc, "format")
-        .long("format")
-        .value_name("FORMAT")
-        .value_parser(FORMATS.as_slice())
-        .default_value("ppm")
-        .help("The format of FILE")
-}
-
-fn history<'a>(alloc: Global) -> Arg<'a> {
-    Arg::new(alloc, "history")
-        .long("history")
-        .value_name("N")
-        .value_parser(value_parser!(u16).range(1..=1000))
-        .default_value("100")
-        .help("How many edits can be undone, 1 to 1000")
-}
-
-fn picture<'a>(alloc: Global) -> Arg<'a> {
-    Arg::new(alloc, "file")
-        .value_name("FILE")
-        .required(true)
-        .help("The picture, as a P3 text")
-}
-
-fn cert<'a>(alloc: Global) -> Arg<'a> {
-    Arg::new(alloc, "cert")
-        .value_name("CERT")
-        .required(true)
-        .help("Its certificate")
-}
-
-fn background<'a>(alloc: Global) -> Arg<'a> {
-    Arg::new(alloc, "background")
-        .long("background")
-        .value_name("R,G,B")
-        .help("The colour of the background in a P3 text, white where it is not given")
 }

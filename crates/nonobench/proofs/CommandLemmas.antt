@@ -1,0 +1,52 @@
+-- The command line as it is made, and what a parse by it gives.
+use Rattle.std.proofs.Common.{◌≡◌, ◌++◌, true, false, List, [], ◌∷◌, Result, Ok, Err, refl, ap, subst, sym, ◌∙◌}
+use Rattle.std.specs.Prelude.{IfErr, IfOk}
+use Rattle.clap.specs.Words.{AddsArg, AddsSubcommand, App, HasMatchesOf, Rule, Shape, Text, app_of, is_simple, kind_of, rule_of, shape_of, takes, with_subcommand}
+use Rattle.clap.specs.declared.builder.arg.Arg.{Arg}
+use Rattle.clap.specs.declared.builder.command.Command.{Command}
+use Rattle.clap.specs.declared.builder.value_parser.ValueParser.{ValueParser}
+use Rattle.clap.specs.declared.error.Error.{Error}
+use Rattle.clap.specs.declared.error.kind.ErrorKind.TheVariants.{OutOfMemory}
+use Rattle.clap.specs.declared.parser.matches.ArgMatches.{ArgMatches}
+use Rattle.nonobench.specs.Program.{AreFormats, IsLocal, ParsesAs, check_shape, file_rule, file_shape, format_rule, opening_shape, program_app, top_shape, work_shape}
+
+-- the file's command with the format
+pub opening_made : {E : Type 0} (base : Command) (a : Arg) (r : Result Command E) → IfOk r (AddsArg base a) → a.global ≡ false → shape_of base ≡ file_shape
+    → (formats : ValueParser) × (AreFormats formats × (rule_of a ≡ format_rule formats)) → IfOk r (λ c. (formats : ValueParser) × (AreFormats formats × (shape_of c ≡ opening_shape formats)))
+opening_made base a (Err e) h g s f = h
+opening_made base a (Ok c) h g s f = (
+  f.0,
+  (
+    f.1.0,
+    ap (λ (x : App). x.top) (h.shape g)
+        ∙ ap (λ (x : Shape). let y : Shape = record x { rules = x.rules ++ rule_of a ∷ [] } in y) s
+        ∙ ap (λ (x : Rule). let y : Shape = record file_shape { rules = file_rule ∷ x ∷ [] } in y) f.1.1,
+  ),
+)
+
+abbrev bare : App
+bare = record { top = top_shape; subs = [] }
+
+-- the program's command with its two subcommands
+pub command_made : {E : Type 0} (top work first check : Command) (r : Result Command E) → app_of top ≡ bare → AddsSubcommand top work first → IfOk r (AddsSubcommand first check) → IsLocal work → IsLocal check → shape_of check ≡ check_shape
+    → (formats : ValueParser) × (AreFormats formats × (shape_of work ≡ work_shape formats)) → IfOk r (λ c. (formats : ValueParser) × (AreFormats formats × (app_of c ≡ program_app formats)))
+command_made top work first check (Err e) t a h l m s f = h
+command_made top work first check (Ok c) t a h l m s f =
+    let one : app_of first ≡ with_subcommand bare (work_shape f.0) =
+    a.shape l ∙ ap (λ (x : App). with_subcommand x (shape_of work)) t ∙ ap (λ (x : Shape). with_subcommand bare x) f.1.1 in
+    let both : app_of c ≡ program_app f.0 =
+    h.shape m ∙ ap (λ (x : App). with_subcommand x (shape_of check)) one ∙ ap (λ (x : Shape). with_subcommand (with_subcommand bare (work_shape f.0)) x) s in
+    (f.0, (f.1.0, both))
+
+simple : (formats : ValueParser) → is_simple (program_app formats) ≡ true
+simple formats = refl
+
+-- what a parse by it gives
+pub parse_made : (c : Command) (words : List Text) (r : Result ArgMatches Error) → IfOk r (HasMatchesOf (app_of c) words) → IfErr r (λ e. takes (app_of c) words ≡ true → kind_of e ≡ OutOfMemory)
+    → (formats : ValueParser) × (AreFormats formats × (app_of c ≡ program_app formats)) → (formats : ValueParser) × (AreFormats formats × ParsesAs formats words r)
+parse_made c words (Ok m) ok err f =
+    let given : HasMatchesOf (program_app f.0) words m = subst (λ (x : App). HasMatchesOf x words m) f.1.1 ok in
+    (f.0, (f.1.0, (given (simple f.0)).1))
+parse_made c words (Err e) ok err f =
+    let passes : takes (program_app f.0) words ≡ true → kind_of e ≡ OutOfMemory = subst (λ (x : App). takes x words ≡ true → kind_of e ≡ OutOfMemory) f.1.1 err in
+    (f.0, (f.1.0, passes))

@@ -1,0 +1,14 @@
+use Rattle.std.proofs.Common.{◌≡◌, Result, Err, subst}
+use Rattle.clap.specs.Walk.{texts}
+use Rattle.clap.specs.declared.builder.value_parser.ValueParser.{ValueParser}
+use Rattle.clap.specs.declared.error.Error.{Error}
+use Rattle.clap.specs.declared.parser.matches.ArgMatches.{ArgMatches}
+use Rattle.nonobench.specs.Program.{AreFormats, ParsesAs}
+use Rattle.nonobench.proofs.WordLemmas.{not_taken}
+use Rattle.nonobench.proofs.words.read_words.Goals as goal
+
+pub returns-in-Err-clause-asked : goal.returns-in-Err-clause-asked
+returns-in-Err-clause-asked c = λ some.
+    let words = texts c.args.words.now in
+    let P : Result ArgMatches Error → Type 0 = λ r. (formats : ValueParser) × (AreFormats formats × ParsesAs formats words r) in
+    not_taken words c.in-Err.error c.untaken.result (subst P c.in-Err.is c.in_ok-parsed.ensures) c.untaken.ensures.said

@@ -1,0 +1,79 @@
+-- The program's command line, as the parser of words sees it.
+use Rattle.std.specs.Prelude.{◌≡◌, true, false, pos, List, [], ◌∷◌, codes, map, Some, Result, Ok, Err}
+use Rattle.clap.specs.Words.{App, Rule, Shape, Text, kind_of, new_rule, subcommand_of, subcommand_rows_of, takes}
+use Rattle.clap.specs.Simple.{new_shape}
+use Rattle.clap.specs.declared.builder.command.Command.{Command}
+use Rattle.clap.specs.declared.builder.command.Command.TheViews.{out-Command}
+use Rattle.clap.specs.declared.builder.value_parser.ValueParser.{ValueParser}
+use Rattle.clap.specs.declared.error.Error.{Error}
+use Rattle.clap.specs.declared.error.kind.ErrorKind.TheVariants.{OutOfMemory}
+use Rattle.clap.specs.declared.parser.matches.ArgMatches.{ArgMatches}
+use Rattle.clap.specs.declared.builder.value_parser.ValueParser.TheVariants as parser
+
+-- ---- the values
+
+abbrev pub file_rule : Rule
+file_rule = record (new_rule (codes "file")) { value_names = 1; required = true }
+
+abbrev pub cert_rule : Rule
+cert_rule = record (new_rule (codes "cert")) { value_names = 1; required = true }
+
+abbrev pub format_rule : ValueParser → Rule
+format_rule formats = record (new_rule (codes "format")) {
+  long = Some (codes "format");
+  value_names = 1;
+  defaults = codes "ppm" ∷ [];
+  parser = Some formats;
+}
+
+abbrev pub background_rule : Rule
+background_rule = record (new_rule (codes "background")) { long = Some (codes "background"); value_names = 1 }
+
+abbrev pub history_rule : Rule
+history_rule = record (new_rule (codes "history")) {
+  long = Some (codes "history");
+  value_names = 1;
+  defaults = codes "100" ∷ [];
+  parser = Some (parser.Signed (pos 1) (pos 1000));
+}
+
+-- ---- the subcommands
+
+abbrev pub file_shape : Shape
+file_shape = record (new_shape (codes "work")) { rules = file_rule ∷ [] }
+
+abbrev pub opening_shape : ValueParser → Shape
+opening_shape formats = record (new_shape (codes "work")) { rules = file_rule ∷ format_rule formats ∷ [] }
+
+abbrev pub work_shape : ValueParser → Shape
+work_shape formats = record (new_shape (codes "work")) { rules = file_rule ∷ format_rule formats ∷ background_rule ∷ history_rule ∷ [] }
+
+abbrev pub check_shape : Shape
+check_shape = record (new_shape (codes "check")) { rules = file_rule ∷ cert_rule ∷ background_rule ∷ [] }
+
+-- ---- the program
+
+abbrev pub top_shape : Shape
+top_shape = record (new_shape (codes "nonobench")) {
+  has_version = true;
+  no_binary_name = true;
+  subcommand_required = true;
+}
+
+abbrev pub program_app : ValueParser → App
+program_app formats = record { top = record top_shape { is_leaf = false }; subs = work_shape formats ∷ check_shape ∷ [] }
+
+-- the formats that a file can have
+abbrev pub AreFormats : ValueParser → Type 0
+AreFormats (parser.Names names) = map (λ s. s.now) names.now ≡ codes "ppm" ∷ codes "non" ∷ []
+AreFormats _ = ⊥
+
+-- a command with no global argument
+abbrev pub IsLocal : Command → Type 0
+IsLocal c = (out-Command c).has_globals ≡ false
+
+-- What a parse of the program's words comes to: the name and the rows of the subcommand that they name; or they are not taken,
+-- which is for want of memory where the definition takes them.
+abbrev pub ParsesAs : ValueParser → List Text → Result ArgMatches Error → Type 0
+ParsesAs formats words (Ok m) = subcommand_rows_of m ≡ subcommand_of (program_app formats) words
+ParsesAs formats words (Err e) = takes (program_app formats) words ≡ true → kind_of e ≡ OutOfMemory

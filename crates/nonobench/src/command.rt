@@ -1,0 +1,158 @@
+//! The command line that the parser of words takes, and what it makes of words.
+
+ghost use Rattle.std.specs.Prelude.{◌≡◌, [], false, IfOk};
+ghost use Rattle.clap.specs.Walk.{texts};
+ghost use Rattle.clap.specs.Words.{app_of, rule_of, shape_of};
+ghost use Rattle.nonobench.specs.Program.{AreFormats, IsLocal, ParsesAs, background_rule, cert_rule, check_shape, file_rule, file_shape, format_rule, history_rule, opening_shape, program_app, top_shape, work_shape};
+
+use clap::{Arg, ArgMatches, Command, Error, value_parser};
+use std::alloc::{AllocError, Global};
+
+// What a file can be.
+static FORMATS: [&str; 2] = ["ppm", "non"];
+
+// What the parser makes of the words behind the program's own name.
+pub(crate) fn parsed<'a>(
+    alloc: Global,
+    words: &'a [&str],
+) -> Result<Result<ArgMatches<'a>, Error>, AllocError>
+    ensures { IfOk result (λ r. (formats : _)
+        × (AreFormats formats × ParsesAs formats (texts words.entry.now) r)) }
+{
+    let command = command(alloc)?;
+    Ok(command.try_get_matches_from(words))
+}
+
+// The words that are taken. Each stands in a function of its own, since the parser's values are long to prove about.
+fn command<'a>(alloc: Global) -> Result<Command<'a>, AllocError>
+    ensures { IfOk result (λ c. (formats : _)
+        × (AreFormats formats × (app_of c ≡ program_app formats))) }
+{
+    let top = named(alloc)?;
+    let work = work_command(alloc)?;
+    let check = check_command(alloc)?;
+    let command = top.subcommand(work)?;
+    command.subcommand(check)
+}
+
+fn named<'a>(alloc: Global) -> Result<Command<'a>, AllocError>
+    ensures app { IfOk result (λ c. app_of c ≡ record { top = top_shape; subs = [] }) }
+    ensures local { IfOk result IsLocal }
+{
+    let command = Command::new(alloc, "nonobench")
+        .about(
+            "Multicolour nonograms. Without words: the clues of the P3 picture on standard input.",
+        )
+        .version("0.1.0")
+        .bin_name("nonobench")?
+        .no_binary_name(true)
+        .subcommand_required(true);
+    Ok(command)
+}
+
+fn work_command<'a>(alloc: Global) -> Result<Command<'a>, AllocError>
+    ensures shape { IfOk result (λ c. (formats : _)
+        × (AreFormats formats × (shape_of c ≡ work_shape formats))) }
+    ensures local { IfOk result IsLocal }
+{
+    opening(alloc)?.arg(background(alloc))?.arg(history(alloc))
+}
+
+// The session's file and its format.
+fn opening<'a>(alloc: Global) -> Result<Command<'a>, AllocError>
+    ensures shape { IfOk result (λ c. (formats : _)
+        × (AreFormats formats × (shape_of c ≡ opening_shape formats))) }
+    ensures local { IfOk result IsLocal }
+{
+    let command = file_command(alloc)?;
+    let format = format(alloc);
+    command.arg(format)
+}
+
+// The session's file.
+fn file_command<'a>(alloc: Global) -> Result<Command<'a>, AllocError>
+    ensures shape { IfOk result (λ c. shape_of c ≡ file_shape) }
+    ensures local { IfOk result IsLocal }
+{
+    Command::new(alloc, "work")
+        .about("Opens a picture or a puzzle, and answers each line of standard input")
+        .after_help("Example: echo verdict | nonobench work heart.ppm")
+        .arg(opened(alloc))
+}
+
+// The words of the check.
+fn check_command<'a>(alloc: Global) -> Result<Command<'a>, AllocError>
+    ensures shape { IfOk result (λ c. shape_of c ≡ check_shape) }
+    ensures local { IfOk result IsLocal }
+{
+    Command::new(alloc, "check")
+        .about("Checks a certificate: whether the picture is the only one with its clues")
+        .after_help("Example: nonobench check heart.ppm heart.cert")
+        .arg(picture(alloc))?
+        .arg(cert(alloc))?
+        .arg(background(alloc))
+}
+
+fn opened<'a>(alloc: Global) -> Arg<'a>
+    ensures rule { rule_of result ≡ file_rule }
+    ensures local { result.global ≡ false }
+{
+    Arg::new(alloc, "file")
+        .value_name("FILE")
+        .required(true)
+        .help("The picture, as a P3 text, or the puzzle, as a .non text")
+}
+
+fn format<'a>(alloc: Global) -> Arg<'a>
+    ensures rule { (formats : _) × (AreFormats formats × (rule_of result ≡ format_rule formats)) }
+    ensures local { result.global ≡ false }
+{
+    Arg::new(alloc, "format")
+        .long("format")
+        .value_name("FORMAT")
+        .value_parser(FORMATS.as_slice())
+        .default_value("ppm")
+        .help("The format of FILE")
+}
+
+fn history<'a>(alloc: Global) -> Arg<'a>
+    ensures rule { rule_of result ≡ history_rule }
+    ensures local { result.global ≡ false }
+{
+    Arg::new(alloc, "history")
+        .long("history")
+        .value_name("N")
+        .value_parser(value_parser!(u16).range(1..=1000))
+        .default_value("100")
+        .help("How many edits can be undone, 1 to 1000")
+}
+
+fn picture<'a>(alloc: Global) -> Arg<'a>
+    ensures rule { rule_of result ≡ file_rule }
+    ensures local { result.global ≡ false }
+{
+    Arg::new(alloc, "file")
+        .value_name("FILE")
+        .required(true)
+        .help("The picture, as a P3 text")
+}
+
+fn cert<'a>(alloc: Global) -> Arg<'a>
+    ensures rule { rule_of result ≡ cert_rule }
+    ensures local { result.global ≡ false }
+{
+    Arg::new(alloc, "cert")
+        .value_name("CERT")
+        .required(true)
+        .help("Its certificate")
+}
+
+fn background<'a>(alloc: Global) -> Arg<'a>
+    ensures rule { rule_of result ≡ background_rule }
+    ensures local { result.global ≡ false }
+{
+    Arg::new(alloc, "background")
+        .long("background")
+        .value_name("R,G,B")
+        .help("The colour of the background in a P3 text, white where it is not given")
+}
