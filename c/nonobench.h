@@ -26,7 +26,7 @@
 extern "C" {
 #endif
 
-/* As `nonobench --version` prints it. */
+/* The version of this header. That of the library is asked for by nonobench_version. */
 #define NONOBENCH_VERSION "0.1.0"
 
 /* How many bytes a picture or a certificate has at the most, as for the program. The library itself takes any length. */
@@ -43,10 +43,14 @@ enum {
 
 /* ---- the calls of the library */
 
+/* Copies the library's version as far as there is room, as `nonobench --version` prints it behind the name, and answers how many
+ * bytes it has. No NUL is put behind it. It needs no desk. */
+size_t nonobench_version(uint8_t *out, size_t room);
+
 /* Benches under handles, and the text of the last call. Made by nonobench_start alone. */
 typedef struct nonobench_desk nonobench_desk;
 
-/* Puts a new desk in the cell: DONE or MEMORY. All other calls take the address of this cell. */
+/* Puts a new desk in the cell: DONE or MEMORY. The calls below take the address of this cell. */
 uint32_t nonobench_start(nonobench_desk **desk);
 
 /* Ends a desk with all its benches. */
@@ -60,7 +64,8 @@ uint32_t nonobench_open(nonobench_desk **desk, const uint8_t *file, size_t size,
 /* Answers lines of commands as a session does (docs/FORMATS.md). The answers are the text. */
 uint32_t nonobench_say(nonobench_desk **desk, uint32_t handle, const uint8_t *lines, size_t size);
 
-/* Copies the text of the last call as far as there is room, and answers how many bytes it has. No NUL is put behind it. */
+/* Copies the text of the last call as far as there is room, and answers how many bytes it has. No NUL is put behind it. There is
+ * no text behind the statuses MEMORY, CLOSED and OPTIONS; but of MEMORY from nonobench_say it is the answers that found room. */
 size_t nonobench_take(nonobench_desk **desk, uint8_t *out, size_t room);
 
 /* Ends a bench. */
@@ -141,9 +146,6 @@ static inline uint32_t nonobench_say_status(nonobench_desk **desk, uint32_t stat
     }
     return status;
 }
-
-/* As `nonobench --version` prints it. */
-static inline const char *nonobench_version(void) { return NONOBENCH_VERSION; }
 
 /* Checks a certificate of a P3 picture: DONE where it is accepted, and then `givens` becomes how many cells it gives. A puzzle
  * is unique WITH these, so compare them with those that you publish. `background` is as 255,0,0, or null for white. `givens` and

@@ -132,7 +132,11 @@ static void test_answers(void) {
     expect(nonobench_verdict(DIAGONAL, picture, NULL, 100000, NULL, &text) == NONOBENCH_OPTIONS, "no allowance", said);
     expect(nonobench_clues("P3 1 1 1 0 0 0", 14, "0,0,0", &text) == NONOBENCH_DONE, "a black background", said);
     expect(strcmp(said, "r 1: 0\nc 1: 0\n") == 0, "no clue", said);
-    expect(strcmp(nonobench_version(), NONOBENCH_VERSION) == 0, "the version", nonobench_version());
+    memset(said, '#', sizeof said);
+    expect(nonobench_version((uint8_t *)said, 3) == strlen(NONOBENCH_VERSION), "how long the version is", said);
+    expect(memcmp(said, NONOBENCH_VERSION, 3) == 0 && said[3] == '#', "the front of the version", said);
+    said[nonobench_version((uint8_t *)said, sizeof said)] = 0;
+    expect(strcmp(said, NONOBENCH_VERSION) == 0, "the version", said);
 }
 
 /* Nothing at all, nulls, and lengths above what a file may have. */
@@ -161,6 +165,27 @@ static void test_bad_input(void) {
     expect(nonobench_take(&desk, (uint8_t *)said, sizeof said) == 30 && !memcmp(said, "ppm Truncated at byte 16777217", 30), "long", said);
     nonobench_end(desk);
     free(big);
+}
+
+/* No text stands behind a handle or options that are refused. Clauses of the calls say so too. */
+static void test_no_text(void) {
+    const uint8_t *picture = (const uint8_t *)DIAGONAL;
+    size_t size = strlen(DIAGONAL);
+    nonobench_desk *desk;
+    uint32_t handle;
+    uint8_t none;
+    expect(nonobench_start(&desk) == NONOBENCH_DONE, "a desk", "");
+    for (int which = 0; which < 4; which++) {
+        uint32_t status = nonobench_check(&desk, picture, size, picture, size, picture, 0);
+        expect(status == NONOBENCH_REFUSED && nonobench_take(&desk, &none, 0) == 29, "a text stands there", "");
+        status = which == 0   ? nonobench_say(&desk, 1, picture, size)
+                 : which == 1 ? nonobench_close(&desk, 1)
+                 : which == 2 ? nonobench_open(&desk, picture, size, false, picture, 0, 0, &handle)
+                              : nonobench_check(&desk, picture, size, picture, size, picture, size);
+        expect(status == (which < 2 ? NONOBENCH_CLOSED : NONOBENCH_OPTIONS), "it is refused", "");
+        expect(nonobench_take(&desk, &none, 0) == 0, "no text stands there", "");
+    }
+    nonobench_end(desk);
 }
 
 /* Each room from none to more than enough, with bytes behind it that must stay. */
@@ -273,6 +298,7 @@ int main(int count, char **words) {
     run_cases(words[1], "certificates", true);
     test_answers();
     test_bad_input();
+    test_no_text();
     test_rooms();
     test_threads(times / 10 < 500 ? times / 10 : 500);
     test_growth(times);

@@ -78,7 +78,7 @@ rmSync(site, { recursive: true, force: true });
 mkdirSync(site, { recursive: true });
 for (const name of ['nonobench.wasm', 'nonobench.mjs', 'nonobench.d.ts']) copyFileSync(join(folder, name), join(site, name));
 if (existsSync(join(root, 'page', 'scripts.txt'))) {
-  const version = /\.version\("([^"]+)"\)/.exec(read('crates', 'nonobench', 'src', 'words.rt'))?.[1] ?? '';
+  const [, version] = /VERSION: &str = "([^"]+)"/.exec(read('crates', 'answers', 'src', 'version.rt'));
   writeFileSync(join(folder, 'nonobench.html'), pageText(version));
   copyFileSync(join(folder, 'nonobench.html'), join(site, 'index.html'));
 } else {

@@ -6,6 +6,7 @@
 //     bench.say('clues\nverdict\n')                         // what the program `nonobench work` answers
 //     bench.close()
 //     engine.check(picture, certificate)                    // {accepted, status, text}
+//     engine.version                                        // as `nonobench --version` prints it behind the name
 
 const DONE = 0;
 const MEMORY = 4;
@@ -99,6 +100,11 @@ class Engine {
     if (status !== DONE) this.#refuse(status);
   }
 
+  /** The version of the module, as the program prints it behind its name. */
+  get version() {
+    return this.#put((out, room) => this.#calls.nonobench_version(out, room));
+  }
+
   /** For tests: lets the nth growth of memory from now on be refused; 0 for none. */
   refuse(nth) {
     this.#calls.nonobench_refuse(nth);
@@ -131,10 +137,15 @@ class Engine {
 
   // The text of the last call.
   #text() {
+    return this.#put((out, room) => this.#calls.nonobench_take(this.#cell, out, room));
+  }
+
+  // The text that a call puts out, as far as there is room, and answers how many bytes it has.
+  #put(call) {
     for (let room = ROOM; ;) {
       const out = this.#room(room);
       try {
-        const size = Number(this.#run(() => this.#calls.nonobench_take(this.#cell, out, BigInt(room))));
+        const size = Number(this.#run(() => call(out, BigInt(room))));
         if (size <= room) return decoder.decode(new Uint8Array(this.#calls.memory.buffer, Number(out), size));
         room = size;
       } finally {

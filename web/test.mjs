@@ -207,6 +207,42 @@ test('products and shifts of 128 bits are those of whole numbers', async () => {
   }
 });
 
+test('the version is that of the crates, whole or as far as there is room', async () => {
+  const { engine, calls } = await watched();
+  const [, version] = /VERSION: &str = "([^"]+)"/.exec(text('crates', 'answers', 'src', 'version.rt'));
+  assert.equal(engine.version, version);
+  const out = calls.malloc(16n), bytes = new Uint8Array(calls.memory.buffer, Number(out), 16).fill(0x2d);
+  assert.equal(calls.nonobench_version(out, 3n), BigInt(version.length));
+  assert.equal(new TextDecoder().decode(bytes.subarray(0, 4)), `${version.slice(0, 3)}-`);
+});
+
+// The clauses of the calls say the same, and this is what a host sees.
+test('there is no text after memory was refused, behind a closed handle, or behind options that are refused', async () => {
+  const { calls } = await watched();
+  const cell = calls.malloc(16n), file = calls.malloc(64n), size = BigInt(DIAGONAL.length);
+  new Uint8Array(calls.memory.buffer, Number(file), 64).set(new TextEncoder().encode(DIAGONAL));
+  assert.equal(calls.nonobench_start(cell), 0);
+  const open = (history = 1) => calls.nonobench_open(cell, file, size, 0, file, 0n, history, cell + 8n);
+  const check = (word = 0n) => calls.nonobench_check(cell, file, size, file, size, file, word);
+  const short = (call) => {
+    calls.nonobench_refuse(1);
+    const status = call();
+    calls.nonobench_refuse(0);
+    return status;
+  };
+  const cases = [
+    [4, () => short(() => open())], [4, () => short(() => check())], [0, () => open()], [5, () => calls.nonobench_say(cell, 9, file, size)],
+    [5, () => calls.nonobench_close(cell, 9)], [0, () => calls.nonobench_close(cell, 1)], [6, () => open(0)], [6, () => check(size)],
+  ];
+  for (const [status, call] of cases) {
+    // What stood there before: that the picture is no certificate.
+    assert.equal(check(), 1);
+    assert.equal(calls.nonobench_take(cell, file, 0n), 29n);
+    assert.equal(call(), status);
+    assert.equal(calls.nonobench_take(cell, file, 0n), 0n, `${status}: ${call}`);
+  }
+});
+
 test('a text is taken in parts by the plain call, and stays', async () => {
   const { calls } = await watched();
   const cell = calls.malloc(16n), file = calls.malloc(64n), out = calls.malloc(64n);

@@ -27,9 +27,10 @@ from ._answers import (
     Verdict,
 )
 from ._calls import check, clues, picture_of, verdict
+from ._library import version
 from .worker import Worker
 
-__version__ = "0.1.0"
+__version__ = version()
 
 __all__ = [
     "Block",
@@ -47,4 +48,5 @@ __all__ = [
     "clues",
     "picture_of",
     "verdict",
+    "version",
 ]

@@ -6,6 +6,7 @@ import ctypes
 import os
 from pathlib import Path
 from types import TracebackType
+from typing import Callable
 
 DONE, REFUSED, MEMORY, CLOSED, OPTIONS = 0, 1, 4, 5, 6
 NAME = "libnonobench.so"
@@ -36,6 +37,7 @@ def _load() -> ctypes.CDLL:
     bytes_of = [ctypes.c_char_p, ctypes.c_size_t]
     number = ctypes.c_uint32
     kinds = {
+        "version": (ctypes.c_size_t, [ctypes.c_char_p, ctypes.c_size_t]),
         "start": (number, [cell]),
         "end": (None, [ctypes.c_void_p]),
         "open": (number, [cell, *bytes_of, ctypes.c_bool, *bytes_of, number, ctypes.POINTER(number)]),
@@ -51,6 +53,22 @@ def _load() -> ctypes.CDLL:
 
 
 _calls = _load()
+
+
+def version() -> str:
+    """The version of the library, as `nonobench --version` prints it behind the name."""
+    return _text(_calls.nonobench_version)
+
+
+def _text(put: Callable[[ctypes.Array[ctypes.c_char], int], int]) -> str:
+    """The text that a call puts out, as far as there is room, and answers how many bytes it has."""
+    room = ROOM
+    while True:
+        buffer = ctypes.create_string_buffer(room)
+        size = put(buffer, room)
+        if size <= room:
+            return buffer.raw[:size].decode("ascii")
+        room = size
 
 
 class Desk:
@@ -85,10 +103,4 @@ class Desk:
 
     def text(self) -> str:
         """The text of the last call."""
-        room = ROOM
-        while True:
-            buffer = ctypes.create_string_buffer(room)
-            size = _calls.nonobench_take(ctypes.byref(self._cell), buffer, room)
-            if size <= room:
-                return buffer.raw[:size].decode("ascii")
-            room = size
+        return _text(lambda buffer, room: _calls.nonobench_take(ctypes.byref(self._cell), buffer, room))

@@ -9,6 +9,7 @@ pub mod laws;
 mod open;
 mod options;
 mod run;
+mod version;
 
 pub use background::background_in;
 pub use check::run_check;
@@ -16,3 +17,4 @@ pub use fault::ProgramFault;
 pub use open::start_bench;
 pub use options::Options;
 pub use run::run_clues;
+pub use version::VERSION;

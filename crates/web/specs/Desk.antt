@@ -22,6 +22,14 @@ place_of seats handle = position (λ seat. seat.handle == handle) seats
 abbrev pub IsKept : Desk → Desk → Type 0
 IsKept old new = (new.seats.items ≡ old.seats.items) × (new.given ≡ old.given)
 
+-- the options were refused: nothing was asked, and there is no text
+abbrev pub IsUnasked : Desk → Desk → ℕ → Type 0
+IsUnasked old new status = (status ≡ 6) × ((new.text.items ≡ []) × IsKept old new)
+
+-- no bench has the handle, and there is no text
+abbrev pub IsClosed : Desk → Desk → ℕ → Type 0
+IsClosed old new status = (status ≡ 5) × ((new.text.items ≡ []) × IsKept old new)
+
 -- ---- lines
 
 -- the number that tells how a session ended
@@ -37,7 +45,7 @@ RunsOver lines had has old new status =
 
 -- What is said to a bench at a place: that session, and the other benches are as before; or no bench has the handle.
 abbrev pub SaysAt : Option ℕ → List ℕ → Desk → Desk → ℕ → Type 0
-SaysAt None lines old new status = (status ≡ 5) × IsKept old new
+SaysAt None lines old new status = IsClosed old new status
 SaysAt (Some at) lines old new status =
     (seat : Seat) × ((new.seats.items ≡ slice_set old.seats.items at seat) × ((new.given ≡ old.given)
     × ((d : Seat) → (seat.handle ≡ (slice_index_or old.seats.items at d).handle) × RunsOver lines [] new.text.items (slice_index_or old.seats.items at d).bench seat.bench status)))
@@ -52,9 +60,13 @@ Says handle lines old new status = SaysAt (place_of old.seats.items handle) line
 abbrev pub Tells : ProgramFault → List ℕ → ℕ → Type 0
 Tells fault text status = (text ≡ fault_text fault) × (status ≡ status_of fault)
 
+-- memory was refused, and there is no text
+abbrev pub IsShort : List ℕ → ℕ → Type 0
+IsShort text status = (status ≡ 4) × (text ≡ [])
+
 -- Memory was refused, or there is a fault for which this holds, and text and status are its.
 abbrev pub IsRefused : (ProgramFault → Type 0) → List ℕ → ℕ → Type 0
-IsRefused Is text status = (status ≡ 4) ⊎ ((fault : ProgramFault) × (Is fault × Tells fault text status))
+IsRefused Is text status = IsShort text status ⊎ ((fault : ProgramFault) × (Is fault × Tells fault text status))
 
 -- ---- benches
 
@@ -69,13 +81,14 @@ IsOpened file options old new handle =
 -- what comes of a file that a bench is to be opened on
 abbrev pub Opens : List ℕ → Options → Desk → Desk → ℕ → ℕ → Type 0
 Opens file options old new status handle =
-    ((status ≡ 0) × IsOpened file options old new handle)
+    ((status ≡ 0) × ((new.text.items ≡ []) × IsOpened file options old new handle))
     ⊎ (IsKept old new × IsRefused (λ fault. OpensFile file options (Err fault)) new.text.items status)
 
 -- the bench at a place is gone, or no bench has the handle
 abbrev pub ClosesAt : Option ℕ → Desk → Desk → ℕ → Type 0
-ClosesAt None old new status = (status ≡ 5) × IsKept old new
-ClosesAt (Some at) old new status = (status ≡ 0) × ((new.seats.items ≡ remove old.seats.items at) × (new.given ≡ old.given))
+ClosesAt None old new status = IsClosed old new status
+ClosesAt (Some at) old new status =
+    (status ≡ 0) × ((new.text.items ≡ []) × ((new.seats.items ≡ remove old.seats.items at) × (new.given ≡ old.given)))
 
 abbrev pub Closes : ℕ → Desk → Desk → ℕ → Type 0
 Closes handle old new status = ClosesAt (place_of old.seats.items handle) old new status

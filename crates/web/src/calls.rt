@@ -1,20 +1,37 @@
 //! The calls that a host makes.
 
-ghost use Rattle.std.specs.Prelude.{◌≡◌, ◌++◌, None, drop, length, take, IfSome};
+ghost use Rattle.std.specs.Prelude.{◌≡◌, ◌⊎◌, ◌++◌, None, [], drop, length, take, IfSome};
+ghost use Rattle.answers.specs.declared.version.TheConstants.{VERSION};
 ghost use Rattle.web.specs.Asked.{background_asked, options_asked};
-ghost use Rattle.web.specs.Desk.{Checks, Closes, IsKept, Opens, Says};
+ghost use Rattle.web.specs.Desk.{Checks, Closes, IsKept, IsUnasked, Opens, Says};
 
 use crate::asked::{Asked, Checked, background_of, options_of};
 use crate::desk::Desk;
 use crate::held::Held;
-use crate::inside::{check_in, close_in, copy_front, keep_text, lend_text, open_in, say_in};
+use crate::inside::{
+    check_in, close_in, copy_front, forget_in, keep_text, lend_text, open_in, say_in,
+};
 use crate::status::{DONE, MEMORY, OPTIONS};
+use answers::VERSION;
 use core::mem::replace_with;
 use std::alloc::Global;
 
-/// Makes the state that all other calls are handed, and puts its pointer out.
+/// Puts the version out, as far as there is room, and says how many bytes it has.
 #[unsafe(no_mangle)]
-pub extern "C" fn nonobench_start(alloc: Global, out: &mut *mut u8) -> u32 {
+pub extern "C" fn nonobench_version(out: &mut [u8]) -> usize
+    ensures all { result ≡ length VERSION.now }
+    ensures front { out.new ≡ take (length out.old) VERSION.now
+        ++ drop (length VERSION.now) out.old }
+{
+    copy_front(VERSION.as_bytes(), out)
+}
+
+/// Makes the state that all other calls but the version's are handed, and puts its pointer out.
+#[unsafe(no_mangle)]
+pub extern "C" fn nonobench_start(alloc: Global, out: &mut *mut u8) -> u32
+    ensures status { (result ≡ 0) ⊎ (result ≡ 4) }
+    ensures kept { result ≡ 4 → out.new ≡ out.old }
+{
     match Desk::make(alloc) {
         Ok(desk) => {
             *out = Box::into_raw(desk) as *mut u8;
@@ -43,9 +60,10 @@ pub extern "C" fn nonobench_open(
     ensures opens { IfSome (options_asked non background.now history) (λ options.
         Opens file.now options held.old.desk held.new.desk result handle.new) }
     ensures refused { options_asked non background.now history ≡ None
-        → (result ≡ 6) × IsKept held.old.desk held.new.desk }
+        → IsUnasked held.old.desk held.new.desk result }
 {
     let Some(options) = options_of(non, background, history) else {
+        replace_with(held, (), forget_in);
         return OPTIONS;
     };
     let (status, given) = replace_with(held, Asked { file, options }, open_in);
@@ -94,10 +112,12 @@ pub extern "C" fn nonobench_check(
 ) -> u32
     ensures checks { IfSome (background_asked background.now) (λ colour.
         Checks file.now colour cert.now held.new.desk.text.items result) }
-    ensures refused { background_asked background.now ≡ None → result ≡ 6 }
+    ensures refused { background_asked background.now ≡ None
+        → IsUnasked held.old.desk held.new.desk result }
     ensures kept { IsKept held.old.desk held.new.desk }
 {
     let Some(background) = background_of(background) else {
+        replace_with(held, (), forget_in);
         return OPTIONS;
     };
     replace_with(

@@ -4,7 +4,7 @@ ghost use Rattle.std.specs.Prelude.{◌≡◌, ◌⊎◌, ◌<◌, true, [], Err
 ghost use Rattle.answers.specs.declared.fault.ProgramFault.TheVariants.{Memory, Write as Unwritten};
 ghost use Rattle.answers.specs.Open.{OpensFile};
 ghost use Rattle.answers.specs.Start.{IsLawful};
-ghost use Rattle.web.specs.Desk.{Checks, Closes, IsKept, IsOpened, Opens, RunsOver, Says, Tells, place_of};
+ghost use Rattle.web.specs.Desk.{Checks, Closes, IsKept, IsOpened, IsShort, Opens, RunsOver, Says, Tells, place_of};
 
 use crate::status::{CLOSED, DONE, MEMORY};
 use answers::{Options, ProgramFault, run_check, start_bench};
@@ -54,7 +54,10 @@ impl Desk {
         ensures { Opens file.now options.now self.old self.new result.0 result.1 }
     {
         match self.begin(file, options) {
-            Ok(handle) => (DONE, handle),
+            Ok(handle) => {
+                self.text.clear();
+                (DONE, handle)
+            }
             Err(fault) => (self.refuse(&fault), 0),
         }
     }
@@ -115,13 +118,15 @@ impl Desk {
         Ok(handle)
     }
 
-    // Takes why a call was refused as the text, and tells its status. Where the text cannot grow, memory is refused.
+    // Takes why a call was refused as the text, and tells its status. Where memory was refused, now too, there is no text.
     fn refuse(&mut self, fault: &ProgramFault) -> u32
-        ensures tells { (result ≡ 4) ⊎ Tells fault.now self.new.text.items result }
-        ensures memory { fault.now ≡ Memory → result ≡ 4 }
-        ensures write { fault.now ≡ Unwritten → result ≡ 4 }
+        ensures tells { IsShort self.new.text.items result
+            ⊎ Tells fault.now self.new.text.items result }
+        ensures memory { fault.now ≡ Memory → IsShort self.new.text.items result }
+        ensures write { fault.now ≡ Unwritten → IsShort self.new.text.items result }
         ensures kept { IsKept self.old self.new }
     {
+        self.text.clear();
         if is_memory(fault) {
             return MEMORY;
         }

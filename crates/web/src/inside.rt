@@ -48,6 +48,16 @@ pub fn check_in(held: Held, asked: Checked<'_>) -> (Held, u32)
     (Held::new(desk), status)
 }
 
+/// Drops the text of the last call.
+pub fn forget_in(held: Held, _: ()) -> (Held, ())
+    ensures text { result.0.desk.text.items ≡ [] }
+    ensures kept { IsKept held.desk result.0.desk }
+{
+    let mut desk = held.into_box();
+    desk.text.clear();
+    (Held::new(desk), ())
+}
+
 /// Takes the text of the last call out.
 pub fn lend_text(held: Held, _: ()) -> (Held, Vec<u8>)
     ensures text { result.1.items ≡ held.desk.text.items }
