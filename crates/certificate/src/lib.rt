@@ -20,7 +20,7 @@ pub use cert::Cert;
 pub use checking::check_cert;
 pub use fault::CertFault;
 pub use making::climb_cert;
-pub use near_first::make_cert;
+pub use near_first::{make_cert, make_cert_within};
 pub use reading::read_cert;
 pub use second_search::{CellNumber, CertLine, LineNumber};
 pub use writing::write_cert;

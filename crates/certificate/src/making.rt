@@ -18,17 +18,9 @@ use line_settle::laws::{forcing_closes_a_line, one_line_decides};
 use line_settle::{Facts, LineEngine, Meter};
 use picture::{CellSet, MAX_SIDE, Picture};
 use second_search::{
-    CellNumber, CertLine, Decided, FIRST_BOUND, Ladder, Lines, MOST_CELLS, Scene, climb,
+    BOUNDS, CellNumber, CertLine, Decided, Ladder, Lines, MOST_CELLS, Scene, climb,
 };
 use std::alloc::{AllocError, Global};
-
-// The picture is held on to, and the lines are kept.
-const LADDER: Ladder = Ladder {
-    most: MOST_CELLS,
-    first_bound: FIRST_BOUND,
-    holds: true,
-    keeps: true,
-};
 
 pub(crate) const NOTHING_DONE: Meter = Meter {
     evaluations: 0,
@@ -37,11 +29,12 @@ pub(crate) const NOTHING_DONE: Meter = Meter {
 
 #[tactic(auto, using(crate::proofs::MakeLemmas::writing_trees))]
 // The lines of a tree that proves the picture of a scene from its facts on. There is none exactly where another picture fills the
-// facts.
+// facts. The picture is held on to, and the lines are kept.
 fn write_tree<E: LineEngine>(
     alloc: Global,
     engine: &mut E,
     scene: &Scene,
+    first_bound: u64,
 ) -> Result<Option<Vec<CertLine>>, CertFault>
     requires can { CanCheck scene.now.picture.now scene.now.clues.now (E.longest engine.old) }
     requires same_shape { SameShape scene.now.picture.now scene.now.facts.now }
@@ -55,7 +48,13 @@ fn write_tree<E: LineEngine>(
     clues_are_of_lines();
     let _ = engine.calls();
     let mut meter = NOTHING_DONE;
-    match climb(alloc, engine, scene, LADDER, &mut meter)? {
+    let ladder = Ladder {
+        most: MOST_CELLS,
+        first_bound,
+        holds: true,
+        keeps: true,
+    };
+    match climb(alloc, engine, scene, ladder, &mut meter)? {
         Decided::Tree(Lines::Kept(lines)) => Ok(Some(lines)),
         Decided::Tree(Lines::Dropped) => unreachable!(),
         Decided::OtherPicture(_) => Ok(None),
@@ -122,6 +121,7 @@ fn made<E: LineEngine>(
     engine: &mut E,
     picture: &Picture,
     givens: &CellSet,
+    first_bound: u64,
 ) -> Result<Option<Cert>, CertFault>
     requires inside { AreInside givens.now picture.now }
     requires wide { width_of picture.now ≤ E.longest engine.old }
@@ -142,10 +142,31 @@ fn made<E: LineEngine>(
         facts: &facts,
         picture,
     };
-    let Some(lines) = write_tree(alloc, engine, &scene)? else {
+    let Some(lines) = write_tree(alloc, engine, &scene, first_bound)? else {
         return Ok(None);
     };
     Ok(Some(with_version(cells, lines)))
+}
+
+/// Makes a certificate by trees alone, which may evaluate so many lines at first.
+pub(crate) fn climb_from<E: LineEngine>(
+    alloc: Global,
+    engine: &mut E,
+    picture: &Picture,
+    givens: &CellSet,
+    first_bound: u64,
+) -> Result<Option<Cert>, AllocError>
+    requires inside { AreInside givens.now picture.now }
+    requires wide { width_of picture.now ≤ E.longest engine.old }
+    requires tall { length picture.now ≤ E.longest engine.old }
+    ensures makes { IfOk result (Makes picture.now givens.now) }
+    ensures same_longest { E.longest engine.new ≡ E.longest engine.old }
+    ensures calls { E.calls engine.old ≤ E.calls engine.new }
+{
+    match made(alloc, engine, picture, givens, first_bound) {
+        Ok(cert) => Ok(cert),
+        Err(_) => Err(AllocError),
+    }
 }
 
 /// Makes a certificate as `make_cert` does, and looks for no near picture first: for a caller that has looked already. What is
@@ -163,8 +184,5 @@ pub fn climb_cert<E: LineEngine>(
     ensures same_longest { E.longest engine.new ≡ E.longest engine.old }
     ensures calls { E.calls engine.old ≤ E.calls engine.new }
 {
-    match made(alloc, engine, picture, givens) {
-        Ok(cert) => Ok(cert),
-        Err(_) => Err(AllocError),
-    }
+    climb_from(alloc, engine, picture, givens, BOUNDS.first_bound)
 }

@@ -11,13 +11,13 @@ use crate::cert::Cert;
 use crate::checking::set_givens;
 use crate::fault::CertFault;
 use crate::laws::bases_are_one;
-use crate::making::{NOTHING_DONE, climb_cert, given_cells};
+use crate::making::{NOTHING_DONE, climb_from, given_cells};
 use clues::ClueBook;
 use clues::laws::clues_are_of_lines;
 use line_settle::{Facts, LineEngine};
 use picture::{CellSet, Picture};
 use second_search::laws::sound_facts;
-use second_search::{Scene, find_near_other};
+use second_search::{BOUNDS, Bounds, Scene, find_near_other};
 use std::alloc::{AllocError, Global};
 
 // Whether a scene has another picture that differs in one window alone. There may be others where it has not.
@@ -25,6 +25,7 @@ fn has_near_other<E: LineEngine>(
     alloc: Global,
     engine: &mut E,
     scene: &Scene,
+    splits: u32,
 ) -> Result<bool, CertFault>
     requires scene { IsScene scene.now.clues.now scene.now.givens.now scene.now.facts.now
         scene.now.picture.now }
@@ -38,7 +39,7 @@ fn has_near_other<E: LineEngine>(
     clues_are_of_lines();
     let _ = engine.calls();
     let mut meter = NOTHING_DONE;
-    let near = find_near_other(alloc, engine, scene, &mut meter)?;
+    let near = find_near_other(alloc, engine, scene, splits, &mut meter)?;
     if let Some(_other) = near {
         return Ok(true);
     }
@@ -51,6 +52,7 @@ fn is_near_other<E: LineEngine>(
     engine: &mut E,
     picture: &Picture,
     givens: &CellSet,
+    splits: u32,
 ) -> Result<bool, CertFault>
     requires inside { AreInside givens.now picture.now }
     requires wide { width_of picture.now ≤ E.longest engine.old }
@@ -73,7 +75,7 @@ fn is_near_other<E: LineEngine>(
         facts: &facts,
         picture,
     };
-    has_near_other(alloc, engine, &scene)
+    has_near_other(alloc, engine, &scene, splits)
 }
 
 /// Makes a certificate of a picture with exactly these givens: `check_cert` accepts it, so there is no other picture with the
@@ -95,9 +97,28 @@ pub fn make_cert<E: LineEngine>(
     ensures same_longest { E.longest engine.new ≡ E.longest engine.old }
     ensures calls { E.calls engine.old ≤ E.calls engine.new }
 {
-    match is_near_other(alloc, engine, picture, givens) {
+    make_cert_within(alloc, engine, picture, givens, BOUNDS)
+}
+
+/// Makes a certificate as `make_cert` does, within other bounds than the program's. What is promised is the same whatever they
+/// are; those of the fixed order are not looked at.
+pub fn make_cert_within<E: LineEngine>(
+    alloc: Global,
+    engine: &mut E,
+    picture: &Picture,
+    givens: &CellSet,
+    bounds: Bounds,
+) -> Result<Option<Cert>, AllocError>
+    requires inside { AreInside givens.now picture.now }
+    requires wide { width_of picture.now ≤ E.longest engine.old }
+    requires tall { length picture.now ≤ E.longest engine.old }
+    ensures makes { IfOk result (Makes picture.now givens.now) }
+    ensures same_longest { E.longest engine.new ≡ E.longest engine.old }
+    ensures calls { E.calls engine.old ≤ E.calls engine.new }
+{
+    match is_near_other(alloc, engine, picture, givens, bounds.window_splits) {
         Ok(true) => Ok(None),
-        Ok(false) => climb_cert(alloc, engine, picture, givens),
+        Ok(false) => climb_from(alloc, engine, picture, givens, bounds.first_bound),
         Err(_) => Err(AllocError),
     }
 }

@@ -91,13 +91,18 @@ EndsTrue clues known facts BrokenOff = ⊥
 abbrev pub fixed_splits : ℕ
 fixed_splits = 1000
 
+-- How the search of a part ends that may go past so many splits of the fixed order: as in that order where it ends within them,
+-- and else with what is true.
+abbrev pub EndsPast : Clues → List (List ℕ) → List (List ℕ) → ℕ → Ending → ℕ → Type 0
+EndsPast clues known facts most found n =
+    (EndsAs clues known facts (Some most) found n × (found ≡ BrokenOff → ⊥))
+    ⊎ (EndsAs clues known facts (Some most) BrokenOff n × EndsTrue clues known facts found)
+
 -- How the search of a part ends: under an allowance as in the fixed order; without one as within so many splits of that order, or,
 -- where it splits past them, with what is true.
 abbrev pub EndsWithin : Clues → List (List ℕ) → List (List ℕ) → Option ℕ → Ending → ℕ → Type 0
 EndsWithin clues known facts (Some most) found n = EndsAs clues known facts (Some most) found n
-EndsWithin clues known facts None found n =
-    (EndsAs clues known facts (Some fixed_splits) found n × (found ≡ BrokenOff → ⊥))
-    ⊎ (EndsAs clues known facts (Some fixed_splits) BrokenOff n × EndsTrue clues known facts found)
+EndsWithin clues known facts None found n = EndsPast clues known facts fixed_splits found n
 
 -- outside of some cells the facts leave a picture's colour alone
 pub record KeepsOutside (cells : List ℕ) (picture facts : List (List ℕ)) : Type 0 where

@@ -7,7 +7,8 @@ ghost use Rattle.propagate.specs.Closing.{AreClosable};
 ghost use Rattle.second_search.specs.Other.{AreSound, FindsFirst, FindsOther};
 ghost use Rattle.second_search.specs.Looking.{FindsFilling};
 
-use crate::ladder::{Decided, FIRST_BOUND, Ladder, MOST_CELLS, climb};
+use crate::bounds::BOUNDS;
+use crate::ladder::{Decided, Ladder, MOST_CELLS, climb};
 use crate::near_closed::find_near_other;
 use crate::scene::Scene;
 use clues::ClueBook;
@@ -77,7 +78,8 @@ pub fn find_other<E: LineEngine>(
         evaluations: 0,
         trials: 0,
     };
-    let near = find_near_other(alloc, engine, &scene, &mut meter)?;
+    let splits = BOUNDS.window_splits;
+    let near = find_near_other(alloc, engine, &scene, splits, &mut meter)?;
     if near.is_some() {
         return Ok(near);
     }
@@ -103,7 +105,7 @@ fn find_filling<E: LineEngine>(
     only_is_closed();
     let ladder = Ladder {
         most: MOST_CELLS,
-        first_bound: FIRST_BOUND,
+        first_bound: BOUNDS.first_bound,
         holds,
         keeps: false,
     };

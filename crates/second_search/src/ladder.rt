@@ -38,9 +38,6 @@ pub struct Ladder {
 /// How many of the most telling cells are looked at. A native model closes as many pictures with 12 of them.
 pub const MOST_CELLS: usize = 40;
 
-/// How many lines a tree may evaluate at first.
-pub const FIRST_BOUND: u64 = 10_000;
-
 /// Writes a tree from a scene's facts, or finds another picture than the scene's, which need not have the clues: by looking ahead
 /// and by the first open cell in turn, each under a bound that grows fourfold, and once it can grow no more, without one.
 pub fn climb<E: LineEngine>(

@@ -1,6 +1,7 @@
 //! A complete search for a picture with given clues, or for another one.
 #![tactic(auto)]
 
+mod bounds;
 mod carrying;
 mod cell_lines;
 mod coming;
@@ -26,11 +27,13 @@ mod tree_line;
 mod tree_lines;
 mod tree_step;
 
+pub use bounds::{BOUNDS, Bounds};
 pub use counting::Ending;
 pub use finding::{find_first, find_other};
 pub use keeper::{Answer, Judged, Keeper, KeptPart, Verdict};
-pub use ladder::{Decided, FIRST_BOUND, Ladder, MOST_CELLS, climb};
+pub use ladder::{Decided, Ladder, MOST_CELLS, climb};
 pub use near_closed::find_near_other;
+pub use part_decision::decide_within;
 pub use parts::Parts;
 pub use scene::Scene;
 pub use tree_line::{CellNumber, CertLine, LineNumber};

@@ -23,11 +23,15 @@ use std::alloc::{AllocError, Global};
 /// How many of a part's rows and columns a window has, one size after the other.
 pub(crate) const SIZES: [u8; 5] = [4, 7, 11, 16, 24];
 
-/// How many splits a search in a window may make.
-pub(crate) const WINDOW_SPLITS: u32 = 64;
-
 // A line with the same clue differs in two cells or in none, so another picture differs in two rows and in two columns.
 const FEWEST: usize = 4;
+
+/// Windows of one size, and how many splits a search in one of them may make.
+#[derive(Clone, Copy)]
+pub(crate) struct Windows {
+    pub size: u8,
+    pub splits: u32,
+}
 
 // The open cells of a window, and the lines through them.
 #[derive(Drop)]
@@ -36,12 +40,12 @@ pub(crate) struct Window {
     pub lines: LineSet,
 }
 
-// Some rows of a part, all its columns, and how many of them a window has.
+// Some rows of a part, all its columns, and what its windows are.
 #[derive(Clone, Copy, Drop)]
 struct Band<'a> {
     rows: &'a [u8],
     columns: &'a [u8],
-    size: u8,
+    windows: Windows,
 }
 
 // Looks for another picture that differs in one window of a part alone, by one size after the other. There may be others where the
@@ -50,6 +54,7 @@ pub(crate) fn find_in_parts<E: LineEngine>(
     alloc: Global,
     engine: &mut E,
     scene: &Scene,
+    splits: u32,
     meter: &mut Meter,
 ) -> Result<Option<Picture>, AllocError>
     requires scene { IsScene scene.now.clues.now scene.now.givens.now scene.now.facts.now
@@ -68,7 +73,11 @@ pub(crate) fn find_in_parts<E: LineEngine>(
     let _trials = meter.trials;
     let parts = Parts::of(alloc, scene.facts)?;
     for size in SIZES.iter() {
-        let found = find_in_each(alloc, engine, scene, &parts, *size, meter)?;
+        let windows = Windows {
+            size: *size,
+            splits,
+        };
+        let found = find_in_each(alloc, engine, scene, &parts, windows, meter)?;
         if found.is_some() {
             return Ok(found);
         }
@@ -82,7 +91,7 @@ fn find_in_each<E: LineEngine>(
     engine: &mut E,
     scene: &Scene,
     parts: &Parts,
-    size: u8,
+    windows: Windows,
     meter: &mut Meter,
 ) -> Result<Option<Picture>, AllocError>
     requires scene { IsScene scene.now.clues.now scene.now.givens.now scene.now.facts.now
@@ -100,7 +109,7 @@ fn find_in_each<E: LineEngine>(
     let _evaluations = meter.evaluations;
     let _trials = meter.trials;
     for i in 0..parts.len() {
-        let found = find_near(alloc, engine, scene, parts.cells(i), size, meter)?;
+        let found = find_near(alloc, engine, scene, parts.cells(i), windows, meter)?;
         if let Some(picture) = found {
             return Ok(Some(picture));
         }
@@ -115,7 +124,7 @@ pub(crate) fn find_near<E: LineEngine>(
     engine: &mut E,
     scene: &Scene,
     cells: &CellSet,
-    size: u8,
+    windows: Windows,
     meter: &mut Meter,
 ) -> Result<Option<Picture>, AllocError>
     requires scene { IsScene scene.now.clues.now scene.now.givens.now scene.now.facts.now
@@ -135,11 +144,11 @@ pub(crate) fn find_near<E: LineEngine>(
     let lines = lines_through(cells, scene.facts);
     let rows = places_along(alloc, &lines, Axis::Across)?;
     let columns = places_along(alloc, &lines, Axis::Down)?;
-    for at in 0..windows_along(&rows, size) {
+    for at in 0..windows_along(&rows, windows.size) {
         let band = Band {
-            rows: window_along(&rows, at, size),
+            rows: window_along(&rows, at, windows.size),
             columns: &columns,
-            size,
+            windows,
         };
         let found = find_in_band(alloc, engine, scene, cells, band, meter)?;
         if found.is_some() {
@@ -172,10 +181,11 @@ fn find_in_band<E: LineEngine>(
     let _ = engine.calls();
     let _evaluations = meter.evaluations;
     let _trials = meter.trials;
-    for at in 0..windows_along(band.columns, band.size) {
-        let columns = window_along(band.columns, at, band.size);
+    for at in 0..windows_along(band.columns, band.windows.size) {
+        let columns = window_along(band.columns, at, band.windows.size);
         let window = window_of(scene.facts, cells, band.rows, columns);
-        let found = find_inside(alloc, engine, scene, cells, window, meter)?;
+        let splits = band.windows.splits;
+        let found = find_inside(alloc, engine, scene, cells, window, splits, meter)?;
         if found.is_some() {
             return Ok(found);
         }
@@ -183,13 +193,14 @@ fn find_in_band<E: LineEngine>(
     Ok(None)
 }
 
-// Looks for another picture that differs in the cells of a window alone, by a search that is soon broken off.
+// Looks for another picture that differs in the cells of a window alone, by so many splits at most.
 fn find_inside<E: LineEngine>(
     alloc: Global,
     engine: &mut E,
     scene: &Scene,
     cells: &CellSet,
     window: Window,
+    splits: u32,
     meter: &mut Meter,
 ) -> Result<Option<Picture>, AllocError>
     requires scene { IsScene scene.now.clues.now scene.now.givens.now scene.now.facts.now
@@ -217,7 +228,7 @@ fn find_inside<E: LineEngine>(
     let _ = scene.facts.height();
     let mut facts = scene.facts.copy()?;
     leave_alone(&mut facts, scene.picture, &window.cells);
-    let mut splits = 0;
+    let mut made = 0;
     match search_counted(
         alloc,
         engine,
@@ -225,9 +236,9 @@ fn find_inside<E: LineEngine>(
         scene.picture,
         window.lines,
         facts,
-        Some(WINDOW_SPLITS),
+        Some(splits),
         meter,
-        &mut splits,
+        &mut made,
     )? {
         Ending::Found(picture) => Ok(Some(picture)),
         Ending::Nothing => Ok(None),

@@ -16,13 +16,14 @@ use picture::Picture;
 use propagate::{CloseFault, InOrder, settle_afresh};
 use std::alloc::{AllocError, Global};
 
-/// Looks for another picture that differs in one window of a part alone, by windows of five sizes. The parts are those of the
-/// scene's facts when they are closed. There may be other pictures where the answer is None. No line is longer than the
-/// engine's `longest`.
+/// Looks for another picture that differs in one window of a part alone, by windows of five sizes and so many splits in each at
+/// most. The parts are those of the scene's facts when they are closed. There may be other pictures where the answer is None. No
+/// line is longer than the engine's `longest`.
 pub fn find_near_other<E: LineEngine>(
     alloc: Global,
     engine: &mut E,
     scene: &Scene,
+    splits: u32,
     meter: &mut Meter,
 ) -> Result<Option<Picture>, AllocError>
     requires scene { IsScene scene.now.clues.now scene.now.givens.now scene.now.facts.now
@@ -48,7 +49,7 @@ pub fn find_near_other<E: LineEngine>(
         facts: &facts,
         picture: scene.picture,
     };
-    let found = find_in_parts(alloc, engine, &closed, meter)?;
+    let found = find_in_parts(alloc, engine, &closed, splits, meter)?;
     Ok(found)
 }
 

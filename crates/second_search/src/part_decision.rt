@@ -4,12 +4,13 @@
 ghost use Rattle.std.specs.Prelude.{◌≡◌, ◌≤◌, ℕ, length, IfOk, IfSome, OnOk};
 ghost use Rattle.line_settle.specs.Counting.{Counts};
 ghost use Rattle.second_search.specs.Parts.{IsOtherFilling, IsPart, IsScene};
-ghost use Rattle.second_search.specs.Searching.{CountsSome, EndsTrue, EndsWithin, alone, raised};
+ghost use Rattle.second_search.specs.Searching.{CountsSome, EndsPast, EndsTrue, EndsWithin, alone, raised};
 
+use crate::bounds::{BOUNDS, Bounds};
 use crate::counting::Ending;
-use crate::ladder::{Decided, FIRST_BOUND, Ladder, MOST_CELLS, climb};
+use crate::ladder::{Decided, Ladder, MOST_CELLS, climb};
 use crate::laws::fillings_are_of_facts;
-use crate::near::{SIZES, find_near};
+use crate::near::{SIZES, Windows, find_near};
 use crate::part_search::{leave_alone, search_part};
 use crate::scene::Scene;
 use clues::laws::clues_are_of_lines;
@@ -19,11 +20,7 @@ use picture::{CellSet, Picture};
 use propagate::laws::{closing_keeps_fillings, only_is_closed};
 use std::alloc::{AllocError, Global};
 
-/// How many splits the search of the fixed order makes in a part where no allowance is set.
-pub const FIXED_SPLITS: u32 = 1_000;
-
-// Decides a part under an allowance; or, where none is set, by so many splits of the fixed order, and by the ladder where they do
-// not suffice.
+// Decides a part under an allowance; or, where none is set, within the bounds of the program.
 pub(crate) fn decide_part<E: LineEngine>(
     alloc: Global,
     engine: &mut E,
@@ -47,30 +44,49 @@ pub(crate) fn decide_part<E: LineEngine>(
     ensures rises { splits.old ≤ splits.new }
     ensures same_longest { E.longest engine.new ≡ E.longest engine.old }
 {
+    match allowance {
+        Some(most) => search_part(alloc, engine, scene, cells, Some(most), meter, splits),
+        None => decide_within(alloc, engine, scene, cells, BOUNDS, meter, splits),
+    }
+}
+
+/// Decides a part within bounds: by so many splits of the fixed order, and where they do not suffice by the ladder. What is
+/// answered is true whatever the bounds are, and a part is never left undecided. No line is longer than the engine's `longest`.
+pub fn decide_within<E: LineEngine>(
+    alloc: Global,
+    engine: &mut E,
+    scene: &Scene,
+    cells: &CellSet,
+    bounds: Bounds,
+    meter: &mut Meter,
+    splits: &mut u32,
+) -> Result<Ending, AllocError>
+    requires scene { IsScene scene.now.clues.now scene.now.givens.now scene.now.facts.now
+        scene.now.picture.now }
+    requires part { IsPart scene.now.facts.now cells.now }
+    requires tall { length scene.now.clues.now.rows ≤ E.longest engine.old }
+    requires wide { length scene.now.clues.now.columns ≤ E.longest engine.old }
+    ensures ends { IfOk result (λ ending. (n : ℕ) × ((splits.new ≡ raised splits.old n)
+        × EndsPast scene.now.clues.now scene.now.picture.now (alone cells.now scene.now.facts.now scene.now.picture.now) bounds.fixed_splits ending n)) }
+    ensures counts { (evaluations : ℕ)
+        × Counts evaluations 0 meter.old meter.new (E.calls engine.old) (E.calls engine.new) }
+    ensures evaluates { OnOk result
+        (CountsSome meter.old meter.new (E.calls engine.old) (E.calls engine.new)) }
+    ensures rises { splits.old ≤ splits.new }
+    ensures same_longest { E.longest engine.new ≡ E.longest engine.old }
+{
     counts_add();
     let _ = (engine.calls(), *splits);
     let _evaluations = meter.evaluations;
     let _trials = meter.trials;
-    match allowance {
-        Some(most) => search_part(alloc, engine, scene, cells, Some(most), meter, splits),
-        None => {
-            let ending = search_part(
-                alloc,
-                engine,
-                scene,
-                cells,
-                Some(FIXED_SPLITS),
-                meter,
-                splits,
-            )?;
-            match ending {
-                Ending::Nothing => Ok(Ending::Nothing),
-                Ending::Found(picture) => Ok(Ending::Found(picture)),
-                Ending::BrokenOff => {
-                    let climbed = climb_part(alloc, engine, scene, cells, meter)?;
-                    Ok(climbed)
-                }
-            }
+    let most = Some(bounds.fixed_splits);
+    let ending = search_part(alloc, engine, scene, cells, most, meter, splits)?;
+    match ending {
+        Ending::Nothing => Ok(Ending::Nothing),
+        Ending::Found(picture) => Ok(Ending::Found(picture)),
+        Ending::BrokenOff => {
+            let climbed = climb_part(alloc, engine, scene, cells, bounds, meter)?;
+            Ok(climbed)
         }
     }
 }
@@ -81,6 +97,7 @@ fn climb_part<E: LineEngine>(
     engine: &mut E,
     scene: &Scene,
     cells: &CellSet,
+    bounds: Bounds,
     meter: &mut Meter,
 ) -> Result<Ending, AllocError>
     requires scene { IsScene scene.now.clues.now scene.now.givens.now scene.now.facts.now
@@ -99,12 +116,16 @@ fn climb_part<E: LineEngine>(
     let _evaluations = meter.evaluations;
     let _trials = meter.trials;
     for size in SIZES.iter() {
-        let near = find_near(alloc, engine, scene, cells, *size, meter)?;
+        let windows = Windows {
+            size: *size,
+            splits: bounds.window_splits,
+        };
+        let near = find_near(alloc, engine, scene, cells, windows, meter)?;
         if let Some(picture) = near {
             return Ok(Ending::Found(picture));
         }
     }
-    search_alone(alloc, engine, scene, cells, meter)
+    search_alone(alloc, engine, scene, cells, bounds, meter)
 }
 
 // The trees of a part: the facts on it, with the picture's colours alone left elsewhere.
@@ -113,6 +134,7 @@ fn search_alone<E: LineEngine>(
     engine: &mut E,
     scene: &Scene,
     cells: &CellSet,
+    bounds: Bounds,
     meter: &mut Meter,
 ) -> Result<Ending, AllocError>
     requires scene { IsScene scene.now.clues.now scene.now.givens.now scene.now.facts.now
@@ -141,7 +163,7 @@ fn search_alone<E: LineEngine>(
     };
     let ladder = Ladder {
         most: MOST_CELLS,
-        first_bound: FIRST_BOUND,
+        first_bound: bounds.first_bound,
         holds: true,
         keeps: false,
     };

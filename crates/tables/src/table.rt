@@ -50,7 +50,7 @@ fn answer(rt: &(impl AllocGlobal + Print), first: &str, words: &[&str]) -> Resul
         "agenda" => agendas::tell(rt, words),
         "edit" => entries::tell(rt, words),
         "go-on" => books::tell(rt, words),
-        "settle" | "first" | "parts" | "judge" | "cost" => searches::tell(rt, words),
+        "settle" | "first" | "parts" | "judge" | "cost" | "within" => searches::tell(rt, words),
         _ => bail!("no such call"),
     }
 }

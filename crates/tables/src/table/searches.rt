@@ -2,19 +2,22 @@
 //!
 //! `settle ENGINE AGENDA PUZZLE` prints the evaluations and the facts, or `dead`. `first PUZZLE` prints a picture with the
 //! clues. `parts FACTS` prints the cells of each part. `judge PICTURE [ALLOWANCE]` judges a picture by its parts, and once more
-//! under no allowance; `cost` does, and tells the evaluations.
+//! under no allowance; `cost` does, and tells the evaluations. `within SPLITS WINDOW FIRST PICTURE` decides each part by so many
+//! splits of the fixed order, then by windows of so many splits, and by trees of so many evaluations at first; and it makes a
+//! certificate within the same bounds.
 
 ghost use Rattle.second_search.specs.Parts.{IsScene};
 
 use super::puzzles::{Puzzle, puzzle_in};
 use super::said::{document_in, facts_in, push_facts, push_picture};
+use crate::bounded::{decide, push_cert};
 use crate::search::{Said, Tally, judge, settled};
 use crate::settle::{Settled, settled_by};
 use anyhow::{Context, Result, bail, ensure};
 use clues::ClueBook;
 use line_settle::{Facts, LineEngine, MaskEngine};
 use picture::{CellSet, Document, MAX_SIDE};
-use second_search::{Keeper, Parts, Scene, find_first};
+use second_search::{Bounds, Keeper, Parts, Scene, find_first};
 use std::alloc::Global;
 
 /// Tells what settling or a search comes to.
@@ -33,12 +36,27 @@ fn told_of(alloc: Global, words: &[&str]) -> Result<String> {
         ["judge", picture] => judge_text(alloc, picture, None, false),
         ["judge", picture, most] => judge_text(alloc, picture, Some(splits_in(most)?), false),
         ["cost", picture, most] => judge_text(alloc, picture, Some(splits_in(most)?), true),
-        _ => bail!("settle, first, parts, judge or cost"),
+        ["within", splits, window, first, picture] => {
+            within_text(alloc, bounds_in(splits, window, first)?, picture)
+        }
+        _ => bail!("settle, first, parts, judge, cost or within"),
     }
 }
 
 fn splits_in(word: &str) -> Result<u32> {
     Ok(word.parse().context("the allowance")?)
+}
+
+fn bounds_in(splits: &str, window: &str, first: &str) -> Result<Bounds> {
+    Ok(Bounds {
+        fixed_splits: splits_in(splits)?,
+        window_splits: splits_in(window)?,
+        first_bound: first.parse().context("the first bound")?,
+    })
+}
+
+fn within_text(alloc: Global, bounds: Bounds, picture: &str) -> Result<String> {
+    within(alloc, bounds, &document_in(alloc, picture)?)
 }
 
 fn settle_text(alloc: Global, engine: &str, agenda: &str, puzzle: &str) -> Result<String> {
@@ -129,6 +147,25 @@ fn judge_twice(
     for tally in tallies {
         push_tally(&mut text, &tally, is_counted)?;
     }
+    Ok(text)
+}
+
+// Decides the parts of a picture within bounds, and makes a certificate.
+fn within(alloc: Global, bounds: Bounds, document: &Document) -> Result<String> {
+    let mut engine = MaskEngine::make(alloc, MAX_SIDE)?;
+    let clues = ClueBook::of(alloc, &document.picture)?;
+    let facts = settled(alloc, &mut engine, &clues, document)?;
+    let scene = Scene {
+        clues: &clues,
+        givens: &document.givens,
+        facts: &facts,
+        picture: &document.picture,
+    };
+    let tally = decide(alloc, &mut engine, &scene, bounds)?;
+    let mut text = String::new(alloc);
+    push_tally(&mut text, &tally, true)?;
+    push_cert(alloc, &mut engine, document, bounds, &mut text)?;
+    text.push('\n')?;
     Ok(text)
 }
 
