@@ -30,7 +30,7 @@ MOST_IN_ALL, MOST_IN_README, README_MEAN = 18000, 800, 16
 STIFF = ["want of memory", "for want of", "wanting", "is had", "are had", "was had", "be had", "in front of which",
          "behind which", "thereof", "therein", "whereof", "hereby", "wherein"]
 # Folders in which a path that is named must exist, and commands that build, prove or serve rather than answer.
-FOLDERS = "docs|crates|bench|tests|examples|page|web|python|\\.ci"
+FOLDERS = "docs|crates|measure|tests|examples|page|web|python|\\.ci"
 BUILDS = ["bash .ci/run", "(cd crates/nonobench && rt try ", "(cd crates/nonobench && rt run ", "install -D ",
           "export PATH=", "web/build"]
 

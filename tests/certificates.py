@@ -1,5 +1,5 @@
 #!/usr/bin/env python3
-"""Certificates of a built program against the plain checker and the listings of bench/reference: tests/certificates.py PROGRAM
+"""Certificates of a built program against the plain checker and the listings of tests/reference: tests/certificates.py PROGRAM
 
 A long certificate, cut off anywhere or changed in a line or a digit, is answered as the plain checker answers it. Which small
 pictures get a certificate is what a listing of all pictures says, and what is printed is a proof to the plain checker too. Trees
@@ -15,7 +15,7 @@ from pathlib import Path
 
 sys.dont_write_bytecode = True
 ROOT = Path(__file__).resolve().parent.parent
-sys.path.insert(0, str(ROOT / 'bench'))
+sys.path.insert(0, str(ROOT / 'tests'))
 from reference.certificates import check_cert, read_cert  # noqa: E402
 from reference.lines import clues_of  # noqa: E402
 from reference.pictures import read_ppm  # noqa: E402

@@ -4,7 +4,7 @@
 The programs are builds of the crate `tables`, and are asked by its call `within`. All pictures of three by three and of two by
 four in two colours, and every so manieth in three, are judged and certified, without givens and with some, within each of some
 bounds. A listing of all pictures says what each answer must be; a certificate must be accepted by the plain checker of
-bench/reference.
+tests/reference.
 """
 import functools
 import itertools
@@ -16,7 +16,7 @@ from pathlib import Path
 
 sys.dont_write_bytecode = True
 ROOT = Path(__file__).resolve().parent.parent
-sys.path.insert(0, str(ROOT / 'bench'))
+sys.path.insert(0, str(ROOT / 'tests'))
 from reference.certificates import check_cert, read_cert  # noqa: E402
 from reference.faults import Fault  # noqa: E402
 from reference.lines import clues_of  # noqa: E402

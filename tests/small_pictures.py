@@ -1,7 +1,7 @@
 #!/usr/bin/env python3
 """All small pictures and puzzles against built programs: tests/small_pictures.py PROGRAM ..
 
-A listing of all pictures of a size says what each answer must be, and bench/reference reads each session again. Strokes: every
+A listing of all pictures of a size says what each answer must be, and tests/reference reads each session again. Strokes: every
 picture of a size is reached, and each paint of each cell in each colour is made from it and taken back; verdict, other picture,
 clues and map after each. Givens: every set of given cells, with its verdict and its certificate. Puzzles: every list of clues of a
 size without a goal, of which a picture is opened where there is one. One session goes along many pictures; what a second program
@@ -15,7 +15,7 @@ from pathlib import Path
 
 sys.dont_write_bytecode = True
 ROOT = Path(__file__).resolve().parent.parent
-sys.path.insert(0, str(ROOT / 'bench'))
+sys.path.insert(0, str(ROOT / 'tests'))
 from reference.certificates import check_cert, read_cert  # noqa: E402
 from reference.faults import Fault  # noqa: E402
 from reference.lines import clues_of, map_rows, settled  # noqa: E402

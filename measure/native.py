@@ -1,0 +1,167 @@
+#!/usr/bin/env python3
+"""Measures in instructions beside a native program: measure/native.py NATIVE [FIGURE ..]
+
+NATIVE is a folder with the source `nonoref.cpp`, P3 files in `pictures/` and `hard/`, and sessions in `sessions/`, each named for
+a picture of these as `NUMBER-KIND_PICTURE.txt`. The source is built into a folder that is deleted in the end. It settles and judges
+by the same lines, with words of 64 bits where a picture has at most 63 cells a side. Needed are g++, valgrind, and the programs
+`nonobench` and `tables` that bash .ci/run leaves. A FIGURE is one of these; without any all are measured:
+
+settle    forcing lines until nothing follows, where a picture is opened, beside the evaluations of `nonoref map`
+line      an evaluation and leaving out by `tables`, in instructions; lines that are open and half settled
+strokes   sessions with `map` after each edit in place of what they ask, opening and start taken off
+verdict   a session of one `verdict`, start taken off
+judge     a verdict of at most 10,000 splits on `hard/`, beside the search in the fixed order, start taken off
+
+A start is what a picture of one cell takes. It prints a row for each picture or session, and the median and the largest of each
+figure. A picture for which the native program takes over SECONDS is left out.
+"""
+import re
+import statistics
+import subprocess
+import sys
+import tempfile
+from pathlib import Path
+
+ROOT = Path(__file__).resolve().parent.parent
+OURS = ROOT / 'crates/nonobench/out/nonobench'
+TABLES = ROOT / 'crates/tables/out/tables'
+SECONDS = 60
+ALLOWED = 'allow 10000\nverdict\n'
+CELL = 'P3\n1 1\n255\n0 0 0\n'
+FIGURES = ('settle', 'line', 'strokes', 'verdict', 'judge')
+
+
+def collected(words, said='', within=None):
+    """The instructions of a run, or of a function with all that it calls; and what it printed. None where it takes too long."""
+    tool = ['valgrind', '--tool=callgrind', '--callgrind-out-file=/dev/null']
+    if within:
+        tool.append(f'--toggle-collect={within}')
+    try:
+        run = subprocess.run(tool + [str(w) for w in words], input=said, capture_output=True, text=True, timeout=50 * SECONDS)
+    except subprocess.TimeoutExpired:
+        return None, ''
+    told = re.search(r'Collected : (\d+)', run.stderr)
+    return (int(told.group(1)) if told else None), run.stdout
+
+
+def ends(words, said=''):
+    """Whether a run ends in time."""
+    try:
+        subprocess.run([str(w) for w in words], input=said, capture_output=True, text=True, timeout=SECONDS)
+    except subprocess.TimeoutExpired:
+        return False
+    return True
+
+
+class Table:
+    """Rows of a figure, and at the end what most of them are."""
+
+    def __init__(self, figure, *heads):
+        self.figure, self.ratios = figure, []
+        print(f'\n{figure}\n' + ' '.join(f'{head:>28}' for head in heads), flush=True)
+
+    def row(self, name, ours, native):
+        if not ours or not native or ours < 0 or native < 0:
+            print(f'{name:>28} {"-":>28}', flush=True)
+            return
+        self.ratios.append(ours / native)
+        print(f'{name:>28} {ours:>28} {native:>28} {ours / native:>28.2f}', flush=True)
+
+    def end(self):
+        if self.ratios:
+            print(f'{self.figure}: median {statistics.median(self.ratios):.2f}, largest {max(self.ratios):.2f}, of {len(self.ratios)}')
+
+
+def settle(native, folder, start):
+    table = Table('settle', 'picture', 'nonobench', 'native', 'times')
+    for picture in sorted((folder / 'pictures').glob('*.ppm')):
+        ours, _ = collected([OURS, 'work', picture], '', '*force_crossing*')
+        theirs, _ = collected([native, 'map', picture], '', '*Solver*::eval(*')
+        table.row(picture.stem, ours, theirs)
+    table.end()
+
+
+def line(native, folder, start):
+    print(f'\nline\n{"cells":>8} {"blocks":>8} {"settled":>8} {"evaluation":>12} {"leave_out":>12} {"times":>8}')
+    swept, rounds = [], 200
+    for cells in (120, 65, 64, 63, 62, 30, 15):
+        for blocks in (1, 5, 15):
+            if 2 * blocks > cells + 1:
+                continue
+            for settled in ('open', 'half'):
+                cost = []
+                for engine in ('mask', 'sweep'):
+                    few, many = (collected([TABLES, 'line', engine, cells, blocks, settled, n])[0] for n in (1, rounds + 1))
+                    cost.append((many - few) / rounds)
+                swept.append(cost[1] / cost[0])
+                print(f'{cells:>8} {blocks:>8} {settled:>8} {cost[0]:>12.0f} {cost[1]:>12.0f} {cost[1] / cost[0]:>8.2f}', flush=True)
+    print(f'leave_out: median {statistics.median(swept):.2f} evaluations, largest {max(swept):.2f}')
+
+
+def picture_of(session, folder):
+    name = session.stem.split('_', 1)[1]
+    return next((p for p in (folder / 'pictures' / f'{name}.ppm', folder / 'hard' / f'{name}.ppm') if p.exists()), None)
+
+
+def strokes(native, folder, start):
+    table = Table('strokes', 'session', 'nonobench', 'native', 'times')
+    for session in sorted((folder / 'sessions').glob('*.txt')):
+        picture = picture_of(session, folder)
+        if picture is None:
+            print(f'{session.stem:>28} its picture is not there')
+            continue
+        asked = session.read_text().replace('verdict\n', 'map\n')
+        edits = [collected([program, 'work', picture], asked) for program in (OURS, native)]
+        if edits[0][1] != edits[1][1]:
+            print(f'{session.stem}: the maps differ', flush=True)
+        opened = [collected([program, 'work', picture])[0] for program in (OURS, native)]
+        table.row(session.stem, edits[0][0] - opened[0], edits[1][0] - opened[1])
+    table.end()
+
+
+def verdict(native, folder, start):
+    table = Table('verdict', 'picture', 'nonobench', 'native', 'times')
+    for picture in sorted((folder / 'pictures').glob('*.ppm')):
+        asked = 'verdict\n'
+        if not ends([OURS, 'work', picture], asked) or not ends([native, 'work', picture], asked):
+            table.row(picture.stem, None, None)
+            continue
+        cost = [collected([program, 'work', picture], asked)[0] for program in (OURS, native)]
+        table.row(picture.stem, cost[0] - start[0], cost[1] - start[1])
+    table.end()
+
+
+def judge(native, folder, start):
+    table = Table('judge', 'picture', 'nonobench', 'native', 'times')
+    for picture in sorted((folder / 'hard').glob('*.ppm')):
+        if not ends([native, '--d20', 'verdict', picture]):
+            print(f'{picture.stem:>28} the native search takes too long', flush=True)
+            continue
+        ours, said = collected([OURS, 'work', picture], ALLOWED)
+        if 'undecided' in said:
+            print(f'{picture.stem:>28} more than 10,000 splits', flush=True)
+            continue
+        theirs, _ = collected([native, '--d20', 'verdict', picture])
+        table.row(picture.stem, ours - start[0], theirs - start[1])
+    table.end()
+
+
+def main():
+    words = sys.argv[1:]
+    if not words or any(word not in FIGURES for word in words[1:]):
+        sys.exit(__doc__)
+    for program in (OURS, TABLES):
+        if not program.exists():
+            sys.exit(f'this needs {program}, which bash .ci/run leaves')
+    folder = Path(words[0])
+    with tempfile.TemporaryDirectory() as work:
+        native, cell = Path(work) / 'nonoref', Path(work) / 'cell.ppm'
+        cell.write_text(CELL)
+        subprocess.run(['g++', '-std=c++17', '-O3', '-march=x86-64-v3', '-static', '-w', '-o', native, folder / 'nonoref.cpp'], check=True)
+        start = [collected([program, 'work', cell])[0] for program in (OURS, native)]
+        print(f'start: {start[0]} and {start[1]} instructions')
+        for figure in words[1:] or FIGURES:
+            globals()[figure](native, folder, start)
+
+
+main()

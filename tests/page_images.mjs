@@ -1,0 +1,175 @@
+// Tests of how the page makes few colours and cells of an image. Pictures are made by hand. Run: node --test tests/page_images.mjs
+import assert from 'node:assert/strict';
+import { test } from 'node:test';
+import { load } from '../page/test/load.mjs';
+
+const { scaledTo, dotSize, sizeOfImage, flatColours, paletteFor, docOfCells, thresholdFor, oklabOf, withoutMargin } = load(
+    ['answers.js', 'hub.js', 'mirror.js', 'ppm.js', 'images.js', 'docs.js', 'quantise.js', 'proposing.js'],
+    ['scaledTo', 'dotSize', 'sizeOfImage', 'flatColours', 'paletteFor', 'docOfCells', 'thresholdFor', 'oklabOf', 'withoutMargin'],
+);
+// An image of rows of signs; '-' is transparent.
+function imageOf(rows, colours) {
+    const [width, height] = [rows[0].length, rows.length];
+    const data = new Uint8ClampedArray(width * height * 4);
+    [...rows.join('')].forEach((sign, at) => data.set(sign === '-' ? [0, 0, 0, 0] : [...colours[sign], 255], at * 4));
+    return { width, height, data };
+}
+const COLOURS = { w: [255, 255, 255], k: [0, 0, 0], r: [200, 30, 50], g: [20, 150, 60], y: [250, 220, 40] };
+const whole = (image) => ({ x: 0, y: 0, width: image.width, height: image.height });
+const pixel = (image, at) => [...image.data.subarray(at * 4, at * 4 + 4)];
+
+test('an image at its own size stays as it is', () => {
+    const image = imageOf(['wkr', 'gy-'], COLOURS);
+    for (const sharp of [false, true]) assert.deepEqual(scaledTo(image, whole(image), 3, 2, sharp), image);
+});
+
+test('the light of each sample gives that sample back', () => {
+    const image = { width: 16, height: 16, data: Uint8ClampedArray.from({ length: 1024 }, (_, at) => (at % 4 === 3 ? 255 : at >> 2)) };
+    assert.deepEqual(scaledTo(image, whole(image), 16, 16), image);
+});
+
+test('a mean is a mean of light', () => {
+    const image = imageOf(['wk', 'kw'], COLOURS);
+    assert.deepEqual(pixel(scaledTo(image, whole(image), 1, 1), 0), [188, 188, 188, 255]); // half the light of white
+    const clear = imageOf(['r-', 'r-'], COLOURS);
+    assert.deepEqual(pixel(scaledTo(clear, whole(clear), 1, 1), 0), [200, 30, 50, 128]); // what is transparent has no colour
+});
+
+test('parts of pixels count by how much of them falls on a cell', () => {
+    const image = imageOf(['wwk'], COLOURS);
+    const scaled = scaledTo(image, whole(image), 2, 1); // 1.5 pixels a cell: white; and a third white
+    assert.deepEqual(pixel(scaled, 0), [255, 255, 255, 255]);
+    assert.deepEqual(pixel(scaled, 1), [156, 156, 156, 255]); // light 1/3
+    assert.deepEqual(pixel(scaledTo(image, { x: 1, y: 0, width: 2, height: 1 }, 4, 1), 3), [0, 0, 0, 255]);
+});
+
+test('a part of an image, sharp', () => {
+    const image = imageOf(['wkr', 'gyk', 'rgw'], COLOURS);
+    assert.deepEqual(scaledTo(image, { x: 1, y: 1, width: 2, height: 2 }, 2, 2, true), imageOf(['yk', 'gw'], COLOURS));
+    assert.deepEqual(scaledTo(image, { x: 0, y: 0, width: 3, height: 3 }, 1, 1, true), imageOf(['y'], COLOURS));
+});
+
+test('the dots of enlarged pixel pictures', () => {
+    const large = (rows, by) => rows.flatMap((row) => Array(by).fill([...row].map((sign) => sign.repeat(by)).join('')));
+    const rows = ['wkr', 'gy-'];
+    for (const by of [1, 2, 5]) assert.equal(dotSize(imageOf(large(rows, by), COLOURS)), by);
+    assert.equal(dotSize(imageOf(['wwkk', 'wwkk', 'wwkk', 'wwkr'], COLOURS)), 1);
+    assert.equal(dotSize(imageOf(['wwkk', 'kkww'], COLOURS)), 1); // rows of one pixel
+});
+
+test('sizes in the heads of files', () => {
+    const bytes = (...parts) => Uint8Array.from([...parts.flatMap((part) => (typeof part === 'string' ? [...part].map((sign) => sign.charCodeAt(0)) : part)), ...Array(30).fill(0)]);
+    assert.deepEqual(sizeOfImage(bytes('\u0089PNG\r\n\u001a\n', [0, 0, 0, 13], 'IHDR', [0, 0, 3, 1, 0, 1, 0, 2]), 'png'), [769, 65538]);
+    assert.deepEqual(sizeOfImage(bytes('GIF89a', [1, 2, 3, 0]), 'gif'), [513, 3]);
+    assert.deepEqual(sizeOfImage(bytes([0xff, 0xd8, 0xff, 0xe0, 0, 4, 9, 9, 0xff, 0xff, 0xc2, 0, 17, 8, 1, 0, 2, 1]), 'jpeg'), [513, 256]);
+    assert.equal(sizeOfImage(bytes([0xff, 0xd8, 0xff, 0xe0, 0, 4, 9, 9, 1]), 'jpeg'), null);
+    assert.deepEqual(sizeOfImage(bytes('RIFF', [0, 0, 0, 0], 'WEBPVP8X', [10, 0, 0, 0, 0, 0, 0, 0, 255, 1, 0, 7, 0, 0]), 'webp'), [512, 8]);
+    assert.deepEqual(sizeOfImage(bytes('RIFF', [0, 0, 0, 0], 'WEBPVP8L', [9, 0, 0, 0, 0x2f, 0xff, 0xc1, 0x01, 0]), 'webp'), [512, 8]);
+    assert.equal(sizeOfImage(new Uint8Array(3), 'png'), null);
+});
+
+test('an image with few colours keeps them', () => {
+    const image = imageOf(['wwwww', 'wkrgy', 'wwwww'], COLOURS);
+    assert.deepEqual(paletteFor(image, 5).map(String).sort(), Object.values(COLOURS).map(String).sort());
+    const doc = docOfCells(image, { colours: 16 });
+    assert.deepEqual(doc.colours[0], [255, 255, 255]);
+    assert.deepEqual(doc.picture, ['.....', '.abcd', '.....']);
+});
+
+test('groups of like colours become one each', () => {
+    const near = (triple, by) => triple.map((sample) => Math.max(0, Math.min(255, sample + by)));
+    const colours = {};
+    const rows = [];
+    for (const [sign, triple] of Object.entries(COLOURS)) {
+        for (const by of [-2, -1, 0, 1, 2]) colours[String.fromCharCode(200 + Object.keys(colours).length)] = near(triple, by);
+        rows.push(Object.keys(colours).slice(-5).join(''));
+        assert.ok(sign);
+    }
+    const doc = docOfCells(imageOf(rows, colours), { colours: 5 });
+    for (const row of doc.picture) assert.equal(new Set(row).size, 1, row);
+    assert.equal(new Set(doc.picture).size, 5);
+    for (const triple of doc.colours) assert.ok(Object.values(COLOURS).some((one) => one.every((sample, at) => Math.abs(sample - triple[at]) <= 2)), String(triple));
+});
+
+test('never more colours than wanted, and the background by the border', () => {
+    let seed = 3;
+    const chance = (below) => (seed = (seed * 48271) % 2147483647) % below;
+    const noise = { width: 20, height: 20, data: Uint8ClampedArray.from({ length: 1600 }, (_, at) => (at % 4 === 3 ? 255 : chance(256))) };
+    for (let colours = 2; colours <= 16; colours++) {
+        const doc = docOfCells(noise, { colours });
+        assert.equal(doc.colours.length, colours);
+        assert.ok(new Set(doc.picture.join('')).size <= colours);
+    }
+    const framed = docOfCells(imageOf(['ggg', 'gwg', 'ggg'], COLOURS), { colours: 4 });
+    assert.deepEqual([framed.colours[0], framed.picture[1]], [COLOURS.g, '.a.']);
+    const chosen = docOfCells(imageOf(['ggg', 'gwg', 'ggg'], COLOURS), { colours: 4, background: [255, 255, 255] });
+    assert.deepEqual([chosen.colours[0], chosen.picture], [COLOURS.w, ['aaa', 'a.a', 'aaa']]);
+});
+
+test('what is transparent is background, apart from all colours that are drawn', () => {
+    const doc = docOfCells(imageOf(['-r-', 'rkr'], COLOURS), { colours: 8 });
+    assert.deepEqual([doc.colours, doc.picture], [[[255, 255, 255], COLOURS.r, COLOURS.k], ['.a.', 'aba']]);
+    const white = docOfCells(imageOf(['-w-', 'wkw'], COLOURS), { colours: 3 });
+    assert.equal(white.colours.length, 3);
+    assert.deepEqual([white.picture, new Set(white.colours.map(String)).size], [['.a.', 'aba'], 3]);
+    assert.notDeepEqual(white.colours[0], COLOURS.w);
+    const nothing = docOfCells(imageOf(['--', '--'], COLOURS), { colours: 4 });
+    assert.deepEqual(nothing.picture, ['..', '..']);
+});
+
+test('the background stays light beside white and a pale colour', () => {
+    const doc = docOfCells(imageOf(['-w-', 'cwr'], { ...COLOURS, c: [232, 211, 168] }), { colours: 5 });
+    assert.ok(doc.colours[0].every((sample) => sample > 180), String(doc.colours[0]));
+});
+
+test('the margin of an image', () => {
+    assert.deepEqual(withoutMargin(imageOf(['----', '-r--', '--w-', '----', '----'], COLOURS)), { x: 1, y: 1, width: 2, height: 2 });
+    assert.deepEqual(withoutMargin(imageOf(['www', 'wkw', 'wwk'], COLOURS)), { x: 1, y: 1, width: 2, height: 2 });
+    assert.deepEqual(withoutMargin(imageOf(['ww', 'ww'], COLOURS)), { x: 0, y: 0, width: 2, height: 2 });
+});
+
+test('a cell has the colour that most of its part has', () => {
+    // A red square on white whose edges fall between cells: means would be pink, and green where half of it is green.
+    const fine = imageOf(['wwwwww', 'wwwwww', 'wwrrww', 'wrrrrw', 'wrrrrg', 'wrrrrg'], COLOURS);
+    const image = scaledTo(fine, whole(fine), 3, 3);
+    const doc = docOfCells(image, { colours: 3 }, { fine, points: fine });
+    assert.deepEqual(doc.colours.slice(0, 2), [COLOURS.w, COLOURS.r]); // no pink
+    assert.equal(doc.picture[0], '...');
+    assert.deepEqual([doc.picture[1][1], doc.picture[2][1]], ['a', 'a']);
+});
+
+test('dark and light by a threshold', () => {
+    const greys = { a: [10, 10, 10], b: [60, 60, 60], c: [200, 200, 200], d: [250, 250, 250] };
+    const image = imageOf(['abcd', 'd-ab'], greys);
+    const threshold = thresholdFor(image);
+    const light = (triple) => 255 * oklabOf(...triple)[0];
+    assert.ok(threshold > light(greys.b) && threshold <= light(greys.c), String(threshold));
+    const doc = docOfCells(image, { threshold });
+    assert.deepEqual([doc.colours, doc.picture], [[[255, 255, 255], [0, 0, 0]], ['aa..', '..aa']]);
+    const turned = docOfCells(image, { threshold, inverted: true });
+    assert.deepEqual([turned.colours, turned.picture], [[[0, 0, 0], [255, 255, 255]], ['..aa', 'a...']]);
+});
+
+test('Oklab of known colours', () => {
+    const close = (got, wanted) => got.forEach((one, at) => assert.ok(Math.abs(one - wanted[at]) < 0.001, String(got)));
+    close(oklabOf(255, 255, 255), [1, 0, 0]);
+    close(oklabOf(255, 0, 0), [0.628, 0.2249, 0.1258]);
+    close(oklabOf(0, 0, 255), [0.452, -0.0325, -0.3115]);
+});
+
+test('a drawing in flat colours keeps them as they are, whatever its edges have', () => {
+    const rows = Array.from({ length: 20 }, (_, row) => (row < 10 ? `${'r'.repeat(19)}e` : `${'y'.repeat(12)}f${'g'.repeat(7)}`));
+    const colours = { ...COLOURS, e: [203, 34, 54], f: [135, 185, 50] }; // edges: 10 pixels of each, of 400
+    for (const row of [3, 13]) rows[row] = rows[row].replace(/[ef]/, '-');
+    const image = imageOf(rows, colours);
+    assert.deepEqual(flatColours(image, 16), [COLOURS.r, COLOURS.y, COLOURS.g, colours.e, colours.f]);
+    const wide = imageOf(rows.map((row, at) => (at % 4 ? row.replace(/[ef]/, row[0]) : row)), colours);
+    assert.deepEqual(flatColours(wide, 16), [COLOURS.r, COLOURS.y, COLOURS.g]);
+    assert.deepEqual(flatColours(wide, 2), []);
+    assert.deepEqual(paletteFor(wide, 3), [COLOURS.r, COLOURS.y, COLOURS.g]);
+});
+
+test('a photo has no flat colours', () => {
+    const data = Uint8ClampedArray.from({ length: 40000 }, (_, at) => (at % 4 === 3 ? 255 : (at * 48271) % 251));
+    assert.deepEqual(flatColours({ width: 100, height: 100, data }, 16), []);
+});

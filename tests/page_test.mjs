@@ -1,0 +1,41 @@
+// The runner of page_test.sh: the built page in headless Chromium. Usage: node tests/page_test.mjs FOLDER [TEST ..], where TEST is
+// the name of a trial or the beginning of one: 'drawing:' are all that begin so.
+import { resolve } from 'node:path';
+import { Browser } from './page_browser.mjs';
+import { Trial, hookedPage } from './page_trial.mjs';
+import * as drawing from './page_drawing.mjs';
+import * as looks from './page_looks.mjs';
+import * as loss from './page_loss.mjs';
+import * as meaning from './page_meaning.mjs';
+import * as out from './page_out.mjs';
+import * as points from './page_points.mjs';
+import * as stored from './page_stored.mjs';
+import * as ways from './page_ways.mjs';
+
+const [folder, ...only] = [resolve(process.argv[2]), ...process.argv.slice(3)];
+const url = hookedPage(process.env.PAGE, folder);
+const isWanted = (name) => !only.length || only.some((one) => name === one || (one.endsWith(':') && name.startsWith(one)));
+const tests = Object.entries({ ...drawing, ...loss, ...meaning, ...ways, ...stored, ...out, ...looks, ...points.tests })
+    .filter(([name, test]) => typeof test === 'function' && name !== 'hard' && isWanted(name));
+const browser = new Browser();
+const passed = new Set();
+let failed = 0;
+for (const [name, test] of tests) {
+    const trial = await Trial.start(browser, url, folder);
+    const { page } = trial;
+    try {
+        await test({ browser, trial, page, url, folder });
+        if (page.faults.length) throw new Error(`the browser complained: ${page.faults.join('; ')}`);
+        passed.add(name);
+        console.log(`passed: ${name}`);
+    } catch (fault) {
+        failed++;
+        console.log(`FAILED: ${name}: ${fault.stack ?? fault}`);
+        await page.shot(`${folder}/failed-${name}.png`).catch(() => {});
+    }
+    await page.close().catch(() => {});
+}
+await browser.close();
+if (tests.some(([name]) => name in points.tests)) console.log(points.table(new Set(tests.map(([name]) => name)), passed));
+console.log(`${tests.length} tests, ${failed} failed; pictures in ${folder}`);
+process.exit(failed ? 1 : 0);
