@@ -5,7 +5,7 @@ ghost use Rattle.clap.specs.Words.{first_value, found_of, kind_of, one_text, sub
 ghost use Rattle.nonobench.specs.declared.words.Task.TheVariants.{Clues};
 ghost use Rattle.nonobench.specs.Words.{IsAsked, IsCheck, IsLawfulTask, IsUntaken, IsWork, background_asked, given_of};
 
-use answers::{Options, ProgramFault, background_in};
+use answers::{Options, ProgramFault, VERSION, background_in};
 use clap::error::ErrorKind;
 use clap::{Arg, ArgMatches, Command, Error, value_parser};
 use edits::MAX_DEPTH;
@@ -174,7 +174,7 @@ fn named<'a>(alloc: Global) -> Result<Command<'a>, AllocError> {
         .about(
             "Multicolour nonograms. Without words: the clues of the P3 picture on standard input.",
         )
-        .version("0.1.0")
+        .version(VERSION)
         .bin_name("nonobench")?
         .no_binary_name(true)
         .subcommand_required(true);
