@@ -5,6 +5,7 @@ ghost use Rattle.clap.specs.Walk.{texts};
 ghost use Rattle.clap.specs.Words.{app_of, rule_of, shape_of};
 ghost use Rattle.nonobench.specs.Program.{AreFormats, IsLocal, ParsesAs, background_rule, cert_rule, check_shape, file_rule, file_shape, format_rule, history_rule, opening_shape, program_app, top_shape, work_shape};
 
+use answers::VERSION;
 use clap::{Arg, ArgMatches, Command, Error, value_parser};
 use std::alloc::{AllocError, Global};
 
@@ -43,7 +44,7 @@ fn named<'a>(alloc: Global) -> Result<Command<'a>, AllocError>
         .about(
             "Multicolour nonograms. Without words: the clues of the P3 picture on standard input.",
         )
-        .version("0.1.0")
+        .version(VERSION)
         .bin_name("nonobench")?
         .no_binary_name(true)
         .subcommand_required(true);
