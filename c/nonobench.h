@@ -3,8 +3,9 @@
  * Link with libnonobench.a or libnonobench.so (c/build). There are two layers. The calls of the library answer on a desk; the
  * functions at the end of this file each make a desk, ask once and end it, and suit most programs.
  *
- * What is proved is each call of the library, from the bytes that it is handed to its status and text: docs/PROMISES.md has
- * the clauses. An accepted certificate says that no other picture of that size has the clues and the colours in its givens.
+ * What is proved is each call of the library but start and end, from the bytes that it is handed to its status and text:
+ * docs/PROMISES.md has the clauses. An accepted certificate says that no other picture of that size has the clues and the
+ * colours in its givens.
  * What nothing checks is the caller's word:
  *   - a pointer leads to as many bytes as the length beside it says, and is not null in a call of the library;
  *   - a desk's cell holds what nonobench_start put there until nonobench_end, and calls with one desk come one after another;
