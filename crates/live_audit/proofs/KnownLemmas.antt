@@ -48,11 +48,11 @@ pub at_once : (d : Document) (h : History) (clues : Clues) (book : Account) (kep
 at_once d h clues book kept next allowance work s r sb sa pb pa mb ma cb ca small v done =
     let new : Seen = seen h clues book next allowance work ca in
     subst (λ (x : Seen). RulesAtOnce x new r) v (λ i f.
-        let k = kept_so clues book.facts d.picture None kept next r done.searched done.splits i f done.is in
-        let none = done.none k.none in
-        let calls = done.counts.calls in
-        let same : ca ≡ cb = omega arith in
-        (k.rules, ap (λ (x : List KeptPart). seen h clues book x allowance work ca) k.same ∙ ap (seen h clues book kept allowance work) same))
+    let k = kept_so clues book.facts d.picture None kept next r done.searched done.splits i f done.is in
+    let none = done.none k.none in
+    let calls = done.counts.calls in
+    let same : ca ≡ cb = omega arith in
+    (k.rules, ap (λ (x : List KeptPart). seen h clues book x allowance work ca) k.same ∙ ap (seen h clues book kept allowance work) same))
 
 -- ---- where something is known of each part
 
@@ -113,12 +113,12 @@ searches_none clues facts picture allowance old new judgement.Unique m n k h = e
 searches_none clues facts picture allowance old new judgement.Other m n k h = elim h [
   | inl kept ↦ record { searched = kept.searched_none; splits = kept.splits_none; decided = λ e. absurd cc }
   | inr o ↦ elim k [
-      | inl none ↦
-          let p = passed_over clues facts picture allowance old o.at (ending.Found o.other) _ _ (none o.at o.stops.place) o.stops.here in
-          let e = p.0 in
-          absurd cc
-      | inr f ↦ absurd (o.none_kept f.0 f.1.place f.1.is)
-    ]
+    | inl none ↦
+        let p = passed_over clues facts picture allowance old o.at (ending.Found o.other) _ _ (none o.at o.stops.place) o.stops.here in
+        let e = p.0 in
+        absurd cc
+    | inr f ↦ absurd (o.none_kept f.0 f.1.place f.1.is)
+  ]
 ]
 searches_none clues facts picture allowance old new judgement.Undecided m n k h = elim k [
   | inl none ↦
