@@ -6,10 +6,10 @@ a picture of these as `NUMBER-KIND_PICTURE.txt`. The source is built into a fold
 by the same lines, with words of 64 bits where a picture has at most 63 cells a side. Needed are g++, valgrind, and the programs
 `nonobench` and `tables` that bash .ci/run leaves. A FIGURE is one of these; without any all are measured:
 
-settle    forcing lines until nothing follows, where a picture is opened, beside the evaluations of `nonoref map`
+settle    forcing lines until nothing follows: `settle` of `tables`, beside the evaluations of `nonoref map`
 line      an evaluation and leaving out by `tables`, in instructions; lines that are open and half settled
 strokes   sessions with `map` after each edit in place of what they ask, opening and start taken off
-verdict   a session of one `verdict`, start taken off
+verdict   a session of one `verdict`, start taken off; then beside the search in the fixed order
 judge     a verdict of at most 10,000 splits on `hard/`, beside the search in the fixed order, start taken off
 
 A start is what a picture of one cell takes. It prints a row for each picture or session, and the median and the largest of each
@@ -22,7 +22,11 @@ import sys
 import tempfile
 from pathlib import Path
 
+sys.dont_write_bytecode = True
 ROOT = Path(__file__).resolve().parent.parent
+sys.path.insert(0, str(ROOT / 'tests'))
+from reference.pictures import read_ppm  # noqa: E402
+
 OURS = ROOT / 'crates/nonobench/out/nonobench'
 TABLES = ROOT / 'crates/tables/out/tables'
 SECONDS = 60
@@ -53,6 +57,11 @@ def ends(words, said=''):
     return True
 
 
+def less(cost, start):
+    """What a run takes beyond a start, if both came to their end."""
+    return cost - start if cost and start else None
+
+
 class Table:
     """Rows of a figure, and at the end what most of them are."""
 
@@ -61,7 +70,7 @@ class Table:
         print(f'\n{figure}\n' + ' '.join(f'{head:>28}' for head in heads), flush=True)
 
     def row(self, name, ours, native):
-        if not ours or not native or ours < 0 or native < 0:
+        if not ours or not native or min(ours, native) < 0:
             print(f'{name:>28} {"-":>28}', flush=True)
             return
         self.ratios.append(ours / native)
@@ -75,7 +84,9 @@ class Table:
 def settle(native, folder, start):
     table = Table('settle', 'picture', 'nonobench', 'native', 'times')
     for picture in sorted((folder / 'pictures').glob('*.ppm')):
-        ours, _ = collected([OURS, 'work', picture], '', '*force_crossing*')
+        rows = read_ppm(picture.read_bytes()).rows
+        puzzle = '/'.join(''.join('.abcdefghijklmno'[k] for k in row) for row in rows)
+        ours, _ = collected([TABLES], f'settle mask inorder {puzzle}\n', '*force_crossing*')
         theirs, _ = collected([native, 'map', picture], '', '*Solver*::eval(*')
         table.row(picture.stem, ours, theirs)
     table.end()
@@ -115,20 +126,22 @@ def strokes(native, folder, start):
         if edits[0][1] != edits[1][1]:
             print(f'{session.stem}: the maps differ', flush=True)
         opened = [collected([program, 'work', picture])[0] for program in (OURS, native)]
-        table.row(session.stem, edits[0][0] - opened[0], edits[1][0] - opened[1])
+        table.row(session.stem, less(edits[0][0], opened[0]), less(edits[1][0], opened[1]))
     table.end()
 
 
 def verdict(native, folder, start):
-    table = Table('verdict', 'picture', 'nonobench', 'native', 'times')
-    for picture in sorted((folder / 'pictures').glob('*.ppm')):
-        asked = 'verdict\n'
-        if not ends([OURS, 'work', picture], asked) or not ends([native, 'work', picture], asked):
-            table.row(picture.stem, None, None)
-            continue
-        cost = [collected([program, 'work', picture], asked)[0] for program in (OURS, native)]
-        table.row(picture.stem, cost[0] - start[0], cost[1] - start[1])
-    table.end()
+    asked = 'verdict\n'
+    for order in ([], ['--d20']):
+        table = Table('verdict in the fixed order' if order else 'verdict', 'picture', 'nonobench', 'native', 'times')
+        for picture in sorted((folder / 'pictures').glob('*.ppm')):
+            if not ends([OURS, 'work', picture], asked) or not ends([native, *order, 'work', picture], asked):
+                table.row(picture.stem, None, None)
+                continue
+            ours, _ = collected([OURS, 'work', picture], asked)
+            theirs, _ = collected([native, *order, 'work', picture], asked)
+            table.row(picture.stem, less(ours, start[0]), less(theirs, start[1]))
+        table.end()
 
 
 def judge(native, folder, start):
@@ -142,7 +155,7 @@ def judge(native, folder, start):
             print(f'{picture.stem:>28} more than 10,000 splits', flush=True)
             continue
         theirs, _ = collected([native, '--d20', 'verdict', picture])
-        table.row(picture.stem, ours - start[0], theirs - start[1])
+        table.row(picture.stem, less(ours, start[0]), less(theirs, start[1]))
     table.end()
 
 
