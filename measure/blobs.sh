@@ -1,5 +1,11 @@
-# Sourced by the scripts that measure on pictures of blobs.
-# What the Python of what draws begins with. `root` is the top of the repository.
+# Sourced by the scripts that measure on pictures of blobs. `root` is the top of the repository. It gives `program`, which is built
+# where it lacks, and `work`, a folder that goes in the end.
+program=$root/crates/nonobench/out/nonobench
+[ -x "$program" ] || (cd "$root/crates/nonobench" && rt run <stdin >/dev/null)
+work=$(mktemp -d)
+trap 'rm -rf "$work"' EXIT
+
+# What the Python of what draws begins with.
 drawing='
 import pathlib
 import random

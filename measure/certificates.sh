@@ -6,10 +6,6 @@
 set -euo pipefail
 root=$(cd "$(dirname "$0")/.." && pwd)
 . "$root/measure/blobs.sh"
-program=$root/crates/nonobench/out/nonobench
-[ -x "$program" ] || (cd "$root/crates/nonobench" && rt run <stdin >/dev/null)
-work=$(mktemp -d)
-trap 'rm -rf "$work"' EXIT
 if [ $# -eq 0 ]; then
     mkdir "$work/pictures"
     draw_small "$work/pictures"

@@ -8,10 +8,6 @@
 set -euo pipefail
 root=$(cd "$(dirname "$0")/.." && pwd)
 . "$root/measure/blobs.sh"
-program=$root/crates/nonobench/out/nonobench
-[ -x "$program" ] || (cd "$root/crates/nonobench" && rt run <stdin >/dev/null)
-work=$(mktemp -d)
-trap 'rm -rf "$work"' EXIT
 seconds=${1:-20}
 mkdir "$work/pictures"
 python3 - "$work" <<'PY'

@@ -8,10 +8,6 @@ set -euo pipefail
 root=$(cd "$(dirname "$0")/.." && pwd)
 . "$root/measure/blobs.sh"
 pairs=${1:-1000}
-program=$root/crates/nonobench/out/nonobench
-[ -x "$program" ] || (cd "$root/crates/nonobench" && rt run <stdin >/dev/null)
-work=$(mktemp -d)
-trap 'rm -rf "$work"' EXIT
 draw_blobs "$work" 60
 picture=$work/060x060-04-colours
 

@@ -7,10 +7,6 @@
 set -euo pipefail
 root=$(cd "$(dirname "$0")/.." && pwd)
 . "$root/measure/blobs.sh"
-program=$root/crates/nonobench/out/nonobench
-[ -x "$program" ] || (cd "$root/crates/nonobench" && rt run <stdin >/dev/null)
-work=$(mktemp -d)
-trap 'rm -rf "$work"' EXIT
 strokes=${STROKES:-200}
 : >"$work/none"
 python3 -B "$root/measure/strokes.py" head
