@@ -1,3 +1,1 @@
 pub mod OpenLemmas
-pub mod SolutionLemmas
-pub mod PairLemmas

@@ -3,7 +3,7 @@ use Rattle.std.specs.Prelude.{◌≡◌, ℕ, ◌+◌, ◌==◌, Bool, List, tak
 use Rattle.std.proofs.Common.{refl}
 use Rattle.std.specs.Borrow.{Bor}
 use Rattle.picture.specs.declared.rgb.Rgb.{Rgb}
-use Rattle.session.specs.Numbers.{number_of, sample_of, value_after}
+use Rattle.command_text.specs.Numbers.{number_of, sample_of, value_after}
 
 -- a sample, and what stands behind the comma at its end
 abbrev pub sample_until : Option ℕ → List ℕ → Option (ℕ × List ℕ)

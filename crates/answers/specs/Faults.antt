@@ -10,8 +10,8 @@ use Rattle.edits.specs.Fault.{fault_name}
 use Rattle.certificate.specs.declared.fault.CertFault.{CertFault}
 use Rattle.certificate.specs.declared.fault.CertFault.TheVariants as cert
 use Rattle.certificate.specs.Faults as certs
-use Rattle.session.specs.declared.session.SessionFault.{SessionFault}
-use Rattle.session.specs.declared.session.SessionFault.TheVariants as session
+use Rattle.command_text.specs.declared.session_fault.SessionFault.{SessionFault}
+use Rattle.command_text.specs.declared.session_fault.SessionFault.TheVariants as session
 use Rattle.answers.specs.declared.fault.ProgramFault.{ProgramFault}
 use Rattle.answers.specs.declared.fault.ProgramFault.TheVariants.{Ppm, Non, Edit, NoPicture, Cert, Memory, TooLong, Words, NotText, Background, BackgroundOfNon, Read, Write}
 

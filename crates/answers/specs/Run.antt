@@ -17,7 +17,7 @@ use Rattle.edits.specs.Fault.{edit_fault}
 use Rattle.answers.specs.declared.fault.ProgramFault.{ProgramFault}
 use Rattle.answers.specs.declared.fault.ProgramFault.TheVariants.{Edit as Refused, Memory, Write}
 use Rattle.answers.specs.Faults.{fault_of}
-use Rattle.session.specs.ClueText.{clues_text}
+use Rattle.report_text.specs.ClueText.{clues_text}
 
 -- the document read, cell by cell
 abbrev pub design_read : Content → Design

@@ -5,11 +5,11 @@ ghost use Rattle.answers.specs.declared.fault.ProgramFault.TheVariants.{Memory, 
 ghost use Rattle.answers.specs.Faults.{cert_fault_of, fault_of, fault_text, non_fault_of, session_fault_of, status_of};
 
 use certificate::CertFault;
+use command_text::SessionFault;
 use edits::EditFault;
 use non_text::NonFault;
 use picture::WriteFault;
 use ppm_text::PpmFault;
-use session::SessionFault;
 use std::alloc::{AllocError, AllocFailed};
 use std::fmt;
 

@@ -5,7 +5,6 @@
 mod background;
 mod check;
 mod fault;
-pub mod laws;
 mod open;
 mod options;
 mod run;

@@ -12,7 +12,7 @@ use clues::ClueBook;
 use edits::{Edit, Entry};
 use picture::{Document, send};
 use ppm_text::read_ppm;
-use session::clues_text;
+use report_text::clues_text;
 use std::alloc::Global;
 use std::io::Write;
 

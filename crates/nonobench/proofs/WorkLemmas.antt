@@ -1,7 +1,7 @@
 -- A session that ran on a bench that was started with the file.
 use Rattle.std.proofs.Common.{◌≡◌, ℕ, List, Option, Result, Err, refl, sym, subst, inl}
 use Rattle.live_audit.specs.Bench.{Seen}
-use Rattle.session.specs.declared.session.SessionFault.{SessionFault}
+use Rattle.command_text.specs.declared.session_fault.SessionFault.{SessionFault}
 use Rattle.session.specs.Session.{Runs}
 use Rattle.answers.specs.declared.fault.ProgramFault.{ProgramFault}
 use Rattle.answers.specs.declared.options.Options.{Options}

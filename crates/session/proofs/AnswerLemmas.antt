@@ -24,15 +24,15 @@ use Rattle.live_audit.specs.Certify.{Certifies}
 use Rattle.live_audit.specs.Reason.{Explains}
 use Rattle.live_audit.specs.Stroke.{Stroke, Edits, Undoes, Redoes}
 use Rattle.live_audit.specs.Verdict.{IsVerdictOn, Tells}
-use Rattle.session.specs.declared.command.Command.TheVariants as command
+use Rattle.command_text.specs.declared.command.Command.TheVariants as command
 use Rattle.session.specs.declared.refusal.Refusal.{Refusal}
 use Rattle.session.specs.declared.refusal.Refusal.TheVariants as refusal
 use Rattle.session.specs.Answer.{IsAsked, answer_text, stroke_said, text_said, written_said}
-use Rattle.session.specs.ClueText.{clues_text}
+use Rattle.report_text.specs.ClueText.{clues_text}
 use Rattle.session.specs.Refusal.{edit_line, refusal_line}
 use Rattle.session.specs.Session.{Judges, Replies, SaysStroke, certified_text, content, done_text, report_on, verdict_text, verdict_word, why_text}
-use Rattle.session.specs.Report.{ending_text, front_text}
-use Rattle.session.specs.Shown.{map_text}
+use Rattle.report_text.specs.Report.{ending_text, front_text}
+use Rattle.report_text.specs.Shown.{map_text}
 use Rattle.session.specs.Written.{GivesNon}
 
 -- a stroke, by what the bench answers

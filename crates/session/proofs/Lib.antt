@@ -1,11 +1,4 @@
 pub mod AnswerLemmas
-pub mod CountLemmas
-pub mod LineLemmas
 pub mod MachineLemmas
-pub mod NumberLemmas
-pub mod ReportLemmas
 pub mod RoomLemmas
 pub mod RunLemmas
-pub mod ShownLemmas
-pub mod TextLemmas
-pub mod WordLemmas

@@ -6,15 +6,15 @@ use Rattle.edits.specs.History.{History, or_memory}
 use Rattle.live_audit.specs.Bench.{IsAudited, Seen}
 use Rattle.live_audit.specs.Calls.{Accepts, IsAsBefore, Machine, machine}
 use Rattle.live_audit.specs.Stroke.{Edits, Redoes, Stroke, Undoes, after_stroke, stroke_fault}
-use Rattle.session.specs.declared.command.Command.{Command}
-use Rattle.session.specs.declared.command.Command.TheVariants as command
-use Rattle.session.specs.declared.request.Request.{Request}
-use Rattle.session.specs.declared.request.Request.TheVariants as request
+use Rattle.command_text.specs.declared.command.Command.{Command}
+use Rattle.command_text.specs.declared.command.Command.TheVariants as command
+use Rattle.command_text.specs.declared.request.Request.{Request}
+use Rattle.command_text.specs.declared.request.Request.TheVariants as request
 use Rattle.session.specs.Laws.{AreAnswers, Follows, IsAt, SessionsStayAudited, after_answer, after_asked, after_command, after_lawful, after_lines}
-use Rattle.session.specs.Lines.{request_of}
+use Rattle.command_text.specs.Lines.{request_of}
 use Rattle.session.specs.Refusal.{edit_line, memory_line}
 use Rattle.session.specs.Session.{IsShort, LacksMemory, Replies, Says, SaysStroke, SaysTo, SaysToAll, done_text}
-use Rattle.session.specs.Words.{is_word}
+use Rattle.command_text.specs.Words.{is_word}
 
 -- the machine that a state shows
 abbrev machine_of : Seen → Machine

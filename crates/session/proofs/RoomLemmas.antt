@@ -7,15 +7,11 @@ use Rattle.live_audit.specs.declared.verdict.Verdict.{Verdict}
 use Rattle.live_audit.specs.declared.verdict.Verdict.TheVariants.{Unique, Ambiguous, Undecided}
 use Rattle.live_audit.specs.Verdict.{IsVerdictOn}
 use Rattle.session.specs.Session.{verdict_word}
-use Rattle.session.specs.Room.{picture_room, verdict_room}
-
-pub twenty_digits : (n : ℕ) → n < 2 ^ 64 → length (decimal n) ≤ 20
-twenty_digits n small = length-decimal-le 20 n (omega arith) (omega arith) small
+use Rattle.report_text.specs.Room.{picture_room}
+use Rattle.session.specs.Room.{verdict_room}
 
 pub ten_digits : (n : ℕ) → n < 2 ^ 32 → length (decimal n) ≤ 10
 ten_digits n small = length-decimal-le 10 n (omega arith) (omega arith) (omega arith)
-
-pub ruleset long_numbers = (twenty_digits, append_assoc)
 
 pub ruleset numbers = (ten_digits, append_assoc)
 

@@ -4,13 +4,12 @@ use Rattle.std.specs.Io.KnownBytes.{Appends, IsAtEnd}
 use Rattle.std.proofs.KnownBytes.{Appends-nil, Appends-trans, Consumes-nil, Consumes-trans}
 use Rattle.picture.specs.Writing.{AppendsFront}
 use Rattle.live_audit.specs.Bench.{Seen}
-use Rattle.session.specs.declared.lines.Lines.{Lines}
-use Rattle.session.specs.declared.request.Request.{Request}
-use Rattle.session.specs.declared.session.SessionFault.TheVariants as fault
-use Rattle.session.specs.Lines.{BreaksOff, CutsNone, CutsOne, Hands, MayCome, ended_lines_of, lines_of, request_of}
+use Rattle.command_text.specs.declared.lines.Lines.{Lines}
+use Rattle.command_text.specs.declared.request.Request.{Request}
+use Rattle.command_text.specs.declared.session_fault.SessionFault.TheVariants as fault
+use Rattle.command_text.specs.Lines.{BreaksOff, CutsNone, CutsOne, Hands, MayCome, ended_lines_of, lines_of, nothing_has_no_lines, request_of}
 use Rattle.session.specs.Run.{HasRun}
 use Rattle.session.specs.Session.{BrokenOff, Runs, Says, SaysToAll}
-use Rattle.session.proofs.LineLemmas.{lines_none}
 
 -- a call that answers a line has cut it, and one that answers none has met the end
 pub cuts_one : {E : Type 0} (had have : Option (List ℕ)) (old new : Lines) (found : Option Request) (asked : Request) (r : Result (Option Request) E) → r ≡ Ok found → found ≡ Some asked → Hands had have old new r → CutsOne had have old new asked
@@ -93,7 +92,7 @@ run_ends had mid have held holds first old l next run none =
     let read = run.came ++ c.came in
     let all : lines_of read ≡ run.front =
     ap (λ (xs : List ℕ). lines_of (run.came ++ xs)) (sym (append-nil c.came)) ∙ run.lines (c.came ++ []) (may_more l next c.came [] c.behind (λ met. refl))
-    ∙ ap (λ (xs : List (List ℕ)). run.front ++ xs) (c.lines [] (λ met. refl) ∙ ap (λ (xs : List ℕ). lines_of (xs ++ [])) none.waiting ∙ lines_none) ∙ append-nil run.front in
+    ∙ ap (λ (xs : List (List ℕ)). run.front ++ xs) (c.lines [] (λ met. refl) ∙ ap (λ (xs : List ℕ). lines_of (xs ++ [])) none.waiting ∙ nothing_has_no_lines) ∙ append-nil run.front in
     (read, (Consumes-trans had mid have run.came c.came run.read c.read, (c.end run.end none.met, (run.said, (said_to (lines_of read) run.front all run.answered, run.wrote)))))
   where
     said_to : (a b : List (List ℕ)) → a ≡ b → SaysToAll b first run.said old → SaysToAll a first run.said old

@@ -5,14 +5,14 @@ use Rattle.edits.specs.declared.fault.EditFault.{EditFault}
 use Rattle.live_audit.specs.Bench.{IsAudited, Seen}
 use Rattle.live_audit.specs.Calls.{Machine, machine}
 use Rattle.live_audit.specs.Stroke.{Edits, Redoes, Stroke, Undoes, after_stroke, stroke_fault}
-use Rattle.session.specs.declared.command.Command.{Command}
-use Rattle.session.specs.declared.command.Command.TheVariants as command
-use Rattle.session.specs.declared.request.Request.{Request}
-use Rattle.session.specs.declared.request.Request.TheVariants as request
-use Rattle.session.specs.Lines.{request_of}
+use Rattle.command_text.specs.declared.command.Command.{Command}
+use Rattle.command_text.specs.declared.command.Command.TheVariants as command
+use Rattle.command_text.specs.declared.request.Request.{Request}
+use Rattle.command_text.specs.declared.request.Request.TheVariants as request
+use Rattle.command_text.specs.Lines.{request_of}
 use Rattle.session.specs.Refusal.{memory_line}
 use Rattle.session.specs.Session.{Says, SaysToAll}
-use Rattle.session.specs.Words.{is_word}
+use Rattle.command_text.specs.Words.{is_word}
 
 -- ---- the machine
 

@@ -1,17 +1,7 @@
 pub mod Answer
-pub mod ClueText
-pub mod Faults
 pub mod Laws
-pub mod Lines
-pub mod Numbers
-pub mod Parse
-pub mod ReasonText
 pub mod Refusal
-pub mod Report
 pub mod Room
 pub mod Run
 pub mod Session
-pub mod Shown
-pub mod Table
-pub mod Words
 pub mod Written

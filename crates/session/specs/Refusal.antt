@@ -2,10 +2,10 @@
 use Rattle.std.specs.Prelude.{ℕ, List, [], ◌∷◌, ◌++◌, codes}
 use Rattle.edits.specs.declared.fault.EditFault.{EditFault}
 use Rattle.edits.specs.Fault.{fault_name}
-use Rattle.session.specs.declared.fault.CommandFault.{CommandFault}
+use Rattle.command_text.specs.declared.fault.CommandFault.{CommandFault}
 use Rattle.session.specs.declared.refusal.Refusal.{Refusal}
 use Rattle.session.specs.declared.refusal.Refusal.TheVariants.{Line, Edit, TwoColoursOnly, Memory}
-use Rattle.session.specs.Faults.{name_of}
+use Rattle.command_text.specs.Faults.{name_of}
 
 -- a line with the name of a fault
 abbrev pub refused : List ℕ → List ℕ

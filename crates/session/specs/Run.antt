@@ -2,8 +2,8 @@
 use Rattle.std.specs.Prelude.{◌≡◌, ℕ, true, false, List, ◌++◌, Option}
 use Rattle.std.specs.Io.KnownBytes.{Appends, Consumes, IsAtEnd}
 use Rattle.live_audit.specs.Bench.{Seen}
-use Rattle.session.specs.declared.lines.Lines.{Lines}
-use Rattle.session.specs.Lines.{MayCome, ended_lines_of, lines_of}
+use Rattle.command_text.specs.declared.lines.Lines.{Lines}
+use Rattle.command_text.specs.Lines.{MayCome, ended_lines_of, lines_of}
 use Rattle.session.specs.Session.{SaysToAll}
 
 -- The lines in front are answered, and the others are those of the bytes that wait and what comes.

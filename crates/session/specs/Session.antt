@@ -23,18 +23,18 @@ use Rattle.live_audit.specs.Verdict.{IsVerdictOn, Tells}
 use Rattle.certificate.specs.Cert.{Certificate}
 use Rattle.certificate.specs.Writing.{cert_text}
 use Rattle.live_audit.specs.Certify.{Certifies}
-use Rattle.session.specs.declared.command.Command.{Command}
-use Rattle.session.specs.declared.command.Command.TheVariants as command
-use Rattle.session.specs.declared.request.Request.{Request}
-use Rattle.session.specs.declared.session.SessionFault.{SessionFault}
-use Rattle.session.specs.declared.session.SessionFault.TheVariants as fault
-use Rattle.session.specs.declared.request.Request.TheVariants as request
-use Rattle.session.specs.ClueText.{clues_text}
-use Rattle.session.specs.Lines.{ended_lines_of, lines_of, request_of}
-use Rattle.session.specs.ReasonText.{reason_text}
+use Rattle.command_text.specs.declared.command.Command.{Command}
+use Rattle.command_text.specs.declared.command.Command.TheVariants as command
+use Rattle.command_text.specs.declared.request.Request.{Request}
+use Rattle.command_text.specs.declared.session_fault.SessionFault.{SessionFault}
+use Rattle.command_text.specs.declared.session_fault.SessionFault.TheVariants as fault
+use Rattle.command_text.specs.declared.request.Request.TheVariants as request
+use Rattle.report_text.specs.ClueText.{clues_text}
+use Rattle.command_text.specs.Lines.{ended_lines_of, lines_of, request_of}
+use Rattle.report_text.specs.ReasonText.{reason_text}
 use Rattle.session.specs.Refusal.{edit_line, line_line, memory_line, two_colours_line}
-use Rattle.session.specs.Report.{report_text}
-use Rattle.session.specs.Shown.{map_text, picture_text}
+use Rattle.report_text.specs.Report.{report_text}
+use Rattle.report_text.specs.Shown.{map_text, picture_text}
 
 -- ---- texts that are not fixed by the state alone
 

@@ -10,29 +10,28 @@ ghost use Rattle.live_audit.specs.Certify.{Certifies};
 ghost use Rattle.live_audit.specs.Reason.{Explains};
 ghost use Rattle.live_audit.specs.declared.why.Why.{Why};
 ghost use Rattle.session.specs.Answer.{IsAsked, IsAskedWord, answer_text, stroke_said, text_said, written_said};
-ghost use Rattle.session.specs.Lines.{AsksBounded};
-ghost use Rattle.session.specs.Parse.{IsBounded};
-ghost use Rattle.session.specs.Report.{front_text};
-ghost use Rattle.session.specs.Room.{TakesRoom, picture_room, verdict_room};
+ghost use Rattle.command_text.specs.Lines.{AsksBounded};
+ghost use Rattle.command_text.specs.Parse.{IsBounded};
+ghost use Rattle.report_text.specs.Report.{front_text};
+ghost use Rattle.report_text.specs.Room.{TakesRoom, picture_room};
+ghost use Rattle.session.specs.Room.{verdict_room};
 ghost use Rattle.session.specs.Session.{Replies, Says, certified_text, other_text, report_on, undecided_text, verdict_text, verdict_word, why_text};
-ghost use Rattle.session.specs.Shown.{map_text};
-ghost use Rattle.session.specs.declared.command.Command.TheVariants as command;
+ghost use Rattle.report_text.specs.Shown.{map_text};
+ghost use Rattle.command_text.specs.declared.command.Command.TheVariants as command;
 ghost use Rattle.session.specs.declared.refusal.Refusal.TheVariants as refusal;
 
-use crate::clue_text::{clues_text, push_number};
-use crate::command::Command;
-use crate::reason_text::push_reason;
 use crate::refusal::Refusal;
-use crate::report::{ENDING_ROOM, push_ending, push_front};
-use crate::request::Request;
-use crate::shown::{push_map, push_picture};
 use crate::written::{cert_text_of, non_text_of, ppm_text_of};
 use certificate::Cert;
+use command_text::{Command, Request};
 use edits::{Edit, EditFault};
 use line_settle::{Facts, LineEngine};
 use live_audit::{Bench, Verdict, Why};
 use picture::Picture;
 use propagate::Agenda;
+use report_text::{
+    ENDING_ROOM, clues_text, push_ending, push_front, push_map, push_number, push_picture, push_reason,
+};
 use std::alloc::{AllocError, Global};
 
 // How many bytes `undecided`, a number of at most ten digits and the line's end take.

@@ -3,7 +3,7 @@
 ghost use Rattle.std.specs.Prelude.{◌≡◌};
 ghost use Rattle.session.specs.Refusal.{edit_line, line_line, refusal_line};
 
-use crate::fault::CommandFault;
+use command_text::CommandFault;
 use edits::EditFault;
 
 // Why a line of a session is refused.

@@ -1,45 +1,15 @@
 //! A whole session: commands in, text out.
 
-ghost use Rattle.std.specs.Prelude.{◌≡◌};
 ghost use Rattle.session.specs.Session.{Runs};
-ghost use Rattle.session.specs.declared.session.SessionFault.TheVariants.{Read as Unread, Write as Unwritten};
 
 use crate::answer::answer_to;
-use crate::lines::{Lines, ReadFault};
+use command_text::{Lines, SessionFault};
 use line_settle::LineEngine;
 use live_audit::Bench;
-use picture::{WriteFault, send};
+use picture::send;
 use propagate::Agenda;
 use std::alloc::Global;
 use std::io::{Read, Write};
-use thiserror::Error;
-
-/// Why a session ended before its input did.
-#[derive(Clone, Copy, Debug, PartialEq, Eq, Error)]
-pub enum SessionFault {
-    /// A read failed, or one more than 1,048,576 was wanted.
-    #[error("read failed")]
-    Read,
-    /// A write failed, or took no byte.
-    #[error("write failed")]
-    Write,
-}
-
-impl From<ReadFault> for SessionFault {
-    ghost from_gives = { λ _ e. e ≡ Unread };
-
-    fn from(_fault: ReadFault) -> SessionFault {
-        SessionFault::Read
-    }
-}
-
-impl From<WriteFault> for SessionFault {
-    ghost from_gives = { λ _ e. e ≡ Unwritten };
-
-    fn from(_fault: WriteFault) -> SessionFault {
-        SessionFault::Write
-    }
-}
 
 /// Answers each line of the reader's input on the writer, until the input ends.
 ///

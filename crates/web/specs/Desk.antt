@@ -2,8 +2,8 @@
 use Rattle.std.specs.Prelude.{◌≡◌, ◌⊎◌, ℕ, ◌+◌, ◌==◌, List, [], ◌∷◌, ◌++◌, Option, None, Some, Result, Ok, Err, position, remove, slice_index_or, slice_set}
 use Rattle.picture.specs.declared.rgb.Rgb.{Rgb}
 use Rattle.live_audit.specs.Bench.{Seen}
-use Rattle.session.specs.declared.session.SessionFault.{SessionFault}
-use Rattle.session.specs.declared.session.SessionFault.TheVariants as session
+use Rattle.command_text.specs.declared.session_fault.SessionFault.{SessionFault}
+use Rattle.command_text.specs.declared.session_fault.SessionFault.TheVariants as session
 use Rattle.session.specs.Session.{Runs}
 use Rattle.answers.specs.declared.fault.ProgramFault.{ProgramFault}
 use Rattle.answers.specs.declared.options.Options.{Options}

@@ -1,4 +1,4 @@
-use Rattle.session.specs.Lines.{steps_left}
+use Rattle.command_text.specs.Lines.{steps_left}
 use Rattle.session.specs.Run.{HasRun}
 use Rattle.session.proofs.session.run_session.Given as goal
 

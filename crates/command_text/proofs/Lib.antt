@@ -1,0 +1,4 @@
+pub mod CountLemmas
+pub mod LineLemmas
+pub mod NumberLemmas
+pub mod WordLemmas

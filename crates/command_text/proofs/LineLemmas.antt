@@ -1,0 +1,318 @@
+-- The lines of bytes, cut piece by piece.
+use Rattle.std.proofs.Common.{◌≡◌, ℕ, zero, suc, ◌+◌, ◌-◌, ◌<◌, ◌≤◌, Bool, true, false, cond, not, ◌&&◌, List, [], ◌∷◌, ◌++◌, length, length-take-le, min, take, drop, slice_index, ◌==◌, nat_lt, Err, Option, Some, None, refl, sym, ap, ◌∙◌, append_assoc, append-nil, arith}
+use Rattle.std.specs.List.{slice_split, onto_first, position, position_or_len}
+use Rattle.std.specs.Str.Lines.{strip_carriage_return}
+use Rattle.std.proofs.lemmas.Option.{cond_some}
+use Rattle.std.proofs.lemmas.Bool.{eqb-true, ltb-true, ltb-false, lt-leb}
+use Rattle.std.proofs.lemmas.Bool.Decides.{nat_tests}
+use Rattle.std.proofs.lemmas.List.{drop-take, length-append, length-take, take_all, take_min}
+use Rattle.std.proofs.lemmas.Slice.{take-put_mid}
+use borrow.Rule.Slice.PartMut.{put_mid}
+use Rattle.std.proofs.Math.Seq.{take-append-add, drop-drop}
+use Rattle.std.proofs.lemmas.List.Splits.{length-slice_split}
+use Rattle.std.specs.Io.KnownBytes.{Keeps}
+use Rattle.std.proofs.KnownBytes.{Consumes-kept, Consumes-trans}
+use Rattle.command_text.specs.declared.lines.Lines.{Lines}
+use Rattle.command_text.specs.Lines.{BreaksOff, CutsOne, Drafts, NoFeed, TakesPiece, Waits, all_pieces, ended_lines_of, ended_pieces, has_word, is_feed, lines_of, nothing_has_no_lines, request_by, request_of, steps_left}
+use Rattle.command_text.specs.Parse.{command_of, command_of_words}
+use Rattle.command_text.specs.declared.fault.CommandFault.TheVariants.{LongLine}
+use Rattle.command_text.specs.declared.request.Request.TheVariants.{Nothing, Refused}
+use Rattle.command_text.specs.Words.{words_of}
+
+pub NoFeed-append : (front piece : List ℕ) → NoFeed front → NoFeed piece → NoFeed (front ++ piece)
+NoFeed-append [] piece p q = q
+NoFeed-append (b ∷ front) piece p q = (p.0, NoFeed-append front piece p.1 q)
+
+-- ---- the pieces between line feeds
+
+-- bytes without a line feed are one piece
+pub split_none : (raw : List ℕ) → NoFeed raw → slice_split is_feed raw ≡ raw ∷ []
+split_none [] p = refl
+split_none (b ∷ raw) p =
+    ap (λ t. cond t ([] ∷ slice_split is_feed raw) (onto_first b (slice_split is_feed raw))) p.0
+    ∙ ap (onto_first b) (split_none raw p.1)
+
+-- bytes up to a line feed are the first piece
+pub split_first : (raw rest : List ℕ) → NoFeed raw → slice_split is_feed (raw ++ 10 ∷ rest) ≡ raw ∷ slice_split is_feed rest
+split_first [] rest p = refl
+split_first (b ∷ raw) rest p =
+    ap (λ t. cond t ([] ∷ slice_split is_feed (raw ++ 10 ∷ rest)) (onto_first b (slice_split is_feed (raw ++ 10 ∷ rest)))) p.0
+    ∙ ap (onto_first b) (split_first raw rest p.1)
+
+-- ---- the place of a line feed
+
+abbrev AtFeed : List ℕ → ℕ → Type 0
+AtFeed bytes n = NoFeed (take n bytes) × (bytes ≡ take n bytes ++ 10 ∷ drop (suc n) bytes)
+
+at_first : (b : ℕ) (bytes : List ℕ) → ((m : ℕ) → m ≡ position_or_len is_feed bytes → m < length bytes → AtFeed bytes m)
+    → (t : Bool) → is_feed b ≡ t → (n : ℕ) → n ≡ position_or_len is_feed (b ∷ bytes) → n < length (b ∷ bytes) → AtFeed (b ∷ bytes) n
+at_first b bytes later true is zero e lt = (tt, ap (λ (x : ℕ). x ∷ bytes) (eqb-true b 10 is))
+at_first b bytes later true is (suc m) e lt = absurd (omega (arith, e, ap (λ t. cond (not t) (1 + position_or_len is_feed bytes) 0) is))
+at_first b bytes later false is zero e lt = absurd (omega (arith, e, ap (λ t. cond (not t) (1 + position_or_len is_feed bytes) 0) is))
+at_first b bytes later false is (suc m) e lt =
+    let at = later m (omega (arith, e, ap (λ t. cond (not t) (1 + position_or_len is_feed bytes) 0) is)) (omega (arith, lt)) in
+    ((is, at.0), ap (λ (xs : List ℕ). b ∷ xs) at.1)
+
+at_feed : (bytes : List ℕ) (n : ℕ) → n ≡ position_or_len is_feed bytes → n < length bytes → AtFeed bytes n
+at_feed [] n e lt = absurd (omega (arith, lt))
+at_feed (b ∷ bytes) n e lt = at_first b bytes (at_feed bytes) (is_feed b) refl n e lt
+
+pub feed_found : (bytes : List ℕ) (end : ℕ) → position is_feed bytes ≡ Some end → NoFeed (take end bytes) × (bytes ≡ take end bytes ++ 10 ∷ drop (end + 1) bytes)
+feed_found bytes end e =
+    let at = cond_some _ _ _ e in
+    let found = at_feed bytes end (sym at.1) (omega (arith, at.1, ltb-true _ _ at.0)) in
+    let next : suc end ≡ end + 1 = omega arith in
+    (found.0, found.1 ∙ ap (λ n. take end bytes ++ 10 ∷ drop n bytes) next)
+
+none_first : (b : ℕ) (bytes : List ℕ) → (length bytes ≤ position_or_len is_feed bytes → NoFeed bytes) → length (b ∷ bytes) ≤ position_or_len is_feed (b ∷ bytes) → (t : Bool) → is_feed b ≡ t → NoFeed (b ∷ bytes)
+none_first b bytes later le true is = absurd (omega (arith, le, ap (λ t. cond (not t) (1 + position_or_len is_feed bytes) 0) is))
+none_first b bytes later le false is = (is, later (omega (arith, le, ap (λ t. cond (not t) (1 + position_or_len is_feed bytes) 0) is)))
+
+none_found : (bytes : List ℕ) → length bytes ≤ position_or_len is_feed bytes → NoFeed bytes
+none_found [] le = tt
+none_found (b ∷ bytes) le = none_first b bytes (none_found bytes) le (is_feed b) refl
+
+pub feed_none : (bytes : List ℕ) → position is_feed bytes ≡ None → NoFeed bytes
+feed_none bytes e = none_found bytes (ltb-false _ _ (no_place _ _ e))
+  where
+    no_place : (t : Bool) (n : ℕ) → cond t (Some n) None ≡ None → t ≡ false
+    no_place true n e = cc
+    no_place false n e = refl
+
+-- ---- lines
+
+two_pieces : (piece : List ℕ) (pieces : List (List ℕ)) → 0 < length pieces → all_pieces (piece ∷ pieces) ≡ strip_carriage_return piece ∷ all_pieces pieces
+two_pieces piece [] some = absurd (omega (arith, some))
+two_pieces piece (next ∷ pieces) some = refl
+
+two_ended : (piece : List ℕ) (pieces : List (List ℕ)) → 0 < length pieces → ended_pieces (piece ∷ pieces) ≡ strip_carriage_return piece ∷ ended_pieces pieces
+two_ended piece [] some = absurd (omega (arith, some))
+two_ended piece (next ∷ pieces) some = refl
+
+some_piece : (bytes : List ℕ) → 0 < length (slice_split is_feed bytes)
+some_piece bytes = omega (arith, length-slice_split is_feed bytes)
+
+-- a line that ends, and the lines behind it
+pub lines_first : (raw rest : List ℕ) → NoFeed raw → lines_of (raw ++ 10 ∷ rest) ≡ strip_carriage_return raw ∷ lines_of rest
+unfolding lines_of
+lines_first raw rest p = ap all_pieces (split_first raw rest p) ∙ two_pieces raw (slice_split is_feed rest) (some_piece rest)
+
+pub ended_first : (raw rest : List ℕ) → NoFeed raw → ended_lines_of (raw ++ 10 ∷ rest) ≡ strip_carriage_return raw ∷ ended_lines_of rest
+unfolding ended_lines_of
+ended_first raw rest p = ap ended_pieces (split_first raw rest p) ∙ two_ended raw (slice_split is_feed rest) (some_piece rest)
+
+-- a line that does not end
+pub ended_none : (raw : List ℕ) → NoFeed raw → ended_lines_of raw ≡ []
+unfolding ended_lines_of
+ended_none raw p = ap ended_pieces (split_none raw p)
+
+pub lines_last : (raw : List ℕ) → NoFeed raw → 0 < length raw → lines_of raw ≡ strip_carriage_return raw ∷ []
+unfolding lines_of
+lines_last raw p some = ap all_pieces (split_none raw p) ∙ last raw some
+  where
+    last : (raw : List ℕ) → 0 < length raw → all_pieces (raw ∷ []) ≡ strip_carriage_return raw ∷ []
+    last [] some = absurd (omega (arith, some))
+    last (b ∷ raw) some = refl
+
+-- ---- the front that is kept of a line
+
+-- the front of a front and more bytes
+pub take_front : (n : ℕ) (front piece : List ℕ) → take n (take n front ++ piece) ≡ take n (front ++ piece)
+take_front zero front piece = refl
+take_front (suc n) [] piece = refl
+take_front (suc n) (b ∷ front) piece = ap (λ (xs : List ℕ). b ∷ xs) (take_front n front piece)
+
+-- a line of more than 200 bytes
+pub long_line : (line : List ℕ) → 200 < length line → request_of line ≡ Refused LongLine
+unfolding request_of command_of
+long_line line long =
+    ap (λ t. cond (t && not (has_word (words_of line))) Nothing (request_by (cond (nat_lt 200 (length line)) (Err LongLine) (command_of_words (words_of line))))) (lt-leb (length line) 200 long)
+    ∙ ap (λ t. request_by (cond t (Err LongLine) (command_of_words (words_of line)))) (lt_test 200 (length line) long)
+  where
+    lt_test : (a b : ℕ) → a < b → nat_lt a b ≡ true
+    lt_test a b lt = grind (arith, nat_tests)
+
+stripped_by : (line : List ℕ) (t : Bool) → 201 < length line → 200 < length (cond t (take (length line - 1) line) line)
+stripped_by line true long = omega (arith, length-take-le (length line - 1) line (omega arith), long)
+stripped_by line false long = omega (arith, long)
+
+stripped_long : (line : List ℕ) → 201 < length line → 200 < length (strip_carriage_return line)
+stripped_long line long = stripped_by line (slice_index line (length line - 1) == 13) long
+
+front_by : (raw : List ℕ) (t : Bool) → nat_lt 202 (length raw) ≡ t → request_of (strip_carriage_return (take 202 raw)) ≡ request_of (strip_carriage_return raw)
+front_by raw true is =
+    let long : 202 < length raw = ltb-true _ _ is in
+    let fits : length (take 202 raw) ≡ 202 = length-take-le 202 raw (omega (arith, long)) in
+    long_line (strip_carriage_return (take 202 raw)) (stripped_long (take 202 raw) (omega (arith, fits)))
+    ∙ sym (long_line (strip_carriage_return raw) (stripped_long raw (omega (arith, long))))
+front_by raw false is = ap (λ (line : List ℕ). request_of (strip_carriage_return line)) (take_all 202 raw (ltb-false _ _ is))
+
+-- a line's first 202 bytes say what it asks for
+pub front_decides : (raw : List ℕ) → request_of (strip_carriage_return (take 202 raw)) ≡ request_of (strip_carriage_return raw)
+front_decides raw = front_by raw (nat_lt 202 (length raw)) refl
+
+-- ---- pieces come to a line
+
+-- up to the line feed
+pub piece_ends : (waiting after had kept : List ℕ) (end : ℕ) → position is_feed waiting ≡ Some end → kept ≡ take 202 (had ++ take end waiting) → after ≡ drop (end + 1) waiting
+    → (piece : List ℕ) × ((waiting ≡ piece ++ 10 ∷ after) × (NoFeed piece × (kept ≡ take 202 (had ++ piece))))
+piece_ends waiting after had kept end at is rest =
+    let found = feed_found waiting end at in
+    (take end waiting, (found.1 ∙ ap (λ (xs : List ℕ). take end waiting ++ 10 ∷ xs) (sym rest), (found.0, is)))
+
+min_swap : (a b : ℕ) → min a b ≡ min b a
+min_swap a b = omega arith
+
+front_of : (piece : List ℕ) (n count : ℕ) → count ≡ min (length piece) n → take count piece ≡ take n piece
+front_of piece n count is = ap (λ k. take k piece) (is ∙ min_swap (length piece) n) ∙ take_min n piece
+
+-- more bytes, of which those are kept for which there is room
+pub kept_more : (bytes had piece : List ℕ) (len count : ℕ) → take len bytes ≡ had → len ≤ 202 → length bytes ≡ 202 → count ≡ min (length piece) (202 - len)
+    → take (len + count) (put_mid len (len + count - len) bytes (take count piece)) ≡ take 202 (had ++ piece)
+kept_more bytes had piece len count view fits room is =
+    let had_len : length had ≡ len = sym (ap length view) ∙ length-take-le len bytes (omega (arith, fits, room)) in
+    let count_len : length (take count piece) ≡ count = length-take-le count piece (omega (arith, is)) in
+    let all : 202 ≡ length had + (202 - len) = omega (arith, had_len, fits) in
+    take-put_mid len (len + count - len) bytes (take count piece) (len + count) (omega (arith, count_len)) (omega (arith, fits, room))
+    ∙ ap (λ (front : List ℕ). front ++ take count piece) view
+    ∙ ap (λ (rest : List ℕ). had ++ rest) (front_of piece (202 - len) count is)
+    ∙ sym (ap (λ n. take n (had ++ piece)) all ∙ take-append-add had piece (202 - len))
+
+-- bytes that are let go
+pub skipped : (room now : List ℕ) (start end count : ℕ) → take (end - start) (drop start room) ≡ now → count ≤ length now → take (end - (start + count)) (drop (start + count) room) ≡ drop count now
+skipped room now start end count view fits =
+    let len : length now ≤ end - start = let e = ap length view in let m = length-take (end - start) (drop start room) in omega (arith, e, m) in
+    let split : end - start ≡ count + (end - (start + count)) = omega (arith, fits, len) in
+    sym (ap (drop count) (sym view ∙ ap (λ n. take n (drop start room)) split) ∙ drop-take count (end - (start + count)) (drop start room)
+    ∙ ap (take (end - (start + count))) (drop-drop count start room))
+
+pub all_skipped : (taken now : List ℕ) → taken ≡ now → drop (length taken) now ≡ []
+all_skipped taken now same = ap (λ (xs : List ℕ). drop (length xs) now) same ∙ none_left now
+  where
+    none_left : (xs : List ℕ) → drop (length xs) xs ≡ []
+    none_left [] = refl
+    none_left (x ∷ xs) = none_left xs
+
+-- ---- a call
+
+-- bytes came, and wait
+pub drafts_wait : (had mid have : Option (List ℕ)) (old now new : Lines) (draft : List ℕ) (more : Bool) → Drafts had mid old now draft → Waits mid have now new more → Drafts had have old new draft
+drafts_wait had mid have old now new draft more d w = record {
+  came = d.came ++ w.came;
+  read = Consumes-trans had mid have d.came w.came d.read w.read;
+  raw = d.raw;
+  cut = sym (append_assoc old.inbox d.came w.came) ∙ ap (λ (xs : List ℕ). xs ++ w.came) d.cut ∙ append_assoc d.raw now.inbox w.came ∙ ap (λ (xs : List ℕ). d.raw ++ xs) (sym w.waiting);
+  no_feed = d.no_feed;
+  kept = d.kept;
+  end = λ h. w.end (d.end h);
+  behind = λ met. let before = d.behind met in let after = w.behind before.1 in (ap (λ (xs : List ℕ). xs ++ w.came) before.0 ∙ after.0, after.1);
+  steps = omega (arith, w.steps, d.steps);
+}
+
+-- what came to the line is no longer than what waited
+piece_steps : (old now new : Lines) (draft more : List ℕ) → steps_left now + length draft ≤ steps_left old → TakesPiece now new draft more false → new.reads ≡ now.reads → steps_left new + length more ≤ steps_left old
+piece_steps old now new draft more before t r =
+    let len : length more ≤ length draft + length now.inbox =
+    let whole = ap length t.1.1 in let cut = length-take 202 (draft ++ now.inbox) in let all = length-append draft now.inbox in omega (arith, whole, cut, all) in
+    let none : length new.inbox ≡ 0 = ap length t.0 in
+    let same : 1048576 - new.reads ≡ 1048576 - now.reads = ap (λ n. 1048576 - n) r in
+    omega (arith, before, len, none, same)
+
+-- and all that waited came to the line
+pub drafts_piece : (had have : Option (List ℕ)) (old now new : Lines) (draft more : List ℕ) → Drafts had have old now draft → TakesPiece now new draft more false → new.ended ≡ now.ended → new.reads ≡ now.reads → Drafts had have old new more
+drafts_piece had have old now new draft more d t e r = record {
+  came = d.came;
+  read = d.read;
+  raw = d.raw ++ now.inbox;
+  cut = d.cut ∙ sym (ap (λ (xs : List ℕ). (d.raw ++ now.inbox) ++ xs) t.0 ∙ append-nil (d.raw ++ now.inbox));
+  no_feed = NoFeed-append d.raw now.inbox d.no_feed t.1.0;
+  kept = t.1.1 ∙ ap (λ (xs : List ℕ). take 202 (xs ++ now.inbox)) d.kept ∙ take_front 202 d.raw now.inbox;
+  end = λ h m. d.end h (sym e ∙ m);
+  behind = λ met. ((d.behind met).0, e ∙ (d.behind met).1);
+  steps = piece_steps old now new draft more d.steps t r;
+}
+
+-- a line whose end came took a step, and so did one that ends with the input
+pub line_steps : (old now new : Lines) (draft more : List ℕ) → steps_left now + length draft ≤ steps_left old → TakesPiece now new draft more true → new.reads ≡ now.reads → steps_left new < steps_left old
+line_steps old now new draft more before t r =
+    let some : length now.inbox ≡ length t.0 + suc (length new.inbox) = ap length t.1.0 ∙ length-append t.0 (10 ∷ new.inbox) in
+    let same : 1048576 - new.reads ≡ 1048576 - now.reads = ap (λ n. 1048576 - n) r in
+    omega (arith, before, some, same)
+
+pub last_steps : (had have : Option (List ℕ)) (old now : Lines) (draft : List ℕ) → Drafts had have old now draft → 0 < length draft → steps_left now < steps_left old
+last_steps had have old now draft d some = omega (arith, d.steps, some)
+
+-- the line ends at a line feed
+pub cuts_line : (had have : Option (List ℕ)) (old now new : Lines) (draft more : List ℕ) → Drafts had have old now draft → TakesPiece now new draft more true → new.ended ≡ now.ended
+    → CutsOne had have old new (request_of (strip_carriage_return more))
+cuts_line had have old now new draft more d t e =
+    let piece = t.0 in
+    let raw = d.raw ++ piece in
+    let none = NoFeed-append d.raw piece d.no_feed t.1.1.0 in
+    let whole : more ≡ take 202 raw = t.1.1.1 ∙ ap (λ (xs : List ℕ). take 202 (xs ++ piece)) d.kept ∙ take_front 202 d.raw piece in
+    let cut : old.inbox ++ d.came ≡ raw ++ 10 ∷ new.inbox = d.cut ∙ ap (λ (xs : List ℕ). d.raw ++ xs) t.1.0 ∙ sym (append_assoc d.raw piece (10 ∷ new.inbox)) in
+    let all : (rest : List ℕ) → old.inbox ++ (d.came ++ rest) ≡ raw ++ 10 ∷ (new.inbox ++ rest) =
+    λ rest. sym (append_assoc old.inbox d.came rest) ∙ ap (λ (xs : List ℕ). xs ++ rest) cut ∙ append_assoc raw (10 ∷ new.inbox) rest in
+    record {
+      line = strip_carriage_return raw;
+      cuts = record {
+        came = d.came;
+        read = d.read;
+        lines = λ rest may. ap lines_of (all rest) ∙ lines_first raw (new.inbox ++ rest) none;
+        ended = λ on rest. ap ended_lines_of (all rest) ∙ ended_first raw (new.inbox ++ rest) none;
+        end = λ h m. d.end h (sym e ∙ m);
+        behind = λ met. ((d.behind met).0, e ∙ (d.behind met).1);
+      };
+      asks = ap (λ (xs : List ℕ). request_of (strip_carriage_return xs)) whole ∙ front_decides raw;
+    }
+
+-- all bytes of the input, where nothing is left
+at_end : (had have : Option (List ℕ)) (old now : Lines) (draft : List ℕ) → (d : Drafts had have old now draft) → now.inbox ≡ [] → (rest : List ℕ) → rest ≡ [] → old.inbox ++ (d.came ++ rest) ≡ d.raw
+at_end had have old now draft d none rest end =
+    sym (append_assoc old.inbox d.came rest) ∙ ap (λ (xs : List ℕ). (old.inbox ++ d.came) ++ xs) end ∙ append-nil (old.inbox ++ d.came) ∙ d.cut ∙ ap (λ (xs : List ℕ). d.raw ++ xs) none ∙ append-nil d.raw
+
+-- the bytes of the line are as many as are kept, up to 202
+some_kept : (draft raw : List ℕ) → draft ≡ take 202 raw → 0 < length draft → 0 < length raw
+some_kept draft [] e some = absurd (omega (arith, ap length e, some))
+some_kept draft (b ∷ raw) e some = omega arith
+
+none_kept : (draft raw : List ℕ) → draft ≡ take 202 raw → length draft ≡ 0 → raw ≡ []
+none_kept draft [] e none = refl
+none_kept draft (b ∷ raw) e none = absurd (omega (arith, ap length e, none))
+
+-- the last line ends with the input
+pub cuts_last : (had have : Option (List ℕ)) (old now : Lines) (draft : List ℕ) → Drafts had have old now draft → now.inbox ≡ [] → now.ended ≡ true → 0 < length draft
+    → CutsOne had have old now (request_of (strip_carriage_return draft))
+cuts_last had have old now draft d none met some = record {
+  line = strip_carriage_return d.raw;
+  cuts = record {
+    came = d.came;
+    read = d.read;
+    lines = λ rest may.
+        ap lines_of (at_end had have old now draft d none rest (may met)) ∙ lines_last d.raw d.no_feed (some_kept draft d.raw d.kept some)
+        ∙ ap (λ (lines : List (List ℕ)). strip_carriage_return d.raw ∷ lines) (sym (ap lines_of (ap (λ (xs : List ℕ). xs ++ rest) none ∙ may met) ∙ nothing_has_no_lines));
+    ended = λ on rest. absurd (true_is_not_false (sym met ∙ on));
+    end = d.end;
+    behind = d.behind;
+  };
+  asks = ap (λ (xs : List ℕ). request_of (strip_carriage_return xs)) d.kept ∙ front_decides d.raw;
+}
+  where
+    true_is_not_false : true ≡ false → ⊥
+    true_is_not_false e = cc
+
+-- a read failed
+pub breaks_off : (had mid have : Option (List ℕ)) (old now : Lines) (draft : List ℕ) → Drafts had mid old now draft → Keeps mid have → now.inbox ≡ [] → now.ended ≡ false → BreaksOff had have old
+breaks_off had mid have old now draft d kept none on = record {
+  came = d.came;
+  read = Consumes-kept had mid have d.came d.read kept;
+  unfinished = ap ended_lines_of (d.cut ∙ ap (λ (xs : List ℕ). d.raw ++ xs) none ∙ append-nil d.raw) ∙ ended_none d.raw d.no_feed;
+  unended = not_met old.ended (λ met. true_is_not_false (sym (d.behind met).1 ∙ on));
+}
+  where
+    true_is_not_false : true ≡ false → ⊥
+    true_is_not_false e = cc
+
+    not_met : (b : Bool) → (b ≡ true → ⊥) → b ≡ false
+    not_met true never = absurd (never refl)
+    not_met false never = refl

@@ -1,0 +1,158 @@
+-- The lines of a session's input, and what each asks for.
+use Rattle.std.specs.Prelude.{◌≡◌, ℕ, ◌+◌, ◌-◌, ◌*◌, ◌<◌, ◌≤◌, Bool, true, false, ◌&&◌, not, List, [], ◌∷◌, ◌++◌, length, take, Option, None, Some, Result, Ok, Err, nat_le, ◌==◌, if◌then◌else◌}
+use Rattle.std.proofs.Common.{refl}
+use Rattle.std.specs.List.{slice_split}
+use Rattle.std.specs.Str.Lines.{strip_carriage_return}
+use Rattle.std.specs.Io.KnownBytes.{Consumes, IsAtEnd}
+use Rattle.command_text.specs.declared.command.Command.{Command}
+use Rattle.command_text.specs.declared.fault.CommandFault.{CommandFault}
+use Rattle.command_text.specs.declared.request.Request.{Request}
+use Rattle.command_text.specs.declared.request.Request.TheVariants as request
+use Rattle.command_text.specs.declared.lines.Lines.{Lines}
+use Rattle.command_text.specs.Parse.{IsBounded, command_of}
+use Rattle.command_text.specs.Words.{has_byte, words_of}
+
+-- ---- lines
+
+abbrev pub is_feed : ℕ → Bool
+is_feed b = b == 10
+
+-- the pieces behind which a line feed stands, each without the carriage return at its end
+abbrev pub ended_pieces : List (List ℕ) → List (List ℕ)
+ended_pieces [] = []
+ended_pieces (piece ∷ []) = []
+ended_pieces (piece ∷ next ∷ pieces) = strip_carriage_return piece ∷ ended_pieces (next ∷ pieces)
+
+-- and the last piece too, where it has a byte
+abbrev pub all_pieces : List (List ℕ) → List (List ℕ)
+all_pieces [] = []
+all_pieces (piece ∷ []) = if has_byte piece then strip_carriage_return piece ∷ [] else []
+all_pieces (piece ∷ next ∷ pieces) = strip_carriage_return piece ∷ all_pieces (next ∷ pieces)
+
+-- The lines of an input that was read to its end: what stands between line feeds, where the last line needs none.
+unfoldable pub lines_of : List ℕ → List (List ℕ)
+lines_of bytes = all_pieces (slice_split is_feed bytes)
+
+-- the lines of bytes whose line feed has come
+unfoldable pub ended_lines_of : List ℕ → List (List ℕ)
+ended_lines_of bytes = ended_pieces (slice_split is_feed bytes)
+
+-- none of the bytes is a line feed
+abbrev pub NoFeed : List ℕ → Type 0
+NoFeed [] = Unit {0}
+NoFeed (b ∷ bytes) = (is_feed b ≡ false) × NoFeed bytes
+
+-- ---- what a line asks for
+
+abbrev pub request_by : Result Command CommandFault → Request
+request_by (Ok command) = request.Command command
+request_by (Err fault) = request.Refused fault
+
+abbrev pub has_word : List (List ℕ) → Bool
+has_word [] = false
+has_word (word ∷ words) = true
+
+-- a line of at most 200 bytes without a word asks for nothing
+unfoldable pub request_of : List ℕ → Request
+request_of line = if nat_le (length line) 200 && not (has_word (words_of line)) then request.Nothing else request_by (command_of line)
+
+-- the command that is asked for, if one is, has a colour and an allowance that are lawful
+abbrev pub AsksBounded : Request → Type 0
+AsksBounded request.Nothing = Unit {0}
+AsksBounded (request.Command c) = IsBounded c
+AsksBounded (request.Refused fault) = Unit {0}
+
+-- ---- what a call of the reader leaves
+
+-- what may come behind the bytes that were read: nothing, once the end was met
+abbrev pub MayCome : Lines → List ℕ → Type 0
+MayCome l rest = l.ended ≡ true → rest ≡ []
+
+-- The bytes that came in a call. Of those that waited before, the ones that came and whatever may come behind them, the first
+-- lines are these, and the others are those of the bytes that wait now and what comes. So it is for lines whose line feed has
+-- come, too. A call does not take the end for met unless it was, and
+-- behind the end nothing comes.
+pub record Cuts (had have : Option (List ℕ)) (old new : Lines) (front : List (List ℕ)) : Type 0 where
+  pub came : List ℕ
+  pub read : Consumes had have came
+  pub lines : (rest : List ℕ) → MayCome new rest → lines_of (old.inbox ++ (came ++ rest)) ≡ front ++ lines_of (new.inbox ++ rest)
+  pub ended : new.ended ≡ false → (rest : List ℕ) → ended_lines_of (old.inbox ++ (came ++ rest)) ≡ front ++ ended_lines_of (new.inbox ++ rest)
+  pub end : (old.ended ≡ true → IsAtEnd had) → new.ended ≡ true → IsAtEnd have
+  pub behind : old.ended ≡ true → (came ≡ []) × (new.ended ≡ true)
+
+-- the next line, and what it asks for
+pub record CutsOne (had have : Option (List ℕ)) (old new : Lines) (asked : Request) : Type 0 where
+  pub line : List ℕ
+  pub cuts : Cuts had have old new (line ∷ [])
+  pub asks : asked ≡ request_of line
+
+-- no line is left, and the end was met
+pub record CutsNone (had have : Option (List ℕ)) (old new : Lines) : Type 0 where
+  pub cuts : Cuts had have old new []
+  pub waiting : new.inbox ≡ []
+  pub met : new.ended ≡ true
+
+-- a read failed before the end was met, and of the bytes that waited and those that came no line's end has come
+pub record BreaksOff (had have : Option (List ℕ)) (old : Lines) : Type 0 where
+  pub came : List ℕ
+  pub read : Consumes had have came
+  pub unfinished : ended_lines_of (old.inbox ++ came) ≡ []
+  pub unended : old.ended ≡ false
+
+-- what the reader answers
+abbrev pub Hands : Option (List ℕ) → Option (List ℕ) → Lines → Lines → {E : Type 0} → Result (Option Request) E → Type 0
+Hands had have old new (Ok (Some asked)) = CutsOne had have old new asked
+Hands had have old new (Ok None) = CutsNone had have old new
+Hands had have old new (Err e) = BreaksOff had have old
+
+-- ---- the steps of a call
+
+-- how many steps a call may take: each read and each byte that waits is one
+abbrev pub steps_left : Lines → ℕ
+steps_left l = 4097 * (1048576 - l.reads) + length l.inbox
+
+-- Bytes wait, or none came after a read and the end was met.
+pub record Waits (had have : Option (List ℕ)) (old new : Lines) (more : Bool) : Type 0 where
+  pub came : List ℕ
+  pub read : Consumes had have came
+  pub waiting : new.inbox ≡ old.inbox ++ came
+  pub end : (old.ended ≡ true → IsAtEnd had) → new.ended ≡ true → IsAtEnd have
+  pub behind : old.ended ≡ true → (came ≡ []) × (new.ended ≡ true)
+  pub steps : steps_left new ≤ steps_left old
+  pub some : more ≡ true → 0 < length new.inbox
+  pub none : more ≡ false → (new.inbox ≡ []) × (new.ended ≡ true)
+
+-- The bytes up to a line feed, which is taken too, or all bytes that wait, which have none, come to the line.
+abbrev pub TakesPiece : Lines → Lines → List ℕ → List ℕ → Bool → Type 0
+TakesPiece old new had draft true = (piece : List ℕ) × ((old.inbox ≡ piece ++ 10 ∷ new.inbox) × (NoFeed piece × (draft ≡ take 202 (had ++ piece))))
+TakesPiece old new had draft false = (new.inbox ≡ []) × (NoFeed old.inbox × (draft ≡ take 202 (had ++ old.inbox)))
+
+-- the bytes of a line so far: they waited or came, none of them is a line feed, and their front is kept
+pub record Drafts (had have : Option (List ℕ)) (old now : Lines) (draft : List ℕ) : Type 0 where
+  pub came : List ℕ
+  pub read : Consumes had have came
+  pub raw : List ℕ
+  pub cut : old.inbox ++ came ≡ raw ++ now.inbox
+  pub no_feed : NoFeed raw
+  pub kept : draft ≡ take 202 raw
+  pub end : (old.ended ≡ true → IsAtEnd had) → now.ended ≡ true → IsAtEnd have
+  pub behind : old.ended ≡ true → (came ≡ []) × (now.ended ≡ true)
+  pub steps : steps_left now + length draft ≤ steps_left old
+
+-- ---- worked inputs
+
+pub nothing_has_no_lines : lines_of [] ≡ []
+unfolding lines_of
+nothing_has_no_lines = refl
+
+two_lines : lines_of (97 ∷ 13 ∷ 10 ∷ 10 ∷ 98 ∷ []) ≡ (97 ∷ []) ∷ [] ∷ (98 ∷ []) ∷ []
+unfolding lines_of
+two_lines = refl
+
+last_is_unfinished : ended_lines_of (97 ∷ 13 ∷ 10 ∷ 10 ∷ 98 ∷ []) ≡ (97 ∷ []) ∷ [] ∷ []
+unfolding ended_lines_of
+last_is_unfinished = refl
+
+none_behind_a_feed : lines_of (97 ∷ 13 ∷ 13 ∷ 10 ∷ []) ≡ (97 ∷ 13 ∷ []) ∷ []
+unfolding lines_of
+none_behind_a_feed = refl

@@ -1,0 +1,22 @@
+//! The lines of a session as they come from a reader, and the commands that their words name.
+#![tactic(auto)]
+
+mod command;
+mod draft;
+mod fault;
+mod fields;
+mod lines;
+mod numbers;
+mod parse;
+mod request;
+mod session_fault;
+mod verb;
+mod words;
+
+pub use command::Command;
+pub use fault::CommandFault;
+pub use lines::Lines;
+pub use numbers::sample_in;
+pub use parse::{MOST_BYTES, parse_command};
+pub use request::Request;
+pub use session_fault::SessionFault;

@@ -1,0 +1,73 @@
+-- What `write ppm` and `certify` print, read again.
+use Rattle.std.proofs.Common.{◌≡◌, ℕ, List, Option, Some, None, Ok, Result, refl, sym, ap, subst, ◌∙◌, codes}
+use Rattle.picture.specs.declared.document.Document.{Document}
+use Rattle.picture.specs.CellSet.{no_cells}
+use Rattle.picture.specs.Document.{Content, ordered_of}
+use Rattle.picture.specs.Palette.{IsPalette}
+use Rattle.picture.specs.Picture.{IsPicture}
+use Rattle.ppm_text.specs.declared.fault.PpmFault.{PpmFault}
+use Rattle.ppm_text.specs.Ppm.{ppm_of}
+use Rattle.ppm_text.specs.RoundTrip as pictures
+use Rattle.ppm_text.specs.Text.{ppm_text}
+use Rattle.certificate.specs.declared.fault.CertFault.{CertFault}
+use Rattle.certificate.specs.Cert.{Certificate, IsCert}
+use Rattle.certificate.specs.Text.{cert_of}
+use Rattle.certificate.specs.Writing as certificates
+use Rattle.edits.specs.Design.{Design, design_of}
+use Rattle.edits.specs.History.{History}
+use Rattle.live_audit.specs.Bench.{Seen}
+use Rattle.live_audit.specs.Certify.{Certifies, NamesMarks}
+use Rattle.session.specs.Session.{certified_text, content}
+use Rattle.answers.specs.Check.{IsCheck, IsCheckOf, accepted_text}
+use Rattle.published.specs.Laws.{AreAccepted, ArePublished, PairsAreAccepted, background_in}
+use Rattle.published.specs.Solution.{IsSolved, PublishedAreSolved}
+use Rattle.published.proofs.SolutionLemmas.{solved_pair}
+
+-- the document without its givens
+abbrev ungiven : Design → Content
+ungiven d = record { colours = d.colours; rows = d.rows; givens = no_cells }
+
+-- the pair of a design whose palette and picture are right
+pair : ((d : Content) → pictures.IsUngiven d → pictures.IsReadAgain d) → ((cert : Certificate) → IsCert cert → certificates.IsReadAgain cert) → (d : Design) (picture cert : List ℕ) (found : Certificate) → IsPalette d.colours → IsPicture d.rows
+    → picture ≡ ppm_text (content d) → cert ≡ certificates.cert_text found → Certifies d (Some found) → AreAccepted d picture cert × IsSolved d picture cert
+pair seen read d picture cert found palette is p t c =
+    let of = c.0 in
+    let file : ppm_of picture (Some (background_in d)) ≡ Ok (ordered_of (ungiven d)) =
+    ap (λ (bytes : List ℕ). ppm_of bytes (Some (background_in d))) p ∙ seen (ungiven d) (record { palette = palette; picture = is; givens = refl }) in
+    let again : cert_of cert ≡ Ok found = ap cert_of t ∙ read found of.is_cert in
+    let shown : IsCheck (Ok (ordered_of (ungiven d))) (Ok found) (Ok (accepted_text found.givens)) = (of.accepted, refl) in
+    let P : Result Content PpmFault → Type 0 = λ r. IsCheck r (Ok found) (Ok (accepted_text found.givens)) in
+    let Q : Result Certificate CertFault → Type 0 = λ r. IsCheck (ppm_of picture (Some (background_in d))) r (Ok (accepted_text found.givens)) in
+    let check : IsCheckOf picture (Some (background_in d)) cert (Ok (accepted_text found.givens)) = subst Q (sym again) (subst P (sym file) shown) in
+    let marks : NamesMarks d found.givens = record { in_order = of.givens.in_order; named = of.givens.named } in
+    let accepted : AreAccepted d picture cert = record {
+      found = found;
+      givens = marks;
+      check = check;
+      proof = record { document = ordered_of (ungiven d); certificate = found; reads_file = file; reads_cert = again; is_proof = of.proof };
+      no_other = c.1;
+    } in
+    (accepted, solved_pair d picture cert found file again check of marks)
+
+-- where something was found, it is a certificate
+certified : ((d : Content) → pictures.IsUngiven d → pictures.IsReadAgain d) → ((cert : Certificate) → IsCert cert → certificates.IsReadAgain cert) → (d : Design) (picture cert : List ℕ) (found : Option Certificate) → IsPalette d.colours → IsPicture d.rows
+    → picture ≡ ppm_text (content d) → cert ≡ certified_text found → Certifies d found → (cert ≡ codes "ambiguous\n" → ⊥) → AreAccepted d picture cert × IsSolved d picture cert
+certified seen read d picture cert None palette is p t c not = absurd (not t)
+certified seen read d picture cert (Some found) palette is p t c not = pair seen read d picture cert found palette is p t c
+
+both : ((d : Content) → pictures.IsUngiven d → pictures.IsReadAgain d) → ((cert : Certificate) → IsCert cert → certificates.IsReadAgain cert) → (s : Seen) (document : Document) → design_of document ≡ s.history.document → IsPalette document.palette → IsPicture document.picture
+    → (picture cert : List ℕ) → ArePublished s picture cert → AreAccepted s.history.document picture cert × IsSolved s.history.document picture cert
+both seen read s document e palette is picture cert p =
+    let d = s.history.document in
+    let colours : IsPalette d.colours = subst (λ (x : Design). IsPalette x.colours) e palette in
+    let rows : IsPicture d.rows = subst (λ (x : Design). IsPicture x.rows) e is in
+    let shown : picture ≡ ppm_text (content d) = p.writes.0 ∙ ap (λ (h : History). ppm_text (content h.document)) p.same_picture in
+    let c = p.certifies in
+    let right : Certifies d c.0 = subst (λ (h : History). Certifies h.document c.0) p.same_cert c.1.0 in
+    certified seen read d picture cert c.0 colours rows shown c.1.1.0 right p.not_ambiguous
+
+pub accepted : ((d : Content) → pictures.IsUngiven d → pictures.IsReadAgain d) → ((cert : Certificate) → IsCert cert → certificates.IsReadAgain cert) → (s : Seen) (document : Document) → design_of document ≡ s.history.document → IsPalette document.palette → IsPicture document.picture → PairsAreAccepted s
+accepted seen read s document e palette is picture cert p = (both seen read s document e palette is picture cert p).0
+
+pub made : ((d : Content) → pictures.IsUngiven d → pictures.IsReadAgain d) → ((cert : Certificate) → IsCert cert → certificates.IsReadAgain cert) → (s : Seen) (document : Document) → design_of document ≡ s.history.document → IsPalette document.palette → IsPicture document.picture → PublishedAreSolved s
+made seen read s document e palette is picture cert p = (both seen read s document e palette is picture cert p).1

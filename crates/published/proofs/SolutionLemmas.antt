@@ -1,0 +1,113 @@
+-- A check's line without givens, and what is published where nothing is given.
+use Rattle.std.proofs.Common.{◌≡◌, ℕ, ◌+◌, ◌-◌, ◌<◌, ◌⊎◌, List, [], ◌∷◌, ◌++◌, length, codes, decimal, Option, Some, None, Ok, Result, refl, sym, ap, subst, ◌∙◌, arith, inl, inr, length-append}
+use Rattle.std.proofs.lemmas.Bool.{cases_eq}
+use Rattle.picture.specs.declared.rgb.Rgb.{Rgb}
+use Rattle.picture.specs.CellSet.{no_cells}
+use Rattle.picture.specs.Document.{Content, ordered_of}
+use Rattle.clues.specs.ClueBook.{clues_of}
+use Rattle.clues.specs.Solution.{IsOnlySolution, Solves}
+use Rattle.ppm_text.specs.declared.fault.PpmFault.{PpmFault}
+use Rattle.ppm_text.specs.Ppm.{ppm_of}
+use Rattle.second_search.specs.declared.tree_line.CellNumber.{CellNumber}
+use Rattle.certificate.specs.declared.fault.CertFault.{CertFault}
+use Rattle.certificate.specs.Cert.{Certificate}
+use Rattle.certificate.specs.Puzzle.{HasCellNumbers, IsAmong, IsNamed, IsUnique, numbered}
+use Rattle.certificate.specs.Text.{cert_of}
+use Rattle.edits.specs.Design.{Design}
+use Rattle.live_audit.specs.Bench.{IsGiven, Seen}
+use Rattle.live_audit.specs.Certify.{IsCertificateFor, NamesMarks, ordered}
+use Rattle.answers.specs.Check.{IsCheck, IsCheckOf, IsOnlyPicture, accepted_text, givens_text}
+use Rattle.published.specs.Laws.{AreAccepted, background_in}
+use Rattle.published.specs.Solution.{GivesNothing, HasOneSolution, IsSolved, PlainLinesAreOneSolution, nowhere, plain_line}
+
+-- ---- the line
+
+-- the line of a check is the plain one only where the certificate gives no cell
+no_givens : (givens : List CellNumber) → plain_line ≡ accepted_text givens → givens ≡ []
+no_givens [] e = refl
+no_givens (cell ∷ cells) e =
+    let front = codes ", givens " in
+    let number = decimal (length (cell ∷ cells)) in
+    let all = ap (λ (t : List ℕ). length t) e in
+    let head = length-append (codes "certificate accepted") (givens_text (cell ∷ cells) ++ 10 ∷ []) in
+    let tail = length-append (givens_text (cell ∷ cells)) (10 ∷ []) in
+    let words = length-append front number in
+    let a : length plain_line ≡ 21 = refl in
+    let b : length (codes "certificate accepted") ≡ 20 = refl in
+    let c : length front ≡ 9 = refl in
+    absurd (omega arith)
+
+solved : (document : Content) (givens : List CellNumber) → givens ≡ [] → IsUnique document.rows givens → IsOnlySolution (clues_of document.rows) nowhere document.rows
+solved document givens e unique = let P : List CellNumber → Type 0 = λ x. IsUnique document.rows x in subst P e unique
+
+pub plain_lines : PlainLinesAreOneSolution
+plain_lines file background cert only check =
+    let P : Result Content PpmFault → Type 0 = λ r. IsCheck r (cert_of cert) (Ok plain_line) in
+    let Q : Result Certificate CertFault → Type 0 = λ r. IsCheck (Ok only.document) r (Ok plain_line) in
+    let known : IsCheck (Ok only.document) (Ok only.certificate) (Ok plain_line) = subst Q only.reads_cert (subst P only.reads_file check) in
+    record {
+      document = only.document;
+      reads_file = only.reads_file;
+      one = solved only.document only.certificate.givens (no_givens only.certificate.givens known.1) only.is_unique;
+    }
+
+-- ---- what is published
+
+same_row : (a b : List ℕ) → (a ≡ b) ⊎ (a ≡ b → ⊥)
+same_row [] [] = inl refl
+same_row [] (y ∷ ys) = inr (λ e. absurd cc)
+same_row (x ∷ xs) [] = inr (λ e. absurd cc)
+same_row (x ∷ xs) (y ∷ ys) = elim (cases_eq x y) [
+  | inr d ↦ inr (λ e. d cc)
+  | inl e ↦ elim (same_row xs ys) [ inr d ↦ inr (λ f. d cc) | inl f ↦ inl cc ]
+]
+
+same_grid : (a b : List (List ℕ)) → (a ≡ b) ⊎ (a ≡ b → ⊥)
+same_grid [] [] = inl refl
+same_grid [] (y ∷ ys) = inr (λ e. absurd cc)
+same_grid (x ∷ xs) [] = inr (λ e. absurd cc)
+same_grid (x ∷ xs) (y ∷ ys) = elim (same_row x y) [
+  | inr d ↦ inr (λ e. d cc)
+  | inl e ↦ elim (same_grid xs ys) [ inr d ↦ inr (λ f. d cc) | inl f ↦ inl cc ]
+]
+
+-- a certificate for a document says that its picture is the only one
+pub is_unique : (d : Design) (cert : Certificate) → IsCertificateFor (ordered d) cert → IsUnique (ordered d).rows cert.givens
+is_unique d cert of other s = elim (same_grid other (ordered d).rows) [
+  | inl e ↦ e
+  | inr n ↦ absurd (of.no_other other (record {
+    solves = record {
+      is_picture = s.is_picture;
+      rows = s.rows;
+      columns = s.columns;
+      has_clues = s.has_clues;
+      keeps_givens = λ row col given. s.keeps_givens row col ((of.givens.named row col).0 given);
+    };
+    differs = n;
+  }))
+]
+
+-- cells of a picture are none where no place is among them
+none_named : (picture : List (List ℕ)) (cells : List CellNumber) → HasCellNumbers picture cells → ((row col : ℕ) → IsAmong (numbered row col) cells → ⊥) → cells ≡ []
+none_named picture [] has none = refl
+none_named picture (cell ∷ cells) has none =
+    let row = cell.row - 1 in
+    let col = cell.col - 1 in
+    let at : CellNumber = record { row = row + 1; col = col + 1 } in
+    let r : row + 1 ≡ cell.row = (let a = has.0.0 in omega arith) in
+    let c : col + 1 ≡ cell.col = (let a = has.0.2 in omega arith) in
+    let e : at ≡ cell =
+    ap (λ (x : ℕ). let y : CellNumber = record { row = x; col = col + 1 } in y) r
+    ∙ ap (λ (x : ℕ). let y : CellNumber = record { row = cell.row; col = x } in y) c in
+    absurd (none row col (inl e))
+
+pub solved_pair : (d : Design) (picture cert : List ℕ) (found : Certificate) → ppm_of picture (Some (background_in d)) ≡ Ok (ordered_of (record { colours = d.colours; rows = d.rows; givens = no_cells })) → cert_of cert ≡ Ok found → IsCheckOf picture (Some (background_in d)) cert (Ok (accepted_text found.givens)) → IsCertificateFor (ordered d) found → NamesMarks d found.givens → IsSolved d picture cert
+solved_pair d picture cert found file again check of marks =
+    let document = ordered_of (record { colours = d.colours; rows = d.rows; givens = no_cells }) in
+    let only : IsOnlyPicture picture (Some (background_in d)) cert = record { document = document; certificate = found; reads_file = file; reads_cert = again; is_unique = is_unique d found of } in
+    let none : GivesNothing d → found.givens ≡ [] = λ nothing. none_named document.rows found.givens of.proof.inside (λ row col named. nothing row col ((marks.named row col).1 named)) in
+    let plain : GivesNothing d → IsCheckOf picture (Some (background_in d)) cert (Ok plain_line) = λ nothing.
+    let P : List CellNumber → Type 0 = λ x. IsCheckOf picture (Some (background_in d)) cert (Ok (accepted_text x)) in
+    subst P (none nothing) check
+    in
+    record { only = only; plain = plain; one = λ nothing. plain_lines picture (Some (background_in d)) cert only (plain nothing) }

@@ -1,0 +1,32 @@
+//! Laws of what is published and checked. A function only looks at most, and its contract is the law.
+
+ghost use Rattle.published.specs.Laws.{PairsAreAccepted};
+ghost use Rattle.published.specs.Solution.{PlainLinesAreOneSolution, PublishedAreSolved};
+
+use certificate::laws::round_trip as certificates_are_read;
+use line_settle::LineEngine;
+use live_audit::Bench;
+use ppm_text::round_trip as pictures_are_read;
+use propagate::Agenda;
+
+/// What a designer prints is what a site accepts. For a bench in any state: the bytes that `certify` prints and the bytes that
+/// `write ppm` prints are, with the document's background, a pair that `run_check` accepts, with the line that it prints. Where
+/// `certify` prints `ambiguous`, there is no certificate.
+///
+/// The picture is the only one with its clues and its colours in the certificate's givens. Where the document has no given, the
+/// line is `certificate accepted` alone, and the published picture's clues have one solution.
+pub fn published_pairs_are_accepted<E: LineEngine + Drop, A: Agenda + Drop>(bench: &Bench<E, A>)
+    ensures accepted { PairsAreAccepted bench.now }
+    ensures made { PublishedAreSolved bench.now }
+{
+    certificates_are_read();
+    pictures_are_read();
+    let document = bench.document();
+    let _ = (document.palette.len(), document.picture.height());
+}
+
+#[tactic(auto, using(crate::proofs::SolutionLemmas::plain_lines))]
+/// Where a check answers Ok, and its line is `certificate accepted` alone, the picture's clues have one solution.
+pub fn plain_lines_are_one_solution()
+    ensures { PlainLinesAreOneSolution }
+{}

@@ -1,0 +1,4 @@
+pub mod ReportLemmas
+pub mod RoomLemmas
+pub mod ShownLemmas
+pub mod TextLemmas

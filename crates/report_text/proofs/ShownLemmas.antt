@@ -1,0 +1,94 @@
+-- Texts of grids, row by row and cell by cell, and the colours of a mask.
+use Rattle.std.proofs.Common.{◌≡◌, ℕ, zero, suc, ◌+◌, ◌*◌, ◌^◌, ◌<◌, ◌≤◌, Bool, true, false, cond, not, List, [], ◌∷◌, ◌++◌, length, get_or, take, map, append_assoc, append-nil, refl, sym, ap, ◌∙◌, arith}
+use Rattle.std.specs.Prelude.{count_ones, filter, ◌==◌}
+use Rattle.std.specs.Int.{bit_at, trailing_zeros, w16}
+use Rattle.std.specs.List.{flat_map, range_with_len}
+use Rattle.std.proofs.lemmas.Grind.{flat_map-append}
+use Rattle.std.proofs.lemmas.List.{map-append, take_all, take_more}
+use Rattle.std.proofs.lemmas.List.Elements.{filter-append}
+use Rattle.std.proofs.Math.Nat.{suc-mul}
+use Rattle.std.proofs.lemmas.Nat.{ones_le_self}
+use Rattle.std.proofs.lemmas.Nat.Bits.{bit_at-trailing_zeros}
+use Rattle.report_text.specs.ReasonText.{letters_among}
+use Rattle.report_text.specs.Shown.{letter, row_text}
+
+-- nothing was pushed yet
+pub none_pushed : (old nothing : List ℕ) → nothing ≡ [] → old ≡ old ++ nothing
+none_pushed old nothing none = sym (ap (λ (text : List ℕ). old ++ text) none ∙ append-nil old)
+
+-- one piece more
+pub pushed : (old now new front piece all : List ℕ) → now ≡ old ++ front → new ≡ now ++ piece → all ≡ front ++ piece → new ≡ old ++ all
+pushed old now new front piece all so more one = more ∙ ap (λ (text : List ℕ). text ++ piece) so ∙ append_assoc old front piece ∙ ap (λ (text : List ℕ). old ++ text) (sym one)
+
+-- as many pieces as there are
+pub all_pushed : (pieces : ℕ → List ℕ) (i count : ℕ) (old now : List ℕ) → i ≡ count → now ≡ old ++ pieces i → now ≡ old ++ pieces count
+all_pushed pieces i count old now is so = so ∙ ap (λ (n : ℕ). old ++ pieces n) is
+
+-- one cell more of a row
+pub cell_pushed : (shown : ℕ → ℕ) (row : List ℕ) (i : ℕ) (old now new : List ℕ) (x : ℕ) → i < length row
+    → now ≡ old ++ map shown (take i row) → x ≡ shown (get_or row i 0) → new ≡ now ++ x ∷ [] → new ≡ old ++ map shown (take (i + 1) row)
+cell_pushed shown row i old now new x lt so is more =
+    let front = map shown (take i row) in
+    pushed old now new front (x ∷ []) (map shown (take (i + 1) row)) so more
+    (ap (map shown) (take_more row i 0 lt) ∙ map-append shown (take i row) (get_or row i 0 ∷ []) ∙ ap (λ (y : ℕ). front ++ y ∷ []) (sym is))
+
+-- the whole row, and its end
+pub row_ended : (shown : ℕ → ℕ) (row : List ℕ) (i : ℕ) (old now new : List ℕ) → length row ≤ i
+    → now ≡ old ++ map shown (take i row) → new ≡ now ++ 10 ∷ [] → new ≡ old ++ row_text shown row
+row_ended shown row i old now new le so more =
+    pushed old now new (map shown row) (10 ∷ []) (row_text shown row) (so ∙ ap (λ (cells : List ℕ). old ++ map shown cells) (take_all i row le)) more refl
+
+-- one more of what is shown piece by piece
+pub each_pushed : {X : Type 0} (shown : X → List ℕ) (xs : List X) (i : ℕ) (default : X) (old now new : List ℕ) → i < length xs
+    → now ≡ old ++ flat_map shown (take i xs) → new ≡ now ++ shown (get_or xs i default) → new ≡ old ++ flat_map shown (take (i + 1) xs)
+each_pushed shown xs i default old now new lt so more =
+    let front = flat_map shown (take i xs) in
+    let piece = shown (get_or xs i default) in
+    pushed old now new front piece (flat_map shown (take (i + 1) xs)) so more
+    (ap (flat_map shown) (take_more xs i default lt) ∙ flat_map-append shown (take i xs) (get_or xs i default ∷ []) ∙ ap (λ (text : List ℕ). front ++ text) (append-nil piece))
+
+-- and all of it
+pub each_ended : {X : Type 0} (shown : X → List ℕ) (xs : List X) (i : ℕ) (old now : List ℕ) → length xs ≤ i
+    → now ≡ old ++ flat_map shown (take i xs) → now ≡ old ++ flat_map shown xs
+each_ended shown xs i old now le so = so ∙ ap (λ front. old ++ flat_map shown front) (take_all i xs le)
+
+-- the room of one row more
+pub row_room : (i width old now new : ℕ) → now ≤ old + i * width → new ≤ now + width → new ≤ old + (i + 1) * width
+row_room i width old now new so more =
+    let suc_i : i + 1 ≡ suc i = omega arith in
+    rw suc_i (omega (arith, suc-mul i width))
+
+-- one bit is one of the sixteen
+pub lowest_of_one : (mask : ℕ) → mask < 2 ^ 16 → count_ones mask ≡ 1 → trailing_zeros w16 mask < 16
+lowest_of_one zero fits one = absurd (omega (arith, ones_le_self 0, one))
+lowest_of_one (suc mask) fits one = (bit_at-trailing_zeros w16 (suc mask) (omega arith) fits).0
+
+-- ---- the colours that a premise leaves
+
+range_more : (a n : ℕ) → range_with_len a (suc n) ≡ range_with_len a n ++ (a + n) ∷ []
+range_more a zero = ap (λ (k : ℕ). k ∷ []) (omega arith)
+range_more a (suc n) = ap (λ (ks : List ℕ). a ∷ ks) (range_more (a + 1) n ∙ ap (λ (k : ℕ). range_with_len (a + 1) n ++ k ∷ []) (omega arith))
+
+one_letter : (k : ℕ) (s t : Bool) → s ≡ t → map letter (cond s (k ∷ []) []) ≡ cond t (letter k ∷ []) []
+one_letter k s true is = ap (λ t. map letter (cond t (k ∷ []) [])) is
+one_letter k s false is = ap (λ t. map letter (cond t (k ∷ []) [])) is
+
+among_append : (excluded : ℕ) (front : List ℕ) (k : ℕ) (t : Bool) → not (bit_at excluded k == 1) ≡ t → letters_among excluded (front ++ k ∷ []) ≡ letters_among excluded front ++ cond t (letter k ∷ []) []
+unfolding letters_among
+among_append excluded front k t is =
+    let p : ℕ → Bool = λ i. not (bit_at excluded i == 1) in
+    ap (map letter) (filter-append p front (k ∷ [])) ∙ map-append letter (filter p front) (filter p (k ∷ []))
+    ∙ ap (λ (rest : List ℕ). map letter (filter p front) ++ rest) (one_letter k (p k) t is)
+
+pub letters_none : (excluded : ℕ) → letters_among excluded (range_with_len 0 0) ≡ []
+unfolding letters_among
+letters_none excluded = refl
+
+pub next_range : (k : ℕ) → range_with_len 0 (k + 1) ≡ range_with_len 0 k ++ k ∷ []
+next_range k = let one : k + 1 ≡ suc k = omega arith in ap (range_with_len 0) one ∙ range_more 0 k ∙ ap (λ (j : ℕ). range_with_len 0 k ++ j ∷ []) (omega arith)
+
+pub letters_taken : (excluded k : ℕ) → (bit_at excluded k == 1) ≡ false → letters_among excluded (range_with_len 0 (k + 1)) ≡ letters_among excluded (range_with_len 0 k) ++ letter k ∷ []
+letters_taken excluded k is = ap (letters_among excluded) (next_range k) ∙ among_append excluded (range_with_len 0 k) k true (ap not is)
+
+pub letters_passed : (excluded k : ℕ) → (bit_at excluded k == 1) ≡ true → letters_among excluded (range_with_len 0 (k + 1)) ≡ letters_among excluded (range_with_len 0 k)
+letters_passed excluded k is = ap (letters_among excluded) (next_range k) ∙ among_append excluded (range_with_len 0 k) k false (ap not is) ∙ append-nil (letters_among excluded (range_with_len 0 k))

@@ -1,0 +1,7 @@
+use Rattle.std.proofs.Common.{◌≡◌, ◌++◌, take, map}
+use Rattle.picture.specs.Rows.{row_at}
+use Rattle.report_text.specs.Shown.{mask_letter}
+use Rattle.report_text.proofs.shown.push_masks.Given as goal
+
+abbrev pub invariant-loop-col : goal.invariant-loop-col
+invariant-loop-col l = l.text.items ≡ l.fn.text.items ++ map mask_letter (take l.col (row_at l.facts l.row))

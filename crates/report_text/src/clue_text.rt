@@ -1,0 +1,145 @@
+//! Clues as text, a line for each row and column.
+
+ghost use Rattle.std.specs.Prelude.{◌≡◌, ◌≤◌, ◌+◌, ◌++◌, decimal, length, IfOk, OnOk};
+ghost use Rattle.std.specs.List.{flat_map};
+ghost use Rattle.clues.specs.Clue.{IsBlock, IsClue};
+ghost use Rattle.clues.specs.ClueBook.{clues_along};
+ghost use Rattle.report_text.specs.Room.{TakesRoom};
+ghost use Rattle.report_text.specs.ClueText.{behind, block_text, clue_text, letter_of, line_text, lines_text, clues_text, name_text};
+
+use clues::{Block, ClueBook};
+use itoa::Buffer;
+use picture::{Axis, LineId, MAX_SIDE};
+use std::alloc::{AllocError, Global};
+
+/// The clues of the rows and then of the columns, a line each, as the command `clues` shows them.
+pub fn clues_text(alloc: Global, book: &ClueBook) -> Result<Vec<u8>, AllocError>
+    ensures { IfOk result (λ text. text.items ≡ clues_text book.now) }
+{
+    let mut text = Vec::new(alloc);
+    push_clues(&mut text, book)?;
+    Ok(text)
+}
+
+// The same, behind what is there.
+pub(crate) fn push_clues(text: &mut Vec<u8>, book: &ClueBook) -> Result<(), AllocError>
+    ensures { OnOk result (text.new.items ≡ text.old.items ++ clues_text book.now) }
+{
+    push_lines(text, book, Axis::Across)?;
+    push_lines(text, book, Axis::Down)
+}
+
+// A line for each row, or for each column.
+fn push_lines(text: &mut Vec<u8>, book: &ClueBook, axis: Axis) -> Result<(), AllocError>
+    ensures { OnOk result (text.new.items
+        ≡ text.old.items ++ lines_text (letter_of axis) 1 (clues_along axis book.now)) }
+{
+    for at in 0..line_count(book, axis) {
+        let line = LineId { axis, at };
+        push_line(text, line, book.clue(line).blocks())?;
+    }
+    Ok(())
+}
+
+// A line's letter, `r` for a row and `c` for a column, and its number from 1.
+pub(crate) fn push_name(text: &mut Vec<u8>, line: LineId) -> Result<(), AllocError>
+    ensures { OnOk result (text.new.items ≡ text.old.items ++ name_text line) }
+{
+    text.push(letter_of(line.axis))?;
+    text.push(b' ')?;
+    push_number(text, usize::from(line.at) + 1)
+}
+
+// `r` for a row and `c` for a column.
+fn letter_of(axis: Axis) -> u8
+    ensures { result ≡ letter_of axis }
+{
+    match axis {
+        Axis::Across => b'r',
+        Axis::Down => b'c',
+    }
+}
+
+// How many lines the book has along an axis.
+fn line_count(book: &ClueBook, axis: Axis) -> u8
+    ensures count { result ≡ length (clues_along axis book.now) }
+    ensures fits { result ≤ MAX_SIDE }
+{
+    match axis {
+        Axis::Across => book.height(),
+        Axis::Down => book.width(),
+    }
+}
+
+#[tactic(auto, using(std::proofs::lemmas::List::append_assoc))]
+// A line's name and its clue.
+fn push_line(text: &mut Vec<u8>, line: LineId, blocks: &[Block]) -> Result<(), AllocError>
+    requires { IsClue blocks.now }
+    ensures { OnOk result (text.new.items
+        ≡ text.old.items ++ line_text (letter_of line.axis) (line.at + 1) blocks.now) }
+{
+    push_name(text, line)?;
+    text.extend_from_slice(b": ")?;
+    push_clue(text, blocks)?;
+    text.extend_from_slice(b"\n")
+}
+
+// The blocks of a clue with spaces between them, or `0`.
+fn push_clue(text: &mut Vec<u8>, blocks: &[Block]) -> Result<(), AllocError>
+    requires { IsClue blocks.now }
+    ensures { OnOk result (text.new.items ≡ text.old.items ++ clue_text blocks.now) }
+{
+    match blocks {
+        [] => text.push(b'0')?,
+        [first, others @ ..] => {
+            push_block(text, *first)?;
+            push_others(text, others)?;
+        }
+    }
+    Ok(())
+}
+
+// Each block behind a space.
+fn push_others(text: &mut Vec<u8>, blocks: &[Block]) -> Result<(), AllocError>
+    requires { IsClue blocks.now }
+    ensures { OnOk result (text.new.items ≡ text.old.items ++ flat_map behind blocks.now) }
+{
+    for block in blocks {
+        text.push(b' ')?;
+        push_block(text, *block)?;
+    }
+    Ok(())
+}
+
+// A block's length and the letter of its colour.
+fn push_block(text: &mut Vec<u8>, block: Block) -> Result<(), AllocError>
+    requires { IsBlock block }
+    ensures { OnOk result (text.new.items ≡ text.old.items ++ block_text block) }
+{
+    push_number(text, usize::from(block.len))?;
+    text.push(b'a' - 1 + block.colour)?;
+    Ok(())
+}
+
+#[tactic(auto, using(std::proofs::lemmas::Fmt::decimal_digit))]
+/// Puts a number without leading zeros behind a text. Most have one digit, and the others are kept out of their way.
+pub fn push_number(text: &mut Vec<u8>, number: usize) -> Result<(), AllocError>
+    ensures items { OnOk result (text.new.items ≡ text.old.items ++ decimal number) }
+    ensures room { TakesRoom text.old text.new (length (decimal number)) result }
+{
+    if number < 10 {
+        text.push(b'0' + number as u8)?;
+        return Ok(());
+    }
+    push_digits(text, number)
+}
+
+#[inline(never)]
+// A number of any length.
+fn push_digits(text: &mut Vec<u8>, number: usize) -> Result<(), AllocError>
+    ensures items { OnOk result (text.new.items ≡ text.old.items ++ decimal number) }
+    ensures room { TakesRoom text.old text.new (length (decimal number)) result }
+{
+    text.extend_from_slice(Buffer::new().format(number).as_bytes())?;
+    Ok(())
+}

@@ -1,0 +1,89 @@
+//! Pictures and maps as text, a line for each row.
+
+ghost use Rattle.std.specs.Prelude.{◌≡◌, ◌<◌, ◌+◌, ◌++◌, ◌==◌, length, map, OnOk};
+ghost use Rattle.std.specs.Int.{bit_at};
+ghost use Rattle.std.specs.List.{flat_map};
+ghost use Rattle.picture.specs.Rows.{row_at, width_of};
+ghost use Rattle.report_text.specs.Room.{TakesRoom, picture_room};
+ghost use Rattle.report_text.specs.Shown.{letter, map_text, mask_letter, picture_text, row_text};
+
+use line_settle::Facts;
+use picture::Picture;
+use std::alloc::AllocError;
+
+// The letter of a colour.
+pub(crate) fn letter_of(colour: u8) -> u8
+    requires { colour < 16 }
+    ensures { result ≡ letter colour }
+{
+    if colour == 0 { b'.' } else { b'a' - 1 + colour }
+}
+
+#[tactic(auto, using(crate::proofs::ShownLemmas::lowest_of_one))]
+// The letter of the colour that a mask leaves alone, or `?`.
+fn mask_letter(mask: u16) -> u8
+    ensures { result ≡ mask_letter mask }
+{
+    if mask.count_ones() == 1 {
+        letter_of(mask.trailing_zeros() as u8)
+    } else {
+        b'?'
+    }
+}
+
+// Whether a mask has a colour.
+pub(crate) fn has_colour(mask: u16, colour: u8) -> bool
+    requires { colour < 16 }
+    ensures { result ≡ (bit_at mask colour == 1) }
+{
+    (mask >> colour) & 1 == 1
+}
+
+/// Puts the rows of a picture behind a text, a letter for each cell and a line feed behind each row. Where the room is there
+/// it takes no memory.
+pub fn push_picture(text: &mut Vec<u8>, picture: &Picture) -> Result<(), AllocError>
+    ensures items { OnOk result (text.new.items ≡ text.old.items ++ picture_text picture.now) }
+    ensures room { TakesRoom text.old text.new (picture_room picture.now) result }
+{
+    for row in 0..picture.height() {
+        push_row(text, picture, row)?;
+    }
+    Ok(())
+}
+
+// A row of a picture.
+fn push_row(text: &mut Vec<u8>, picture: &Picture, row: u8) -> Result<(), AllocError>
+    requires { row < length picture.now }
+    ensures items { OnOk result
+        (text.new.items ≡ text.old.items ++ row_text letter (row_at picture.now row)) }
+    ensures room { TakesRoom text.old text.new (width_of picture.now + 1) result }
+{
+    for col in 0..picture.width() {
+        text.push(letter_of(picture.cell(row, col)))?;
+    }
+    text.push(b'\n')?;
+    Ok(())
+}
+
+/// Puts the rows of a map behind a text: the letter of the one colour that is left in a cell, or `?`.
+pub fn push_map(text: &mut Vec<u8>, facts: &Facts) -> Result<(), AllocError>
+    ensures { OnOk result (text.new.items ≡ text.old.items ++ map_text facts.now) }
+{
+    for row in 0..facts.height() {
+        push_masks(text, facts, row)?;
+    }
+    Ok(())
+}
+
+// A row of a map.
+fn push_masks(text: &mut Vec<u8>, facts: &Facts, row: u8) -> Result<(), AllocError>
+    requires { row < length facts.now }
+    ensures { OnOk result (text.new.items
+        ≡ text.old.items ++ row_text mask_letter (row_at facts.now row)) }
+{
+    for col in 0..facts.width() {
+        text.push(mask_letter(facts.left(row, col)))?;
+    }
+    text.push(b'\n')?;
+    Ok(())
+}

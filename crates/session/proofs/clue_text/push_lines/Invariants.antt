@@ -1,7 +1,0 @@
-use Rattle.std.proofs.Common.{◌≡◌, ◌++◌, take}
-use Rattle.clues.specs.ClueBook.{clues_along}
-use Rattle.session.specs.ClueText.{letter_of, lines_text}
-use Rattle.session.proofs.clue_text.push_lines.Given as goal
-
-abbrev pub invariant-loop-at : goal.invariant-loop-at
-invariant-loop-at l = l.text.items ≡ l.initial.text.items ++ lines_text (letter_of l.axis) 1 (take l.at (clues_along l.axis l.book))

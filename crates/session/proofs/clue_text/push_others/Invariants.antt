@@ -1,7 +1,0 @@
-use Rattle.std.proofs.Common.{◌≡◌, ◌++◌, take}
-use Rattle.std.specs.List.{flat_map}
-use Rattle.session.specs.ClueText.{behind}
-use Rattle.session.proofs.clue_text.push_others.Given as goal
-
-abbrev pub invariant-loop-block : goal.invariant-loop-block
-invariant-loop-block l = l.text.items ≡ l.initial.text.items ++ flat_map behind (take l.block-index l.blocks)

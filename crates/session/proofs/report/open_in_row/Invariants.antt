@@ -1,7 +1,0 @@
-use Rattle.std.proofs.Common.{◌≡◌, ◌≤◌, take}
-use Rattle.picture.specs.Rows.{row_at}
-use Rattle.session.specs.Report.{open_in_row}
-use Rattle.session.proofs.report.open_in_row.Given as goal
-
-abbrev pub invariant-loop-col : goal.invariant-loop-col
-invariant-loop-col l = record { so_far : l.count ≡ open_in_row (take l.col (row_at l.map l.row)); small : l.count ≤ l.col }

@@ -1,7 +1,0 @@
-use Rattle.std.proofs.Common.{◌≡◌, ◌++◌, take, map}
-use Rattle.picture.specs.Rows.{row_at}
-use Rattle.session.specs.Shown.{mask_letter}
-use Rattle.session.proofs.shown.push_masks.Given as goal
-
-abbrev pub invariant-loop-col : goal.invariant-loop-col
-invariant-loop-col l = l.text.items ≡ l.fn.text.items ++ map mask_letter (take l.col (row_at l.facts l.row))
