@@ -14,9 +14,9 @@ use Rattle.certificate.specs.FirstFault.{CertFirstFault}
 use Rattle.certificate.specs.Puzzle.{IsUnique}
 use Rattle.certificate.specs.Text.{cert_of}
 use Rattle.certificate.specs.Tree.{IsProof}
-use Rattle.answers.specs.declared.fault.ProgramFault.{ProgramFault}
-use Rattle.answers.specs.declared.fault.ProgramFault.TheVariants.{Memory, Write}
-use Rattle.answers.specs.Faults.{cert_fault_of, fault_of}
+use Rattle.program_options.specs.declared.fault.ProgramFault.{ProgramFault}
+use Rattle.program_options.specs.declared.fault.ProgramFault.TheVariants.{Memory, Write}
+use Rattle.program_options.specs.Faults.{cert_fault_of, fault_of}
 
 -- how many cells are given, where there are some
 abbrev pub givens_text : List CellNumber → List ℕ

@@ -12,11 +12,11 @@ use Rattle.non_text.specs.declared.non_puzzle.NonPuzzle.{NonPuzzle}
 use Rattle.non_text.specs.Puzzle.{non_of}
 use Rattle.second_search.specs.Other.{FindsFirst}
 use Rattle.edits.specs.Design.{Design, design, design_of, marks_of}
-use Rattle.answers.specs.declared.fault.ProgramFault.{ProgramFault}
-use Rattle.answers.specs.declared.fault.ProgramFault.TheVariants.{Memory, NoPicture}
-use Rattle.answers.specs.declared.options.Options.{Options}
-use Rattle.answers.specs.Background.{rgb}
-use Rattle.answers.specs.Faults.{non_fault_of}
+use Rattle.program_options.specs.declared.fault.ProgramFault.{ProgramFault}
+use Rattle.program_options.specs.declared.fault.ProgramFault.TheVariants.{Memory, NoPicture}
+use Rattle.program_options.specs.declared.options.Options.{Options}
+use Rattle.program_options.specs.Background.{rgb}
+use Rattle.program_options.specs.Faults.{non_fault_of}
 use Rattle.answers.specs.Run.{after_edit}
 
 -- white, and black as colour 1

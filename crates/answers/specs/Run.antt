@@ -14,9 +14,9 @@ use Rattle.edits.specs.declared.fault.EditFault.{EditFault}
 use Rattle.edits.specs.Design.{Design, design, marks_of}
 use Rattle.edits.specs.Edit.{edited}
 use Rattle.edits.specs.Fault.{edit_fault}
-use Rattle.answers.specs.declared.fault.ProgramFault.{ProgramFault}
-use Rattle.answers.specs.declared.fault.ProgramFault.TheVariants.{Edit as Refused, Memory, Write}
-use Rattle.answers.specs.Faults.{fault_of}
+use Rattle.program_options.specs.declared.fault.ProgramFault.{ProgramFault}
+use Rattle.program_options.specs.declared.fault.ProgramFault.TheVariants.{Edit as Refused, Memory, Write}
+use Rattle.program_options.specs.Faults.{fault_of}
 use Rattle.report_text.specs.ClueText.{clues_text}
 
 -- the document read, cell by cell

@@ -1,18 +1,11 @@
 -- A bench that starts with a file.
-use Rattle.std.specs.Prelude.{◌≡◌, ◌⊎◌, ◌<◌, ◌≤◌, ℕ, true, List, None, Result, Ok, Err}
-use Rattle.edits.specs.declared.studio.TheConstants.{MAX_DEPTH}
+use Rattle.std.specs.Prelude.{◌≡◌, ◌⊎◌, ℕ, List, Result, Ok, Err}
 use Rattle.edits.specs.Design.{Design}
 use Rattle.live_audit.specs.Bench.{Begins, IsAudited, Seen}
-use Rattle.answers.specs.declared.fault.ProgramFault.{ProgramFault}
-use Rattle.answers.specs.declared.fault.ProgramFault.TheVariants.{Memory}
-use Rattle.answers.specs.declared.options.Options.{Options}
+use Rattle.program_options.specs.declared.fault.ProgramFault.{ProgramFault}
+use Rattle.program_options.specs.declared.fault.ProgramFault.TheVariants.{Memory}
+use Rattle.program_options.specs.declared.options.Options.{Options}
 use Rattle.answers.specs.Open.{OpensFile}
-
--- the history is one that a bench can keep, and a background is given with a P3 text alone
-pub record IsLawful (options : Options) : Type 0 where
-  pub some : 0 < options.history
-  pub fits : options.history ≤ MAX_DEPTH
-  pub background : options.non ≡ true → options.background ≡ None
 
 -- The bench has the document that the file is opened as, and an empty history of that depth.
 pub record IsStarted (file : List ℕ) (options : Options) (fresh : Seen) : Type 0 where

@@ -5,10 +5,10 @@ ghost use Rattle.picture.specs.Reading.{Gives};
 ghost use Rattle.certificate.specs.FirstFault.{AnswersFirst, CertFirstFault};
 ghost use Rattle.certificate.specs.Puzzle.{IsUnique};
 ghost use Rattle.certificate.specs.Tree.{IsProof};
-ghost use Rattle.answers.specs.declared.fault.ProgramFault.TheVariants.{Memory, Write as Unwritten};
+ghost use Rattle.program_options.specs.declared.fault.ProgramFault.TheVariants.{Memory, Write as Unwritten};
 ghost use Rattle.answers.specs.Check.{Answers, IsCheckOf, IsOnlyPicture, IsProofOf, WritesBy, accepted_text, givens_text};
 
-use crate::fault::ProgramFault;
+use program_options::ProgramFault;
 use certificate::{Cert, CertFault, check_cert, read_cert};
 use itoa::Buffer;
 use line_settle::MaskEngine;

@@ -2,18 +2,11 @@
 //! bench that starts with it.
 #![tactic(auto)]
 
-mod background;
 mod check;
-mod fault;
 mod open;
-mod options;
 mod run;
-mod version;
 
-pub use background::background_in;
 pub use check::run_check;
-pub use fault::ProgramFault;
 pub use open::start_bench;
-pub use options::Options;
+pub use program_options::{Options, ProgramFault, VERSION, background_in};
 pub use run::run_clues;
-pub use version::VERSION;

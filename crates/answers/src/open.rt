@@ -3,12 +3,13 @@
 ghost use Rattle.std.specs.Prelude.{◌≡◌, ◌≤◌, ℕ, IfErr, IfOk};
 ghost use Rattle.picture.specs.Rows.{cell_at};
 ghost use Rattle.edits.specs.Design.{design_of};
-ghost use Rattle.answers.specs.declared.fault.ProgramFault.TheVariants.{Memory};
+ghost use Rattle.program_options.specs.declared.fault.ProgramFault.TheVariants.{Memory};
 ghost use Rattle.answers.specs.Open.{FindsPicture, Opened, OpensFile, OpensNon, black_on_white, two_colours};
-ghost use Rattle.answers.specs.Start.{IsLawful, Starts};
+ghost use Rattle.answers.specs.Start.{Starts};
+ghost use Rattle.program_options.specs.Options.{IsLawful};
 
-use crate::fault::ProgramFault;
-use crate::options::Options;
+use program_options::ProgramFault;
+use program_options::Options;
 use clues::ClueBook;
 use line_settle::MaskEngine;
 use live_audit::Bench;

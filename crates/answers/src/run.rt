@@ -7,7 +7,7 @@ ghost use Rattle.edits.specs.Edit.{edited};
 ghost use Rattle.edits.specs.Fault.{edit_fault};
 ghost use Rattle.answers.specs.Run.{after_edit, edited_by, shown, shown_for, Writes};
 
-use crate::fault::ProgramFault;
+use program_options::ProgramFault;
 use clues::ClueBook;
 use edits::{Edit, Entry};
 use picture::{Document, send};

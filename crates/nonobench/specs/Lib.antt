@@ -1,4 +1,2 @@
 pub mod Ending
 pub mod Work
-pub mod Program
-pub mod Words

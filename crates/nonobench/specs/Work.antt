@@ -4,10 +4,10 @@ use Rattle.std.specs.Io.KnownBytes.{Keeps}
 use Rattle.live_audit.specs.Bench.{Seen}
 use Rattle.command_text.specs.declared.session_fault.SessionFault.{SessionFault}
 use Rattle.session.specs.Session.{Runs}
-use Rattle.answers.specs.declared.fault.ProgramFault.{ProgramFault}
-use Rattle.answers.specs.declared.fault.ProgramFault.TheVariants.{Memory}
-use Rattle.answers.specs.declared.options.Options.{Options}
-use Rattle.answers.specs.Faults.{session_fault_of}
+use Rattle.program_options.specs.declared.fault.ProgramFault.{ProgramFault}
+use Rattle.program_options.specs.declared.fault.ProgramFault.TheVariants.{Memory}
+use Rattle.program_options.specs.declared.options.Options.{Options}
+use Rattle.program_options.specs.Faults.{session_fault_of}
 use Rattle.answers.specs.Open.{OpensFile}
 use Rattle.answers.specs.Start.{IsStarted}
 

@@ -2,7 +2,7 @@
 
 ghost use Rattle.std.specs.Prelude.{◌≡◌, ◌⊎◌, ◌<◌, ◌≤◌, length, take, IfOk, IfErr, IfSome};
 ghost use Rattle.std.specs.Io.KnownBytes.{Consumes, IsAtEnd};
-ghost use Rattle.answers.specs.declared.fault.ProgramFault.TheVariants.{Memory, TooLong, Read as Unread};
+ghost use Rattle.program_options.specs.declared.fault.ProgramFault.TheVariants.{Memory, TooLong, Read as Unread};
 
 use answers::ProgramFault;
 use std::alloc::Global;

@@ -3,20 +3,18 @@
 //! The clues and the check are calls of the crate `answers`, which other programs can make too.
 #![tactic(auto)]
 
-mod command;
 mod ending;
 mod input;
-mod words;
 mod work;
 
-ghost use Rattle.nonobench.specs.Words.{IsLawfulTask};
-ghost use Rattle.answers.specs.Start.{IsLawful};
+ghost use Rattle.command_line.specs.Words.{IsLawfulTask};
+ghost use Rattle.program_options.specs.Options.{IsLawful};
 
 use crate::ending::ending;
 use crate::input::read_input;
-use crate::words::{Task, read_words};
 use crate::work::run_work;
 pub use answers::{Options, ProgramFault, run_check, run_clues};
+use command_line::{Task, read_words};
 use picture::{Rgb, send};
 use std::process::ExitCode;
 use std::rt::{Env, Files};

@@ -1,6 +1,6 @@
 //! The work on a file: a session.
 
-ghost use Rattle.answers.specs.Start.{IsLawful};
+ghost use Rattle.program_options.specs.Options.{IsLawful};
 ghost use Rattle.nonobench.specs.Work.{Works};
 
 use answers::{Options, ProgramFault, start_bench};

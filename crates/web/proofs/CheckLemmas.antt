@@ -1,7 +1,7 @@
 -- Why a certificate was not accepted, as the host is told it.
 use Rattle.std.proofs.Common.{◌≡◌, ◌⊎◌, inl, inr, ℕ, List, Option, Result, Err}
-use Rattle.answers.specs.declared.fault.ProgramFault.{ProgramFault}
-use Rattle.answers.specs.declared.fault.ProgramFault.TheVariants.{Memory, Write}
+use Rattle.program_options.specs.declared.fault.ProgramFault.{ProgramFault}
+use Rattle.program_options.specs.declared.fault.ProgramFault.TheVariants.{Memory, Write}
 use Rattle.answers.specs.Check.{WritesBy}
 use Rattle.web.specs.Desk.{IsRefused, IsShort, Tells}
 

@@ -2,8 +2,8 @@
 use Rattle.std.specs.Prelude.{ℕ, ◌==◌, ◌||◌, ◌&&◌, Bool, List, [], ◌∷◌, Option, None, Some, is_some, nat_lt, if◌then◌else◌}
 use Rattle.std.specs.Option.{option_map}
 use Rattle.picture.specs.declared.rgb.Rgb.{Rgb}
-use Rattle.answers.specs.declared.options.Options.{Options}
-use Rattle.answers.specs.Background.{background_of}
+use Rattle.program_options.specs.declared.options.Options.{Options}
+use Rattle.program_options.specs.Background.{background_of}
 
 -- a background, none where the word is empty; and nothing where the word is no colour
 abbrev pub background_asked : List ℕ → Option (Option Rgb)

@@ -5,10 +5,10 @@ use Rattle.live_audit.specs.Bench.{Seen}
 use Rattle.command_text.specs.declared.session_fault.SessionFault.{SessionFault}
 use Rattle.command_text.specs.declared.session_fault.SessionFault.TheVariants as session
 use Rattle.session.specs.Session.{Runs}
-use Rattle.answers.specs.declared.fault.ProgramFault.{ProgramFault}
-use Rattle.answers.specs.declared.options.Options.{Options}
+use Rattle.program_options.specs.declared.fault.ProgramFault.{ProgramFault}
+use Rattle.program_options.specs.declared.options.Options.{Options}
 use Rattle.answers.specs.Check.{IsCheckOf, IsOnlyPicture}
-use Rattle.answers.specs.Faults.{fault_text, status_of}
+use Rattle.program_options.specs.Faults.{fault_text, status_of}
 use Rattle.answers.specs.Open.{OpensFile}
 use Rattle.answers.specs.Start.{IsStarted}
 use Rattle.web.specs.declared.desk.Desk.{Desk}

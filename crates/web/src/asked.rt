@@ -1,7 +1,7 @@
 //! What the calls are asked, as values.
 
 ghost use Rattle.std.specs.Prelude.{◌≡◌, IfSome};
-ghost use Rattle.answers.specs.Start.{IsLawful};
+ghost use Rattle.program_options.specs.Options.{IsLawful};
 ghost use Rattle.web.specs.Asked.{background_asked, options_asked};
 
 use answers::{Options, background_in};

@@ -1,7 +1,7 @@
 //! The calls that a host makes.
 
 ghost use Rattle.std.specs.Prelude.{◌≡◌, ◌⊎◌, ◌++◌, None, [], drop, length, take, IfSome};
-ghost use Rattle.answers.specs.declared.version.TheConstants.{VERSION};
+ghost use Rattle.program_options.specs.declared.version.TheConstants.{VERSION};
 ghost use Rattle.web.specs.Asked.{background_asked, options_asked};
 ghost use Rattle.web.specs.Desk.{Checks, Closes, IsKept, IsUnasked, Opens, Says};
 

@@ -1,9 +1,9 @@
 //! The benches that a host has opened, and the text of its last call.
 
 ghost use Rattle.std.specs.Prelude.{◌≡◌, ◌⊎◌, ◌<◌, true, [], Err, length, IfErr, IfOk, IfSome, OnErr};
-ghost use Rattle.answers.specs.declared.fault.ProgramFault.TheVariants.{Memory, Write as Unwritten};
+ghost use Rattle.program_options.specs.declared.fault.ProgramFault.TheVariants.{Memory, Write as Unwritten};
 ghost use Rattle.answers.specs.Open.{OpensFile};
-ghost use Rattle.answers.specs.Start.{IsLawful};
+ghost use Rattle.program_options.specs.Options.{IsLawful};
 ghost use Rattle.web.specs.Desk.{Checks, Closes, IsKept, IsOpened, IsShort, Opens, RunsOver, Says, Tells, place_of};
 
 use crate::status::{CLOSED, DONE, MEMORY};

@@ -1,7 +1,7 @@
 //! The calls, on the desk that the host's pointer leads to.
 
 ghost use Rattle.std.specs.Prelude.{◌≡◌, [], ◌++◌, drop, length, take};
-ghost use Rattle.answers.specs.Start.{IsLawful};
+ghost use Rattle.program_options.specs.Options.{IsLawful};
 ghost use Rattle.web.specs.Desk.{Checks, Closes, IsKept, Opens, Says};
 
 use crate::asked::{Asked, Checked};

@@ -1,8 +1,8 @@
 //! Why the program ends without its answer.
 
 ghost use Rattle.std.specs.Prelude.{◌≡◌, Some};
-ghost use Rattle.answers.specs.declared.fault.ProgramFault.TheVariants.{Memory, Write as Unwritten};
-ghost use Rattle.answers.specs.Faults.{cert_fault_of, fault_of, fault_text, non_fault_of, session_fault_of, status_of};
+ghost use Rattle.program_options.specs.declared.fault.ProgramFault.TheVariants.{Memory, Write as Unwritten};
+ghost use Rattle.program_options.specs.Faults.{cert_fault_of, fault_of, fault_text, non_fault_of, session_fault_of, status_of};
 
 use certificate::CertFault;
 use command_text::SessionFault;

@@ -4,14 +4,14 @@ use Rattle.clap.specs.Words.{Row, Text, first_of, first_value, one_of, one_text,
 use Rattle.clap.specs.declared.builder.value_parser.ValueParser.{ValueParser}
 use Rattle.clap.specs.declared.parser.matches.Found.{Found}
 use Rattle.picture.specs.declared.rgb.Rgb.{Rgb}
-use Rattle.answers.specs.declared.fault.ProgramFault.{ProgramFault}
-use Rattle.answers.specs.declared.fault.ProgramFault.TheVariants as fault
-use Rattle.answers.specs.declared.options.Options.{Options}
-use Rattle.answers.specs.Background.{background_of}
-use Rattle.answers.specs.Start.{IsLawful}
-use Rattle.nonobench.specs.Program.{AreFormats, program_app}
-use Rattle.nonobench.specs.declared.words.Task.{Task}
-use Rattle.nonobench.specs.declared.words.Task.TheVariants.{Clues, Work, Check, Help}
+use Rattle.program_options.specs.declared.fault.ProgramFault.{ProgramFault}
+use Rattle.program_options.specs.declared.fault.ProgramFault.TheVariants as fault
+use Rattle.program_options.specs.declared.options.Options.{Options}
+use Rattle.program_options.specs.Background.{background_of}
+use Rattle.program_options.specs.Options.{IsLawful}
+use Rattle.command_line.specs.Program.{AreFormats, program_app}
+use Rattle.command_line.specs.declared.words.Task.{Task}
+use Rattle.command_line.specs.declared.words.Task.TheVariants.{Clues, Work, Check, Help}
 
 -- the options of a session are lawful
 abbrev pub IsLawfulTask : Task → Type 0

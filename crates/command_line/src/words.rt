@@ -3,11 +3,11 @@
 ghost use Rattle.std.specs.Prelude.{◌≡◌, ◌↔◌, ◌<◌, ◌≤◌, ◌≢◌, ℕ, Some, [], codes, decimal, true, IfOk};
 ghost use Rattle.clap.specs.Walk.{texts};
 ghost use Rattle.clap.specs.Words.{first_value, found_of, kind_of, one_text, subcommand_rows_of};
-ghost use Rattle.nonobench.specs.declared.words.Task.TheVariants.{Clues};
-ghost use Rattle.nonobench.specs.Words.{IsAsked, IsCheck, IsLawfulTask, IsTaskOf, IsUntaken, IsWork, background_asked, given_of};
+ghost use Rattle.command_line.specs.declared.words.Task.TheVariants.{Clues};
+ghost use Rattle.command_line.specs.Words.{IsAsked, IsCheck, IsLawfulTask, IsTaskOf, IsUntaken, IsWork, background_asked, given_of};
 
 use crate::command::parsed;
-use answers::{Options, ProgramFault, background_in};
+use program_options::{Options, ProgramFault, background_in};
 use clap::error::ErrorKind;
 use clap::{ArgMatches, Error};
 use edits::MAX_DEPTH;

@@ -1,8 +1,8 @@
 use Rattle.std.proofs.Common.{refl, subst, sym, ◌∙◌}
 use Rattle.clap.specs.Words.{found_of, rows_of, subcommand_rows_of}
-use Rattle.nonobench.specs.Words.{Given, IsCheck, IsWork}
-use Rattle.nonobench.proofs.WordLemmas.{asked_check, asked_work, given_same, name_is}
-use Rattle.nonobench.proofs.words.task_of.Goals as goal
+use Rattle.command_line.specs.Words.{Given, IsCheck, IsWork}
+use Rattle.command_line.proofs.WordLemmas.{asked_check, asked_work, given_same, name_is}
+use Rattle.command_line.proofs.words.task_of.Goals as goal
 
 pub returns-in-Some-clause-asked : goal.returns-in-Some-clause-asked
 returns-in-Some-clause-asked c =

@@ -3,9 +3,9 @@ use Rattle.clap.specs.Walk.{texts}
 use Rattle.clap.specs.declared.builder.value_parser.ValueParser.{ValueParser}
 use Rattle.clap.specs.declared.error.Error.{Error}
 use Rattle.clap.specs.declared.parser.matches.ArgMatches.{ArgMatches}
-use Rattle.nonobench.specs.Program.{AreFormats, ParsesAs}
-use Rattle.nonobench.proofs.WordLemmas.{not_taken}
-use Rattle.nonobench.proofs.words.read_words.Goals as goal
+use Rattle.command_line.specs.Program.{AreFormats, ParsesAs}
+use Rattle.command_line.proofs.WordLemmas.{not_taken}
+use Rattle.command_line.proofs.words.read_words.Goals as goal
 
 pub returns-in-Err-clause-asked : goal.returns-in-Err-clause-asked
 returns-in-Err-clause-asked c = λ some.

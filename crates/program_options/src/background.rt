@@ -1,7 +1,7 @@
 //! The colour of a background, as a word.
 
 ghost use Rattle.std.specs.Prelude.{◌≡◌, option_map, position};
-ghost use Rattle.answers.specs.Background.{background_of, is_comma, sample_before, sample_seen};
+ghost use Rattle.program_options.specs.Background.{background_of, is_comma, sample_before, sample_seen};
 
 use picture::Rgb;
 use command_text::sample_in;

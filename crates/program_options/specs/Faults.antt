@@ -12,8 +12,8 @@ use Rattle.certificate.specs.declared.fault.CertFault.TheVariants as cert
 use Rattle.certificate.specs.Faults as certs
 use Rattle.command_text.specs.declared.session_fault.SessionFault.{SessionFault}
 use Rattle.command_text.specs.declared.session_fault.SessionFault.TheVariants as session
-use Rattle.answers.specs.declared.fault.ProgramFault.{ProgramFault}
-use Rattle.answers.specs.declared.fault.ProgramFault.TheVariants.{Ppm, Non, Edit, NoPicture, Cert, Memory, TooLong, Words, NotText, Background, BackgroundOfNon, Read, Write}
+use Rattle.program_options.specs.declared.fault.ProgramFault.{ProgramFault}
+use Rattle.program_options.specs.declared.fault.ProgramFault.TheVariants.{Ppm, Non, Edit, NoPicture, Cert, Memory, TooLong, Words, NotText, Background, BackgroundOfNon, Read, Write}
 
 -- a fault of the P3 text, but want of memory is one fault wherever it comes
 abbrev pub fault_of : PpmFault → ProgramFault

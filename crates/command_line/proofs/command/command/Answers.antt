@@ -1,5 +1,5 @@
-use Rattle.nonobench.proofs.CommandLemmas.{command_made}
-use Rattle.nonobench.proofs.command.command.Goals as goal
+use Rattle.command_line.proofs.CommandLemmas.{command_made}
+use Rattle.command_line.proofs.command.command.Goals as goal
 
 pub returns : goal.returns
 returns c =

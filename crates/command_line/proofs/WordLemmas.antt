@@ -9,12 +9,12 @@ use Rattle.clap.specs.Words.{ReadsOne, Row, Text, first_of, first_value, kind_of
 use Rattle.clap.specs.declared.parser.matches.ArgMatches.{ArgMatches}
 use Rattle.clap.specs.declared.parser.matches.Found.{Found}
 use Rattle.clap.proofs.WalkLemmas.{first_value-rows, one_text-rows}
-use Rattle.answers.specs.declared.fault.ProgramFault.{ProgramFault}
-use Rattle.answers.specs.declared.fault.ProgramFault.TheVariants as fault
-use Rattle.nonobench.specs.declared.words.Task.{Task}
-use Rattle.nonobench.specs.declared.words.Task.TheVariants.{Clues, Work, Check, Help}
-use Rattle.nonobench.specs.Program.{AreFormats, ParsesAs, program_app}
-use Rattle.nonobench.specs.Words.{Given, IsAsked, IsCheck, IsTaskOf, IsUntaken, IsWork, given_in, given_of}
+use Rattle.program_options.specs.declared.fault.ProgramFault.{ProgramFault}
+use Rattle.program_options.specs.declared.fault.ProgramFault.TheVariants as fault
+use Rattle.command_line.specs.declared.words.Task.{Task}
+use Rattle.command_line.specs.declared.words.Task.TheVariants.{Clues, Work, Check, Help}
+use Rattle.command_line.specs.Program.{AreFormats, ParsesAs, program_app}
+use Rattle.command_line.specs.Words.{Given, IsAsked, IsCheck, IsTaskOf, IsUntaken, IsWork, given_in, given_of}
 
 -- ---- values
 

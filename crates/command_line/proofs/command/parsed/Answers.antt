@@ -1,6 +1,6 @@
 use Rattle.clap.specs.Walk.{texts}
-use Rattle.nonobench.proofs.CommandLemmas.{parse_made}
-use Rattle.nonobench.proofs.command.parsed.Goals as goal
+use Rattle.command_line.proofs.CommandLemmas.{parse_made}
+use Rattle.command_line.proofs.command.parsed.Goals as goal
 
 pub returns : goal.returns
 returns c =

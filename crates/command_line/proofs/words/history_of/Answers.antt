@@ -1,7 +1,7 @@
 use Rattle.std.proofs.Common.{decimal, refl}
 use Rattle.std.specs.Str.Parse.{ExplainsUnsignedError, HasUnsignedDigitsIfOk, ParsesUnsigned}
-use Rattle.nonobench.proofs.WordLemmas.{depth_read}
-use Rattle.nonobench.proofs.words.history_of.Goals as goal
+use Rattle.command_line.proofs.WordLemmas.{depth_read}
+use Rattle.command_line.proofs.words.history_of.Goals as goal
 
 pub returns-clause-read : goal.returns-clause-read
 returns-clause-read c = λ n some few is.

@@ -8,7 +8,7 @@ use Rattle.clap.specs.declared.builder.value_parser.ValueParser.{ValueParser}
 use Rattle.clap.specs.declared.error.Error.{Error}
 use Rattle.clap.specs.declared.error.kind.ErrorKind.TheVariants.{OutOfMemory}
 use Rattle.clap.specs.declared.parser.matches.ArgMatches.{ArgMatches}
-use Rattle.nonobench.specs.Program.{AreFormats, IsLocal, ParsesAs, check_shape, file_rule, file_shape, format_rule, opening_shape, program_app, top_shape, work_shape}
+use Rattle.command_line.specs.Program.{AreFormats, IsLocal, ParsesAs, check_shape, file_rule, file_shape, format_rule, opening_shape, program_app, top_shape, work_shape}
 
 -- the file's command with the format
 pub opening_made : {E : Type 0} (base : Command) (a : Arg) (r : Result Command E) → IfOk r (AddsArg base a) → a.global ≡ false → shape_of base ≡ file_shape

@@ -1,0 +1,3 @@
+pub mod Background
+pub mod Faults
+pub mod Options
