@@ -7,12 +7,12 @@ use Rattle.picture.specs.Document.{Content}
 use Rattle.picture.specs.Writing.{AppendsFront}
 use Rattle.ppm_text.specs.declared.fault.PpmFault.{PpmFault}
 use Rattle.ppm_text.specs.Ppm.{ppm_of}
-use Rattle.certificate.specs.declared.fault.CertFault.{CertFault}
-use Rattle.second_search.specs.declared.tree_line.CellNumber.{CellNumber}
-use Rattle.certificate.specs.Cert.{Certificate}
+use Rattle.cert_text.specs.declared.fault.CertFault.{CertFault}
+use Rattle.cert_text.specs.declared.tree_line.CellNumber.{CellNumber}
+use Rattle.cert_text.specs.Cert.{Certificate}
 use Rattle.certificate.specs.FirstFault.{CertFirstFault}
 use Rattle.certificate.specs.Puzzle.{IsUnique}
-use Rattle.certificate.specs.Text.{cert_of}
+use Rattle.cert_text.specs.Text.{cert_of}
 use Rattle.certificate.specs.Tree.{IsProof}
 use Rattle.program_options.specs.declared.fault.ProgramFault.{ProgramFault}
 use Rattle.program_options.specs.declared.fault.ProgramFault.TheVariants.{Memory, Write}

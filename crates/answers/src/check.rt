@@ -8,12 +8,12 @@ ghost use Rattle.certificate.specs.Tree.{IsProof};
 ghost use Rattle.program_options.specs.declared.fault.ProgramFault.TheVariants.{Memory, Write as Unwritten};
 ghost use Rattle.answers.specs.Check.{Answers, IsCheckOf, IsOnlyPicture, IsProofOf, WritesBy, accepted_text, givens_text};
 
-use program_options::ProgramFault;
 use certificate::{Cert, CertFault, check_cert, read_cert};
 use itoa::Buffer;
 use line_settle::MaskEngine;
 use picture::{MAX_SIDE, Picture, Rgb, send};
 use ppm_text::read_ppm;
+use program_options::ProgramFault;
 use std::alloc::{AllocError, Global};
 use std::io::Write;
 

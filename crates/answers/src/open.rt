@@ -8,14 +8,13 @@ ghost use Rattle.answers.specs.Open.{FindsPicture, Opened, OpensFile, OpensNon, 
 ghost use Rattle.answers.specs.Start.{Starts};
 ghost use Rattle.program_options.specs.Options.{IsLawful};
 
-use program_options::ProgramFault;
-use program_options::Options;
 use clues::ClueBook;
 use line_settle::MaskEngine;
 use live_audit::Bench;
 use non_text::{NonPuzzle, puzzles_are_in_two_colours, read_non};
 use picture::{CellSet, Document, MAX_SIDE, Palette, PaletteFault, Picture, Rgb};
 use ppm_text::read_ppm;
+use program_options::{Options, ProgramFault};
 use propagate::InOrder;
 use second_search::find_first;
 use std::alloc::Global;

@@ -7,11 +7,11 @@ ghost use Rattle.edits.specs.Edit.{edited};
 ghost use Rattle.edits.specs.Fault.{edit_fault};
 ghost use Rattle.answers.specs.Run.{after_edit, edited_by, shown, shown_for, Writes};
 
-use program_options::ProgramFault;
 use clues::ClueBook;
 use edits::{Edit, Entry};
 use picture::{Document, send};
 use ppm_text::read_ppm;
+use program_options::ProgramFault;
 use report_text::clues_text;
 use std::alloc::Global;
 use std::io::Write;

@@ -8,7 +8,7 @@ use Rattle.picture.specs.Rows.{width_of, row_at, cell_at}
 use Rattle.line_settle.specs.FactSets.{Leaves, SameShape, with_given}
 use Rattle.line_settle.specs.GridLaws.{all_left, at_with_cell, off_with_cell, shape_with_cell}
 use Rattle.picture.specs.BitLaws.{bit_below, power_has}
-use Rattle.second_search.specs.declared.tree_line.CellNumber.{CellNumber}
+use Rattle.cert_text.specs.declared.tree_line.CellNumber.{CellNumber}
 use Rattle.certificate.specs.Making.{BasesAreOne}
 use Rattle.certificate.specs.Puzzle.{HasCellNumbers, IsAmong, blank_for, numbered, with_givens}
 use Rattle.certificate.proofs.MakeLemmas.{left_inside}

@@ -6,10 +6,6 @@ pub mod MadeLemmas
 pub mod MakeLemmas
 pub mod NumberLemmas
 pub mod PendingLemmas
-pub mod ReadLemmas
-pub mod RoundTrip
-pub mod Sending
 pub mod ShowingLemmas
 pub mod Soundness
 pub mod WalkLemmas
-pub mod WordLemmas

@@ -10,12 +10,12 @@ use Rattle.clues.specs.Solution.{IsOther}
 use Rattle.clues.specs.SolutionLaws.{solves_fewer}
 use Rattle.line_settle.specs.FactSets.{Leaves, SameShape, nothing_excluded}
 use Rattle.line_settle.specs.GridLaws.{shape_sym, shape_trans}
-use Rattle.second_search.specs.declared.tree_line.CellNumber.{CellNumber}
-use Rattle.second_search.specs.declared.tree_line.CertLine.{CertLine}
+use Rattle.cert_text.specs.declared.tree_line.CellNumber.{CellNumber}
+use Rattle.cert_text.specs.declared.tree_line.CertLine.{CertLine}
 use Rattle.second_search.specs.Laws.{SoundFacts}
 use Rattle.second_search.specs.Other.{AreSound}
 use Rattle.second_search.specs.Parts.{IsScene}
-use Rattle.certificate.specs.Cert.{Certificate, IsCert}
+use Rattle.cert_text.specs.Cert.{Certificate, IsCert}
 use Rattle.certificate.specs.FirstFault.{CertFirstFault, FirstFaultBehind}
 use Rattle.certificate.specs.Making.{BasesAreOne, EachExcludes, HasNoFault, HasOther, IsMade, Makes, NamesGivens, WritesTree}
 use Rattle.certificate.specs.Puzzle.{IsNamed, IsUnique, base_of, blank_for, with_givens}

@@ -21,13 +21,13 @@ use Rattle.line_settle.specs.GridLaws.{at_with_cell, off_with_cell, shape_refl, 
 use Rattle.line_settle.specs.Narrowing.{Narrows}
 use Rattle.propagate.specs.Closing.{AreClosable}
 use Rattle.propagate.specs.Filling.{Fills}
-use Rattle.second_search.specs.declared.tree_line.CellNumber.{CellNumber}
-use Rattle.second_search.specs.declared.tree_line.LineNumber.{LineNumber}
-use Rattle.second_search.specs.declared.tree_line.CertLine.{CertLine}
-use Rattle.second_search.specs.declared.tree_line.CertLine.TheVariants.{Line, Split, Dead, Done}
+use Rattle.cert_text.specs.declared.tree_line.CellNumber.{CellNumber}
+use Rattle.cert_text.specs.declared.tree_line.LineNumber.{LineNumber}
+use Rattle.cert_text.specs.declared.tree_line.CertLine.{CertLine}
+use Rattle.cert_text.specs.declared.tree_line.CertLine.TheVariants.{Line, Split, Dead, Done}
 use Rattle.second_search.specs.Trees.{IsOtherIn, Stands, Walks}
 use Rattle.line_settle.specs.Branches.{colours_of, held}
-use Rattle.certificate.specs.Cert.{AreWritable, IsWritable}
+use Rattle.cert_text.specs.Cert.{AreWritable, IsWritable}
 use Rattle.certificate.specs.FirstFault.{FirstFault, Leads}
 use Rattle.certificate.specs.Making.{EachExcludes, Excludes, WritesTree}
 use Rattle.certificate.specs.Puzzle.{HasCellNumber, HasLineNumber, line_id}

@@ -5,8 +5,8 @@ use Rattle.std.proofs.lemmas.List.{append-nil}
 use Rattle.picture.specs.CellSet.{HasCell}
 use Rattle.picture.specs.Document.{AreInside}
 use Rattle.picture.specs.Rows.{width_of}
-use Rattle.second_search.specs.declared.tree_line.CellNumber.{CellNumber}
-use Rattle.certificate.specs.Cert.{AreOrdered, IsShort, rank}
+use Rattle.cert_text.specs.declared.tree_line.CellNumber.{CellNumber}
+use Rattle.cert_text.specs.Cert.{AreOrdered, IsShort, rank}
 use Rattle.certificate.specs.Making.{NamesGivens, NamesUpTo}
 use Rattle.certificate.specs.Puzzle.{HasCellNumber, HasCellNumbers, IsAmong, numbered}
 

@@ -21,9 +21,9 @@ use Rattle.line_settle.specs.ForceLaws.{on_or_not}
 use Rattle.line_settle.specs.FitLaws.{fits_narrowed}
 use Rattle.picture.specs.BitLaws.{power_has, set_bit}
 use Rattle.line_settle.specs.Branches.{colours_of, held}
-use Rattle.second_search.specs.declared.tree_line.LineNumber.{LineNumber}
-use Rattle.second_search.specs.declared.tree_line.CellNumber.{CellNumber}
-use Rattle.certificate.specs.Cert.{Certificate}
+use Rattle.cert_text.specs.declared.tree_line.LineNumber.{LineNumber}
+use Rattle.cert_text.specs.declared.tree_line.CellNumber.{CellNumber}
+use Rattle.cert_text.specs.Cert.{Certificate}
 use Rattle.certificate.specs.Puzzle.{HasCellNumber, HasCellNumbers, HasLineNumber, IsDead, IsForced, IsNamed, IsUnique, base_of, blank_for, line_id, numbered, with_givens}
 use Rattle.certificate.specs.Tree.{Tree, Trees, done, dead, forced, split, none, more, Proves, EachProves, IsProof}
 

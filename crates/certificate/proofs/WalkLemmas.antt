@@ -15,11 +15,11 @@ use Rattle.line_settle.specs.declared.line_engine.Outcome.{Outcome}
 use Rattle.line_settle.specs.Fitting.{CanFit}
 use Rattle.line_settle.specs.FactSets.{Gains}
 use Rattle.line_settle.specs.GridLaws.{same_line_length, shape_trans}
-use Rattle.certificate.specs.declared.fault.CertFault.{CertFault}
-use Rattle.certificate.specs.declared.fault.CertFault.TheVariants.{Trailing}
-use Rattle.second_search.specs.declared.tree_line.LineNumber.{LineNumber}
-use Rattle.second_search.specs.declared.tree_line.CertLine.{CertLine}
-use Rattle.second_search.specs.declared.tree_line.CertLine.TheVariants.{Line, Done}
+use Rattle.cert_text.specs.declared.fault.CertFault.{CertFault}
+use Rattle.cert_text.specs.declared.fault.CertFault.TheVariants.{Trailing}
+use Rattle.cert_text.specs.declared.tree_line.LineNumber.{LineNumber}
+use Rattle.cert_text.specs.declared.tree_line.CertLine.{CertLine}
+use Rattle.cert_text.specs.declared.tree_line.CertLine.TheVariants.{Line, Done}
 use Rattle.certificate.specs.declared.notes.Note.{Note}
 use Rattle.certificate.specs.Puzzle.{HasLineNumber, IsDead, line_id}
 use Rattle.certificate.specs.FirstFault.{AnswersFirst, FirstFault}

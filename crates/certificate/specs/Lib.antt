@@ -1,9 +1,5 @@
-pub mod Cert
-pub mod Faults
 pub mod FirstFault
 pub mod Making
 pub mod Puzzle
-pub mod Text
 pub mod Tree
 pub mod Walk
-pub mod Writing

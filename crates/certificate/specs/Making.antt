@@ -7,11 +7,11 @@ use Rattle.clues.specs.ClueBook.{clues_of}
 use Rattle.clues.specs.Solution.{IsOther}
 use Rattle.line_settle.specs.FactSets.{IsBase}
 use Rattle.propagate.specs.Filling.{Fills}
-use Rattle.second_search.specs.declared.tree_line.CellNumber.{CellNumber}
-use Rattle.second_search.specs.declared.tree_line.CertLine.{CertLine}
-use Rattle.second_search.specs.declared.tree_line.CertLine.TheVariants.{Line, Split, Dead, Done}
+use Rattle.cert_text.specs.declared.tree_line.CellNumber.{CellNumber}
+use Rattle.cert_text.specs.declared.tree_line.CertLine.{CertLine}
+use Rattle.cert_text.specs.declared.tree_line.CertLine.TheVariants.{Line, Split, Dead, Done}
 use Rattle.second_search.specs.Trees.{IsUnsettledAt}
-use Rattle.certificate.specs.Cert.{AreOrdered, AreWritable, Certificate, IsCert}
+use Rattle.cert_text.specs.Cert.{AreOrdered, AreWritable, Certificate, IsCert}
 use Rattle.certificate.specs.FirstFault.{CertFirstFault, FirstFault, Leads}
 use Rattle.certificate.specs.Puzzle.{HasCellNumbers, IsAmong, IsForced, IsUnique, base_of, line_id, numbered}
 use Rattle.certificate.specs.Tree.{IsProof}

@@ -7,7 +7,7 @@ use Rattle.clues.specs.Solution.{IsOnlySolution}
 use Rattle.line_settle.specs.declared.line_engine.Outcome.{Outcome}
 use Rattle.line_settle.specs.Fitting.{CanFit}
 use Rattle.line_settle.specs.FactSets.{Gains, nothing_excluded, with_given}
-use Rattle.second_search.specs.declared.tree_line.CellNumber.{CellNumber}
+use Rattle.cert_text.specs.declared.tree_line.CellNumber.{CellNumber}
 pub use Rattle.second_search.specs.Trees.{HasCellNumber, HasLineNumber, ShowsOnly, line_id, split_at}
 
 -- ---- places by number

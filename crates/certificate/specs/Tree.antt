@@ -1,10 +1,10 @@
 -- Trees of lines, and what it is that a tree proves.
 use Rattle.std.specs.Prelude.{◌≡◌, ℕ, List, [], ◌∷◌, ◌++◌}
-use Rattle.second_search.specs.declared.tree_line.LineNumber.{LineNumber}
-use Rattle.second_search.specs.declared.tree_line.CellNumber.{CellNumber}
-use Rattle.second_search.specs.declared.tree_line.CertLine.{CertLine}
-use Rattle.second_search.specs.declared.tree_line.CertLine.TheVariants.{Line, Split, Dead, Done}
-use Rattle.certificate.specs.Cert.{Certificate}
+use Rattle.cert_text.specs.declared.tree_line.LineNumber.{LineNumber}
+use Rattle.cert_text.specs.declared.tree_line.CellNumber.{CellNumber}
+use Rattle.cert_text.specs.declared.tree_line.CertLine.{CertLine}
+use Rattle.cert_text.specs.declared.tree_line.CertLine.TheVariants.{Line, Split, Dead, Done}
+use Rattle.cert_text.specs.Cert.{Certificate}
 use Rattle.certificate.specs.Puzzle.{HasCellNumber, HasCellNumbers, HasLineNumber, IsDead, IsForced, ShowsOnly, base_of, line_id, split_at}
 
 mutual

@@ -4,20 +4,18 @@ ghost use Rattle.std.specs.Prelude.{◌≡◌, ℕ, ◌≤◌, ◌<◌, ◌+◌,
 ghost use Rattle.picture.specs.Picture.{IsPicture};
 ghost use Rattle.picture.specs.Rows.{width_of};
 ghost use Rattle.line_settle.specs.FactSets.{SameShape};
-ghost use Rattle.second_search.specs.declared.tree_line.CertLine.{CertLine};
+ghost use Rattle.cert_text.specs.declared.tree_line.CertLine.{CertLine};
 ghost use Rattle.certificate.specs.FirstFault.{AnswersFirst, CertFirstFault, FirstFault, FirstFaultBehind};
 ghost use Rattle.certificate.specs.Puzzle.{HasCellNumbers, IsUnique, with_givens};
 ghost use Rattle.certificate.specs.Tree.{IsProof};
 ghost use Rattle.certificate.specs.Walk.{GivesBase};
 
-use crate::cert::Cert;
-use crate::fault::CertFault;
 use crate::places::cell_in;
 use crate::walk::walk;
+use cert_text::{CellNumber, Cert, CertFault};
 use clues::ClueBook;
 use line_settle::{Facts, LineEngine};
 use picture::Picture;
-use second_search::CellNumber;
 use std::alloc::Global;
 
 // The line below which the givens stand.

@@ -8,8 +8,8 @@ ghost use Rattle.line_settle.specs.Fitting.{CanFit};
 ghost use Rattle.line_settle.specs.Narrowing.{Narrows};
 ghost use Rattle.certificate.specs.Walk.{AreInside, pending};
 
-use crate::fault::CertFault;
 use crate::notes::{Note, hold};
+use cert_text::CertFault;
 use clues::Clue;
 use line_settle::{Facts, LineEngine, Outcome};
 use picture::{Axis, LineId, MAX_SIDE};

@@ -3,23 +3,20 @@
 ghost use Rattle.std.specs.Prelude.{◌≡◌, ◌≤◌, ◌<◌, ◌↔◌, [], length, IfErr, IfOk, OnOk};
 ghost use Rattle.picture.specs.Document.{AreInside};
 ghost use Rattle.picture.specs.Rows.{width_of};
-ghost use Rattle.certificate.specs.Cert.{AreOrdered, AreWritable, IsCert};
+ghost use Rattle.cert_text.specs.Cert.{AreOrdered, AreWritable, IsCert};
 ghost use Rattle.certificate.specs.Making.{Makes, NamesGivens, NamesUpTo, WritesTree, lines_seen};
 ghost use Rattle.certificate.specs.Walk.{CanCheck};
 ghost use Rattle.line_settle.specs.FactSets.{SameShape};
 
-use crate::cert::Cert;
 use crate::checking::set_givens;
-use crate::fault::CertFault;
 use crate::places::cell_number;
+use cert_text::{CellNumber, Cert, CertFault, CertLine};
 use clues::ClueBook;
 use clues::laws::clues_are_of_lines;
 use line_settle::laws::{forcing_closes_a_line, one_line_decides};
 use line_settle::{Facts, LineEngine, Meter};
 use picture::{CellSet, MAX_SIDE, Picture};
-use second_search::{
-    BOUNDS, CellNumber, CertLine, Decided, Ladder, Lines, MOST_CELLS, Scene, climb,
-};
+use second_search::{BOUNDS, Decided, Ladder, Lines, MOST_CELLS, Scene, climb};
 use std::alloc::{AllocError, Global};
 
 pub(crate) const NOTHING_DONE: Meter = Meter {

@@ -7,11 +7,10 @@ ghost use Rattle.second_search.specs.Parts.{IsScene};
 ghost use Rattle.certificate.specs.Making.{HasOther, Makes};
 ghost use Rattle.certificate.specs.Walk.{CanCheck};
 
-use crate::cert::Cert;
 use crate::checking::set_givens;
-use crate::fault::CertFault;
 use crate::laws::bases_are_one;
 use crate::making::{NOTHING_DONE, climb_from, given_cells};
+use cert_text::{Cert, CertFault};
 use clues::ClueBook;
 use clues::laws::clues_are_of_lines;
 use line_settle::{Facts, LineEngine};

@@ -6,7 +6,7 @@ ghost use Rattle.line_settle.specs.FactSets.{IsFacts, SameShape};
 ghost use Rattle.line_settle.specs.Branches.{branches, colours_of};
 ghost use Rattle.certificate.specs.Walk.{AreInside, pending, waiting};
 
-use crate::fault::CertFault;
+use cert_text::CertFault;
 use line_settle::Facts;
 
 /// What to go back to behind a branch: the colours that a cell had left, and those of its colours whose branches have not

@@ -6,8 +6,8 @@ ghost use Rattle.picture.specs.Rows.{lines_along};
 ghost use Rattle.certificate.specs.Puzzle.{numbered};
 ghost use Rattle.certificate.specs.Puzzle.{HasCellNumber, HasLineNumber, line_id};
 
+use cert_text::{CellNumber, LineNumber};
 use picture::{Axis, LineId, Picture};
-use second_search::{CellNumber, LineNumber};
 
 // How many lines a picture has along an axis.
 pub(crate) fn line_count(picture: &Picture, axis: Axis) -> u8

@@ -1,19 +1,18 @@
 //! One step of the checker: what a line of the certificate does to the branch at hand.
 
 ghost use Rattle.std.specs.Prelude.{◌≡◌, ℕ, ◌+◌, ◌<◌, ◌≤◌, ◌^◌, ◌∷◌, [], length, reverse, Option};
-ghost use Rattle.second_search.specs.declared.tree_line.CertLine.TheVariants as line;
+ghost use Rattle.cert_text.specs.declared.tree_line.CertLine.TheVariants as line;
 ghost use Rattle.certificate.specs.FirstFault.{AnswersFirst, FirstFault};
 ghost use Rattle.certificate.specs.Walk.{CanCheck, IsWalk, Takes};
 
-use crate::fault::CertFault;
 use crate::forcing::{force, is_dead};
 use crate::notes::{Note, end_branch, split};
 use crate::places::{cell_in, line_at};
 use crate::showing::shows_only;
+use cert_text::{CellNumber, CertFault, CertLine, LineNumber};
 use clues::ClueBook;
 use line_settle::{Facts, LineEngine};
 use picture::Picture;
-use second_search::{CellNumber, CertLine, LineNumber};
 use std::alloc::Global;
 
 // Takes a `line`: the branch goes on with what it forces.

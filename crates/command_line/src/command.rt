@@ -5,8 +5,8 @@ ghost use Rattle.clap.specs.Walk.{texts};
 ghost use Rattle.clap.specs.Words.{app_of, rule_of, shape_of};
 ghost use Rattle.command_line.specs.Program.{AreFormats, IsLocal, ParsesAs, background_rule, cert_rule, check_shape, file_rule, file_shape, format_rule, history_rule, opening_shape, program_app, top_shape, work_shape};
 
-use program_options::VERSION;
 use clap::{Arg, ArgMatches, Command, Error, value_parser};
+use program_options::VERSION;
 use std::alloc::{AllocError, Global};
 
 // What a file can be.

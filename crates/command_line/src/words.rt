@@ -7,11 +7,11 @@ ghost use Rattle.command_line.specs.declared.words.Task.TheVariants.{Clues};
 ghost use Rattle.command_line.specs.Words.{IsAsked, IsCheck, IsLawfulTask, IsTaskOf, IsUntaken, IsWork, background_asked, given_of};
 
 use crate::command::parsed;
-use program_options::{Options, ProgramFault, background_in};
 use clap::error::ErrorKind;
 use clap::{ArgMatches, Error};
 use edits::MAX_DEPTH;
 use picture::Rgb;
+use program_options::{Options, ProgramFault, background_in};
 use std::alloc::Global;
 
 /// What the words ask the program for. Paths are as they were given.

@@ -7,7 +7,7 @@ use Rattle.picture.specs.Document.{AreInside, Content, ordered_of}
 use Rattle.clues.specs.ClueBook.{clues_of}
 use Rattle.clues.specs.Solution.{IsOther}
 use Rattle.clues.specs.SolutionLaws.{other_fewer}
-use Rattle.certificate.specs.Cert.{Certificate}
+use Rattle.cert_text.specs.Cert.{Certificate}
 use Rattle.certificate.specs.Making.{Makes}
 use Rattle.edits.specs.Design.{Design, design_of}
 use Rattle.edits.specs.Laws.{MarksAreGivens}

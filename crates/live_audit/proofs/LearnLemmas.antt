@@ -1,6 +1,6 @@
 -- A certificate's call: what is searched first, and the certificate that is made then.
 use Rattle.std.proofs.Common.{◌≡◌, ◌≤◌, arith, List, Option, Result, Ok, Err, IfOk, OnOk, inr, sym, ap, subst, ◌∙◌}
-use Rattle.certificate.specs.Cert.{Certificate}
+use Rattle.cert_text.specs.Cert.{Certificate}
 use Rattle.second_search.specs.declared.keeper.KeptPart.{KeptPart}
 use Rattle.live_audit.specs.declared.verdict.Ruling.{Ruling}
 use Rattle.live_audit.specs.declared.verdict.Ruling.TheVariants as ruling

@@ -9,7 +9,7 @@ use Rattle.picture.specs.Palette.{IsPalette}
 use Rattle.picture.specs.Picture.{IsPicture}
 use Rattle.picture.specs.Rows.{cell_at}
 use Rattle.clues.specs.Laws.{BooksAreTheirClues, CluesAreOfLines}
-use Rattle.certificate.specs.Cert.{Certificate}
+use Rattle.cert_text.specs.Cert.{Certificate}
 use Rattle.edits.specs.Design.{Design, design_of}
 use Rattle.live_audit.specs.Certify.{Certifies, CertifiesOrdered, ordered}
 use Rattle.live_audit.specs.Verdict.{IsOtherFor}

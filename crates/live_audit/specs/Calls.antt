@@ -1,6 +1,6 @@
 -- What a stroke comes to on a bench, and lists of strokes.
 use Rattle.std.specs.Prelude.{◌≡◌, ◌⊎◌, ◌≤◌, ℕ, List, [], ◌∷◌, Option, Some, None}
-use Rattle.certificate.specs.Cert.{Certificate}
+use Rattle.cert_text.specs.Cert.{Certificate}
 use Rattle.clues.specs.Change.{Moves}
 use Rattle.kept_audit.specs.Audit.{GoesOn}
 use Rattle.second_search.specs.declared.keeper.Verdict.{Verdict as Judgement}

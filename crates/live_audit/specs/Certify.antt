@@ -1,8 +1,8 @@
 -- Certificates of a document.
 use Rattle.std.specs.Prelude.{◌≡◌, ℕ, ◌↔◌, List, [], ◌∷◌, Option, None, Some}
 use Rattle.picture.specs.Document.{ordered_triples, renumbered_rows}
-use Rattle.second_search.specs.declared.tree_line.CellNumber.{CellNumber}
-use Rattle.certificate.specs.Cert.{AreOrdered, Certificate, IsCert}
+use Rattle.cert_text.specs.declared.tree_line.CellNumber.{CellNumber}
+use Rattle.cert_text.specs.Cert.{AreOrdered, Certificate, IsCert}
 use Rattle.certificate.specs.FirstFault.{CertFirstFault}
 use Rattle.certificate.specs.Making.{EachExcludes}
 use Rattle.certificate.specs.Puzzle.{IsAmong, base_of, numbered}

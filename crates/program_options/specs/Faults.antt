@@ -7,9 +7,9 @@ use Rattle.non_text.specs.declared.fault.NonFault.{NonFault}
 use Rattle.non_text.specs.declared.fault.NonFault.TheVariants as non
 use Rattle.non_text.specs.Faults as nons
 use Rattle.edits.specs.Fault.{fault_name}
-use Rattle.certificate.specs.declared.fault.CertFault.{CertFault}
-use Rattle.certificate.specs.declared.fault.CertFault.TheVariants as cert
-use Rattle.certificate.specs.Faults as certs
+use Rattle.cert_text.specs.declared.fault.CertFault.{CertFault}
+use Rattle.cert_text.specs.declared.fault.CertFault.TheVariants as cert
+use Rattle.cert_text.specs.Faults as certs
 use Rattle.command_text.specs.declared.session_fault.SessionFault.{SessionFault}
 use Rattle.command_text.specs.declared.session_fault.SessionFault.TheVariants as session
 use Rattle.program_options.specs.declared.fault.ProgramFault.{ProgramFault}

@@ -3,8 +3,8 @@
 ghost use Rattle.std.specs.Prelude.{◌≡◌, option_map, position};
 ghost use Rattle.program_options.specs.Background.{background_of, is_comma, sample_before, sample_seen};
 
-use picture::Rgb;
 use command_text::sample_in;
+use picture::Rgb;
 
 /// The colour that three samples with commas between them name, as `255,0,0`. Each is 0 to 65,535.
 pub fn background_in(text: &[u8]) -> Option<Rgb>

@@ -4,7 +4,7 @@ ghost use Rattle.std.specs.Prelude.{◌≡◌, Some};
 ghost use Rattle.program_options.specs.declared.fault.ProgramFault.TheVariants.{Memory, Write as Unwritten};
 ghost use Rattle.program_options.specs.Faults.{cert_fault_of, fault_of, fault_text, non_fault_of, session_fault_of, status_of};
 
-use certificate::CertFault;
+use cert_text::CertFault;
 use command_text::SessionFault;
 use edits::EditFault;
 use non_text::NonFault;

@@ -9,10 +9,10 @@ use Rattle.ppm_text.specs.declared.fault.PpmFault.{PpmFault}
 use Rattle.ppm_text.specs.Ppm.{ppm_of}
 use Rattle.ppm_text.specs.RoundTrip as pictures
 use Rattle.ppm_text.specs.Text.{ppm_text}
-use Rattle.certificate.specs.declared.fault.CertFault.{CertFault}
-use Rattle.certificate.specs.Cert.{Certificate, IsCert}
-use Rattle.certificate.specs.Text.{cert_of}
-use Rattle.certificate.specs.Writing as certificates
+use Rattle.cert_text.specs.declared.fault.CertFault.{CertFault}
+use Rattle.cert_text.specs.Cert.{Certificate, IsCert}
+use Rattle.cert_text.specs.Text.{cert_of}
+use Rattle.cert_text.specs.Writing as certificates
 use Rattle.edits.specs.Design.{Design, design_of}
 use Rattle.edits.specs.History.{History}
 use Rattle.live_audit.specs.Bench.{Seen}

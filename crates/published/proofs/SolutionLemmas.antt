@@ -8,11 +8,11 @@ use Rattle.clues.specs.ClueBook.{clues_of}
 use Rattle.clues.specs.Solution.{IsOnlySolution, Solves}
 use Rattle.ppm_text.specs.declared.fault.PpmFault.{PpmFault}
 use Rattle.ppm_text.specs.Ppm.{ppm_of}
-use Rattle.second_search.specs.declared.tree_line.CellNumber.{CellNumber}
-use Rattle.certificate.specs.declared.fault.CertFault.{CertFault}
-use Rattle.certificate.specs.Cert.{Certificate}
+use Rattle.cert_text.specs.declared.tree_line.CellNumber.{CellNumber}
+use Rattle.cert_text.specs.declared.fault.CertFault.{CertFault}
+use Rattle.cert_text.specs.Cert.{Certificate}
 use Rattle.certificate.specs.Puzzle.{HasCellNumbers, IsAmong, IsNamed, IsUnique, numbered}
-use Rattle.certificate.specs.Text.{cert_of}
+use Rattle.cert_text.specs.Text.{cert_of}
 use Rattle.edits.specs.Design.{Design}
 use Rattle.live_audit.specs.Bench.{IsGiven, Seen}
 use Rattle.live_audit.specs.Certify.{IsCertificateFor, NamesMarks, ordered}

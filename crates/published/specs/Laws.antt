@@ -2,7 +2,7 @@
 use Rattle.std.specs.Prelude.{◌≡◌, ℕ, List, codes, Some, Ok}
 use Rattle.picture.specs.declared.rgb.Rgb.{Rgb}
 use Rattle.picture.specs.Document.{first_of}
-use Rattle.certificate.specs.Cert.{Certificate}
+use Rattle.cert_text.specs.Cert.{Certificate}
 use Rattle.edits.specs.Design.{Design}
 use Rattle.live_audit.specs.Bench.{Seen}
 use Rattle.live_audit.specs.Certify.{NamesMarks}

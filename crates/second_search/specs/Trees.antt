@@ -11,10 +11,10 @@ use Rattle.line_settle.specs.Masks.{IsOnly}
 use Rattle.line_settle.specs.FactSets.{Gains, IsWithin, Leaves}
 use Rattle.propagate.specs.Filling.{Fills}
 use Rattle.split_choice.specs.Choosing.{IsUnsettled}
-use Rattle.second_search.specs.declared.tree_line.CellNumber.{CellNumber}
-use Rattle.second_search.specs.declared.tree_line.LineNumber.{LineNumber}
-use Rattle.second_search.specs.declared.tree_line.CertLine.{CertLine}
-use Rattle.second_search.specs.declared.tree_line.CertLine.TheVariants.{Line, Split, Dead, Done}
+use Rattle.cert_text.specs.declared.tree_line.CellNumber.{CellNumber}
+use Rattle.cert_text.specs.declared.tree_line.LineNumber.{LineNumber}
+use Rattle.cert_text.specs.declared.tree_line.CertLine.{CertLine}
+use Rattle.cert_text.specs.declared.tree_line.CertLine.TheVariants.{Line, Split, Dead, Done}
 use Rattle.second_search.specs.declared.tree_lines.Lines.{Lines}
 use Rattle.second_search.specs.declared.tree_lines.Lines.TheVariants.{Kept, Dropped}
 use Rattle.second_search.specs.declared.tree_step.TreeStep.{TreeStep}

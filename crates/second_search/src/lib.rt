@@ -23,7 +23,6 @@ mod scene;
 mod tree;
 mod tree_closing;
 mod tree_dead;
-mod tree_line;
 mod tree_lines;
 mod tree_step;
 
@@ -36,5 +35,4 @@ pub use near_closed::find_near_other;
 pub use part_decision::decide_within;
 pub use parts::Parts;
 pub use scene::Scene;
-pub use tree_line::{CellNumber, CertLine, LineNumber};
 pub use tree_lines::Lines;

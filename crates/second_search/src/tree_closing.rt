@@ -8,8 +8,8 @@ ghost use Rattle.line_settle.specs.FactSets.{IsFacts};
 ghost use Rattle.propagate.specs.Closing.{AreClosable};
 ghost use Rattle.second_search.specs.Trees.{Settles};
 
-use crate::tree_line::CertLine;
 use crate::tree_lines::{Lines, line_number};
+use cert_text::CertLine;
 use clues::ClueBook;
 use line_settle::laws::{counts_add, forcing_closes_a_line};
 use line_settle::{Facts, Forced, LineEngine, Meter, Outcome, force_crossing};

@@ -3,7 +3,7 @@
 ghost use Rattle.std.specs.Prelude.{◌≡◌, ◌+◌, ◌∷◌, [], OnOk};
 ghost use Rattle.second_search.specs.Trees.{Adds};
 
-use crate::tree_line::{CellNumber, CertLine, LineNumber};
+use cert_text::{CellNumber, CertLine, LineNumber};
 use picture::LineId;
 use split_choice::Cell;
 use std::alloc::AllocError;

@@ -15,7 +15,7 @@ use Rattle.edits.specs.Fault.{has_cell}
 use Rattle.clues.specs.ClueBook.{Clues}
 use Rattle.non_text.specs.Writing.{is_two_colour}
 use Rattle.non_text.specs.Written.{non_text_of}
-use Rattle.certificate.specs.Cert.{Certificate}
+use Rattle.cert_text.specs.Cert.{Certificate}
 use Rattle.live_audit.specs.declared.verdict.Verdict.{Verdict}
 use Rattle.live_audit.specs.declared.why.Why.{Why}
 use Rattle.live_audit.specs.Bench.{IsAudited, Seen}

@@ -20,8 +20,8 @@ use Rattle.live_audit.specs.Calls.{Accepts, IsAsBefore, IsSearched, Learns, Refu
 use Rattle.live_audit.specs.Reason.{Explains}
 use Rattle.live_audit.specs.Stroke.{Stroke, Edits, Undoes, Redoes}
 use Rattle.live_audit.specs.Verdict.{IsVerdictOn, Tells}
-use Rattle.certificate.specs.Cert.{Certificate}
-use Rattle.certificate.specs.Writing.{cert_text}
+use Rattle.cert_text.specs.Cert.{Certificate}
+use Rattle.cert_text.specs.Writing.{cert_text}
 use Rattle.live_audit.specs.Certify.{Certifies}
 use Rattle.command_text.specs.declared.command.Command.{Command}
 use Rattle.command_text.specs.declared.command.Command.TheVariants as command

@@ -3,7 +3,7 @@
 ghost use Rattle.std.specs.Prelude.{◌≡◌, ◌+◌, ◌++◌, ◌<◌, ◌≤◌, [], codes, length, vec_capacity, vec_len, Option, IfErr, IfOk, IfSome, OnOk};
 ghost use Rattle.picture.specs.Rows.{width_of};
 ghost use Rattle.edits.specs.Fault.{has_cell};
-ghost use Rattle.certificate.specs.Cert.{Certificate};
+ghost use Rattle.cert_text.specs.Cert.{Certificate};
 ghost use Rattle.live_audit.specs.Bench.{IsAudited};
 ghost use Rattle.live_audit.specs.Calls.{IsSearched, Learns};
 ghost use Rattle.live_audit.specs.Certify.{Certifies};
@@ -30,7 +30,8 @@ use live_audit::{Bench, Verdict, Why};
 use picture::Picture;
 use propagate::Agenda;
 use report_text::{
-    ENDING_ROOM, clues_text, push_ending, push_front, push_map, push_number, push_picture, push_reason,
+    ENDING_ROOM, clues_text, push_ending, push_front, push_map, push_number, push_picture,
+    push_reason,
 };
 use std::alloc::{AllocError, Global};
 

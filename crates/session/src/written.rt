@@ -3,7 +3,7 @@
 ghost use Rattle.std.specs.Prelude.{◌≡◌, IfErr, IfOk};
 ghost use Rattle.picture.specs.Content.{content_of};
 ghost use Rattle.ppm_text.specs.Text.{ppm_text};
-ghost use Rattle.certificate.specs.Writing.{cert_text};
+ghost use Rattle.cert_text.specs.Writing.{cert_text};
 ghost use Rattle.session.specs.Written.{GivesNon};
 ghost use Rattle.session.specs.declared.refusal.Refusal.TheVariants.{Memory as Refused};
 

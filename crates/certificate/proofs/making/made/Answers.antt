@@ -1,6 +1,6 @@
 use Rattle.std.proofs.Common.{◌≡◌, subst, List, Ok, Option, Vec, Global}
-use Rattle.second_search.specs.declared.tree_line.CellNumber.{CellNumber}
-use Rattle.second_search.specs.declared.tree_line.CertLine.{CertLine}
+use Rattle.cert_text.specs.declared.tree_line.CellNumber.{CellNumber}
+use Rattle.cert_text.specs.declared.tree_line.CertLine.{CertLine}
 use Rattle.certificate.specs.Making.{WritesTree, lines_seen}
 use Rattle.certificate.specs.Puzzle.{with_givens}
 use Rattle.certificate.specs.Walk.{GivesBase}

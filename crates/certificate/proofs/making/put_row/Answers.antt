@@ -1,6 +1,6 @@
 use Rattle.std.proofs.Common.{◌∙◌, ◌+◌, ◌++◌, [], ◌∷◌, ap, arith, subst, sym, List, Vec, Global}
 use Rattle.std.proofs.lemmas.Bool.{false≢true}
-use Rattle.second_search.specs.declared.tree_line.CellNumber.{CellNumber}
+use Rattle.cert_text.specs.declared.tree_line.CellNumber.{CellNumber}
 use Rattle.certificate.specs.Making.{NamesUpTo}
 use Rattle.certificate.proofs.NumberLemmas.{more_named, same_named}
 use Rattle.certificate.proofs.making.put_row.Goals as goal

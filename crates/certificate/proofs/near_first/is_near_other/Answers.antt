@@ -1,5 +1,5 @@
 use Rattle.std.proofs.Common.{◌≡◌, subst, List}
-use Rattle.second_search.specs.declared.tree_line.CellNumber.{CellNumber}
+use Rattle.cert_text.specs.declared.tree_line.CellNumber.{CellNumber}
 use Rattle.certificate.specs.Puzzle.{with_givens}
 use Rattle.certificate.proofs.MadeLemmas.{made_scene}
 use Rattle.certificate.proofs.near_first.is_near_other.Goals as goal

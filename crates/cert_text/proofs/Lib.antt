@@ -1,0 +1,4 @@
+pub mod ReadLemmas
+pub mod RoundTrip
+pub mod Sending
+pub mod WordLemmas

@@ -1,0 +1,96 @@
+-- The pieces of a text, its lines and words.
+use Rattle.std.proofs.Common.{◌≡◌, ℕ, ◌+◌, ◌-◌, ◌<◌, ◌≤◌, Bool, true, false, cond, not, eqb, List, [], ◌∷◌, length, take, drop, Some, None, refl, sym, ap, ◌∙◌, arith}
+use Rattle.std.specs.List.{slice_split, onto_first, position, position_or_len}
+use Rattle.std.proofs.lemmas.Option.{cond_some}
+use Rattle.std.proofs.lemmas.Bool.{ltb-true, ltb-false}
+use Rattle.std.proofs.lemmas.List.{take_rest}
+use Rattle.std.proofs.lemmas.List.Splits.{length-slice_split, slice_split_first}
+use Rattle.cert_text.specs.Text.{is_empty, lines_of, lines_of_pieces, three_of, words_of}
+
+-- the front up to the first separator
+pub split_found : (separator : ℕ) (bytes : List ℕ) (end : ℕ) → position (λ b. eqb b separator) bytes ≡ Some end → slice_split (λ b. eqb b separator) bytes ≡ take end bytes ∷ slice_split (λ b. eqb b separator) (take (length bytes - (end + 1)) (drop (end + 1) bytes))
+split_found separator bytes end e =
+    let p : ℕ → Bool = λ b. eqb b separator in
+    let at = cond_some _ _ _ e in
+    let lt = ltb-true _ _ at.0 in
+    slice_split_first p bytes 0 lt
+    ∙ ap (λ n. take n bytes ∷ slice_split p (drop (n + 1) bytes)) at.1
+    ∙ ap (λ (rest : List ℕ). take end bytes ∷ slice_split p rest) (sym (take_rest bytes (end + 1)))
+
+none_pass : (separator : ℕ) (bytes : List ℕ) → length bytes ≤ position_or_len (λ b. eqb b separator) bytes → slice_split (λ b. eqb b separator) bytes ≡ bytes ∷ []
+none_pass separator [] le = refl
+none_pass separator (b ∷ bytes) le = none_pass_cons (none_pass separator bytes) (eqb b separator) refl
+  where
+    none_pass_cons : (length bytes ≤ position_or_len (λ b. eqb b separator) bytes → slice_split (λ b. eqb b separator) bytes ≡ bytes ∷ []) → (t : Bool) → eqb b separator ≡ t → slice_split (λ b. eqb b separator) (b ∷ bytes) ≡ (b ∷ bytes) ∷ []
+    none_pass_cons later true e = absurd (omega (arith, le, ap (λ t. cond (not t) (1 + position_or_len (λ b. eqb b separator) bytes) 0) e))
+    none_pass_cons later false e =
+        let more : position_or_len (λ b. eqb b separator) (b ∷ bytes) ≡ 1 + position_or_len (λ b. eqb b separator) bytes = ap (λ t. cond (not t) (1 + position_or_len (λ b. eqb b separator) bytes) 0) e in
+        ap (λ t. cond t ([] ∷ slice_split (λ b. eqb b separator) bytes) (onto_first b (slice_split (λ b. eqb b separator) bytes))) e
+        ∙ ap (onto_first b) (later (omega (arith, le, more)))
+
+-- no separator at all
+pub split_none : (separator : ℕ) (bytes : List ℕ) → position (λ b. eqb b separator) bytes ≡ None → slice_split (λ b. eqb b separator) bytes ≡ bytes ∷ []
+split_none separator bytes e = none_pass separator bytes (ltb-false _ _ (no_place _ _ e))
+  where
+    no_place : (t : Bool) (n : ℕ) → cond t (Some n) None ≡ None → t ≡ false
+    no_place true n e = cc
+    no_place false n e = refl
+
+pub ruleset splitting = (split_found, split_none)
+
+-- ---- the first line
+
+-- a text with a line feed
+pub lines_more : (text : List ℕ) (piece rest : List ℕ) → slice_split (λ b. eqb b 10) text ≡ piece ∷ slice_split (λ b. eqb b 10) rest → lines_of text ≡ piece ∷ lines_of rest
+unfolding lines_of
+lines_more text piece rest e = ap lines_of_pieces e ∙ two_pieces (slice_split (λ b. eqb b 10) rest) (some_piece rest)
+  where
+    some_piece : (bytes : List ℕ) → 0 < length (slice_split (λ b. eqb b 10) bytes)
+    some_piece bytes = omega (arith, length-slice_split (λ b. eqb b 10) bytes)
+
+    two_pieces : (pieces : List (List ℕ)) → 0 < length pieces → lines_of_pieces (piece ∷ pieces) ≡ piece ∷ lines_of_pieces pieces
+    two_pieces [] some = absurd (omega (arith, some))
+    two_pieces (next ∷ pieces) some = refl
+
+pub lines_none : lines_of [] ≡ []
+unfolding lines_of
+lines_none = refl
+
+-- a text without one
+pub lines_last : (text : List ℕ) (piece : List ℕ) → slice_split (λ b. eqb b 10) text ≡ piece ∷ [] → 0 < length piece → lines_of text ≡ piece ∷ []
+unfolding lines_of
+lines_last text piece e some = ap lines_of_pieces e ∙ last_line piece some
+  where
+    last_line : (line : List ℕ) → 0 < length line → cond (is_empty line) [] (line ∷ []) ≡ line ∷ []
+    last_line [] some = absurd (omega (arith, some))
+    last_line (b ∷ line) some = refl
+
+pub lines_empty : (text : List ℕ) (piece : List ℕ) → slice_split (λ b. eqb b 10) text ≡ piece ∷ [] → length piece ≡ 0 → lines_of text ≡ []
+unfolding lines_of
+lines_empty text piece e none = ap lines_of_pieces e ∙ last_line piece none
+  where
+    last_line : (line : List ℕ) → length line ≡ 0 → cond (is_empty line) [] (line ∷ []) ≡ []
+    last_line [] none = refl
+    last_line (b ∷ line) none = absurd (omega (arith, none))
+
+pub ruleset first_lines = (lines_more, lines_none, lines_last, lines_empty)
+
+-- ---- three words
+
+pub one_word : (line : List ℕ) → words_of line ≡ line ∷ [] → None ≡ three_of (words_of line)
+one_word line e = sym (ap three_of e)
+
+pub two_words : (line word behind : List ℕ) → words_of line ≡ word ∷ words_of behind → words_of behind ≡ behind ∷ [] → None ≡ three_of (words_of line)
+two_words line word behind e f = sym (ap three_of (e ∙ ap (λ (ws : List (List ℕ)). word ∷ ws) f))
+
+pub three_words : (line word behind first second : List ℕ) → words_of line ≡ word ∷ words_of behind → words_of behind ≡ first ∷ words_of second → words_of second ≡ second ∷ [] → Some (word, first, second) ≡ three_of (words_of line)
+three_words line word behind first second e f g = sym (ap three_of (e ∙ (ap (λ (ws : List (List ℕ)). word ∷ ws) f ∙ ap (λ (ws : List (List ℕ)). word ∷ first ∷ ws) g)))
+
+four_words : (word first second : List ℕ) (words : List (List ℕ)) → 0 < length words → three_of (word ∷ first ∷ second ∷ words) ≡ None
+four_words word first second [] some = absurd (omega (arith, some))
+four_words word first second (next ∷ words) some = refl
+
+pub more_words : (line word behind first second third last : List ℕ) → words_of line ≡ word ∷ words_of behind → words_of behind ≡ first ∷ words_of second → words_of second ≡ third ∷ words_of last → None ≡ three_of (words_of line)
+more_words line word behind first second third last e f g =
+    sym (ap three_of (e ∙ (ap (λ (ws : List (List ℕ)). word ∷ ws) f ∙ ap (λ (ws : List (List ℕ)). word ∷ first ∷ ws) g))
+    ∙ four_words word first third (words_of last) (omega (arith, length-slice_split (λ b. eqb b 32) last)))

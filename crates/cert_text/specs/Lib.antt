@@ -1,0 +1,4 @@
+pub mod Cert
+pub mod Faults
+pub mod Text
+pub mod Writing

@@ -1,0 +1,206 @@
+-- A certificate read from the lines of a text.
+use Rattle.std.specs.Prelude.{◌≡◌, ℕ, ◌+◌, ◌-◌, ◌*◌, ◌<◌, Bool, true, false, List, [], ◌∷◌, length, codes, Option, None, Some, Result, Ok, Err, option_map, ◌==◌, nat_eq, nat_le, if◌then◌else◌, refl}
+use Rattle.std.proofs.Common.{Vec, Global}
+use Rattle.std.specs.Borrow.{Bor}
+use Rattle.std.specs.Char.{is_ascii_digit}
+use Rattle.std.specs.Cmp.Lexicographic.{pointwise}
+use Rattle.std.specs.List.{slice_split}
+use Rattle.picture.specs.Reading.{◌>>=◌}
+use Rattle.picture.specs.declared.line_id.Axis.{Axis}
+use Rattle.picture.specs.declared.line_id.Axis.TheVariants.{Across, Down}
+use Rattle.cert_text.specs.declared.fault.CertFault.{CertFault}
+use Rattle.cert_text.specs.declared.fault.CertFault.TheVariants.{NotCert, BadLine}
+use Rattle.cert_text.specs.declared.tree_line.LineNumber.{LineNumber}
+use Rattle.cert_text.specs.declared.tree_line.CellNumber.{CellNumber}
+use Rattle.cert_text.specs.declared.tree_line.CertLine.{CertLine}
+use Rattle.cert_text.specs.declared.tree_line.CertLine.TheVariants.{Line, Split, Dead, Done}
+use Rattle.cert_text.specs.Cert.{Certificate, certificate, rank}
+
+-- ---- lines and words
+
+abbrev pub is_empty : List ℕ → Bool
+is_empty [] = true
+is_empty (b ∷ bytes) = false
+
+-- the pieces between line feeds are the lines: the last one where it has a byte
+abbrev pub lines_of_pieces : List (List ℕ) → List (List ℕ)
+lines_of_pieces [] = []
+lines_of_pieces (piece ∷ []) = if is_empty piece then [] else piece ∷ []
+lines_of_pieces (piece ∷ next ∷ pieces) = piece ∷ lines_of_pieces (next ∷ pieces)
+
+unfoldable pub lines_of : List ℕ → List (List ℕ)
+lines_of text = lines_of_pieces (slice_split (λ b. b == 10) text)
+
+-- the words between single spaces
+abbrev pub words_of : List ℕ → List (List ℕ)
+words_of line = slice_split (λ b. b == 32) line
+
+-- the bytes are these
+abbrev pub is_word : List ℕ → List ℕ → Bool
+is_word bytes word = pointwise nat_eq bytes word
+
+-- exactly three words
+abbrev pub three_of : List (List ℕ) → Option (List ℕ × List ℕ × List ℕ)
+three_of (word ∷ first ∷ second ∷ []) = Some (word, first, second)
+three_of _ = None
+
+-- ---- numbers of one to three digits, without leading zeros
+
+abbrev pub digit_of : ℕ → Option ℕ
+digit_of b = if is_ascii_digit b then Some (b - 48) else None
+
+-- a number with one digit more
+abbrev pub with_digit : Option ℕ → ℕ → Option ℕ
+with_digit None b = None
+with_digit (Some n) b = option_map (λ d. n * 10 + d) (digit_of b)
+
+-- the first of several digits
+abbrev pub leading_digit : ℕ → Option ℕ
+leading_digit b = if b == 48 then None else digit_of b
+
+abbrev pub number_of : List ℕ → Option ℕ
+number_of [] = None
+number_of (a ∷ []) = digit_of a
+number_of (a ∷ b ∷ []) = with_digit (leading_digit a) b
+number_of (a ∷ b ∷ c ∷ []) = with_digit (with_digit (leading_digit a) b) c
+number_of (a ∷ b ∷ c ∷ d ∷ bytes) = None
+
+-- ---- places
+
+abbrev pub axis_of : List ℕ → Option Axis
+axis_of word = if is_word word (codes "r") then Some Across else if is_word word (codes "c") then Some Down else None
+
+abbrev pub line_number : Axis → ℕ → LineNumber
+line_number axis number = record { axis = axis; number = number }
+
+abbrev pub cell_number : ℕ → ℕ → CellNumber
+cell_number row col = record { row = row; col = col }
+
+-- the line that two words name, as `r 3`
+abbrev pub line_with : Option Axis → Option ℕ → Option LineNumber
+line_with None number = None
+line_with (Some axis) number = option_map (line_number axis) number
+
+abbrev pub line_named : List ℕ → List ℕ → Option LineNumber
+line_named first second = line_with (axis_of first) (number_of second)
+
+-- the cell that two words name, as `3 4`
+abbrev pub cell_with : Option ℕ → Option ℕ → Option CellNumber
+cell_with None col = None
+cell_with (Some row) col = option_map (cell_number row) col
+
+abbrev pub cell_named : List ℕ → List ℕ → Option CellNumber
+cell_named first second = cell_with (number_of first) (number_of second)
+
+-- ---- the lines of a certificate
+
+abbrev pub line_by : List ℕ → List ℕ → List ℕ → Option CertLine
+line_by word first second =
+    if is_word word (codes "line") then option_map Line (line_named first second)
+    else if is_word word (codes "dead") then option_map Dead (line_named first second)
+    else if is_word word (codes "split") then option_map Split (cell_named first second)
+    else None
+
+abbrev pub line_of_three : Option (List ℕ × List ℕ × List ℕ) → Option CertLine
+line_of_three None = None
+line_of_three (Some t) = line_by t.0 t.1 t.2
+
+-- a line below the givens
+unfoldable pub cert_line : List ℕ → Option CertLine
+cert_line line = if is_word line (codes "done") then Some Done else line_of_three (three_of (words_of line))
+
+abbrev pub given_of_three : Option (List ℕ × List ℕ × List ℕ) → Option CellNumber
+given_of_three None = None
+given_of_three (Some t) = if is_word t.0 (codes "given") then cell_named t.1 t.2 else None
+
+-- a line that gives a cell
+unfoldable pub given_line : List ℕ → Option CellNumber
+given_line line = given_of_three (three_of (words_of line))
+
+-- ---- the certificate
+
+abbrev pub or_bad : {X : Type 0} → ℕ → Option X → Result X CertFault
+or_bad n None = Err (BadLine n)
+or_bad n (Some x) = Ok x
+
+-- lines below the givens, of which the first has number n
+unfoldable pub tree_lines : ℕ → List (List ℕ) → Result (List CertLine) CertFault
+tree_lines n [] = Ok []
+tree_lines n (line ∷ lines) = or_bad n (cert_line line) >>= λ first. (tree_lines (n + 1) lines >>= λ rest. Ok (first ∷ rest))
+
+-- what stands before a list of givens
+abbrev pub with_given_before : CellNumber → List CellNumber × List (List ℕ) → List CellNumber × List (List ℕ)
+with_given_before cell read = (cell ∷ read.0, read.1)
+
+-- the givens from a line on, by what that line gives: nothing, or a cell that has to stand behind those before it
+abbrev pub take_given : ℕ → ℕ → List (List ℕ) → Option CellNumber → (ℕ → Result (List CellNumber × List (List ℕ)) CertFault) → Result (List CellNumber × List (List ℕ)) CertFault
+take_given n least lines None rest = Ok ([], lines)
+take_given n least lines (Some cell) rest =
+    if nat_le least (rank cell) then (rest (rank cell + 1) >>= λ read. Ok (with_given_before cell read)) else Err (BadLine n)
+
+-- The givens that stand first, of which the first line has number n, in the order of rows and from a rank on; and the lines
+-- below them.
+unfoldable pub given_lines : ℕ → ℕ → List (List ℕ) → Result (List CellNumber × List (List ℕ)) CertFault
+given_lines n least [] = Ok ([], [])
+given_lines n least (line ∷ lines) = take_given n least (line ∷ lines) (given_line line) (λ from. given_lines (n + 1) from lines)
+
+abbrev pub below_givens : List CellNumber × List (List ℕ) → Result Certificate CertFault
+below_givens read = tree_lines (2 + length read.0) read.1 >>= λ lines. Ok (certificate 2 read.0 lines)
+
+-- a certificate of version 2, by the lines below its first
+abbrev pub second_of_lines : List (List ℕ) → Result Certificate CertFault
+second_of_lines lines = given_lines 2 0 lines >>= below_givens
+
+-- the certificate of lines: the first says the version, and only version 2 has givens
+abbrev pub cert_of_lines : List (List ℕ) → Result Certificate CertFault
+cert_of_lines [] = Err (NotCert 1)
+cert_of_lines (first ∷ lines) =
+    if is_word first (codes "nonocert 1") then (tree_lines 2 lines >>= λ read. Ok (certificate 1 [] read))
+    else if is_word first (codes "nonocert 2") then second_of_lines lines
+    else Err (NotCert 1)
+
+-- the certificate of a text, or the first fault
+abbrev pub cert_of : List ℕ → Result Certificate CertFault
+cert_of text = cert_of_lines (lines_of text)
+
+-- ---- what functions that cut a text answer
+
+-- the pieces between separators of what stands behind one, if there is one
+abbrev pub pieces_behind : ℕ → Option (Bor (List ℕ)) → List (List ℕ)
+pieces_behind separator None = []
+pieces_behind separator (Some rest) = slice_split (λ b. b == separator) rest.now
+
+-- the first line of a text, and a shorter text with the others
+abbrev pub IsFirstLine : List ℕ → Option (Bor (List ℕ) × Bor (List ℕ)) → Type 0
+IsFirstLine text None = lines_of text ≡ []
+IsFirstLine text (Some x) = (lines_of text ≡ x.0.now ∷ lines_of x.1.now) × (length x.1.now < length text)
+
+-- the first word of a line, and the others; or the line is a word
+abbrev pub IsCut : List ℕ → Option (Bor (List ℕ) × Bor (List ℕ)) → Type 0
+IsCut line None = words_of line ≡ line ∷ []
+IsCut line (Some x) = words_of line ≡ x.0.now ∷ words_of x.1.now
+
+abbrev pub three_seen : Bor (List ℕ) × Bor (List ℕ) × Bor (List ℕ) → List ℕ × List ℕ × List ℕ
+three_seen t = (t.0.now, t.1.now, t.2.now)
+
+-- what reading givens answers: the cells, and the lines below them
+abbrev pub givens_seen : Vec CellNumber Global × Bor (List ℕ) → List CellNumber × List (List ℕ)
+givens_seen read = (read.0.items, lines_of read.1.now)
+
+-- ---- worked lines
+
+reads_line : cert_line (codes "line r 3") ≡ Some (Line (line_number Across 3))
+unfolding cert_line
+reads_line = refl
+
+refuses_leading_zero : cert_line (codes "line r 01") ≡ None
+unfolding cert_line
+refuses_leading_zero = refl
+
+takes_nought : cert_line (codes "line r 0") ≡ Some (Line (line_number Across 0))
+unfolding cert_line
+takes_nought = refl
+
+refuses_four_digits : cert_line (codes "line r 1000") ≡ None
+unfolding cert_line
+refuses_four_digits = refl

@@ -1,0 +1,87 @@
+//! What can be wrong with a certificate, with names and line numbers.
+
+ghost use Rattle.std.specs.Prelude.{◌≡◌};
+ghost use Rattle.cert_text.specs.Faults.{name_of, place_of};
+ghost use Rattle.cert_text.specs.declared.fault.CertFault.TheVariants.{Memory};
+
+use std::alloc::{AllocError, AllocFailed};
+use thiserror::Error;
+
+/// What is wrong with a certificate: the first fault from the top, with the number of its line, counted from 1.
+#[derive(Clone, Copy, Debug, PartialEq, Eq, Error)]
+pub enum CertFault {
+    /// The first line is neither `nonocert 1` nor `nonocert 2`.
+    #[error("line {0}: not a certificate")]
+    NotCert(usize),
+    /// The line has another form than a certificate's lines, or stands where it may not.
+    #[error("line {0}: not a line of a certificate")]
+    BadLine(usize),
+    /// A row or a column is named that the picture doesn't have.
+    #[error("line {0}: outside the picture")]
+    Place(usize),
+    /// Some list of colours fits the line that is called dead.
+    #[error("line {0}: not dead")]
+    NotDead(usize),
+    /// Some cell has a colour left other than the picture's.
+    #[error("line {0}: not done")]
+    NotDone(usize),
+    /// The lines end before the tree is whole. The number is that of the line that is missing.
+    #[error("line {0}: the certificate ends too early")]
+    Ended(usize),
+    /// A line stands behind the whole tree.
+    #[error("line {0}: behind the end")]
+    Trailing(usize),
+    /// A growth was refused.
+    #[error("out of memory")]
+    Memory,
+}
+
+impl CertFault {
+    /// The fault's name, as the variant is called.
+    pub fn name(&self) -> &'static str
+        ensures { result.now ≡ name_of self.now }
+    {
+        match self {
+            CertFault::NotCert(_) => "NotCert",
+            CertFault::BadLine(_) => "BadLine",
+            CertFault::Place(_) => "Place",
+            CertFault::NotDead(_) => "NotDead",
+            CertFault::NotDone(_) => "NotDone",
+            CertFault::Ended(_) => "Ended",
+            CertFault::Trailing(_) => "Trailing",
+            CertFault::Memory => "Memory",
+        }
+    }
+
+    /// The number of the line in fault, counted from 1.
+    pub fn place(&self) -> Option<usize>
+        ensures { result ≡ place_of self.now }
+    {
+        match self {
+            CertFault::NotCert(line)
+            | CertFault::BadLine(line)
+            | CertFault::Place(line)
+            | CertFault::NotDead(line)
+            | CertFault::NotDone(line)
+            | CertFault::Ended(line)
+            | CertFault::Trailing(line) => Some(*line),
+            CertFault::Memory => None,
+        }
+    }
+}
+
+impl From<AllocError> for CertFault {
+    ghost from_gives = { λ _ e. e ≡ Memory };
+
+    fn from(_e: AllocError) -> CertFault {
+        CertFault::Memory
+    }
+}
+
+impl<T: Drop> From<AllocFailed<T>> for CertFault {
+    ghost from_gives = { λ _ e. e ≡ Memory };
+
+    fn from(_e: AllocFailed<T>) -> CertFault {
+        CertFault::Memory
+    }
+}

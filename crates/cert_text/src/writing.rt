@@ -1,0 +1,129 @@
+//! The writer of certificates.
+
+ghost use Rattle.std.specs.Prelude.{◌≡◌, OnOk, OnErr};
+ghost use Rattle.std.specs.Io.KnownBytes.{Appends};
+ghost use Rattle.picture.specs.Writing.{AppendsFront};
+ghost use Rattle.cert_text.specs.Writing.{IsReadAgain, axis_text, cell_text, cert_text, givens_text, line_text, lines_text, named_text, number_text, version_text};
+
+use crate::cert::Cert;
+use crate::tree_line::{CellNumber, CertLine, LineNumber};
+use itoa::Buffer;
+use picture::{Axis, WriteFault, send};
+use std::io::Write;
+
+#[tactic(auto, using(crate::proofs::Sending::sending))]
+// Writes a number and the byte that closes it.
+fn send_number<W: Write>(number: u16, close: u8, writer: &mut W) -> Result<(), WriteFault>
+    ensures ok { OnOk result
+        (Appends (W.contents writer.old) (W.contents writer.new) (number_text number close)) }
+    ensures err { OnErr result
+        (AppendsFront (W.contents writer.old) (W.contents writer.new) (number_text number close)) }
+{
+    let mut buffer = Buffer::new();
+    send(buffer.format(number).as_bytes(), writer)?;
+    send(&[close], writer)
+}
+
+// The letter of an axis, and a space.
+fn axis_word(axis: Axis) -> &'static [u8]
+    ensures { result.now ≡ axis_text axis }
+{
+    match axis {
+        Axis::Across => b"r ",
+        Axis::Down => b"c ",
+    }
+}
+
+#[tactic(auto, using(crate::proofs::Sending::sending))]
+// Writes a line that names a line.
+fn send_named<W: Write>(word: &[u8], line: LineNumber, writer: &mut W) -> Result<(), WriteFault>
+    ensures ok { OnOk result
+        (Appends (W.contents writer.old) (W.contents writer.new) (named_text word.now line)) }
+    ensures err { OnErr result
+        (AppendsFront (W.contents writer.old) (W.contents writer.new) (named_text word.now line)) }
+{
+    send(word, writer)?;
+    send(axis_word(line.axis), writer)?;
+    send_number(line.number, b'\n', writer)
+}
+
+#[tactic(auto, using(crate::proofs::Sending::sending))]
+// Writes a line that names a cell.
+fn send_cell<W: Write>(word: &[u8], cell: CellNumber, writer: &mut W) -> Result<(), WriteFault>
+    ensures ok { OnOk result
+        (Appends (W.contents writer.old) (W.contents writer.new) (cell_text word.now cell)) }
+    ensures err { OnErr result
+        (AppendsFront (W.contents writer.old) (W.contents writer.new) (cell_text word.now cell)) }
+{
+    send(word, writer)?;
+    send_number(cell.row, b' ', writer)?;
+    send_number(cell.col, b'\n', writer)
+}
+
+// Writes a line below the givens.
+fn send_line<W: Write>(line: CertLine, writer: &mut W) -> Result<(), WriteFault>
+    ensures ok { OnOk result
+        (Appends (W.contents writer.old) (W.contents writer.new) (line_text line)) }
+    ensures err { OnErr result
+        (AppendsFront (W.contents writer.old) (W.contents writer.new) (line_text line)) }
+{
+    match line {
+        CertLine::Line(line) => send_named(b"line ", line, writer),
+        CertLine::Split(cell) => send_cell(b"split ", cell, writer),
+        CertLine::Dead(line) => send_named(b"dead ", line, writer),
+        CertLine::Done => send(b"done\n", writer),
+    }
+}
+
+#[tactic(auto, using(crate::proofs::Sending::given_loop))]
+// Writes the givens.
+fn send_givens<W: Write>(givens: &[CellNumber], writer: &mut W) -> Result<(), WriteFault>
+    ensures ok { OnOk result
+        (Appends (W.contents writer.old) (W.contents writer.new) (givens_text givens.now)) }
+    ensures err { OnErr result
+        (AppendsFront (W.contents writer.old) (W.contents writer.new) (givens_text givens.now)) }
+{
+    for i in 0..givens.len() {
+        send_cell(b"given ", givens[i], writer)?;
+    }
+    Ok(())
+}
+
+#[tactic(auto, using(crate::proofs::Sending::line_loop))]
+// Writes the lines below the givens.
+fn send_lines<W: Write>(lines: &[CertLine], writer: &mut W) -> Result<(), WriteFault>
+    ensures ok { OnOk result
+        (Appends (W.contents writer.old) (W.contents writer.new) (lines_text lines.now)) }
+    ensures err { OnErr result
+        (AppendsFront (W.contents writer.old) (W.contents writer.new) (lines_text lines.now)) }
+{
+    for i in 0..lines.len() {
+        send_line(lines[i], writer)?;
+    }
+    Ok(())
+}
+
+// The first line of a certificate.
+fn version_word(version: u8) -> &'static [u8]
+    ensures { result.now ≡ version_text version }
+{
+    if version == 1 {
+        b"nonocert 1\n"
+    } else {
+        b"nonocert 2\n"
+    }
+}
+
+#[tactic(auto, using(crate::proofs::Sending::sending))]
+/// Writes a certificate as a text, each line with a line feed: the version, the givens and the lines. `read_cert` reads it as
+/// the same certificate. Nothing is kept in memory, and after a fault a front of the text is written.
+pub fn write_cert<W: Write>(cert: &Cert, writer: &mut W) -> Result<(), WriteFault>
+    ensures ok { OnOk result
+        (Appends (W.contents writer.old) (W.contents writer.new) (cert_text cert.now)) }
+    ensures err { OnErr result
+        (AppendsFront (W.contents writer.old) (W.contents writer.new) (cert_text cert.now)) }
+{
+    send(version_word(cert.version()), writer)?;
+    send_givens(cert.givens(), writer)?;
+    send_lines(cert.lines(), writer)
+}
