@@ -147,12 +147,12 @@ def definition_faults(lines):
 
 
 def edit_faults(lines):
-    """The rows of docs/MUST_FAIL.md without an edit, and the edits without a row."""
+    """The rows of docs/MUST_FAIL.md without an edit, and the edits without a row: an item for each, `CRATE/EDIT`."""
     edits = {(os.path.basename(os.path.dirname(folder)), name[:-5])
              for folder, _, names in os.walk(os.path.join(ROOT, "crates")) if os.path.basename(folder) == "must-fail"
              for name in names if name.endswith(".edit")}
     for number, line in enumerate(lines, 1):
-        row = re.match(r"\| `(\w+)` \| `(\w+)` \|", line)
+        row = re.match(r"- `(\w+)/(\w+)`:", line)
         if row and row.groups() not in edits:
             yield number, f"a row without its edit: {'/'.join(row.groups())}"
         elif row:
