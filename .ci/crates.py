@@ -13,7 +13,7 @@ ROOT = Path(__file__).resolve().parent.parent
 README = ROOT / 'crates' / 'README.md'
 HEAD = '''# Crates
 
-The crates in reading order, in brackets what each stands on, without what these stand on themselves. [ARCHITECTURE.md](../docs/ARCHITECTURE.md) has their doors. Made by `.ci/crates.py --write`.
+For somebody who looks for a place in the code: the crates in reading order, in brackets what each stands on, without what these stand on themselves. [ARCHITECTURE.md](../docs/ARCHITECTURE.md) has their doors. Made by `.ci/crates.py --write`.
 
 '''
 
