@@ -1,7 +1,7 @@
 #!/usr/bin/env python3
 """Keeps the list of crates in one order: .ci/crates.py [--write]
 
-crates.txt must name each crate behind those that it stands on, in the order of the table in docs/ARCHITECTURE.md, and
+crates.txt must name each crate behind those that it stands on, in the order of the list in docs/ARCHITECTURE.md, and
 crates/README.md must be what this script makes of crates.txt and the first sentence of each crate's root file. With --write
 that file is written.
 """
@@ -13,10 +13,8 @@ ROOT = Path(__file__).resolve().parent.parent
 README = ROOT / 'crates' / 'README.md'
 HEAD = '''# Crates
 
-For somebody who looks for a place in the code: the crates in reading order, each after those that it stands on. The last column leaves out what these stand on themselves. Doors stand in [ARCHITECTURE.md](../docs/ARCHITECTURE.md). Made by `.ci/crates.py --write`.
+For somebody who looks for a place in the code: the crates in reading order, in brackets what each stands on, without what these stand on themselves. [ARCHITECTURE.md](../docs/ARCHITECTURE.md) has their doors. Made by `.ci/crates.py --write`.
 
-| crate | what it holds | stands on |
-|---|---|---|
 '''
 
 
@@ -43,6 +41,12 @@ def nearest(crates, name):
     return [dep for dep in crates[name] if not any(dep in reached(crates, other) for other in crates[name])]
 
 
+def stands_on(crates, name):
+    """The nearest ones in brackets, where there are some."""
+    names = ', '.join(f'`{dep}`' for dep in nearest(crates, name))
+    return f' ({names})' if names else ''
+
+
 def told(crate):
     """The first sentence of a crate's root file, without its full stop."""
     for name in ('lib.rt', 'main.rt'):
@@ -55,10 +59,10 @@ def told(crate):
 
 
 def in_architecture():
-    """The crates of the table in docs/ARCHITECTURE.md, in its order."""
+    """The crates of the list in docs/ARCHITECTURE.md, in its order: those before the colon of each item."""
     text = (ROOT / 'docs' / 'ARCHITECTURE.md').read_text(encoding='utf-8')
-    table = re.search(r'^\| crate \|.*\n\|[-| ]*\n((?:\|.*\n)*)', text, re.M)
-    return [name for row in table[1].splitlines() for name in re.findall(r'`(\w+)`', row.split('|')[1])]
+    part = re.search(r'^## Crates in reading order\n(.*?)^## ', text, re.M | re.S)
+    return [name for item in re.findall(r'^- (.*?):', part[1], re.M) for name in re.findall(r'`(\w+)`', item)]
 
 
 def faults(crates, text):
@@ -74,17 +78,16 @@ def faults(crates, text):
     order = in_architecture()
     if order != list(crates):
         at = next((i for i, pair in enumerate(zip(order, crates)) if pair[0] != pair[1]), min(len(order), len(crates)))
-        yield (f'docs/ARCHITECTURE.md: its table goes on with {" ".join(order[at:at + 1]) or "nothing"}, and crates.txt with '
+        yield (f'docs/ARCHITECTURE.md: its list goes on with {" ".join(order[at:at + 1]) or "nothing"}, and crates.txt with '
                f'{" ".join(list(crates)[at:at + 1]) or "nothing"}')
     if not README.exists() or README.read_text(encoding='utf-8') != text:
         yield 'crates/README.md is stale: run .ci/crates.py --write'
 
 
 def main(words):
-    """Writes the table where asked, and tells what is not in order."""
+    """Writes the list where asked, and tells what is not in order."""
     crates = listed()
-    rows = [f'| [`{name}`]({name}) | {told(name)} | {", ".join(f"`{dep}`" for dep in nearest(crates, name)) or "-"} |' for name in crates]
-    text = HEAD + '\n'.join(rows) + '\n'
+    text = HEAD + ''.join(f'- [`{name}`]({name}): {told(name)}{stands_on(crates, name)}\n' for name in crates)
     if words == ['--write']:
         README.write_text(text, encoding='utf-8')
     elif words:

@@ -9,8 +9,9 @@ does not exist. Of some documents also:
 - docs/DEFINITIONS.md: a name that is not defined in the folders of its section;
 - docs/MUST_FAIL.md: an edit without its row, or a row without its edit.
 
-Then it counts the words of all documents: a word has a letter or a digit, and blocks of code do not count. And the file KIT
-must have a line with the logic that `rt version` tells, where there is an rt.
+Then it counts the words of all documents as `wc -w` does: what stands between white space, in blocks of code and tables too.
+A sentence's words are those that have a letter or a digit. And the file KIT must have a line with the logic that `rt version`
+tells, where there is an rt.
 
 A block of README.md that begins with ```sh is run by .ci/tutorial, so its commands pass. A block that begins with
 ```sh build holds commands that only build or serve; each must begin as one of BUILDS. No other block may be named sh.
@@ -146,12 +147,12 @@ def definition_faults(lines):
 
 
 def edit_faults(lines):
-    """The rows of docs/MUST_FAIL.md without an edit, and the edits without a row."""
+    """The rows of docs/MUST_FAIL.md without an edit, and the edits without a row: an item for each, `CRATE/EDIT`."""
     edits = {(os.path.basename(os.path.dirname(folder)), name[:-5])
              for folder, _, names in os.walk(os.path.join(ROOT, "crates")) if os.path.basename(folder) == "must-fail"
              for name in names if name.endswith(".edit")}
     for number, line in enumerate(lines, 1):
-        row = re.match(r"\| `(\w+)` \| `(\w+)` \|", line)
+        row = re.match(r"- `(\w+)/(\w+)`:", line)
         if row and row.groups() not in edits:
             yield number, f"a row without its edit: {'/'.join(row.groups())}"
         elif row:
@@ -165,10 +166,9 @@ def words_of(lines):
 
 
 def counted(name):
-    """The words of a document without its blocks of code, and those of the blocks."""
-    with open(os.path.join(ROOT, name), encoding="utf-8") as file:
-        found, lines = blocks(file.read())
-    return words_of(lines), sum(words_of(held) for _, _, held in found)
+    """The words of a document as `wc -w` counts them."""
+    with open(os.path.join(ROOT, name), "rb") as file:
+        return len(file.read().split())
 
 
 def mean_sentence(name):
@@ -270,14 +270,14 @@ def main():
                 print(f"{name}:{number}: {fault}")
     if not named:
         counts = {name: counted(name) for name in documents()}
-        prose, code = (sum(count[i] for count in counts.values()) for i in (0, 1))
-        print(f"prose: {prose} words in {len(counts)} documents, and {code} in their blocks of code")
-        if prose > MOST_IN_ALL:
+        in_all = sum(counts.values())
+        print(f"prose: {in_all} words in {len(counts)} documents, as wc -w counts them")
+        if in_all > MOST_IN_ALL:
             total += 1
-            print(f"the documents have {prose} words, and may have {MOST_IN_ALL}")
+            print(f"the documents have {in_all} words, and may have {MOST_IN_ALL}")
         mean = mean_sentence("README.md")
-        print(f"prose: README has {counts['README.md'][0]} words, {mean:.1f} a sentence")
-        if counts["README.md"][0] > MOST_IN_README or mean > README_MEAN:
+        print(f"prose: README has {counts['README.md']} words, {mean:.1f} a sentence")
+        if counts["README.md"] > MOST_IN_README or mean > README_MEAN:
             total += 1
             print(f"README may have {MOST_IN_README} words, and {README_MEAN} a sentence")
         fault = kit_fault()

@@ -1,8 +1,9 @@
 // Tests of the module by node's own runner: WASM=path node --test web/test.mjs. The texts that are expected stand in tests/ and
 // examples/, or are worked out by hand from docs/FORMATS.md.
 import assert from 'node:assert/strict';
+import { spawnSync } from 'node:child_process';
 import { readFileSync, readdirSync, existsSync } from 'node:fs';
-import { dirname, join } from 'node:path';
+import { dirname, join, resolve } from 'node:path';
 import test from 'node:test';
 import { fileURLToPath } from 'node:url';
 import { Fault, load } from './nonobench.mjs';
@@ -424,4 +425,13 @@ test('the sessions of the repository come out as they stand there', async () => 
     }
   }
   assert.ok(count > 20, `${count}`);
+});
+
+test('the example checks an upload in a thread of its own', () => {
+  const env = { ...process.env, WASM: resolve(process.env.WASM ?? join(root, 'web', 'out', 'nonobench.wasm')) };
+  const said = (...files) => spawnSync(process.execPath, ['check_upload.mjs', ...files],
+    { cwd: join(root, 'examples'), env, encoding: 'utf8' }).stdout;
+  assert.equal(said('diagonal.ppm', 'diagonal.cert'), 'taken: certificate accepted\n');
+  assert.equal(said('given.ppm', 'given.cert'), 'taken: certificate accepted, givens 1\n');
+  assert.equal(said('given.ppm', 'diagonal.cert'), 'refused: certificate NotDead at line 5\n');
 });
