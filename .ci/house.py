@@ -12,7 +12,7 @@ import sys
 import tempfile
 
 ROOT = pathlib.Path(__file__).resolve().parent.parent
-OTHERS = {'refused', 'tables'}
+OTHERS = {'refused', 'search_tables', 'table_words', 'tables'}
 WIDE = 100
 MOST_PARAMETERS = 6
 # what stands in these files the prover looks up by name

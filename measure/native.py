@@ -4,9 +4,9 @@
 NATIVE is a folder with the source `nonoref.cpp`, P3 files in `pictures/` and `hard/`, and sessions in `sessions/`, each named for
 a picture of these as `NUMBER-KIND_PICTURE.txt`. The source is built into a folder that is deleted in the end. It settles and judges
 by the same lines, with words of 64 bits where a picture has at most 63 cells a side. Needed are g++, valgrind, and the programs
-`nonobench` and `tables` that bash .ci/run leaves. A FIGURE is one of these; without any all are measured:
+`nonobench`, `tables` and `search_tables` that bash .ci/run leaves. A FIGURE is one of these; without any all are measured:
 
-settle    forcing lines until nothing follows: `settle` of `tables`, beside the evaluations of `nonoref map`
+settle    forcing lines until nothing follows: `settle` of `search_tables`, beside the evaluations of `nonoref map`
 line      an evaluation and leaving out by `tables`, in instructions; lines that are open and half settled
 strokes   sessions with `map` after each edit in place of what they ask, opening and start taken off
 verdict   a session of one `verdict`, start taken off; then beside the search in the fixed order
@@ -29,6 +29,7 @@ from reference.pictures import read_ppm  # noqa: E402
 
 OURS = ROOT / 'crates/nonobench/out/nonobench'
 TABLES = ROOT / 'crates/tables/out/tables'
+SEARCHES = ROOT / 'crates/search_tables/out/search_tables'
 SECONDS = 60
 ALLOWED = 'allow 10000\nverdict\n'
 CELL = 'P3\n1 1\n255\n0 0 0\n'
@@ -86,7 +87,7 @@ def settle(native, folder, start):
     for picture in sorted((folder / 'pictures').glob('*.ppm')):
         rows = read_ppm(picture.read_bytes()).rows
         puzzle = '/'.join(''.join('.abcdefghijklmno'[k] for k in row) for row in rows)
-        ours, _ = collected([TABLES], f'settle mask inorder {puzzle}\n', '*force_crossing*')
+        ours, _ = collected([SEARCHES], f'settle mask inorder {puzzle}\n', '*force_crossing*')
         theirs, _ = collected([native, 'map', picture], '', '*Solver*::eval(*')
         table.row(picture.stem, ours, theirs)
     table.end()
@@ -163,7 +164,7 @@ def main():
     words = sys.argv[1:]
     if not words or any(word not in FIGURES for word in words[1:]):
         sys.exit(__doc__)
-    for program in (OURS, TABLES):
+    for program in (OURS, TABLES, SEARCHES):
         if not program.exists():
             sys.exit(f'this needs {program}, which bash .ci/run leaves')
     folder = Path(words[0])

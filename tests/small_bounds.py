@@ -1,7 +1,7 @@
 #!/usr/bin/env python3
 """The ladder of a search on all small pictures, within bounds so small that each way answers: tests/small_bounds.py PROGRAM ..
 
-The programs are builds of the crate `tables`, and are asked by its call `within`. All pictures of three by three and of two by
+The programs are builds of the crate `search_tables`, and are asked by its call `within`. All pictures of three by three and of two by
 four in two colours, and every so manieth in three, are judged and certified, without givens and with some, within each of some
 bounds. A listing of all pictures says what each answer must be; a certificate must be accepted by the plain checker of
 tests/reference.

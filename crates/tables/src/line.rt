@@ -6,12 +6,12 @@
 ghost use Rattle.std.specs.Prelude.{◌≡◌, ◌≤◌, length};
 ghost use Rattle.picture.specs.declared.picture.TheConstants.{MAX_SIDE};
 
-use crate::starting::MOST;
 use crate::sweeping::{draw, leave_out_often};
 use anyhow::{Context, Result, bail, ensure};
 use clues::{Block, Clue};
 use line_settle::{LineEngine, MaskEngine, Outcome, PlainEngine};
 use std::alloc::{AllocError, Global};
+use table_words::MOST;
 
 /// Which cells have one colour left before the evaluation.
 #[derive(Clone, Copy, Debug, PartialEq, Eq)]

@@ -3,11 +3,7 @@
 //! it evaluates one line many times (`line`), so that the work of it can be measured from outside.
 #![tactic(auto)]
 
-mod bounded;
 mod line;
-mod search;
-mod settle;
-mod starting;
 mod sweeping;
 mod table;
 

@@ -9,11 +9,9 @@ mod books;
 mod clueing;
 mod entries;
 mod lines;
-mod puzzles;
-mod said;
-mod searches;
 
 use anyhow::{Result, bail};
+use table_words::call_in;
 
 /// Answers the lines of standard input one after the other.
 pub fn tell_table(rt: &(impl AllocGlobal + Input + Print)) -> Result<()> {
@@ -25,32 +23,24 @@ pub fn tell_table(rt: &(impl AllocGlobal + Input + Print)) -> Result<()> {
 
 // Answers a line, unless it is blank, a comment or an expectation.
 fn tell_line(rt: &(impl AllocGlobal + Print), line: &str) -> Result<()> {
-    let words: Vec<&str> = line
-        .split(' ')
-        .filter(|word| !word.is_empty())
-        .collect(rt.alloc())?;
-    let Some(first) = words.first() else {
+    let Some(words) = call_in(rt.alloc(), line)? else {
         return Ok(());
     };
-    if first.starts_with('#') || first.starts_with('=') {
-        return Ok(());
-    }
-    if answer(rt, first, &words).is_err() {
+    if answer(rt, &words).is_err() {
         println!(rt; "cannot read: {line}")?;
     }
     Ok(())
 }
 
 // Calls the module of the first word.
-fn answer(rt: &(impl AllocGlobal + Print), first: &str, words: &[&str]) -> Result<()> {
-    match first {
+fn answer(rt: &(impl AllocGlobal + Print), words: &[&str]) -> Result<()> {
+    match words.first().copied().unwrap_or("") {
         "refresh" => clueing::tell(rt, words),
         "narrow" | "engine" | "leave-out" | "force" => lines::tell(rt, words),
         "engines" | "random" | "leaving-out" => lines::tell_of_many(rt, words),
         "agenda" => agendas::tell(rt, words),
         "edit" => entries::tell(rt, words),
         "go-on" => books::tell(rt, words),
-        "settle" | "first" | "parts" | "judge" | "cost" | "within" => searches::tell(rt, words),
         _ => bail!("no such call"),
     }
 }

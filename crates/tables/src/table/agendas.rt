@@ -3,11 +3,11 @@
 //! `agenda inorder WORD ..` or `agenda newest WORD ..`: a line waits, or several that are joined by commas do at once; `clear`
 //! forgets them; `take` takes one, whose name is printed, and `-` where none waits.
 
-use super::said::{line_in, push_line};
 use anyhow::{Result, bail, ensure};
 use picture::{LineSet, MAX_SIDE};
 use propagate::{Agenda, InOrder, NewestFirst};
 use std::alloc::Global;
+use table_words::{line_in, push_line};
 
 /// Tells in what order an agenda gives lines.
 pub fn tell(rt: &(impl AllocGlobal + Print), words: &[&str]) -> Result<()> {

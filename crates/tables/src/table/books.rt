@@ -14,8 +14,6 @@ ghost use Rattle.edits.specs.History.{IsPlanFor};
 ghost use Rattle.justify.specs.Book.{IsDerivation};
 ghost use Rattle.propagate.specs.Closing.{AreClosable};
 
-use super::said::{document_in, edit_in, line_in, push_facts, push_line, push_steps};
-use crate::starting::NOTHING_DONE;
 use anyhow::{Result, bail, ensure};
 use clues::ClueBook;
 use clues::laws::clues_are_of_lines;
@@ -26,6 +24,7 @@ use picture::{Axis, Document, LineId, LineSet, MAX_SIDE};
 use propagate::{Agenda, InOrder, NewestFirst, all_lines, close, run_schedule};
 use retract::{Kept, keep};
 use std::alloc::{AllocError, Global};
+use table_words::{NOTHING_DONE, document_in, edit_in, line_in, push_facts, push_line, push_steps};
 
 /// A document with its history, the clues of its picture, and a book that follows from them.
 #[derive(Drop)]

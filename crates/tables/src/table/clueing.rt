@@ -7,12 +7,12 @@ ghost use Rattle.std.specs.Prelude.{◌≡◌, IfOk};
 ghost use Rattle.clues.specs.Change.{IsChangeOf};
 ghost use Rattle.clues.specs.ClueBook.{clues_of};
 
-use super::said::{document_in, edit_in, push_clues, push_rows, push_touched};
 use anyhow::{Result, bail};
 use clues::{Change, ClueBook, laws};
 use edits::Studio;
 use picture::{Document, Picture};
 use std::alloc::Global;
+use table_words::{document_in, edit_in, push_clues, push_rows, push_touched};
 
 /// Tells how clues go on.
 pub fn tell(rt: &(impl AllocGlobal + Print), words: &[&str]) -> Result<()> {

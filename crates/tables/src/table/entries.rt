@@ -6,11 +6,11 @@
 ghost use Rattle.clues.specs.Change.{IsChangeOf};
 ghost use Rattle.edits.specs.History.{IsPlanFor};
 
-use super::said::{document_in, edit_in, letter_of, push_rows, push_touched};
 use anyhow::{Context, Result, bail};
 use edits::{Edit, EditFault, Entry, Prepared, Studio};
 use picture::Rgb;
 use std::alloc::{AllocError, Global};
+use table_words::{document_in, edit_in, letter_of, push_rows, push_touched};
 
 /// Tells what becomes of an edit.
 pub fn tell(rt: &(impl AllocGlobal + Print), words: &[&str]) -> Result<()> {

@@ -14,13 +14,13 @@ mod leaving;
 mod listing;
 mod narrowing;
 
-use super::said::{clue_in, facts_in, line_in, masks_in, push_facts, push_line, push_masks};
 use anyhow::{Context, Result, bail, ensure};
 use clues::Clue;
 use line_settle::{Facts, Forced, LineEngine, MaskEngine, Outcome, PlainEngine, force_crossing};
 use narrowing::{Engines, Narrowed};
 use picture::{Axis, LineId, LineSet};
 use std::alloc::{AllocError, Global};
+use table_words::{clue_in, facts_in, line_in, masks_in, push_facts, push_line, push_masks};
 
 /// Answers a call on lines.
 pub fn tell(rt: &(impl AllocGlobal + Print), words: &[&str]) -> Result<()> {

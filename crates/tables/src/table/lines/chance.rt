@@ -1,12 +1,12 @@
 //! Both engines are compared on random lines.
 
 use super::narrowing::Engines;
-use crate::table::said::ALL;
 use anyhow::{Result, ensure};
 use clues::{Clue, clue_of};
 use line_settle::Outcome;
 use picture::{Axis, LineId, Picture};
 use std::alloc::Global;
+use table_words::ALL;
 
 // The next number of a small generator.
 fn draw(state: &mut u64) -> u64 {

@@ -3,11 +3,11 @@
 use super::drawing::draw_and_leave_out;
 use super::listing::{MOST, clue_by_number, left_by_number, power};
 use super::narrowing::narrow_by;
-use crate::table::said::ALL;
 use anyhow::{Result, ensure};
 use clues::Clue;
 use line_settle::{LineEngine, PlainEngine};
 use std::alloc::Global;
+use table_words::ALL;
 
 /// Compares on all lines of one to so many cells, all clues whose blocks have at most one cell less, and every choice of `.`, `a`
 /// and `b` left in each cell.

@@ -1,11 +1,11 @@
 //! Both engines are compared with a plain listing of all lines, on short lines in two colours.
 
 use super::narrowing::{Engines, Narrowed};
-use crate::table::said::clue_in;
 use anyhow::{Result, ensure};
 use clues::{Block, Clue};
 use line_settle::Outcome;
 use std::alloc::Global;
+use table_words::clue_in;
 
 /// How many cells a listed line has at the most.
 pub const MOST: u32 = 4;
