@@ -15,7 +15,7 @@ mod words;
 
 pub use command::Command;
 pub use fault::CommandFault;
-pub use lines::Lines;
+pub use lines::{Lines, ReadFault};
 pub use numbers::sample_in;
 pub use parse::{MOST_BYTES, parse_command};
 pub use request::Request;

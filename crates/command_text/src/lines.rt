@@ -6,9 +6,12 @@ ghost use Rattle.command_text.specs.Lines.{AsksBounded, Hands, TakesPiece, Waits
 
 use crate::draft::Draft;
 use crate::request::Request;
-use crate::session_fault::SessionFault;
 use std::io::Read;
 use std::marker::Model;
+
+/// A read failed, or one more than 1,048,576 was wanted.
+#[derive(Clone, Copy)]
+pub struct ReadFault;
 
 // How many reads a session makes at the most.
 const MOST_READS: u32 = 1_048_576;
@@ -60,7 +63,7 @@ impl Inbox {
     }
 
     // Reads once. What was not looked at is lost.
-    fn refill<R: Read>(&mut self, reader: &mut R) -> Result<(), SessionFault>
+    fn refill<R: Read>(&mut self, reader: &mut R) -> Result<(), ReadFault>
         ensures fits { OnOk result (length self.new ≤ 4096) }
         ensures read { OnOk result
             (Consumes (R.remaining reader.old) (R.remaining reader.new) self.new) }
@@ -73,7 +76,7 @@ impl Inbox {
                 self.end = count;
                 Ok(())
             }
-            Err(_) => Err(SessionFault::Read),
+            Err(_) => Err(ReadFault),
         }
     }
 }
@@ -104,7 +107,7 @@ impl Lines {
     /// A line ends with a line feed, and a carriage return before that, or at the end of the last line, is dropped. The last
     /// line needs no line feed where it has a byte. Of a line of any length at most 202 bytes are kept. After a fault the
     /// line that was not finished is lost.
-    pub fn next<R: Read>(&mut self, reader: &mut R) -> Result<Option<Request>, SessionFault>
+    pub fn next<R: Read>(&mut self, reader: &mut R) -> Result<Option<Request>, ReadFault>
         ensures value { Hands (R.remaining reader.old) (R.remaining reader.new) self.old self.new
             result }
         ensures bounded { IfOk result (λ asked. IfSome asked AsksBounded) }
@@ -124,7 +127,7 @@ impl Lines {
     }
 
     // Whether a byte waits, after a read where none did. The end of the input is met once.
-    fn has_more<R: Read>(&mut self, reader: &mut R) -> Result<bool, SessionFault>
+    fn has_more<R: Read>(&mut self, reader: &mut R) -> Result<bool, ReadFault>
         ensures waits { IfOk result (λ more.
             Waits (R.remaining reader.old) (R.remaining reader.new) self.old self.new more) }
         ensures err { OnErr result (Keeps (R.remaining reader.old) (R.remaining reader.new)
@@ -141,7 +144,7 @@ impl Lines {
     }
 
     // Reads once where none waits, and notes the end of the input.
-    fn read_on<R: Read>(&mut self, reader: &mut R) -> Result<(), SessionFault>
+    fn read_on<R: Read>(&mut self, reader: &mut R) -> Result<(), ReadFault>
         ensures read { OnOk result
             (Consumes (R.remaining reader.old) (R.remaining reader.new) self.new.inbox) }
         ensures ended { OnOk result (self.new.ended ≡ (length self.new.inbox == 0)) }
@@ -150,7 +153,7 @@ impl Lines {
         ensures err { OnErr result (Keeps (R.remaining reader.old) (R.remaining reader.new)) }
     {
         if self.reads >= MOST_READS {
-            return Err(SessionFault::Read);
+            return Err(ReadFault);
         }
         self.inbox.refill(reader)?;
         self.reads += 1;

@@ -1,8 +1,9 @@
 //! Why a session ends early.
 
 ghost use Rattle.std.specs.Prelude.{◌≡◌};
-ghost use Rattle.command_text.specs.declared.session_fault.SessionFault.TheVariants.{Write as Unwritten};
+ghost use Rattle.command_text.specs.declared.session_fault.SessionFault.TheVariants.{Read as Unread, Write as Unwritten};
 
+use crate::lines::ReadFault;
 use picture::WriteFault;
 use thiserror::Error;
 
@@ -15,6 +16,14 @@ pub enum SessionFault {
     /// A write failed, or took no byte.
     #[error("write failed")]
     Write,
+}
+
+impl From<ReadFault> for SessionFault {
+    ghost from_gives = { λ _ e. e ≡ Unread };
+
+    fn from(_fault: ReadFault) -> SessionFault {
+        SessionFault::Read
+    }
 }
 
 impl From<WriteFault> for SessionFault {

@@ -1,7 +1,7 @@
 use Rattle.std.proofs.Common.{ap, arith}
 use Rattle.std.proofs.lemmas.Result.{err_from_is_err_and}
 use Rattle.edits.specs.Design.{Design}
-use Rattle.session.specs.Room.{picture_room}
+use Rattle.report_text.specs.Room.{picture_room}
 use Rattle.session.proofs.AnswerLemmas.{from_nothing, judged_now, unjudged_now}
 use Rattle.session.proofs.RoomLemmas.{verdict_fits}
 use Rattle.session.proofs.answer.verdict_text.Goals as goal
