@@ -1,7 +1,7 @@
 -- The command line as it is made, and what a parse by it gives.
-use Rattle.std.proofs.Common.{◌≡◌, ◌++◌, true, false, List, [], ◌∷◌, Result, Ok, Err, refl, ap, subst, sym, ◌∙◌}
+use Rattle.std.proofs.Common.{◌≡◌, ◌++◌, true, false, List, [], ◌∷◌, Result, Ok, Err, refl, ap, subst, ◌∙◌}
 use Rattle.std.specs.Prelude.{IfErr, IfOk}
-use Rattle.clap.specs.Words.{AddsArg, AddsSubcommand, App, HasMatchesOf, Rule, Shape, Text, app_of, is_simple, kind_of, rule_of, shape_of, takes, with_subcommand}
+use Rattle.clap.specs.Words.{AddsArg, AddsSubcommand, App, FailsBy, HasMatchesOf, Rule, Shape, Text, app_of, fault_of, is_simple, is_simple_and_free, kind_of, rule_of, shape_of, takes, with_subcommand}
 use Rattle.clap.specs.declared.builder.arg.Arg.{Arg}
 use Rattle.clap.specs.declared.builder.command.Command.{Command}
 use Rattle.clap.specs.declared.builder.value_parser.ValueParser.{ValueParser}
@@ -41,12 +41,22 @@ command_made top work first check (Ok c) t a h l m s f =
 simple : (formats : ValueParser) → is_simple (program_app formats) ≡ true
 simple formats = refl
 
+free : (formats : ValueParser) → is_simple_and_free (program_app formats) ≡ true
+free formats = refl
+
+-- what an app's parse fails by
+abbrev Fails : List Text → Result ArgMatches Error → App → Type 0
+Fails words r x = is_simple_and_free x ≡ true → FailsBy (fault_of x words) r
+
 -- what a parse by it gives
 pub parse_made : (c : Command) (words : List Text) (r : Result ArgMatches Error) → IfOk r (HasMatchesOf (app_of c) words) → IfErr r (λ e. takes (app_of c) words ≡ true → kind_of e ≡ OutOfMemory)
+    → (is_simple_and_free (app_of c) ≡ true → FailsBy (fault_of (app_of c) words) r)
     → (formats : ValueParser) × (AreFormats formats × (app_of c ≡ program_app formats)) → (formats : ValueParser) × (AreFormats formats × ParsesAs formats words r)
-parse_made c words (Ok m) ok err f =
+parse_made c words (Ok m) ok err kinds f =
     let given : HasMatchesOf (program_app f.0) words m = subst (λ (x : App). HasMatchesOf x words m) f.1.1 ok in
-    (f.0, (f.1.0, (given (simple f.0)).1))
-parse_made c words (Err e) ok err f =
+    let fails : Fails words (Ok m) (program_app f.0) = subst (Fails words (Ok m)) f.1.1 kinds in
+    (f.0, (f.1.0, (fails (free f.0), (given (simple f.0)).1)))
+parse_made c words (Err e) ok err kinds f =
     let passes : takes (program_app f.0) words ≡ true → kind_of e ≡ OutOfMemory = subst (λ (x : App). takes x words ≡ true → kind_of e ≡ OutOfMemory) f.1.1 err in
-    (f.0, (f.1.0, passes))
+    let fails : Fails words (Err e) (program_app f.0) = subst (Fails words (Err e)) f.1.1 kinds in
+    (f.0, (f.1.0, (fails (free f.0), passes)))

@@ -1,11 +1,12 @@
 -- The words of the command line, as the parser's contract has them.
-use Rattle.std.proofs.Common.{◌≡◌, ◌≤◌, ℕ, decimal, List, length, codes, Option, None, Some, Result, Ok, Err, option_map, true, refl, sym, ap, subst, ◌∙◌, arith, inl, inr}
+use Rattle.std.proofs.Common.{◌≡◌, ◌≢◌, ◌⊎◌, ◌↔◌, ◌≤◌, ℕ, Bool, decimal, List, [], ◌∷◌, length, codes, Option, None, Some, Result, Ok, Err, IsTrue, option_map, true, false, true≢false, refl, sym, ap, subst, ◌∙◌, arith, inl, inr, ⊎_elim}
 use Rattle.std.proofs.lemmas.Fmt.{parse-decimal}
 use Rattle.std.specs.Str.Parse.{ParsesUnsigned}
 use Rattle.clap.specs.declared.builder.value_parser.ValueParser.{ValueParser}
 use Rattle.clap.specs.declared.error.Error.{Error}
-use Rattle.clap.specs.declared.error.kind.ErrorKind.TheVariants.{OutOfMemory}
-use Rattle.clap.specs.Words.{ReadsOne, Row, Text, first_of, first_value, kind_of, one_text, rows_of, subcommand_name_of, subcommand_rows_of, takes}
+use Rattle.clap.specs.declared.error.kind.ErrorKind.{ErrorKind}
+use Rattle.clap.specs.declared.error.kind.ErrorKind.TheVariants as kind
+use Rattle.clap.specs.Words.{App, HasKind, IsAmong, Kinds, ReadsOne, Row, Text, fault_of, first_of, first_value, kind_of, one_text, rows_of, subcommand_name_of, subcommand_of, subcommand_rows_of, takes}
 use Rattle.clap.specs.declared.parser.matches.ArgMatches.{ArgMatches}
 use Rattle.clap.specs.declared.parser.matches.Found.{Found}
 use Rattle.clap.proofs.WalkLemmas.{first_value-rows, one_text-rows}
@@ -14,7 +15,8 @@ use Rattle.program_options.specs.declared.fault.ProgramFault.TheVariants as faul
 use Rattle.command_line.specs.declared.words.Task.{Task}
 use Rattle.command_line.specs.declared.words.Task.TheVariants.{Clues, Work, Check, Help}
 use Rattle.command_line.specs.Program.{AreFormats, ParsesAs, program_app}
-use Rattle.command_line.specs.Words.{Given, IsAsked, IsCheck, IsTaskOf, IsUntaken, IsWork, given_in, given_of}
+use Rattle.command_line.specs.Words.{Given, IsAsked, IsCheck, IsNamed, IsTaskBy, IsTaskOf, IsUntaken, IsWork, given_in, given_of, is_shown}
+use Rattle.command_line.proofs.EnterLemmas.{names_one, some_kind}
 
 -- ---- values
 
@@ -94,29 +96,90 @@ depth_read {E} n text None gives parses few is reads =
     let r : Result ℕ E = Err reads.0 in
     absurd (no_error reads.0 n r refl (parse-decimal 16 n text r (omega (arith, few)) (omega (arith, few)) is (parses text r reads.1)))
 
+-- ---- words that are not taken
+
+-- a kind that shows nothing is a mistake in the words
+mistake : (k : ErrorKind) → k ≢ kind.DisplayHelp → k ≢ kind.DisplayVersion → is_shown k ≡ false
+mistake kind.DisplayHelp h v = absurd (h refl)
+mistake kind.DisplayVersion h v = absurd (v refl)
+mistake kind.InvalidValue h v = refl
+mistake kind.UnknownArgument h v = refl
+mistake kind.InvalidSubcommand h v = refl
+mistake kind.NoEquals h v = refl
+mistake kind.ValueValidation h v = refl
+mistake kind.TooManyValues h v = refl
+mistake kind.TooFewValues h v = refl
+mistake kind.WrongNumberOfValues h v = refl
+mistake kind.ArgumentConflict h v = refl
+mistake kind.MissingRequiredArgument h v = refl
+mistake kind.MissingSubcommand h v = refl
+mistake kind.DisplayHelpOnMissingArgumentOrSubcommand h v = refl
+mistake kind.Io h v = refl
+mistake kind.Format h v = refl
+mistake kind.OutOfMemory h v = refl
+
+-- what goes to the standard error is a mistake
+pub is_mistake : (k : ErrorKind) (b : Bool) → (IsTrue b ↔ ((k ≢ kind.DisplayHelp) × (k ≢ kind.DisplayVersion))) → b ≡ true → is_shown k ≡ false
+is_mistake k b is on = mistake k (is.0 on).0 (is.0 on).1
+
+-- and what does not is shown
+pub is_display : (k : ErrorKind) (b : Bool) → (IsTrue b ↔ ((k ≢ kind.DisplayHelp) × (k ≢ kind.DisplayVersion))) → b ≡ false → is_shown k ≡ true
+is_display k b is off = go (is_shown k) refl
+  where
+    go : (x : Bool) → x ≡ is_shown k → is_shown k ≡ true
+    go true e = sym e
+    go false e = absurd (true≢false (sym (is.1 ((λ h. true≢false (sym (e ∙ ap is_shown h))), (λ h. true≢false (sym (e ∙ ap is_shown h))))) ∙ off))
+
+shown_not_memory : (k : ErrorKind) → is_shown k ≡ true → k ≡ kind.OutOfMemory → ⊥
+shown_not_memory k shown memory = true≢false (sym shown ∙ ap is_shown memory)
+
+abbrev failed : ProgramFault → Result Task ProgramFault
+failed e = Err e
+
+memory_is : (e : ProgramFault) → e ≡ fault.Memory → failed e ≡ failed fault.Memory
+memory_is e is = ap failed is
+
+-- memory ran out, or the kind is another
+memory_or : (k : ErrorKind) (r : Result Task ProgramFault) → IsUntaken k r → (r ≡ Err fault.Memory) ⊎ (k ≡ kind.OutOfMemory → ⊥)
+memory_or k (Ok Clues) u = absurd u
+memory_or k (Ok (Work file options)) u = absurd u
+memory_or k (Ok (Check file cert background)) u = absurd u
+memory_or k (Ok (Help text)) u = inr (shown_not_memory k u)
+memory_or k (Err (fault.Words text)) u = inr u.1
+memory_or k (Err (fault.Ppm x)) u = inl (memory_is (fault.Ppm x) u)
+memory_or k (Err (fault.Non x)) u = inl (memory_is (fault.Non x) u)
+memory_or k (Err (fault.Edit x)) u = inl (memory_is (fault.Edit x) u)
+memory_or k (Err fault.NoPicture) u = inl (memory_is fault.NoPicture u)
+memory_or k (Err (fault.Cert x)) u = inl (memory_is (fault.Cert x) u)
+memory_or k (Err fault.Memory) u = inl refl
+memory_or k (Err fault.TooLong) u = inl (memory_is fault.TooLong u)
+memory_or k (Err fault.NotText) u = inl (memory_is fault.NotText u)
+memory_or k (Err fault.Background) u = inl (memory_is fault.Background u)
+memory_or k (Err fault.BackgroundOfNon) u = inl (memory_is fault.BackgroundOfNon u)
+memory_or k (Err fault.Read) u = inl (memory_is fault.Read u)
+memory_or k (Err fault.Write) u = inl (memory_is fault.Write u)
+
 -- ---- the task
 
-untaken_more : (One Other : Type 0) → (One → Other) → (r : Result Task ProgramFault) → IsUntaken One r → IsUntaken Other r
-untaken_more One Other f (Ok Clues) u = u
-untaken_more One Other f (Ok (Work file options)) u = u
-untaken_more One Other f (Ok (Check file cert background)) u = u
-untaken_more One Other f (Ok (Help text)) u = f u
-untaken_more One Other f (Err (fault.Words text)) u = f u
-untaken_more One Other f (Err (fault.Ppm x)) u = u
-untaken_more One Other f (Err (fault.Non x)) u = u
-untaken_more One Other f (Err (fault.Edit x)) u = u
-untaken_more One Other f (Err fault.NoPicture) u = u
-untaken_more One Other f (Err (fault.Cert x)) u = u
-untaken_more One Other f (Err fault.Memory) u = u
-untaken_more One Other f (Err fault.TooLong) u = u
-untaken_more One Other f (Err fault.NotText) u = u
-untaken_more One Other f (Err fault.Background) u = u
-untaken_more One Other f (Err fault.BackgroundOfNon) u = u
-untaken_more One Other f (Err fault.Read) u = u
-untaken_more One Other f (Err fault.Write) u = u
+untaken_by : (kinds : Kinds) (app : App) (words : List Text) (k : ErrorKind) (r : Result Task ProgramFault) → (takes app words ≡ true → ⊥) → IsAmong k kinds → IsUntaken k r → IsTaskBy kinds app words r
+untaken_by [] app words k r refused among u = absurd among
+untaken_by (first ∷ more) app words k r refused among u = (refused, (k, (among, u)))
+
+untaken_as : (kinds : Kinds) (app : App) (words : List Text) (e : Error) (r : Result Task ProgramFault) → HasKind kinds e → (takes app words ≡ true → kind_of e ≡ kind.OutOfMemory) → IsUntaken (kind_of e) r
+    → (r ≡ Err fault.Memory) ⊎ IsTaskBy kinds app words r
+untaken_as kinds app words e r has passes u =
+    let among : (kind_of e ≡ kind.OutOfMemory → ⊥) → IsAmong (kind_of e) kinds = λ other. ⊎_elim (λ memory. absurd (other memory)) (λ one. one) has in
+    ⊎_elim (λ memory. inl memory) (λ other. inr (untaken_by kinds app words (kind_of e) r (λ t. other (passes t)) (among other) u)) (memory_or (kind_of e) r u)
+
+pub not_taken : (words : List Text) (e : Error) (r : Result Task ProgramFault) → (formats : ValueParser) × (AreFormats formats × ParsesAs formats words (Err e)) → IsUntaken (kind_of e) r → IsTaskOf words r
+not_taken words e r p u = ⊎_elim (λ memory. inl memory) (λ told. inr (p.0, (p.1.0, told))) (untaken_as (fault_of (program_app p.0) words) (program_app p.0) words e r p.1.1.0 p.1.1.1 u)
+
+taken_by : (kinds : Kinds) (app : App) (words : List Text) (r : Result Task ProgramFault) → kinds ≡ [] → IsNamed (subcommand_of app words) → IsAsked (subcommand_of app words) r → IsTaskBy kinds app words r
+taken_by [] app words r none named asked = (named, asked)
+taken_by (first ∷ more) app words r none named asked = absurd (some_kind first more none)
 
 pub taken : (words : List Text) (m : ArgMatches) (r : Result Task ProgramFault) → (formats : ValueParser) × (AreFormats formats × ParsesAs formats words (Ok m)) → IsAsked (subcommand_rows_of m) r → IsTaskOf words r
-taken words m r p asked = inr (p.0, (p.1.0, inl (subst (λ (x : Option (Text × List Row)). IsAsked x r) p.1.1 asked)))
-
-pub not_taken : (words : List Text) (e : Error) (r : Result Task ProgramFault) → (formats : ValueParser) × (AreFormats formats × ParsesAs formats words (Err e)) → IsUntaken (kind_of e ≡ OutOfMemory → ⊥) r → IsTaskOf words r
-not_taken words e r p said = inr (p.0, (p.1.0, inr (untaken_more (kind_of e ≡ OutOfMemory → ⊥) (takes (program_app p.0) words ≡ true → ⊥) (λ n t. n (p.1.1 t)) r said)))
+taken words m r p asked =
+    let fine = p.1.1.0 in
+    let there = subst (λ (x : Option (Text × List Row)). IsAsked x r) p.1.1.1 asked in
+    inr (p.0, (p.1.0, taken_by (fault_of (program_app p.0) words) (program_app p.0) words r fine (names_one p.0 words fine) there))

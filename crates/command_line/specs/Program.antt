@@ -1,6 +1,6 @@
 -- The program's command line, as the parser of words sees it.
 use Rattle.std.specs.Prelude.{◌≡◌, true, false, pos, List, [], ◌∷◌, codes, map, Some, Result, Ok, Err}
-use Rattle.clap.specs.Words.{App, Rule, Shape, Text, kind_of, new_rule, subcommand_of, subcommand_rows_of, takes}
+use Rattle.clap.specs.Words.{App, HasKind, Rule, Shape, Text, fault_of, kind_of, new_rule, subcommand_of, subcommand_rows_of, takes}
 use Rattle.clap.specs.Simple.{new_shape}
 use Rattle.clap.specs.declared.builder.command.Command.{Command}
 use Rattle.clap.specs.declared.builder.command.Command.TheViews.{out-Command}
@@ -72,8 +72,8 @@ AreFormats _ = ⊥
 abbrev pub IsLocal : Command → Type 0
 IsLocal c = (out-Command c).has_globals ≡ false
 
--- What a parse of the program's words comes to: the name and the rows of the subcommand that they name; or they are not taken,
--- which is for want of memory where the definition takes them.
+-- What a parse of the program's words comes to: they have no fault, and the parse has the name and the rows of the subcommand that
+-- they name; or its error is of a kind of their fault, or memory ran out, which it did where the definition takes them.
 abbrev pub ParsesAs : ValueParser → List Text → Result ArgMatches Error → Type 0
-ParsesAs formats words (Ok m) = subcommand_rows_of m ≡ subcommand_of (program_app formats) words
-ParsesAs formats words (Err e) = takes (program_app formats) words ≡ true → kind_of e ≡ OutOfMemory
+ParsesAs formats words (Ok m) = (fault_of (program_app formats) words ≡ []) × (subcommand_rows_of m ≡ subcommand_of (program_app formats) words)
+ParsesAs formats words (Err e) = HasKind (fault_of (program_app formats) words) e × (takes (program_app formats) words ≡ true → kind_of e ≡ OutOfMemory)

@@ -1,7 +1,9 @@
 -- What the words ask for, by the values that the parser of words found.
-use Rattle.std.specs.Prelude.{◌≡◌, ◌⊎◌, ℕ, ◌<◌, ◌≤◌, ◌↔◌, true, List, [], codes, decimal, unwrap_or, Option, None, Some, Result, Ok, Err}
-use Rattle.clap.specs.Words.{Row, Text, first_of, first_value, one_of, one_text, subcommand_of, takes}
+use Rattle.std.specs.Prelude.{◌≡◌, ◌⊎◌, ℕ, ◌<◌, ◌≤◌, ◌↔◌, Bool, true, false, List, [], ◌∷◌, codes, decimal, unwrap_or, Option, None, Some, Result, Ok, Err}
+use Rattle.clap.specs.Words.{App, IsAmong, Kinds, Row, Text, fault_of, first_of, first_value, one_of, one_text, subcommand_of, takes}
 use Rattle.clap.specs.declared.builder.value_parser.ValueParser.{ValueParser}
+use Rattle.clap.specs.declared.error.kind.ErrorKind.{ErrorKind}
+use Rattle.clap.specs.declared.error.kind.ErrorKind.TheVariants.{DisplayHelp, DisplayVersion, OutOfMemory}
 use Rattle.clap.specs.declared.parser.matches.Found.{Found}
 use Rattle.picture.specs.declared.rgb.Rgb.{Rgb}
 use Rattle.program_options.specs.declared.fault.ProgramFault.{ProgramFault}
@@ -93,24 +95,41 @@ IsCheck g (Ok (Check file cert background)) = (file.now ≡ path_of g.file) × (
 IsCheck g (Ok (Help text)) = ⊥
 IsCheck g (Err e) = background_asked g.background ≡ Err e
 
+-- the subcommand that was entered is one of the program's two
+abbrev pub IsNamed : Option (Text × List Row) → Type 0
+IsNamed None = ⊥
+IsNamed (Some entered) = (entered.0 ≡ codes "work") ⊎ (entered.0 ≡ codes "check")
+
 -- what a subcommand that was entered asks for, by its name and its rows
 pub record IsAsked (entered : Option (Text × List Row)) (r : Result Task ProgramFault) : Type 0 where
   pub work : (rows : List Row) → entered ≡ Some (codes "work", rows) → IsWork (given_in rows) r
   pub check : (rows : List Row) → entered ≡ Some (codes "check", rows) → IsCheck (given_in rows) r
 
--- Memory was wanting; or the words are not taken, and the parser's text says why, or what was asked to be shown.
-abbrev pub IsUntaken : Type 0 → Result Task ProgramFault → Type 0
-IsUntaken Not (Ok Clues) = ⊥
-IsUntaken Not (Ok (Work file options)) = ⊥
-IsUntaken Not (Ok (Check file cert background)) = ⊥
-IsUntaken Not (Ok (Help text)) = Not
-IsUntaken Not (Err (fault.Words text)) = Not
-IsUntaken Not (Err e) = e ≡ fault.Memory
+-- ---- words that are not taken
 
--- What words ask for: a session or a check as the parser's definition of the program's command line reads them; or they are not
--- taken, where that definition does not take them or memory was wanting.
-abbrev pub IsTaskBy : ValueParser → List Text → Result Task ProgramFault → Type 0
-IsTaskBy formats words r = IsAsked (subcommand_of (program_app formats) words) r ⊎ IsUntaken (takes (program_app formats) words ≡ true → ⊥) r
+-- help or the version was asked for
+abbrev pub is_shown : ErrorKind → Bool
+is_shown DisplayHelp = true
+is_shown DisplayVersion = true
+is_shown _ = false
 
+-- What an error of a kind comes to: help or the version is shown; or the words are refused; or memory ran out.
+abbrev pub IsUntaken : ErrorKind → Result Task ProgramFault → Type 0
+IsUntaken kind (Ok Clues) = ⊥
+IsUntaken kind (Ok (Work file options)) = ⊥
+IsUntaken kind (Ok (Check file cert background)) = ⊥
+IsUntaken kind (Ok (Help text)) = is_shown kind ≡ true
+IsUntaken kind (Err (fault.Words text)) = (is_shown kind ≡ false) × (kind ≡ OutOfMemory → ⊥)
+IsUntaken kind (Err e) = e ≡ fault.Memory
+
+-- ---- words
+
+-- What words come to, by the kinds of fault that they have. With none they name one of the two subcommands, and the task is what
+-- it asks for. Else the definition does not take them, and what comes of them is by one of the kinds.
+abbrev pub IsTaskBy : Kinds → App → List Text → Result Task ProgramFault → Type 0
+IsTaskBy [] app words r = IsNamed (subcommand_of app words) × IsAsked (subcommand_of app words) r
+IsTaskBy (first ∷ more) app words r = (takes app words ≡ true → ⊥) × ((kind : ErrorKind) × (IsAmong kind (first ∷ more) × IsUntaken kind r))
+
+-- What words ask for: memory ran out; or it is as the definition of the program's command line reads them.
 abbrev pub IsTaskOf : List Text → Result Task ProgramFault → Type 0
-IsTaskOf words r = (r ≡ Err fault.Memory) ⊎ ((formats : ValueParser) × (AreFormats formats × IsTaskBy formats words r))
+IsTaskOf words r = (r ≡ Err fault.Memory) ⊎ ((formats : ValueParser) × (AreFormats formats × IsTaskBy (fault_of (program_app formats) words) (program_app formats) words r))

@@ -150,7 +150,7 @@ fn depth_or_default(depth: Option<u16>) -> u16
 
 // What the parser says where it takes no words: why it refuses them, or the help that they ask for.
 fn untaken<'a>(alloc: Global, error: &Error) -> Result<Task<'a>, ProgramFault>
-    ensures said { IsUntaken (kind_of error.now ≢ ErrorKind.OutOfMemory) result }
+    ensures said { IsUntaken (kind_of error.now) result }
     ensures lawful { IfOk result IsLawfulTask }
 {
     if error.kind() == ErrorKind::OutOfMemory {

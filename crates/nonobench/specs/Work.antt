@@ -18,7 +18,7 @@ pub record RunsOn (had have held holds : Option (List ℕ)) (file : List ℕ) (o
   pub last : Seen
   pub runs : Runs had have held holds fresh last ended
 
--- What comes of the work: a session ran; or the file was refused or memory was wanting, and nothing was read or written.
+-- What comes of the work: a session ran; or the file was refused or memory ran out, and nothing was read or written.
 abbrev pub Works : Option (List ℕ) → Option (List ℕ) → Option (List ℕ) → Option (List ℕ) → List ℕ → Options → Result (Unit {0}) ProgramFault → Type 0
 Works had have held holds file options (Ok done) = RunsOn had have held holds file options (Ok done)
 Works had have held holds file options (Err fault) =
