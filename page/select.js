@@ -142,7 +142,7 @@ function transform(change) {
 
 // The browser's own copy, cut and paste, so that text goes to other programs and comes from them without being asked for.
 function copySelected(event, cuts) {
-  if (isTyping(event.target) || !bench.state || document.querySelector('dialog[open]')) return;
+  if (isTyping(event.target) || !bench.state || isCovered() || document.querySelector('dialog[open]')) return;
   if (String(getSelection()) && !cuts && !selection.box) return;
   const rows = selectedRows() ?? bench.expected().picture;
   event.preventDefault();
@@ -153,7 +153,7 @@ function copySelected(event, cuts) {
 addEventListener('copy', (event) => copySelected(event, false));
 addEventListener('cut', (event) => copySelected(event, true));
 addEventListener('paste', (event) => {
-  if (isTyping(event.target) || !bench.state || event.defaultPrevented || document.querySelector('dialog[open]')) return;
+  if (isTyping(event.target) || !bench.state || isCovered() || event.defaultPrevented || document.querySelector('dialog[open]')) return;
   const rows = rowsOfText(event.clipboardData.getData('text/plain'), bench.state.colours.length);
   if (!rows) return;
   event.preventDefault();

@@ -148,7 +148,16 @@ export async function zooming({ trial, page }) {
     await page.until(() => sheet.geometry.cell > 12 && !document.getElementById('minimap').hidden, 3000 * SLACK);
     const under = await page.run((a, b) => sheet.under({ clientX: a, clientY: b }), x, y);
     assert.ok(Math.abs(under.row - 59) <= 1 && Math.abs(under.col - 59) <= 1, 'the wheel zooms at the pointer');
+    const rolled = await page.run(() => sheet.geometry.cell);
+    for (let turn = 0; turn < 12; turn++) await page.mouse('mouseWheel', x, y, { wheel: [0, -5] });
+    await page.run(() => new Promise((go) => requestAnimationFrame(() => requestAnimationFrame(go))));
+    const after = await page.run(() => sheet.geometry.cell);
+    assert.ok(after >= rolled && after <= rolled * 1.5, `a pad that rolls a little zooms a little, not a step for each event: ${rolled}, ${after}`);
     const before = await page.run(() => sheet.geometry.panX);
+    await page.hold(' ', true);
+    await page.run(() => dispatchEvent(new Event('blur')));
+    assert.equal(await page.run(() => sheet.view.classList.contains('may-pan')), false, 'Space that is let go in another window does not pan for ever');
+    await page.hold(' ', false);
     await page.hold(' ', true);
     await page.drag([[x, y], [x - 50, y]]);
     await page.hold(' ', false);
