@@ -65,6 +65,7 @@ function labelCursor() {
 // The clues of two lines stand whole beside them where the strips do not show them so.
 function showWholes(at) {
   const { geometry } = sheet;
+  if (at && (at.row >= geometry.rows || at.col >= geometry.columns)) at = null;
   wholes.at = at;
   wholesBox.classList.toggle('apart', geometry.isFolded);
   wholesBox.classList.toggle('high', at !== null && geometry.y(at.row) > geometry.height / 2);
@@ -133,5 +134,5 @@ function makeGrid() {
   });
   on('judged', labelCursor);
   on('pointed', showWholes);
-  on('moved', () => showWholes(null));
+  on('moved', () => showWholes(tools.drag || sheet.held ? wholes.at : null));
 }

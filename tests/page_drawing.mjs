@@ -60,6 +60,32 @@ export async function selecting({ trial, page }) {
     await shows(trial, DUCK, 'both are undone');
 }
 
+/** What is selected lies in the picture behind a change of its size, and a line that is dragged goes with what floats. */
+export async function selectionStays({ trial, page }) {
+    await trial.open(ppmOf(DUCK));
+    await page.press('s');
+    await trial.drag([[1, 3], [2, 4]]);
+    await trial.drag([[1, 3], [4, 6]]);
+    const clue = (row) => page.run((at) => {
+        const { geometry } = sheet;
+        const box = sheet.view.getBoundingClientRect();
+        return [box.left + geometry.originX / geometry.scale - 8, box.top + (geometry.y(at - 1) + geometry.cell / 2) / geometry.scale];
+    }, row);
+    await page.drag([await clue(5), await clue(3), await clue(1)]);
+    await trial.press('Enter');
+    await shows(trial, ['.....ab', '.a..a..', '..aaaa.', '...aaaa', '.......'], 'moved, and rows exchanged');
+    await trial.press('Control+z', 'Control+z', 'Control+a');
+    await page.run(() => runAction('delete-row'));
+    await trial.settled();
+    await trial.press('Delete');
+    await shows(trial, Array(4).fill('.......'), 'all of it is cleared that is left');
+    await trial.press('Control+z', 'Control+z');
+    await shows(trial, DUCK, 'both are undone');
+    await trial.open(ppmOf(['...', '...']), 'blank');
+    await page.press('w');
+    await trial.drag([[1, 1]]);
+}
+
 export async function turning({ trial, page }) {
     await trial.open(ppmOf(DUCK));
     const act = async (id) => {
