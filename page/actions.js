@@ -9,16 +9,21 @@ const MENUS = { file: 'File', edit: 'Edit', picture: 'Picture', view: 'View', ch
  * alone; `run(event)` does it; `can()` says whether it can be done now; `needs` is false where no picture must be open.
  */
 function addAction({ id, name, key = null, place = null, run, can = () => true, needs = true, group = '' }) {
-  const action = { id: id ?? name, name, key, place, run, group, can: () => (!needs || bench.state !== null) && can() };
+  const action = { id: id ?? name, name, key, place, run, group, needs, can: () => (!needs || bench.state !== null) && can() };
   actions.set(action.id, action);
   if (place && !MENUS[place]) $(place)?.append(actionButton(action));
   return action;
 }
 
+const isCovered = () => document.body.classList.contains('starting'); // by the start screen
+
+// Whether an action can be done now. A picture that the start screen covers is saved and exported, and no more is done to it.
+const isFree = (action) => action.can() && !(action.needs && action.place !== 'file' && isCovered());
+
 /** Runs an action by its id, where it can be done. */
 function runAction(id, event) {
   const action = actions.get(id);
-  if (action?.can()) action.run(event);
+  if (action && isFree(action)) action.run(event);
 }
 
 function actionButton(action, attributes = {}) {
@@ -69,7 +74,7 @@ function fillMenu(list, place, button) {
     if (group !== null && group !== action.group) items.push(make('hr', { role: 'separator' }));
     ({ group } = action);
     const item = actionButton(action, { role: 'menuitem', tabindex: '-1' });
-    item.disabled = !action.can();
+    item.disabled = !isFree(action);
     item.append(make('kbd', {}, (action.key ?? '').split(' ')[0]));
     item.addEventListener('click', () => list.hidePopover());
     items.push(item);
@@ -98,7 +103,7 @@ function hearKeys() {
     if (document.querySelector('dialog[open]') || event.defaultPrevented) return;
     const action = actionOfKey(event);
     if (!action || (isTyping(event.target) && !/^(Ctrl\+S|Escape)$/.test(keyName(event)))) return;
-    if (!action.can()) return;
+    if (!isFree(action)) return;
     event.preventDefault();
     action.run(event);
   });

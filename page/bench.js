@@ -278,10 +278,9 @@ class Bench {
       item.reject(fault);
     } else if (item) item.failed = true;
     this.engine.end();
-    const engine = this.make();
-    this.engine = engine;
+    this.engine = this.make();
     try {
-      const { state } = await openedIn(engine, baseOf(docOf(this.state)), { past: [], future: [] });
+      const { state } = await openedIn(this.engine, baseOf(docOf(this.state)), { past: [], future: [] });
       if (this.term !== term) return;
       for (const one of [...this.past, ...this.future]) one.live = false;
       this.state = state;
@@ -292,6 +291,7 @@ class Bench {
       if (this.term !== term) return;
       for (const one of this.queue.splice(0)) one.reject(again);
       this.searched = this.state.picture;
+      this.show(this.state); // without the strokes that waited
       tell('lost', again);
     }
   }

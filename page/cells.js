@@ -82,7 +82,7 @@ class Cells {
     this.isSmall = at.cell < 6 * at.scale;
     this.hasLetters = at.letters && at.cell >= 10 * at.scale;
     this.thin = this.isSmall ? 0 : 1;
-    this.wide = at.cell < 14 * at.scale ? 1 : 2;
+    this.wide = at.cell < 2 ? 0 : at.cell < 14 * at.scale ? 1 : 2; // of heavy lines: none where they would hide cells
     this.hatching = this.pen.createPattern(this.tileFor(at.scale), 'repeat');
     this.hatching.setTransform(new DOMMatrix().translate(at.x(0), at.y(0)));
   }
@@ -110,7 +110,7 @@ class Cells {
   // Left and right edge of columns, or upper and lower one of rows, between the lines.
   edges(from, end, first, cell, count) {
     const isHeavy = (at) => at % 5 === 0 || at === count;
-    const begin = first + from * cell + (isHeavy(from) ? Math.max(1, this.wide - 1) : this.thin);
+    const begin = first + from * cell + (isHeavy(from) ? Math.min(1, this.wide) : this.thin);
     const stop = first + end * cell - (isHeavy(end) && this.wide > 1 ? 1 : 0);
     return [begin, stop - begin];
   }

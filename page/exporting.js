@@ -10,19 +10,22 @@ function exportPng(canvas, suffix) {
 }
 
 /** The picture, some pixels a cell, without lines. */
-function exportPicture(side) {
+async function exportPicture(side) {
+  await asSeen();
   const { doc } = puzzleAtHand();
   const canvas = make('canvas');
   drawSmall(canvas, doc, side * Math.max(doc.rows, doc.columns));
   exportPng(canvas, side === 1 ? '-cells' : '-picture');
 }
 
-function exportEmpty() {
+async function exportEmpty() {
+  await asSeen();
   const { doc, clues } = puzzleAtHand();
   exportPng(canvasOfPaper(paperOf({ doc, clues }, { cell: pngCell(doc) })), '-puzzle');
 }
 
 async function exportText(form) {
+  await asSeen();
   const doc = docOf(bench.state);
   const text = await textAs(form);
   if (text === null) return;
@@ -31,6 +34,7 @@ async function exportText(form) {
 }
 
 async function exportCertificate() {
+  await asSeen();
   const before = docOf(bench.state);
   const text = await certificateText();
   if (text && bench.state && sameDoc(before, bench.state)) exportAs('cert', text);
@@ -69,6 +73,7 @@ const PRINT_WARNINGS = {
 };
 
 async function printPuzzle() {
+  await asSeen();
   const title = make('input', { type: 'text', value: keep.about.title || bench.name, maxlength: '200' });
   const letters = make('input', { type: 'checkbox' });
   const solution = make('input', { type: 'checkbox', checked: true });

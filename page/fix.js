@@ -29,8 +29,8 @@ function heaviest(differing, columns) {
 }
 
 /**
- * Cells that make the picture unique where they are given, none of which can be left out of them; where time ends before
- * that is tried of all, cells that do.
+ * Cells that make the picture unique where they are given, none of which can be left out of them, as `{ cells, isEnough }`. Where
+ * time ends before that is tried of all: cells that do, or those so far that do not suffice.
  */
 async function givensFor(copy, { picture, columns }, other) {
   copy.changes();
@@ -39,14 +39,15 @@ async function givensFor(copy, { picture, columns }, other) {
   while (verdict.word === 'ambiguous') {
     const index = heaviest(cellsThatDiffer(picture, verdict.other), columns);
     given.push(index);
+    copy.found = { cells: [...given], isEnough: false };
     copy.note(`${many(given.length, 'cell')} given`);
     await copy.say(`pin ${place(index, columns)}`);
     verdict = await copy.verdict();
   }
-  copy.found = [...given];
+  copy.found = { cells: [...given], isEnough: true };
   for (const index of given.slice(0, -1)) {
     await copy.say(`unpin ${place(index, columns)}`);
-    if ((await copy.verdict()).word === 'unique') copy.found = copy.found.filter((one) => one !== index);
+    if ((await copy.verdict()).word === 'unique') copy.found = { cells: copy.found.cells.filter((one) => one !== index), isEnough: true };
     else await copy.say(`pin ${place(index, columns)}`);
   }
   return copy.found;

@@ -26,19 +26,22 @@ function closeFix() {
 
 const fixSays = (text) => { if ($('fix-said')) $('fix-said').textContent = text; };
 
-// Gives cells in which the pictures differ, as one stroke.
+const LONGER = 'A longer time, chosen at “Search after a stroke”, may find some.';
+
+// Gives cells in which the pictures differ, as one stroke. Where time ends before they suffice, the next time goes on from there.
 async function giveCells() {
   const { state } = bench;
   fixSays('');
+  verdictView.ended = null;
   const version = searches.version;
-  const given = await searches.job('Looking for cells to give', secondsChosen(), (copy) => givensFor(copy, state, state.verdict.other));
+  const found = await searches.job('Looking for cells to give', secondsChosen(), (copy) => givensFor(copy, state, state.verdict.other));
   if (version !== searches.version) return;
-  if (!given) {
-    fixSays('No cells were found in this time. A longer time may find some.');
-    return;
-  }
-  await bench.stroke(given.map((index) => `pin ${placeOf(state, index)}`));
-  say(`${many(given.length, 'cell')} given. One undo takes ${given.length === 1 ? 'it' : 'them'} back.`);
+  if (!found?.isEnough && verdictView.ended === 'stopped') return fixSays('Stopped before there were cells enough.');
+  if (!found) return fixSays(`No cells were found in this time. ${LONGER}`);
+  const { cells, isEnough } = found;
+  setDown();
+  await bench.stroke(cells.map((index) => `pin ${placeOf(state, index)}`));
+  say(`${many(cells.length, 'cell')} given${isEnough ? '' : ', which do not suffice yet: “Fix it” goes on from here'}. One undo takes ${cells.length === 1 ? 'it' : 'them'} back.`);
 }
 
 // Lists single cells whose repaint makes the picture unique.
@@ -50,7 +53,7 @@ async function findRepaints() {
   verdictView.ended = null;
   const found = await searches.job('Looking for cells to repaint', secondsChosen(), (copy) => repaintsFor(copy, state, state.verdict.other, (one) => listRepaint(state, one)));
   if (version !== searches.version) return;
-  const none = verdictView.ended ? 'No single repaint was found in this time. A longer time may find some.' : 'No single repaint was found.';
+  const none = verdictView.ended ? `No single repaint was found in this time. ${LONGER}` : 'No single repaint was found.';
   fixSays(found?.length ? `${many(found.length, 'repaint')} found. Choose one to paint it; point at one to see it first.` : none);
 }
 
@@ -83,6 +86,7 @@ function showPreview(one) {
 
 async function paintRepaint(state, { index, letter }) {
   showPreview(null);
+  setDown();
   await bench.stroke([`paint ${placeOf(state, index)} ${letter}`]);
   say('Repainted. One undo takes it back.');
 }

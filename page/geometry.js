@@ -1,10 +1,12 @@
 // Where cells and clues lie: the size of a cell, how far the picture is moved, and how much room clues take. All lengths are
-// pixels of the screen (not of the page), so that lines fall on whole pixels.
+// pixels of the screen (not of the page), so that lines fall on whole pixels. Where a picture does not fit beside its clues, Fit
+// folds these to edges.
 
 const SMALLEST = 3; // a cell's side in the page's pixels
 const LARGEST = 64;
 const MARGIN = 6;
 const AROUND = 14; // the page's pixels around the blocks of a clue: some more than the strips leave free
+const EDGES = { left: 23, top: 17 }; // the page's pixels of clues that are folded: room for the numbers of lines
 
 class Geometry {
   constructor() {
@@ -15,6 +17,7 @@ class Geometry {
     this.left = this.top = 40; // room for the clues
     this.panX = this.panY = 0; // how far the picture is moved to the left and up
     this.isFitted = true;
+    this.isFolded = false; // whether clues are edges with numbers of lines alone
     this.letters = false;
     this.rowSizes = []; // of each clue: {signs, blocks}, measured once it changes
     this.columnSizes = [];
@@ -61,14 +64,27 @@ class Geometry {
     };
   }
 
-  /** The largest cell with which all is seen. */
+  // The smallest cell beside whole strips of clues.
+  get least() {
+    return Math.round(SMALLEST * this.scale);
+  }
+
+  // How much room the edges take that clues are folded to.
+  edges() {
+    return { left: Math.round(EDGES.left * this.scale), top: Math.round(EDGES.top * this.scale) };
+  }
+
+  /** The largest cell with which all is seen, and whether the clues are folded for it: only where three pixels are too many else. */
   fitting() {
-    for (let side = LARGEST; side > SMALLEST; side--) {
+    for (let side = LARGEST; side >= SMALLEST; side--) {
       const cell = Math.round(side * this.scale);
       const { left, top } = this.room(cell);
-      if (left + this.columns * cell + MARGIN <= this.width && top + this.rows * cell + MARGIN <= this.height) return cell;
+      if (left + this.columns * cell + MARGIN <= this.width && top + this.rows * cell + MARGIN <= this.height) return { cell, isFolded: false };
     }
-    return Math.round(SMALLEST * this.scale);
+    const { left, top } = this.edges();
+    const margin = MARGIN * this.scale;
+    const most = Math.min((this.width - left - margin) / this.columns, (this.height - top - margin) / this.rows);
+    return { cell: Math.floor(clamp(most, 1, this.least)), isFolded: true };
   }
 
   resize(width, height, scale) {
@@ -78,20 +94,21 @@ class Geometry {
   /** Shows the whole picture. */
   fit() {
     this.isFitted = true;
-    this.cell = this.fitting();
+    Object.assign(this, this.fitting());
     this.spread();
     this.panX = this.panY = 0;
     this.clamp();
   }
 
   spread() {
-    Object.assign(this, this.room(this.cell));
+    Object.assign(this, this.isFolded ? this.edges() : this.room(this.cell));
     this.font = this.fontFor(this.cell);
     this.pitch = this.pitchFor(this.cell);
   }
 
   /** Makes room where clues have grown; what was there stays, or the picture would move under the pointer. */
   grow() {
+    if (this.isFolded) return false;
     const { left, top } = this.room(this.cell, 0);
     const grows = left > this.left || top > this.top;
     if (!grows) return false;
@@ -103,18 +120,29 @@ class Geometry {
     return true;
   }
 
-  /** Zooms so that the place under a point of the view stays there. */
+  /** The size of a cell one step larger or smaller: by a share of it, at least by a pixel. */
+  step(way, share) {
+    const next = this.cell + way * Math.max(1, Math.round(this.cell / share));
+    return next >= this.least ? next : way > 0 ? this.least : 1;
+  }
+
+  /** Zooms so that the place under a point of the view stays there; further out than that goes, to Fit where it folds the clues. */
   zoom(cell, x = (this.width + this.left) / 2, y = (this.height + this.top) / 2) {
-    const before = this.cell;
+    const [before, was] = [this.cell, this.isFolded];
+    const fit = cell < this.least ? this.fitting() : { isFolded: false };
+    if (fit.isFolded && cell - fit.cell < this.least - cell) {
+      this.fit();
+      return !was;
+    }
     const [across, down] = [(x - this.x(0)) / before, (y - this.y(0)) / before];
-    this.cell = Math.round(clamp(cell, SMALLEST * this.scale, LARGEST * this.scale));
-    this.isFitted = false;
+    this.cell = Math.round(clamp(cell, this.least, LARGEST * this.scale));
+    this.isFitted = this.isFolded = false;
     this.spread();
     this.panX = this.panY = 0;
     this.panX = this.x(0) + across * this.cell - x;
     this.panY = this.y(0) + down * this.cell - y;
     this.clamp();
-    return this.cell !== before;
+    return was || this.cell !== before;
   }
 
   pan(dx, dy) {

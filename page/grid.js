@@ -4,7 +4,8 @@
 const cursor = { row: 0, col: 0 };
 const gridCells = [0, 1].map((at) => make('div', { role: 'gridcell', class: 'cell', tabindex: at ? '-1' : '0', 'aria-describedby': 'row-clue column-clue' }));
 const grid = make('div', { id: 'grid', role: 'grid', 'aria-label': 'Picture' }, ...gridCells.map((cell) => make('div', { role: 'row' }, cell)));
-const wholes = { r: make('div', { class: 'whole clue', 'aria-hidden': 'true', hidden: true }), c: make('div', { class: 'whole clue', 'aria-hidden': 'true', hidden: true }) };
+const wholes = { r: make('div', { class: 'whole clue', hidden: true }), c: make('div', { class: 'whole clue', hidden: true }), at: null };
+const wholesBox = make('div', { id: 'wholes', 'aria-hidden': 'true' }, wholes.r, wholes.c);
 const gridCell = () => gridCells[0];
 
 /** The clue of a line as chips behind a name. */
@@ -63,25 +64,26 @@ function labelCursor() {
 
 // The clues of two lines stand whole beside them where the strips do not show them so.
 function showWholes(at) {
+  const { geometry } = sheet;
+  if (at && (at.row >= geometry.rows || at.col >= geometry.columns)) at = null;
+  wholes.at = at;
+  wholesBox.classList.toggle('apart', geometry.isFolded);
+  wholesBox.classList.toggle('high', at !== null && geometry.y(at.row) > geometry.height / 2);
   for (const [axis, line] of [['r', at?.row], ['c', at?.col]]) {
     const box = wholes[axis];
-    const isShown = at !== null && sheet.state && (axis === 'r' ? at.part !== 'column' : at.part !== 'row') && sheet.strips.isCut(sheet, axis, line);
-    if (!isShown) {
-      box.hidden = true;
-      box.dataset.line = '';
-      continue;
-    }
-    const { geometry } = sheet;
-    const blocks = sheet.clues[axis === 'r' ? 'rows' : 'columns'][line];
-    const key = `${line} ${clueText(blocks)}`;
-    if (box.dataset.line !== key) clueInto(box, axis === 'r' ? `Row ${line + 1}` : `Column ${line + 1}`, blocks);
-    box.dataset.line = key;
-    box.hidden = false;
-    const place = axis === 'r' ? [4, clamp(geometry.y(line) / geometry.scale - 6, 4, geometry.height / geometry.scale - 40)]
-      : [clamp(geometry.x(line) / geometry.scale - 40, 4, geometry.width / geometry.scale - 260), 4];
-    box.style.transform = `translate(${place[0]}px, ${place[1]}px)`;
-    box.style.maxWidth = axis === 'r' ? `${Math.max(150, geometry.x(at.col) / geometry.scale - 30)}px` : '250px';
+    box.hidden = at === null || !sheet.state || at.part === (axis === 'r' ? 'column' : 'row') || !sheet.strips.isCut(sheet, axis, line);
+    if (box.hidden) continue;
+    fillClue(box, axis === 'r' ? `Row ${line + 1}` : `Column ${line + 1}`, sheet.clues[axis === 'r' ? 'rows' : 'columns'][line]);
+    Object.assign(box.style, geometry.isFolded ? { transform: '', maxWidth: '' } : besideLine(axis, line, at.col));
   }
+}
+
+// The place of a clue beside its line, the pointer being at a column. Folded, clues stand apart: below the picture or above it.
+function besideLine(axis, line, col) {
+  const { geometry } = sheet;
+  const [x, y, width, height] = [geometry.x(axis === 'r' ? col : line), geometry.y(line), geometry.width, geometry.height].map((length) => length / geometry.scale);
+  const [left, top] = axis === 'r' ? [4, clamp(y - 6, 4, height - 40)] : [clamp(x - 40, 4, width - 260), 4];
+  return { transform: `translate(${left}px, ${top}px)`, maxWidth: axis === 'r' ? `${Math.max(150, x - 30)}px` : '250px' };
 }
 
 const STEPS = { ArrowUp: [-1, 0], ArrowDown: [1, 0], ArrowLeft: [0, -1], ArrowRight: [0, 1], PageUp: [-10, 0], PageDown: [10, 0], Home: [0, -120], End: [0, 120] };
@@ -121,13 +123,16 @@ function gridKeyUp(event) {
 
 /** Puts the grid over the sheet and hears its keys. */
 function makeGrid() {
-  sheet.view.append(grid, wholes.r, wholes.c);
+  sheet.view.append(grid, wholesBox);
   gridCells[1].parentElement.hidden = true;
   sheet.placeCursor = () => sheet.place(gridCells[0], cursor.row, cursor.col);
   grid.addEventListener('keydown', gridKey);
   grid.addEventListener('keyup', gridKeyUp);
-  on('shown', () => moveCursor(cursor.row, cursor.col));
+  on('shown', () => {
+    moveCursor(cursor.row, cursor.col);
+    if (wholes.at) showWholes(wholes.at); // with the clues of now
+  });
   on('judged', labelCursor);
   on('pointed', showWholes);
-  on('moved', () => showWholes(null));
+  on('moved', () => showWholes(tools.drag || sheet.held ? wholes.at : null));
 }

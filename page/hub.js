@@ -37,6 +37,12 @@ function make(name, attributes = {}, ...children) {
   return element;
 }
 
+/**
+ * Keeps the strokes of fingers on an element from the browser's own gestures: behind a quick one Chromium would take the next tap,
+ * wherever it is, for the end of a fling, and make no click of it.
+ */
+const withoutGestures = (element) => element.addEventListener('touchstart', (event) => event.preventDefault(), { passive: false });
+
 let saidTimer = 0;
 
 /** Says something to the user, in the line at the top: `kind` is '' or 'alarm'. An alarm stays until it is clicked or something else is said. */

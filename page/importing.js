@@ -87,6 +87,7 @@ class Importing {
 
   hearCrop() {
     const { source } = this;
+    withoutGestures(source);
     let from = null;
     const at = (event) => {
       const box = source.getBoundingClientRect();

@@ -60,6 +60,7 @@ function makeMinimap() {
   on('shown', later);
   on('judged', later);
   on('moved', drawMinimap);
+  withoutGestures(minimap.canvas);
   minimap.canvas.addEventListener('pointerdown', (event) => {
     event.preventDefault();
     minimap.canvas.setPointerCapture(event.pointerId);

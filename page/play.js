@@ -2,7 +2,8 @@
 
 const play = { state: null, marks: [], letter: 'a', past: [], future: [], wrong: new Set(), at: { row: 0, col: 0 }, side: 24, drag: null, isSolved: false };
 
-function openPlay() {
+async function openPlay() {
+  if (selection.rows || bench.queue.length) await asSeen();
   const { state } = bench;
   Object.assign(play, { state, marks: marksOf(state), letter: state.colours.length > 1 ? 'a' : '.', past: [], future: [], wrong: new Set(), at: { row: 0, col: 0 }, drag: null, isSolved: false });
   searches.stop();
@@ -35,6 +36,7 @@ function playBar() {
 
 function playBoard() {
   const field = make('canvas', { id: 'play-field', tabindex: '0', role: 'application', 'aria-roledescription': 'puzzle', 'aria-label': 'Puzzle', 'aria-describedby': 'play-cell' });
+  withoutGestures(field);
   field.addEventListener('contextmenu', (event) => event.preventDefault());
   for (const [type, hear] of Object.entries(playPointer)) field.addEventListener(type, hear);
   return make('div', { id: 'play-board' },

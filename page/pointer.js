@@ -5,6 +5,8 @@ const pointers = new Map(); // that are down: id to {x, y}
 let pinch = null;
 let panning = null;
 const space = { isDown: false, pans: false };
+const wheel = { rolled: 0, when: 0 };
+const NOTCH = 40; // pixels of rolling for one step: a wheel sends more at once, a pad for two fingers less but often
 
 const placeOfEvent = (event) => ({ x: event.clientX, y: event.clientY });
 
@@ -14,8 +16,11 @@ function twoFingers() {
 }
 
 function panBy(dx, dy) {
-  sheet.geometry.isFitted = false;
-  sheet.geometry.pan(dx * sheet.geometry.scale, dy * sheet.geometry.scale);
+  const { geometry } = sheet;
+  const { panX, panY } = geometry;
+  geometry.pan(dx * geometry.scale, dy * geometry.scale);
+  if (geometry.panX === panX && geometry.panY === panY) return;
+  geometry.isFitted = false;
   sheet.redrawAll();
 }
 
@@ -26,12 +31,22 @@ function zoomAt(cell, x, y) {
   if (geometry.zoom(cell, (x - box.left) * geometry.scale, (y - box.top) * geometry.scale)) sheet.redrawAll();
 }
 
-/** Zooms by some steps, at the middle. */
-function zoomBy(steps) {
+/** Zooms by a step, at the middle. */
+function zoomBy(way) {
   const { geometry } = sheet;
-  let { cell } = geometry;
-  for (let step = 0; step < Math.abs(steps); step++) cell += Math.sign(steps) * Math.max(1, Math.round(cell / 6));
-  if (geometry.zoom(cell)) sheet.redrawAll();
+  if (geometry.zoom(geometry.step(way, 6))) sheet.redrawAll();
+}
+
+// The step that a wheel makes: 1, -1, or 0 where it has not rolled far enough since the last one. What comes behind a rest is a step
+// at once. A pinch on a pad comes as a little rolling with Ctrl.
+function wheelStep({ deltaY, deltaMode, ctrlKey, timeStamp }) {
+  const isFirst = timeStamp - wheel.when > 200;
+  wheel.when = timeStamp;
+  wheel.rolled = isFirst ? Math.sign(deltaY) * NOTCH : wheel.rolled + deltaY * (deltaMode ? 30 : 1) * (ctrlKey ? 5 : 1);
+  if (Math.abs(wheel.rolled) < NOTCH) return 0;
+  const way = wheel.rolled < 0 ? 1 : -1;
+  wheel.rolled = 0;
+  return way;
 }
 
 function pinchTo() {
@@ -50,7 +65,8 @@ function pointerDown(event) {
   pointers.set(event.pointerId, placeOfEvent(event));
   if (pointers.size === 2) {
     dropDrag();
-    sheet.held = null;
+    sheet.hold(null);
+    tell('pointed', null);
     const at = twoFingers();
     pinch = { ...at, from: at.far, cell: sheet.geometry.cell };
     return;
@@ -63,6 +79,7 @@ function pointerDown(event) {
     return;
   }
   const at = sheet.under(event);
+  if (event.pointerType === 'touch') tell('pointed', at.part === 'none' ? null : at);
   if (at.part === 'none') return tools.name === 'select' && !event.shiftKey ? void setDown() : undefined;
   if (at.part !== 'cell') return holdLine(at);
   moveCursor(at.row, at.col);
@@ -75,8 +92,7 @@ function holdLine(at) {
   const isRow = at.part === 'row';
   moveCursor(isRow ? at.row : cursor.row, isRow ? cursor.col : at.col);
   const line = isRow ? at.row : at.col;
-  sheet.held = { axis: isRow ? 'r' : 'c', word: at.part, from: line, to: line };
-  sheet.redrawAll();
+  sheet.hold({ axis: isRow ? 'r' : 'c', word: at.part, from: line, to: line });
 }
 
 function pointerMove(event) {
@@ -107,8 +123,8 @@ function pointerMove(event) {
 function dragLine(at) {
   const line = sheet.held.axis === 'r' ? at.row : at.col;
   if (line === sheet.held.to) return;
-  sheet.held.to = line;
-  sheet.redrawAll();
+  sheet.hold({ ...sheet.held, to: line });
+  tell('pointed', { ...at, part: sheet.held.word });
 }
 
 function pointerUp(event) {
@@ -123,37 +139,37 @@ function pointerUp(event) {
     return;
   }
   const { held } = sheet;
-  if (event.pointerType === 'touch') tell('pointed', null);
+  const isTap = held !== null && held.from === held.to; // what a finger shows by a tap on a clue stays until the next one
+  if (event.pointerType === 'touch' && !isTap) tell('pointed', null);
   if (!held) return void endDrag();
-  sheet.held = null;
-  sheet.redrawAll();
+  sheet.hold(null);
   if (held.from !== held.to) sendStroke([`swap ${held.word} ${held.from + 1} ${held.to + 1}`]);
 }
 
 function pointerLost(event) {
   pointers.delete(event.pointerId);
   if (!pointers.size) pinch = panning = null;
-  sheet.held = null;
+  if (sheet.state) sheet.hold(null);
   dropDrag();
 }
 
 /** Hears pointers, wheel and Space on the sheet. */
 function hearPointers() {
   const { view } = sheet;
+  withoutGestures(view);
   view.addEventListener('contextmenu', (event) => event.preventDefault());
   view.addEventListener('pointerdown', pointerDown);
   view.addEventListener('pointermove', pointerMove);
   view.addEventListener('pointerup', pointerUp);
   view.addEventListener('pointercancel', pointerLost);
-  view.addEventListener('pointerleave', () => tell('pointed', null));
+  view.addEventListener('pointerleave', (event) => { if (event.pointerType !== 'touch') tell('pointed', null); });
   view.addEventListener('wheel', (event) => {
     if (!bench.state) return;
     event.preventDefault();
     if (event.shiftKey) return panBy(event.deltaY || event.deltaX, 0);
-    const { cell } = sheet.geometry;
-    const way = event.deltaY < 0 ? 1 : -1;
     if (event.deltaX && !event.deltaY) return panBy(event.deltaX, 0);
-    zoomAt(cell + way * Math.max(1, Math.round(cell / 8)), event.clientX, event.clientY);
+    const way = wheelStep(event);
+    if (way) zoomAt(sheet.geometry.step(way, 8), event.clientX, event.clientY);
   }, { passive: false });
   addEventListener('keydown', (event) => {
     if (event.key !== ' ' || isTyping(event.target) || event.target.closest?.('button, summary, dialog')) return;
@@ -161,9 +177,10 @@ function hearPointers() {
     if (event.target === document.body) event.preventDefault();
     sheet.view.classList.add('may-pan');
   });
-  addEventListener('keyup', (event) => {
-    if (event.key !== ' ') return;
+  const endSpace = () => {
     space.isDown = false;
-    sheet.view.classList.remove('may-pan');
-  });
+    view.classList.remove('may-pan');
+  };
+  addEventListener('keyup', (event) => { if (event.key === ' ') endSpace(); });
+  addEventListener('blur', endSpace); // let go in another window it is not heard here
 }

@@ -23,6 +23,12 @@ async function writeHandle(handle, content) {
   await stream.close();
 }
 
+/** Sets down what floats and waits for strokes that are not answered yet: what is seen is what goes out. */
+async function asSeen() {
+  setDown();
+  if (bench.queue.length) await bench.ask('allow 0').catch(() => {});
+}
+
 /** The text of the document in one of the forms that hold it, or null, told, where it has none. */
 async function textAs(form) {
   const { state } = bench;
@@ -43,6 +49,7 @@ function checkForm() {
 
 /** Saves where it was saved before, else asks where. */
 async function save() {
+  await asSeen();
   checkForm();
   if (!saving.handle) return saveAs();
   const doc = docOf(bench.state);
@@ -67,6 +74,7 @@ function saved(doc, file) {
 
 /** Saves under a name that is chosen; where the browser has no file access that is a download under the document's name. */
 async function saveAs() {
+  await asSeen();
   checkForm();
   const doc = docOf(bench.state);
   const { form } = saving;

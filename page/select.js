@@ -4,12 +4,13 @@
 // `box` is where it lies; `rows` are its letters where it floats; `under` is the picture below it.
 const selection = { box: null, rows: null, under: null, grip: null, copied: null };
 
+const isOfSize = (picture, { rows, columns }) => picture.length === rows && picture[0].length === columns;
 const selectionBoxes = () => (selection.box ? [selection.box] : []);
 const isIn = (box, { row, col }) => box !== null && row >= box.top && row <= box.bottom && col >= box.left && col <= box.right;
 
 function showSelection() {
   sheet.boxes = selectionBoxes();
-  if (selection.rows && bench.state) {
+  if (selection.rows && bench.state && isOfSize(selection.under, sheet.doc)) {
     const floated = stamped(selection.under, selection.rows, selection.box.top, selection.box.left);
     const cells = new Map();
     floated.forEach((row, at) => { for (let col = 0; col < row.length; col++) if (row[col] !== sheet.doc.picture[at][col]) cells.set(at * row.length + col, row[col]); });
@@ -71,7 +72,7 @@ function setDown() {
   Object.assign(selection, { rows: null, under: null });
   const doc = bench.expected();
   sheet.overlay = new Map();
-  if (picture.some((row, at) => row !== doc.picture[at])) heard(bench.become({ ...doc, picture }));
+  if (isOfSize(picture, doc) && picture.some((row, at) => row !== doc.picture[at])) heard(bench.become({ ...doc, picture }));
   sheet.update();
   sheet.redraw();
   selection.box = clipBox(box, doc);
@@ -81,6 +82,14 @@ function setDown() {
 function clipBox(box, doc) {
   const clipped = { top: Math.max(0, box.top), left: Math.max(0, box.left), bottom: Math.min(doc.rows - 1, box.bottom), right: Math.min(doc.columns - 1, box.right) };
   return clipped.top > clipped.bottom || clipped.left > clipped.right ? null : clipped;
+}
+
+// Behind a stroke to another size what is selected lies in the picture still, and what floats is shown on it.
+function keepSelection() {
+  const { box, rows } = selection;
+  if (!box || !bench.state) return;
+  if (!rows) selection.box = clipBox(box, bench.expected());
+  if (rows || String(Object.values(selection.box ?? {})) !== String(Object.values(box))) showSelection();
 }
 
 /** Takes a move back, or the selection away. */
@@ -142,7 +151,7 @@ function transform(change) {
 
 // The browser's own copy, cut and paste, so that text goes to other programs and comes from them without being asked for.
 function copySelected(event, cuts) {
-  if (isTyping(event.target) || !bench.state || document.querySelector('dialog[open]')) return;
+  if (isTyping(event.target) || !bench.state || isCovered() || document.querySelector('dialog[open]')) return;
   if (String(getSelection()) && !cuts && !selection.box) return;
   const rows = selectedRows() ?? bench.expected().picture;
   event.preventDefault();
@@ -153,10 +162,12 @@ function copySelected(event, cuts) {
 addEventListener('copy', (event) => copySelected(event, false));
 addEventListener('cut', (event) => copySelected(event, true));
 addEventListener('paste', (event) => {
-  if (isTyping(event.target) || !bench.state || event.defaultPrevented || document.querySelector('dialog[open]')) return;
+  if (isTyping(event.target) || !bench.state || isCovered() || event.defaultPrevented || document.querySelector('dialog[open]')) return;
   const rows = rowsOfText(event.clipboardData.getData('text/plain'), bench.state.colours.length);
   if (!rows) return;
   event.preventDefault();
   pasteRows(rows);
 });
+on('stroke', keepSelection);
+on('shown', keepSelection);
 on('opened', () => Object.assign(selection, { box: null, rows: null, under: null }));

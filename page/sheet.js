@@ -19,7 +19,7 @@ class Sheet {
     this.hatching = 'open'; // 'off', 'differing' or 'open'
     this.other = false; // whether the other picture is shown
     this.reason = null;
-    this.held = null; // a line that is dragged: {axis, from, to}
+    this.held = null; // a line that is dragged: {axis, word, from, to}
     this.boxes = []; // rectangles over the cells: {top, left, bottom, right, kind}
     this.frame = 0;
     this.wanted = { all: false, cells: false, marks: false };
@@ -43,7 +43,7 @@ class Sheet {
     Object.assign(this.geometry, { rows: state.rows, columns: state.columns });
     this.geometry.measure(state.clues, isOther ? null : state.changed);
     if (isOther) {
-      if (!before || this.geometry.isFitted) this.geometry.fit();
+      if (!before || this.geometry.isFitted || this.geometry.isFolded) this.geometry.fit();
       else {
         this.geometry.spread();
         this.geometry.clamp();
@@ -100,6 +100,14 @@ class Sheet {
 
   isChanged(axis, at) {
     return this.state.changed[axis === 'r' ? 'rows' : 'columns'].has(at);
+  }
+
+  /** Marks a line that is dragged and the one that it is over; null takes that away. */
+  hold(held) {
+    const lines = { r: new Set(), c: new Set() };
+    for (const one of [this.held, held]) if (one) for (const at of [one.from, one.to]) lines[one.axis].add(at);
+    this.held = held;
+    this.strips.some(this, lines.r, lines.c);
   }
 
   isMarked(axis, at) {

@@ -1,7 +1,9 @@
 // The clues beside and above the cells. Blocks are drawn once for each length and colour and copied from there; a line is
-// drawn again only when its clue, its mark or its place changes.
+// drawn again only when its clue, its mark or its place changes. Where Fit folds the clues, edges with the numbers of some lines
+// stand there.
 
 const MOST_SPRITES = 600;
+const EDGE = 5; // the page's pixels of the marks of lines where the clues are folded
 
 class Strips {
   constructor(rowCanvas, columnCanvas) {
@@ -24,6 +26,27 @@ class Strips {
     const { top, left, bottom, right } = at.seen();
     for (let row = top; row <= bottom; row++) this.row(sheet, row, false);
     for (let col = left; col <= right; col++) this.column(sheet, col, false);
+    if (at.isFolded) this.numbers(sheet);
+  }
+
+  // The numbers of each tenth line, or where these would touch of each twentieth, beside the marks.
+  numbers(sheet) {
+    const { geometry: at } = sheet;
+    const size = Math.round(8 * at.scale);
+    const step = at.cell * 10 < 2 * size ? 20 : 10;
+    const away = Math.round((EDGE + 4) * at.scale);
+    for (const [axis, count] of [['r', at.rows], ['c', at.columns]]) {
+      const pen = this.pens[axis];
+      pen.font = `${size}px ${sheet.family}`;
+      pen.fillStyle = sheet.inks.faint;
+      pen.textAlign = axis === 'r' ? 'right' : 'center';
+      pen.textBaseline = axis === 'r' ? 'middle' : 'bottom';
+      for (let line = step; line <= count; line += step) {
+        const middle = (line - 0.5) * at.cell;
+        if (axis === 'r') pen.fillText(line, at.originX - away, at.y(0) + middle);
+        else pen.fillText(line, at.x(0) + middle, at.originY - away + Math.round(2 * at.scale));
+      }
+    }
   }
 
   /** Draws some lines again. */
@@ -50,12 +73,21 @@ class Strips {
     }
     if (!isChanged) return;
     pen.fillStyle = sheet.inks.alarm;
-    if (axis === 'r') pen.fillRect(x + width - edge, y + 1, edge, height - 2);
-    else pen.fillRect(x + 1, y + height - edge, width - 2, edge);
+    if (axis === 'r') pen.fillRect(x + width - edge, y + 1, edge, Math.max(1, height - 2));
+    else pen.fillRect(x + 1, y + height - edge, Math.max(1, width - 2), edge);
+  }
+
+  // The band of a line where the clues are folded: its marks alone, beside the cells.
+  edge(sheet, axis, line, anew) {
+    const { geometry: at } = sheet;
+    const [wide, gap] = [Math.round(EDGE * at.scale), Math.round(2 * at.scale)];
+    if (axis === 'r') this.band(sheet, 'r', line, at.originX - gap - wide, at.y(line), wide, at.cell, anew);
+    else this.band(sheet, 'c', line, at.x(line), at.originY - gap - wide, at.cell, wide, anew);
   }
 
   row(sheet, row, anew) {
     const { geometry: at } = sheet;
+    if (at.isFolded) return this.edge(sheet, 'r', row, anew);
     const [y, gap] = [at.y(row), Math.round(3 * at.scale)];
     const pen = this.pens.r;
     pen.save();
@@ -87,6 +119,7 @@ class Strips {
 
   column(sheet, col, anew) {
     const { geometry: at } = sheet;
+    if (at.isFolded) return this.edge(sheet, 'c', col, anew);
     const [x, gap] = [at.x(col), Math.round(3 * at.scale)];
     const pen = this.pens.c;
     pen.save();

@@ -121,9 +121,10 @@ const MEANINGS = {
 /** What a refusal says to the user. */
 const meaningOf = (name) => MEANINGS[name] ?? 'it was refused';
 
-/** Sends a stroke; tells what was refused. A stroke that changes nothing is not sent and not told. */
+/** Sends a stroke, on what floated too; tells what was refused. A stroke that changes nothing is not sent and not told. */
 async function sendStroke(lines) {
   forgetReason();
+  setDown();
   if (!lines.length) return true;
   return heard(bench.stroke(lines));
 }

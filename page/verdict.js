@@ -182,7 +182,7 @@ async function certificateText() {
   verdictView.ended = null;
   const text = await searches.certify();
   const why = {
-    time: `No certificate was found within ${number(secondsChosen())} s. A longer time can be chosen beside the verdict.`,
+    time: `No certificate was found within ${number(secondsChosen())} s. A longer time can be chosen at “Search after a stroke”.`,
     stopped: 'The search for a certificate was stopped.',
     stroke: 'The search for a certificate was ended by a stroke.',
   }[verdictView.ended];

@@ -136,6 +136,21 @@ test('a stroke that ends each worker is left out, and the rest goes on', async (
   assert.deepEqual(bench.state.picture, ['a...', '....', '..a.']);
 });
 
+test('where no worker comes in its place, what is shown is what is there', async () => {
+  let isBroken = false;
+  const { bench } = await opened(empty(3, 4), { fails: () => isBroken });
+  await bench.stroke(['paint 1 1 a']);
+  const told = [];
+  const ends = [on('shown', () => told.push(bench.expected().picture[0])), on('lost', () => told.push('lost'))];
+  isBroken = true;
+  await assert.rejects(bench.stroke(['paint 1 2 b']));
+  for (const end of ends) end();
+  assert.deepEqual(told, ['a...', 'lost']);
+  isBroken = false;
+  await bench.stroke(['paint 1 3 b']);
+  assert.equal(bench.state.picture[0], 'a.b.');
+});
+
 test('of strokes sent together only the one that ends each worker is left out', async () => {
   const { bench } = await opened(empty(3, 4), { fails: (text) => text.includes('paint 2 2') });
   const made = await Promise.allSettled([bench.stroke(['paint 1 1 a']), bench.stroke(['paint 2 2 b']), bench.stroke(['paint 3 3 a'])]);

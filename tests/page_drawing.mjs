@@ -60,6 +60,32 @@ export async function selecting({ trial, page }) {
     await shows(trial, DUCK, 'both are undone');
 }
 
+/** What is selected lies in the picture behind a change of its size, and a line that is dragged goes with what floats. */
+export async function selectionStays({ trial, page }) {
+    await trial.open(ppmOf(DUCK));
+    await page.press('s');
+    await trial.drag([[1, 3], [2, 4]]);
+    await trial.drag([[1, 3], [4, 6]]);
+    const clue = (row) => page.run((at) => {
+        const { geometry } = sheet;
+        const box = sheet.view.getBoundingClientRect();
+        return [box.left + geometry.originX / geometry.scale - 8, box.top + (geometry.y(at - 1) + geometry.cell / 2) / geometry.scale];
+    }, row);
+    await page.drag([await clue(5), await clue(3), await clue(1)]);
+    await trial.press('Enter');
+    await shows(trial, ['.....ab', '.a..a..', '..aaaa.', '...aaaa', '.......'], 'moved, and rows exchanged');
+    await trial.press('Control+z', 'Control+z', 'Control+a');
+    await page.run(() => runAction('delete-row'));
+    await trial.settled();
+    await trial.press('Delete');
+    await shows(trial, Array(4).fill('.......'), 'all of it is cleared that is left');
+    await trial.press('Control+z', 'Control+z');
+    await shows(trial, DUCK, 'both are undone');
+    await trial.open(ppmOf(['...', '...']), 'blank');
+    await page.press('w');
+    await trial.drag([[1, 1]]);
+}
+
 export async function turning({ trial, page }) {
     await trial.open(ppmOf(DUCK));
     const act = async (id) => {
@@ -148,7 +174,16 @@ export async function zooming({ trial, page }) {
     await page.until(() => sheet.geometry.cell > 12 && !document.getElementById('minimap').hidden, 3000 * SLACK);
     const under = await page.run((a, b) => sheet.under({ clientX: a, clientY: b }), x, y);
     assert.ok(Math.abs(under.row - 59) <= 1 && Math.abs(under.col - 59) <= 1, 'the wheel zooms at the pointer');
+    const rolled = await page.run(() => sheet.geometry.cell);
+    for (let turn = 0; turn < 12; turn++) await page.mouse('mouseWheel', x, y, { wheel: [0, -5] });
+    await page.run(() => new Promise((go) => requestAnimationFrame(() => requestAnimationFrame(go))));
+    const after = await page.run(() => sheet.geometry.cell);
+    assert.ok(after >= rolled && after <= rolled * 1.5, `a pad that rolls a little zooms a little, not a step for each event: ${rolled}, ${after}`);
     const before = await page.run(() => sheet.geometry.panX);
+    await page.hold(' ', true);
+    await page.run(() => dispatchEvent(new Event('blur')));
+    assert.equal(await page.run(() => sheet.view.classList.contains('may-pan')), false, 'Space that is let go in another window does not pan for ever');
+    await page.hold(' ', false);
     await page.hold(' ', true);
     await page.drag([[x, y], [x - 50, y]]);
     await page.hold(' ', false);

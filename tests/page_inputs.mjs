@@ -68,10 +68,7 @@ export class Hands {
     async tool(name) {
         if (this.byKeys) await this.page.press(await this.page.run((wanted) => document.querySelector(`[data-tool="${wanted}"]`).getAttribute('aria-keyshortcuts'), name));
         else await this.press(`[data-tool="${name}"]`);
-        const isChosen = (ms) => this.page.until((wanted) => tools.name === wanted, ms * SLACK, name); // a finger's click comes some time behind it
-        if (this.input !== 'touch') return isChosen(2000);
-        // Behind a stroke and a scrolled bar headless Chromium makes no click of the first tap.
-        return isChosen(700).catch(() => this.press(`[data-tool="${name}"]`).then(() => isChosen(2000)));
+        return this.page.until((wanted) => tools.name === wanted, 2000 * SLACK, name); // a finger's click comes some time behind it
     }
 
     /** Chooses a colour of the palette by its button, or by its number. */

@@ -3,7 +3,7 @@ import assert from 'node:assert/strict';
 import { readFileSync, writeFileSync } from 'node:fs';
 import { join } from 'node:path';
 import { act, downloaded, drop, examples, fresh, isOpen, menu } from './page_hands.mjs';
-import { SLACK } from './page_trial.mjs';
+import { SLACK, ppmOf } from './page_trial.mjs';
 
 /** Ctrl+S downloads a P3 text under the document's name that opens as it was; then nothing asks on leaving. */
 export async function savedAsDownload({ browser, url, folder }) {
@@ -22,6 +22,22 @@ export async function savedAsDownload({ browser, url, folder }) {
     await isOpen(page);
     const after = await trial.state();
     assert.deepEqual([after.picture, after.colours, after.givens], [before.picture, before.colours, before.givens]);
+    await page.close();
+}
+
+/** What is seen is what goes out: a move that floats is set down, and a stroke that is not answered yet is waited for. */
+export async function savedAsSeen({ browser, url, folder }) {
+    const { page, trial, own } = await fresh(browser, url, folder, 'seen');
+    await trial.open(ppmOf(['aa...', '.....', '.....']), 'seen');
+    await page.press('s');
+    await trial.drag([[1, 1], [1, 2]]);
+    await trial.drag([[1, 1], [3, 4]]);
+    await page.press('Control+s');
+    assert.match((await downloaded(page, own, 'seen.ppm')).content.toString().replaceAll('255 255 255', '.').replaceAll('0 0 0', 'a').replaceAll('\n', ''), /\.{10}\.\.\.aa$/);
+    assert.deepEqual(await trial.picture(), ['.....', '.....', '...aa']);
+    assert.equal(await page.run(() => bench.isSaved), true);
+    await page.run(() => { bench.stroke(['paint 1 1 a']); runAction('export-xml'); });
+    assert.match((await downloaded(page, own, '.xml')).content.toString(), /\|X\.{4}\|/);
     await page.close();
 }
 

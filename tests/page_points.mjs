@@ -159,9 +159,8 @@ async function large(hands) {
     await trial.open(ppmOf(noise(120, 120, '.ab')), 'large');
     await trial.settled(20000);
     const look = () => page.run(() => ({ side: sheet.geometry.cell / sheet.geometry.scale, x: sheet.geometry.panX, y: sheet.geometry.panY, whole: sheet.geometry.x(120) <= sheet.geometry.width && sheet.geometry.y(120) <= sheet.geometry.height }));
-    // Below 500 px a side there is no room for 120 lines of 3 px with their clues: then it is moved.
     const first = await look();
-    assert.ok(first.side >= 3 && (first.whole || await isNarrow(page)), JSON.stringify(first));
+    assert.ok(first.side >= 3 && first.whole, JSON.stringify(first));
     const [x, y] = await trial.cell(60, 60);
     if (hands.byKeys) await page.press(...Array(8).fill('+'));
     else if (hands.input === 'mouse') for (let turn = 0; turn < 8; turn++) await page.mouse('mouseWheel', x, y, { wheel: [0, -100] });

@@ -28,6 +28,12 @@ test('each script is listed once, says what it is, and is short', () => {
     }
 });
 
+test('no text goes over several lines, so that blanks before lines may go', () => {
+    for (const file of [...scripts('page'), ...scripts('worker'), '../web/nonobench.mjs']) {
+        for (const [at, line] of read(file).split('\n').entries()) assert.equal((line.replace(/^\s*(\/\/|\*|\/\*\*).*/, '').match(/`/g) ?? []).length % 2, 0, `${file}:${at + 1}`);
+    }
+});
+
 test('nothing is taken as HTML and nothing is fetched', () => {
     for (const file of [...scripts('page'), ...scripts('worker')]) assert.doesNotMatch(read(file), /innerHTML|outerHTML|insertAdjacentHTML|document\.write|\bfetch\(|XMLHttpRequest|WebSocket|\beval\(/, file);
 });

@@ -132,11 +132,23 @@ test('two squares that turn each want one given', async () => {
     const state = stateOf(['a...', '.a..', '..a.']);
     const copy = smallCopy(state);
     const { other } = await copy.verdict();
-    const given = await givensFor(copy, state, other);
+    const { cells: given, isEnough } = await givensFor(copy, state, other);
+    assert.equal(isEnough, true);
     const judged = smallCopy({ ...state, givens: new Set(given) });
     assert.equal((await judged.verdict()).word, 'unique');
     for (const one of given) assert.equal((await smallCopy({ ...state, givens: new Set(given.filter((cell) => cell !== one)) }).verdict()).word, 'ambiguous');
-    assert.deepEqual(copy.found, given);
+    assert.deepEqual(copy.found, { cells: given, isEnough });
+});
+
+test('cells that were found when time ends are kept, and told not to suffice', async () => {
+    const state = stateOf(['a...', '.a..', '..a.']);
+    const copy = smallCopy(state);
+    const { verdict } = copy;
+    const { other } = await verdict();
+    const answers = [verdict, () => Promise.reject(new Error('time'))]; // the first cell does not suffice, and then time ends
+    copy.verdict = () => answers.shift()();
+    await assert.rejects(givensFor(copy, state, other), /time/);
+    assert.deepEqual([copy.found.cells.length, copy.found.isEnough], [2, false]);
 });
 
 test('repaints that make it unique, those near a differing cell first', async () => {

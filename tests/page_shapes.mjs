@@ -56,17 +56,39 @@ test('colours in another order, and one less', () => {
   assert.deepEqual([less.picture, less.colours], [['.aa'], [[255, 255, 255], [9, 9, 9]]]);
 });
 
-test('a picture fits, down to cells of three points', () => {
+// A picture whose lines have so many blocks each, fitted into a view of some of the page's pixels.
+function fitted(width, height, scale, lines = 120, blocks = 30) {
   const at = new Geometry();
-  at.resize(790, 700, 1);
-  Object.assign(at, { rows: 120, columns: 120 });
-  const block = { length: 3, letter: 'a' };
-  at.measure({ rows: Array(120).fill(Array(30).fill(block)), columns: Array(120).fill(Array(30).fill(block)) });
+  at.resize(width, height, scale);
+  Object.assign(at, { rows: lines, columns: lines });
+  const clues = Array(lines).fill(Array(blocks).fill({ length: 3, letter: 'a' }));
+  at.measure({ rows: clues, columns: clues });
   at.fit();
-  assert.ok(at.cell >= 3 && at.x(120) <= 790 && at.y(120) <= 700);
-  at.resize(390, 500, 1);
-  at.fit();
-  assert.equal(at.cell, 3);
+  return at;
+}
+const isWhole = (at) => at.x(at.columns) <= at.width && at.y(at.rows) <= at.height;
+
+test('a picture fits, down to cells of three points', () => {
+  const at = fitted(790, 700, 1);
+  assert.ok(at.cell >= 3 && isWhole(at) && !at.isFolded);
+  for (const scale of [1, 2, 3]) assert.ok(!fitted(390, 600, scale, 60).isFolded, 'clues stay where there is room');
+});
+
+test('where three points are too many beside the clues, Fit folds these and shows all', () => {
+  // Of the width 23 points are an edge and 6 a margin, of the height 17 and 6: (390 - 29) / 120 is 3.008, for one.
+  const views = [[390, 600, 1, 3], [390, 600, 2, 6], [390, 600, 3, 9], [360, 400, 2, 5], [360, 400, 3, 8], [460, 330, 2, 5], [300, 200, 1, 1]];
+  for (const [width, height, scale, cell] of views) {
+    const at = fitted(width, height, scale);
+    assert.deepEqual([at.cell, at.isFolded, isWhole(at)], [cell, true, true], `${width} by ${height}, ${scale}`);
+    assert.equal(at.grow(), false, 'clues that grow move nothing');
+    at.pan(50, 50);
+    assert.deepEqual([at.panX, at.panY], [0, 0], 'all is seen, so nothing moves');
+    assert.equal(at.zoom(at.step(-1, 6)), false, 'it is not made smaller');
+    assert.equal(at.zoom(at.step(1, 6)), true);
+    assert.ok(!at.isFolded && at.cell >= 3 * scale && at.left > 30 * scale, 'larger cells have their clues beside them');
+    for (let step = 0; step < 9 && !at.isFolded; step++) at.zoom(at.step(-1, 6));
+    assert.deepEqual([at.cell, at.isFolded, at.isFitted], [cell, true, true], 'and smaller ones are Fit again');
+  }
 });
 
 test('zooming keeps the place under the pointer, and panning ends at the edges', () => {

@@ -178,6 +178,26 @@ export async function cluesAlone({ browser, url, folder }) {
     await page.close();
 }
 
+/** Keys and pasted text leave a picture alone that the start screen covers; behind it the work goes on. */
+export async function coveredPicture({ page, trial }) {
+    await page.click('#new-go');
+    await isOpen(page);
+    await trial.drag([[3, 4]]);
+    const before = await trial.picture();
+    await page.run(() => runAction('new'));
+    await trial.press('Control+z', 'Control+a', 'Delete', 'Alt+ArrowDown', 'Control+Alt+m', 's', 'n');
+    await page.run(() => {
+        const clipboardData = new DataTransfer();
+        clipboardData.setData('text/plain', 'aa\na\n');
+        dispatchEvent(new ClipboardEvent('paste', { clipboardData }));
+    });
+    await trial.settled();
+    assert.deepEqual([await trial.picture(), await page.run(() => [tools.name, selection.box, bench.past.length])], [before, ['pencil', null, 1]]);
+    await page.click('#start-back');
+    await trial.press('Control+z');
+    assert.equal((await trial.picture()).join('').replaceAll('.', ''), '', 'an undo takes back what is seen');
+}
+
 /** Nothing is wider than the window of a phone. */
 export async function narrowStart({ browser, url, folder }) {
     const { page, own } = await fresh(browser, url, folder, 'phone', { size: SIZES.phone });

@@ -31,8 +31,8 @@ function scripts() {
   return { page: lines.slice(0, at), worker: lines.slice(at + 1) };
 }
 
-// A source without the lines that are comments alone.
-const bare = (source) => source.replace(/^[ \t]*\/\*[^]*?\*\/[ \t]*\n/gm, '').replace(/^[ \t]*\/\/.*\n/gm, '');
+// A source without the lines that are comments alone, and without blanks before lines: no text in it goes over several lines.
+const bare = (source) => source.replace(/^[ \t]*\/\*[^]*?\*\/[ \t]*\n/gm, '').replace(/^[ \t]*\/\/.*\n/gm, '').replace(/^[ \t]+/gm, '');
 
 const sources = (names) => names.map((name) => bare(read('page', name))).join('\n');
 
