@@ -8,14 +8,12 @@ mod input;
 mod work;
 
 ghost use Rattle.command_line.specs.Words.{IsLawfulTask};
-ghost use Rattle.program_options.specs.Options.{IsLawful};
 
 use crate::ending::ending;
 use crate::input::read_input;
-use crate::work::run_work;
+use crate::work::carry_out;
 pub use answers::{Options, ProgramFault, run_check, run_clues};
 use command_line::{Task, read_words};
-use picture::{Rgb, send};
 use std::process::ExitCode;
 use std::rt::{Env, Files};
 use std::{env, fs, io};
@@ -30,7 +28,7 @@ fn answer(rt: &(impl AllocGlobal + Env + Files + Input + Print)) -> Result<(), P
     let words = given_words(rt)?;
     let words: Vec<&str> = words.iter().map(|word| word.as_str()).collect(alloc)?;
     let task = read_words(alloc, &words)?;
-    perform(rt, task)
+    perform(rt, &task)
 }
 
 // The words behind the program's own name.
@@ -39,60 +37,35 @@ fn given_words(rt: &(impl AllocGlobal + Env)) -> Result<Vec<String>, ProgramFaul
     Ok(args.skip(1).collect(rt.alloc())?)
 }
 
-// Each task stands in a function of its own, since a long one is long to prove about.
+// Reads a task's files, and carries it out.
 fn perform(
     rt: &(impl AllocGlobal + Files + Input + Print),
-    task: Task<'_>,
+    task: &Task<'_>,
 ) -> Result<(), ProgramFault>
-    requires { IsLawfulTask task }
+    requires { IsLawfulTask task.now }
 {
-    match task {
-        Task::Clues => print_clues(rt),
-        Task::Work { file, options } => work_on(rt, file, options),
-        Task::Check {
-            file,
-            cert,
-            background,
-        } => look_at(rt, file, cert, background),
-        Task::Help(text) => Ok(send(text.as_bytes(), &mut io::writer(rt))?),
-    }
-}
-
-// The clues of the picture on standard input.
-fn print_clues(rt: &(impl AllocGlobal + Input + Print)) -> Result<(), ProgramFault> {
-    let alloc = rt.alloc();
-    let bytes = read_input(alloc, &mut rt.reader())?;
-    run_clues(alloc, &bytes, None, &mut io::writer(rt))
-}
-
-// A session on a file.
-fn work_on(
-    rt: &(impl AllocGlobal + Files + Input + Print),
-    path: &str,
-    options: Options,
-) -> Result<(), ProgramFault>
-    requires { IsLawful options }
-{
-    let file = read_file(rt, path)?;
-    run_work(
+    let (file, cert) = read_files(rt, task)?;
+    carry_out(
         rt.alloc(),
+        task,
         &file,
-        options,
+        &cert,
         &mut rt.reader(),
         &mut io::writer(rt),
     )
 }
 
-// The check of a picture's certificate.
-fn look_at(
-    rt: &(impl AllocGlobal + Files + Print),
-    path: &str,
-    cert: &str,
-    background: Option<Rgb>,
-) -> Result<(), ProgramFault> {
-    let file = read_file(rt, path)?;
-    let cert = read_file(rt, cert)?;
-    run_check(rt.alloc(), &file, &cert, background, &mut io::writer(rt))
+// What the files of a task hold: that of the picture, and that of the certificate.
+fn read_files(
+    rt: &(impl AllocGlobal + Files),
+    task: &Task<'_>,
+) -> Result<(Vec<u8>, Vec<u8>), ProgramFault> {
+    let nothing = Vec::new(rt.alloc());
+    match task {
+        Task::Clues | Task::Help(_) => Ok((nothing, Vec::new(rt.alloc()))),
+        Task::Work { file, .. } => Ok((read_file(rt, file)?, nothing)),
+        Task::Check { file, cert, .. } => Ok((read_file(rt, file)?, read_file(rt, cert)?)),
+    }
 }
 
 // Why the words could not be read: memory ran out, or one is not UTF-8.
