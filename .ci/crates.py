@@ -13,7 +13,7 @@ ROOT = Path(__file__).resolve().parent.parent
 README = ROOT / 'crates' / 'README.md'
 HEAD = '''# Crates
 
-For somebody who looks for a place in the code: the crates in reading order, in brackets what each stands on, without what these stand on themselves. [ARCHITECTURE.md](../docs/ARCHITECTURE.md) has their doors. Made by `.ci/crates.py --write`.
+For somebody who looks for a place in the code: the crates in reading order. [ARCHITECTURE.md](../docs/ARCHITECTURE.md) has their doors, `crates.txt` what they stand on. Made by `.ci/crates.py --write`.
 
 '''
 
@@ -26,25 +26,6 @@ def listed():
             name, _, deps = line.partition(':')
             crates[name.split()[0]] = [word for word in deps.split() if (ROOT / 'crates' / word).is_dir()]
     return crates
-
-
-def reached(crates, name):
-    """All crates of the repository that a crate stands on."""
-    found = set()
-    for dep in crates.get(name, ()):
-        found |= {dep} | reached(crates, dep)
-    return found
-
-
-def nearest(crates, name):
-    """Those that no other one of them stands on."""
-    return [dep for dep in crates[name] if not any(dep in reached(crates, other) for other in crates[name])]
-
-
-def stands_on(crates, name):
-    """The nearest ones in brackets, where there are some."""
-    names = ', '.join(f'`{dep}`' for dep in nearest(crates, name))
-    return f' ({names})' if names else ''
 
 
 def told(crate):
@@ -87,7 +68,7 @@ def faults(crates, text):
 def main(words):
     """Writes the list where asked, and tells what is not in order."""
     crates = listed()
-    text = HEAD + ''.join(f'- [`{name}`]({name}): {told(name)}{stands_on(crates, name)}\n' for name in crates)
+    text = HEAD + ''.join(f'- [`{name}`]({name}): {told(name)}\n' for name in crates)
     if words == ['--write']:
         README.write_text(text, encoding='utf-8')
     elif words:
