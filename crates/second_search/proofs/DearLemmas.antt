@@ -123,14 +123,12 @@ pub costs_decide : OnlyIsClosed → CostsAreUnique → CostsDecide
 costs_decide law unique = record {
   facts = λ clues known facts most cost h. ((λ ends. ends.1.1 cost h), (λ l. broken_off unique clues known facts most cost h l));
   undecided = λ clues givens facts picture most old new searched splits scene is b.
-      let i = b.at in (
-        i,
-        record {
-          place = b.stops.place;
-          is = stopped_is_dear unique clues facts picture most b.stops.searched_here b.stops.splits_here (cells_at old i) (answer_at old i) (alone_facts law clues givens facts picture (cells_at old i) scene is) b.stops.here;
-          before = passed_are_cheap unique clues facts picture most old i b.stops.searched_before b.stops.splits_before b.stops.before;
-        },
-      );
+      let i = b.at in
+      record {
+        place = b.stops.place;
+        is = stopped_is_dear unique clues facts picture most b.stops.searched_here b.stops.splits_here (cells_at old i) (answer_at old i) (alone_facts law clues givens facts picture (cells_at old i) scene is) b.stops.here;
+        before = passed_are_cheap unique clues facts picture most old i b.stops.searched_before b.stops.splits_before b.stops.before;
+      };
   unique = λ clues facts picture most old new searched splits p. passed_are_cheap unique clues facts picture most old (length old) searched splits p.passes;
   other = λ clues facts picture most old new searched splits f i l d. elim (cases_eq i f.at) [
     | inr before ↦ passed_are_cheap unique clues facts picture most old f.at f.stops.searched_before f.stops.splits_before f.stops.before i (omega arith) d

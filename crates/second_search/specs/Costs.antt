@@ -5,8 +5,8 @@ use Rattle.line_settle.specs.FactSets.{IsFacts}
 use Rattle.second_search.specs.declared.counting.Ending.TheVariants as ending
 use Rattle.second_search.specs.declared.keeper.Answer.TheVariants.{Unknown}
 use Rattle.second_search.specs.declared.keeper.KeptPart.{KeptPart}
-use Rattle.second_search.specs.declared.keeper.Verdict.TheVariants.{Undecided, Unique}
-use Rattle.second_search.specs.Judging.{FindsOne, Judges, answer_at, cells_at}
+use Rattle.second_search.specs.declared.keeper.Verdict.TheVariants.{Unique}
+use Rattle.second_search.specs.Judging.{BreaksOff, FindsOne, Judges, answer_at, cells_at}
 use Rattle.second_search.specs.Parts.{IsScene}
 use Rattle.second_search.specs.Searching.{EndsAs, HasCost, alone}
 
@@ -25,12 +25,12 @@ pub record IsFirstDear (clues : Clues) (facts picture : List (List ℕ)) (most :
   pub is : IsDear clues facts picture most kept i
   pub before : (j : ℕ) → j < i → IsDear clues facts picture most kept j → ⊥
 
--- Under an allowance the search of facts is broken off exactly where they cost more. A picture is left undecided at the first
--- part that costs more; where it is not, no part that was searched does.
+-- Under an allowance the search of facts is broken off exactly where they cost more. A picture is left undecided, and its search
+-- broken off, at the first part that costs more; where it is not, no part that was searched does.
 pub record CostsDecide : Type 0 where
   pub facts : (clues : Clues) (known facts : List (List ℕ)) (most cost : ℕ) → HasCost clues known facts cost → EndsAs clues known facts (Some most) ending.BrokenOff most ↔ (most < cost)
   pub undecided : (clues : Clues) (givens : List ℕ) (facts picture : List (List ℕ)) (most : ℕ) (old new : List KeptPart) (searched splits : ℕ)
-      → IsScene clues givens facts picture → IsFacts facts → Judges clues facts picture (Some most) old new Undecided searched splits → (i : ℕ) × IsFirstDear clues facts picture most old i
+      → IsScene clues givens facts picture → IsFacts facts → (broken : BreaksOff clues facts picture (Some most) old new searched splits) → IsFirstDear clues facts picture most old broken.at
   pub unique : (clues : Clues) (facts picture : List (List ℕ)) (most : ℕ) (old new : List KeptPart) (searched splits : ℕ)
       → Judges clues facts picture (Some most) old new Unique searched splits → (i : ℕ) → i < length old → IsDear clues facts picture most old i → ⊥
   pub other : (clues : Clues) (facts picture : List (List ℕ)) (most : ℕ) (old new : List KeptPart) (searched splits : ℕ)
