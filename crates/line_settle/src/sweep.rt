@@ -147,10 +147,12 @@ fn note_behind<W: Word>(
         all: sets.last,
         marked: W::low(0),
     };
+    let mut cell = sets.open_moves();
     for i in (0..left.len()).rev() {
         plain[i] = later.all;
         marked[i] = later.marked;
-        later = back(sets, sets.moves_by(left[i]), left[i] & drawn[i], later);
+        cell = sets.moves_after(left[i], cell);
+        later = back(sets, cell.moves, left[i] & drawn[i], later);
     }
 }
 
@@ -172,15 +174,17 @@ fn sweep<W: Word>(sets: &PatternSets<W>, drawn: &[u16], plain: &[W], marked: &[W
         → (finishes_marked pattern left.old drawn.now 0 ≡ true → ⊥)
         → SweepsOut pattern drawn.now left.old left.new (length left.old) }
 {
-    let full = sets.moves_by(u16::MAX);
+    let full = sets.open_moves();
+    let mut cell = full;
     let mut from = Reached {
         all: W::low(1),
         marked: W::low(0),
     };
     for i in 0..left.len() {
-        let on = reach(sets, full, u16::MAX & drawn[i], from);
+        let on = reach(sets, full.moves, u16::MAX & drawn[i], from);
         if meets_marked(on, plain[i], marked[i]) {
-            from = reach(sets, sets.moves_by(left[i]), left[i] & drawn[i], from);
+            cell = sets.moves_after(left[i], cell);
+            from = reach(sets, cell.moves, left[i] & drawn[i], from);
         } else {
             left[i] = u16::MAX;
             from = on;
