@@ -1,9 +1,10 @@
 -- Masks of a line made from premises, turned, and compared.
-use Rattle.std.proofs.Common.{◌≡◌, ℕ, ◌+◌, ◌-◌, ◌<◌, ◌≤◌, ◌^◌, ◌↔◌, List, length, refl, sym, ap, ◌∙◌, subst, arith, inl, inr, get_or, set, bit_and, get_or-set_same, get_or-set_other}
+use Rattle.std.proofs.Common.{◌≡◌, ℕ, ◌+◌, ◌-◌, ◌<◌, ◌≤◌, ◌^◌, ◌↔◌, List, length, refl, sym, ap, ◌∙◌, subst, arith, inl, inr, get_or, set, bit_and, bit_or, get_or-set_same, get_or-set_other}
 use Rattle.std.specs.Prelude.{IsBitSet}
 use Rattle.std.specs.Int.{bit_at, trailing_zeros, w16}
 use Rattle.std.proofs.lemmas.Bool.{cases_eq, cases_lt}
 use Rattle.std.proofs.lemmas.List.{get_or_past, length-set}
+use Rattle.std.proofs.lemmas.Nat.{le_or_l, le_or_r}
 use Rattle.std.proofs.lemmas.Nat.Bits.{bit_at_and, bit_at-lt, bit_at_not, bit_at-trailing_zeros}
 use Rattle.justify.specs.declared.premise.Premise.{Premise}
 use Rattle.justify.specs.Premises.{premise_at, ArePremises, IsComplement, KeepsLost, LeavesRest, HasSaid}
@@ -45,6 +46,19 @@ both_bits a b k =
     let y = bit_at-lt b k in (
       (λ s. let f = set_bit (bit_and a b) k s in (bit_is_set a k (omega arith), bit_is_set b k (omega arith))),
       (λ p. let f = set_bit a k p.0 in let g = set_bit b k p.1 in bit_is_set (bit_and a b) k (omega arith)),
+    )
+
+-- masks are empty together where each is
+pub empty_more : (masks : List ℕ) (seen n : ℕ) → ((seen ≡ 0) ↔ ((i : ℕ) → i < n → get_or masks i 0 ≡ 0)) → (bit_or seen (get_or masks n 0) ≡ 0) ↔ ((i : ℕ) → i < n + 1 → get_or masks i 0 ≡ 0)
+empty_more masks seen n so_far =
+    let m = get_or masks n 0 in
+    let a = le_or_l seen m in
+    let b = le_or_r seen m in (
+      (λ e i l. elim (cases_eq i n) [
+        | inl same ↦ (let P : ℕ → Type 0 = λ j. get_or masks j 0 ≡ 0 in subst P (sym same) (omega arith))
+        | inr other ↦ so_far.0 (omega arith) i (omega arith)
+      ]),
+      (λ each. ap (λ x. bit_or x m) (so_far.1 (λ i l. each i (omega arith))) ∙ ap (λ x. bit_or 0 x) (each n (omega arith))),
     )
 
 -- ---- whole lines

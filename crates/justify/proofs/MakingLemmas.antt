@@ -1,6 +1,8 @@
 -- The new step of a line, from what an evaluation left and what was found to be needed.
 use Rattle.std.proofs.Common.{◌≡◌, ℕ, ◌<◌, List, length, refl, sym, ap, ◌∙◌, subst, arith, inl, inr, get_or, set, get_or-set_same, get_or-set_other}
 use Rattle.std.specs.Prelude.{IsBitSet}
+use Rattle.std.specs.List.{All}
+use Rattle.std.proofs.lemmas.List.Elements.{All-from_get_or, All-get_or}
 use Rattle.std.proofs.lemmas.Bool.{cases_eq, cases_lt}
 use Rattle.std.proofs.lemmas.List.{get_or_past, length-set}
 use Rattle.picture.specs.declared.line_id.LineId.{LineId}
@@ -14,7 +16,7 @@ use Rattle.justify.specs.Premises.{premise_at, Gathers, IsComplement, KeepsLost,
 use Rattle.justify.specs.Forcing.{CanHaveWithout}
 use Rattle.justify.specs.Needs.{AreNeeded, DrawsLess}
 use Rattle.justify.specs.Making.{DrawsNothing, IsNewStep}
-use Rattle.picture.specs.BitLaws.{no_bit, bit_below}
+use Rattle.picture.specs.BitLaws.{no_bit, bit_below, same_bits}
 use Rattle.line_settle.specs.MaskLaws.{full_has}
 use Rattle.justify.proofs.SaidLemmas.{bit_or_not}
 use Rattle.justify.proofs.LineMaskLemmas.{some_bit}
@@ -114,6 +116,30 @@ module _ (clue : List Block) (drawn old new others : List ℕ) (l : LeavesOut cl
 
 -- ---- what an evaluation left
 
+-- masks that are not all empty give a premise
+some_said : (masks : List ℕ) (premises : List Premise) → Gathers masks premises → (All (λ (mask : ℕ). mask ≡ 0) masks → ⊥) → length premises ≡ 0 → ⊥
+some_said masks premises g some none = some (All-from_get_or (λ (mask : ℕ). mask ≡ 0) masks 0 (λ i l.
+    same_bits (get_or masks i 0) 0 (λ k. (
+      (λ s. let w = ((g.says i k).1 s).within in absurd (omega arith)),
+      (λ z. absurd (no_bit k z)),
+    ))))
+
+-- where nothing is lost, nothing is drawn
+pub draws_nothing : (clue : List Block) (left out drawn : List ℕ) → Narrows clue left Narrowed out → KeepsLost left out drawn → All (λ (mask : ℕ). mask ≡ 0) drawn → DrawsNothing clue left
+draws_nothing clue left out drawn n x none = record {
+  closed = λ i k s. (n.exact i k).0 (elim (bit_or_not (get_or out i 0) k) [
+    | inl o ↦ o
+    | inr not_out ↦
+        let empty : get_or drawn i 0 ≡ 0 = elim (cases_lt i (length drawn)) [
+          | inl l ↦ All-get_or (λ (mask : ℕ). mask ≡ 0) drawn i 0 l none
+          | inr past ↦ get_or_past drawn i 0 past
+        ] in
+        let P : ℕ → Type 0 = λ m. IsBitSet m k in
+        absurd (no_bit k (subst P empty ((x.colours i k).1 (s, not_out))))
+  ]);
+  fits = n.fits.0 refl;
+}
+
 module _ (clue : List Block) (left out drawn : List ℕ) (lost : List Premise) (n : Narrows clue left Narrowed out) (x : KeepsLost left out drawn) (g : Gathers drawn lost) where
   lost_is : (i k : ℕ) → IsBitSet (get_or drawn i 0) k → IsBitSet (get_or left i 0) k × (CanHave clue left i k → ⊥)
   lost_is i k d =
@@ -129,18 +155,12 @@ module _ (clue : List Block) (left out drawn : List ℕ) (lost : List Premise) (
   pub forces_lost : ForcesAll clue left drawn
   forces_lost i k d = (lost_is i k d).1
 
-  pub draws_nothing : length lost ≡ 0 → DrawsNothing clue left
-  draws_nothing none = record {
-    closed = λ i k s. kept_is i k s (λ says. (let w = says.within in absurd (omega arith)));
-    fits = n.fits.0 refl;
-  }
-
-  pub new_step : (line : LineId) (premises : List Premise) → AreNeeded clue left drawn premises → (length lost ≡ 0 → ⊥) → IsNewStep clue line left (record { line = line; premises = premises; drawn = lost })
+  pub new_step : (line : LineId) (premises : List Premise) → AreNeeded clue left drawn premises → (All (λ (mask : ℕ). mask ≡ 0) drawn → ⊥) → IsNewStep clue line left (record { line = line; premises = premises; drawn = lost })
   new_step line premises a some = record {
     of_line = refl;
     draws = λ i k s. lost_is i k ((g.says i k).0 s);
     keeps = kept_is;
-    something = omega arith;
+    something = (let empty = some_said drawn lost g some in omega (arith, empty));
     drawn_inside = λ i m. (let l = inside_masks drawn lost i g m in let e = x.same_length in let f = n.same_length in omega arith);
     inside = a.inside;
     whole = a.whole;

@@ -7,7 +7,7 @@ ghost use Rattle.justify.specs.Making.{Makes};
 
 use crate::book::Book;
 use crate::fault::StepFault;
-use crate::masks::{MOST_CELLS, keep_lost};
+use crate::masks::{MOST_CELLS, are_empty, keep_lost};
 use crate::needs::needed_for;
 use crate::premise::Premises;
 use crate::step::Step;
@@ -46,10 +46,10 @@ impl Book {
             Outcome::Narrowed => {}
         }
         keep_lost(left, drawn);
-        let lost = Premises::from_masks(self.allocator(), drawn)?;
-        if lost.is_empty() {
+        if are_empty(drawn) {
             return Ok(None);
         }
+        let lost = Premises::from_masks(self.allocator(), drawn)?;
         let premises = needed_for(self.allocator(), clue, drawn, left)?;
         Ok(Some(Step {
             line,

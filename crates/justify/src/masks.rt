@@ -1,6 +1,7 @@
 //! Premises and the masks of a line: bit k of a mask stands for colour k.
 
 ghost use Rattle.std.specs.Prelude.{◌≡◌, ℕ, ◌<◌, ◌≤◌, ◌↔◌, length, slice_index, take, IsTrue, IsBitSet, MatchBool};
+ghost use Rattle.std.specs.List.{All};
 ghost use Rattle.justify.specs.Premises.{ArePremises, Gathers, HasSaid, IsComplement, KeepsLost, IsMark, LeavesRest, Mentions, Says};
 
 use crate::premise::Premise;
@@ -91,6 +92,17 @@ pub(crate) fn has_none(premises: &[Premise], left: &[u16]) -> bool
         }
     }
     true
+}
+
+// Whether no cell of a line has a colour. All cells are looked at, so that some can be together.
+pub(crate) fn are_empty(masks: &[u16]) -> bool
+    ensures { IsTrue result ↔ All (λ mask. mask ≡ 0) masks.now }
+{
+    let mut seen = 0;
+    for mask in masks {
+        seen |= *mask;
+    }
+    seen == 0
 }
 
 // Makes the masks of a line empty but for one colour in one cell.

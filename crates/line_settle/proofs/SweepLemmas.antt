@@ -1,12 +1,15 @@
 -- What the sweep over a line keeps from cell to cell.
 use Rattle.std.proofs.Common.{◌≡◌, ◌≢◌, ℕ, zero, suc, ◌+◌, ◌^◌, ◌<◌, ◌≤◌, ◌↔◌, ◌⊎◌, Bool, true, ◌||◌, ◌==◌, not, ne_eqb, List, [], ◌∷◌, bit_and, bit_or, refl, sym, ap, subst, ◌∙◌, arith, inl, inr, eq-eqb, length, get_or, drop, drop-cons, replicate}
+use Rattle.std.specs.List.{All}
 use Rattle.std.proofs.Math.ListN.{set, drop_of_length-le}
 use Rattle.std.proofs.Math.Seq.{drop-length}
 use Rattle.std.proofs.lemmas.Bool.{cases_eq, cases_lt, or_cases, or_left, or_right, false≢true, eqb-true, eqb-false, not-true, not_from_false}
 use Rattle.std.proofs.lemmas.List.{length-set, length-replicate, get_or-set_same, get_or-set_other, get_or-drop, drop-set-lt}
+use Rattle.std.proofs.lemmas.List.Elements.{All-get_or}
 use Rattle.clues.specs.declared.block.Block.{Block}
 use Rattle.clues.specs.Clue.{IsClue}
-use Rattle.line_settle.specs.LeavingOut.{LeavesOut}
+use Rattle.line_settle.specs.LeavingOut.{ForcesAll, LeavesOut}
+use Rattle.line_settle.specs.Masks.{all_sixteen}
 use Rattle.line_settle.specs.Marking.{finish_marked, finishes_marked, reach_marked, reaches_marked, AreReached, AreBehind, ReachedSets, SweepsOut}
 use Rattle.line_settle.specs.Positions.{has}
 use Rattle.line_settle.specs.Spelling.{pattern_of, allows, finish_step, finishes, reach_step, reaches}
@@ -359,6 +362,15 @@ full_at (suc n) zero h = refl
 full_at (suc n) (suc i) h = full_at n i (omega arith)
 
 -- a line without room for the blocks forces everything
+-- where all sixteen colours are left everywhere, nothing can be left out
+pub leaves_open : (clue : List Block) (drawn left : List ℕ) → ForcesAll clue left drawn → All (λ (mask : ℕ). mask ≡ all_sixteen) left → LeavesOut clue drawn left left
+leaves_open clue drawn left forced full = record {
+  same_length = refl;
+  each = λ i l. inl refl;
+  forced = forced;
+  needed = λ i l n. absurd (n (All-get_or (λ (mask : ℕ). mask ≡ all_sixteen) left i 0 l full));
+}
+
 pub leaves_all : (clue : List Block) (drawn old new : List ℕ) → IsClue clue → new ≡ replicate (length old) 65535 → length old + 1 < length (pattern_of clue) → LeavesOut clue drawn old new
 leaves_all clue drawn old new b e l =
     let n : length new ≡ length old = ap length e ∙ length-replicate (length old) 65535 in

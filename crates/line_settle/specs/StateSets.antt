@@ -62,3 +62,7 @@ pub record ArePatternSets (width : ℕ) (pattern : List ℕ) (sets : StateSets) 
   pub colours : HasColours pattern end sets.colours
   pub inner : (q : ℕ) → (has sets.inner q ≡ true) ↔ (q < end)
   pub last : sets.last ≡ 2 ^ end
+
+-- how a cell of a mask moves a line along each pattern with these sets
+abbrev pub AreMovesOf : ℕ → StateSets → ℕ → MoveSets → Type 0
+AreMovesOf width sets mask moves = (pattern : List ℕ) → ArePatternSets width pattern sets → MovesBy width pattern mask moves

@@ -4,8 +4,9 @@ ghost use Rattle.std.specs.Prelude.{◌≡◌, ℕ, ◌+◌, ◌<◌, ◌≤◌,
 ghost use Rattle.clues.specs.Clue.{IsClue};
 ghost use Rattle.line_settle.specs.Spelling.{allows, pattern_of, finish_step, reach_step};
 ghost use Rattle.line_settle.specs.Laying.{gap_before};
+ghost use Rattle.line_settle.specs.Masks.{all_sixteen};
 ghost use Rattle.line_settle.specs.Positions.{has};
-ghost use Rattle.line_settle.specs.StateSets.{AreStates, MovesBy, AreNext, ArePatternSets, moves_of, sets_of};
+ghost use Rattle.line_settle.specs.StateSets.{AreStates, MovesBy, AreMovesOf, AreNext, ArePatternSets, moves_of, sets_of};
 
 use crate::block_steps::meets;
 use crate::pattern::allows;
@@ -48,6 +49,13 @@ impl<W: Word> Moves<W> {
             .and(self.advancing)
             .or(later.and(self.resting))
     }
+}
+
+/// How a cell with one of a mask's colours moves a line.
+#[derive(Clone, Copy)]
+pub struct MaskMoves<W> {
+    pub mask: u16,
+    pub moves: Moves<W>,
 }
 
 /// The states of a clue's pattern, by what each of them can read.
@@ -173,6 +181,39 @@ impl<'a, W: Word> PatternSets<'a, W> {
         Moves {
             advancing: self.advancing_by(colours),
             resting: self.resting_by(colours),
+        }
+    }
+
+    /// How a cell with all sixteen colours moves a line.
+    #[inline]
+    pub fn open_moves(&self) -> MaskMoves<W>
+        requires { length self.now.next.now ≡ 16 }
+        ensures mask { result.mask ≡ all_sixteen }
+        ensures moves { AreMovesOf W.width (sets_of W.bits self.now) result.mask
+            (moves_of W.bits result.moves) }
+    {
+        MaskMoves {
+            mask: u16::MAX,
+            moves: self.moves_by(u16::MAX),
+        }
+    }
+
+    /// The same for a mask. Where it is the mask of the cell before, nothing is looked up.
+    #[inline]
+    pub fn moves_after(&self, mask: u16, before: MaskMoves<W>) -> MaskMoves<W>
+        requires sixteen { length self.now.next.now ≡ 16 }
+        requires before { AreMovesOf W.width (sets_of W.bits self.now) before.mask
+            (moves_of W.bits before.moves) }
+        ensures mask { result.mask ≡ mask }
+        ensures moves { AreMovesOf W.width (sets_of W.bits self.now) result.mask
+            (moves_of W.bits result.moves) }
+    {
+        if mask == before.mask {
+            return before;
+        }
+        MaskMoves {
+            mask,
+            moves: self.moves_by(mask),
         }
     }
 }

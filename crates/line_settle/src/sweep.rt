@@ -1,12 +1,14 @@
 //! Leaving premises out by one sweep: which cells a line needs to force what it draws.
 
 ghost use Rattle.std.specs.Prelude.{◌≡◌, ℕ, ◌+◌, ◌<◌, ◌≤◌, ◌↔◌, ◌⊎◌, true, List, Bool, IsTrue, length, map, slice_index, bit_and};
+ghost use Rattle.std.specs.List.{All};
 ghost use Rattle.std.specs.Mem.{type_size};
 ghost use Rattle.clues.specs.Clue.{IsClue};
 ghost use Rattle.line_settle.specs.LeavingOut.{ForcesAll, LeavesOut};
 ghost use Rattle.line_settle.specs.Spelling.{pattern_of, finishes, finish_step, reach_step};
 ghost use Rattle.line_settle.specs.StateSets.{AreStates, MovesBy, ArePatternSets, Shares, moves_of, sets_of};
 ghost use Rattle.line_settle.specs.Marking.{finish_marked, finishes_marked, reach_marked, AreReached, AreBehind, SweepsOut, reached_of};
+ghost use Rattle.line_settle.specs.Masks.{all_sixteen};
 ghost use Rattle.line_settle.specs.Positions.{has};
 
 use crate::mask_line::has_room;
@@ -18,8 +20,8 @@ use picture::MAX_SIDE;
 // How many cells a line has at the most.
 const MOST: usize = MAX_SIDE as usize;
 
-// A line of fewer cells has its states in 64 bits.
-const NEAR: usize = 64;
+// A clue that needs at most so many cells has its states in 64 bits.
+const NEAR: usize = 63;
 
 /// The states that lines can be in: any lines, and the marked ones, which have a drawn colour somewhere.
 #[derive(Clone, Copy)]
@@ -145,10 +147,12 @@ fn note_behind<W: Word>(
         all: sets.last,
         marked: W::low(0),
     };
+    let mut cell = sets.open_moves();
     for i in (0..left.len()).rev() {
         plain[i] = later.all;
         marked[i] = later.marked;
-        later = back(sets, sets.moves_by(left[i]), left[i] & drawn[i], later);
+        cell = sets.moves_after(left[i], cell);
+        later = back(sets, cell.moves, left[i] & drawn[i], later);
     }
 }
 
@@ -170,15 +174,17 @@ fn sweep<W: Word>(sets: &PatternSets<W>, drawn: &[u16], plain: &[W], marked: &[W
         → (finishes_marked pattern left.old drawn.now 0 ≡ true → ⊥)
         → SweepsOut pattern drawn.now left.old left.new (length left.old) }
 {
-    let full = sets.moves_by(u16::MAX);
+    let full = sets.open_moves();
+    let mut cell = full;
     let mut from = Reached {
         all: W::low(1),
         marked: W::low(0),
     };
     for i in 0..left.len() {
-        let on = reach(sets, full, u16::MAX & drawn[i], from);
+        let on = reach(sets, full.moves, u16::MAX & drawn[i], from);
         if meets_marked(on, plain[i], marked[i]) {
-            from = reach(sets, sets.moves_by(left[i]), left[i] & drawn[i], from);
+            cell = sets.moves_after(left[i], cell);
+            from = reach(sets, cell.moves, left[i] & drawn[i], from);
         } else {
             left[i] = u16::MAX;
             from = on;
@@ -192,8 +198,7 @@ fn leave_out_by<W: Word>(blocks: &[Block], drawn: &[u16], left: &mut [u16])
     requires small_word { type_size W.row ≤ 16 }
     requires same_length { length drawn.now ≡ length left.old }
     requires short { length left.old ≤ MAX_SIDE }
-    requires fits_word { length left.old < W.width }
-    requires has_room { length (pattern_of blocks.now) ≤ length left.old + 1 }
+    requires few_states { length (pattern_of blocks.now) ≤ W.width }
     ensures { (finishes_marked (pattern_of blocks.now) left.old drawn.now 0 ≡ true → ⊥)
         → SweepsOut (pattern_of blocks.now) drawn.now left.old left.new (length left.old) }
 {
@@ -203,6 +208,21 @@ fn leave_out_by<W: Word>(blocks: &[Block], drawn: &[u16], left: &mut [u16])
     let mut marked = [W::low(0); MOST];
     note_behind(&sets, drawn, left, &mut plain, &mut marked);
     sweep(&sets, drawn, &plain, &marked, left);
+}
+
+// Whether the states of a clue have room in 64 bits, where its blocks have room on a line of so many cells.
+fn are_near(blocks: &[Block], cells: usize) -> bool
+    requires has_room { length (pattern_of blocks.now) ≤ cells + 1 }
+    ensures { IsTrue result ↔ length (pattern_of blocks.now) ≤ 64 }
+{
+    cells <= NEAR || has_room(blocks, NEAR)
+}
+
+// Whether all sixteen colours are left in each cell.
+fn are_open(left: &[u16]) -> bool
+    ensures { IsTrue result ↔ All (λ mask. mask ≡ all_sixteen) left.now }
+{
+    left.iter().all(|mask| *mask == u16::MAX)
 }
 
 /// Leaves out the exclusions of a line that are not needed to force those that are drawn. In `left` and `drawn` bit k of
@@ -215,12 +235,15 @@ pub fn leave_out(clue: &Clue, drawn: &[u16], left: &mut [u16])
     requires forced { ForcesAll clue.now left.old drawn.now }
     ensures { LeavesOut clue.now drawn.now left.old left.new }
 {
+    if are_open(left) {
+        return;
+    }
     let blocks = clue.blocks();
     if !has_room(blocks, left.len()) {
         left.fill(u16::MAX);
         return;
     }
-    if left.len() < NEAR {
+    if are_near(blocks, left.len()) {
         leave_out_by::<u64>(blocks, drawn, left);
     } else {
         leave_out_by::<u128>(blocks, drawn, left);

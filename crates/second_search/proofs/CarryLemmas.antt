@@ -16,8 +16,8 @@ use Rattle.line_settle.specs.FactSets.{IsFacts, col_on, row_on}
 use Rattle.second_search.specs.declared.keeper.Answer.{Answer}
 use Rattle.second_search.specs.declared.keeper.Answer.TheVariants.{Filling, Nothing, Unknown}
 use Rattle.second_search.specs.declared.keeper.KeptPart.{KeptPart}
-use Rattle.second_search.specs.Carrying.{AreSameLines, CarriesFirst, HoldsCells, IsCarried, LieInside, NamesThrough, PutsOn, carried}
-use Rattle.second_search.specs.Judging.{IsTrueOf, answer_at, cells_at, kept_at, parts_of}
+use Rattle.second_search.specs.Carrying.{AreSameLines, Carries, CarriesFirst, HoldsCells, IsCarried, KnowsNothing, LieInside, NamesThrough, PutsOn, carried}
+use Rattle.second_search.specs.Judging.{IsTrueOf, Starts, answer_at, cells_at, kept_at, parts_of}
 use Rattle.second_search.specs.Laws.{FillingsStay}
 use Rattle.second_search.specs.Parts.{AreParts, GoesThrough, IsPart, IsScene, KeepsLines, part_at, picked}
 use Rattle.second_search.proofs.AloneLemmas.{part_inside}
@@ -144,6 +144,30 @@ has_a_cell facts cells is p none =
     let h = has_first facts cells p in
     let i = part_inside facts cells p.row p.col is p h in
     none p.row p.col i.0 i.1 h
+
+-- the place of a part among those that are kept
+kept_place : SameCellsAreEqual → (facts : List (List ℕ)) (kept : List KeptPart) (cells : List ℕ) → AreParts facts (parts_of kept) → IsPart facts cells → (i : ℕ) × ((i < length kept) × (cells_at kept i ≡ cells))
+kept_place same facts kept cells are p =
+    let h = has_first facts cells p in
+    let held = are.all p.row p.col (part_open facts cells p.row p.col p h) in
+    let count = length-map kept (λ (part : KeptPart). part.cells) in
+    let P : List ℕ → Type 0 = λ x. HasCell x p.row p.col in
+    let l = held.1.0 in
+    let near : held.0 < length kept = omega arith in
+    (held.0, (near, same_place same facts kept cells held.0 p.row p.col are p near (subst P (part_of_kept kept held.0) held.1.1) h))
+
+-- where nothing is known of any part, nothing is carried
+pub nothing_known : FillingsStay → SameCellsAreEqual → (clues : Clues) (facts picture : List (List ℕ)) (clues_after : Clues) (givens_after : List ℕ) (facts_after picture_after : List (List ℕ)) (old new : List KeptPart) → AreParts facts (parts_of old) → KnowsNothing old (length old) → Starts facts_after new → Carries clues facts picture clues_after facts_after picture_after old new
+nothing_known law same clues facts picture clues_after givens_after facts_after picture_after old new are none starts = λ i l.
+    let cells = cells_at new i in
+    let p = each_is_part facts_after new starts.parts i l in
+    let P : Answer → Type 0 = λ answer. IsCarried clues facts picture clues_after facts_after picture_after old cells answer in
+    subst P (sym (starts.unknown i)) (record {
+      keeps = λ keeps.
+          let at = kept_place same facts old cells are (part_before clues facts picture clues_after givens_after facts_after picture_after law cells p keeps) in
+          (Unknown, (record { at = at.0; place = at.1.0; cells_are = at.1.1; answer_is = none at.0 at.1.0 }, refl));
+      drops = λ n. refl;
+    })
 
 pub carries_more : (clues : Clues) (facts picture : List (List ℕ)) (clues_after : Clues) (givens_after : List ℕ) (facts_after picture_after : List (List ℕ)) (old : List KeptPart) (parts : List (List ℕ)) (kept more : List KeptPart) (cells : List ℕ) (answer : Answer) (count : ℕ) → CarriesFirst clues facts picture clues_after givens_after facts_after picture_after old parts kept count
     → more ≡ kept ++ ((record { cells = cells; answer = answer }) ∷ []) → cells ≡ part_at parts count → IsCarried clues facts picture clues_after facts_after picture_after old cells answer → IsTrueOf clues_after givens_after picture_after cells answer → CarriesFirst clues facts picture clues_after givens_after facts_after picture_after old parts more (count + 1)

@@ -26,6 +26,10 @@ pub record IsKept (kept : List KeptPart) (cells : List ℕ) (answer : Answer) : 
   pub cells_are : cells_at kept at ≡ cells
   pub answer_is : answer_at kept at ≡ answer
 
+-- of the first parts nothing is known
+abbrev pub KnowsNothing : List KeptPart → ℕ → Type 0
+KnowsNothing kept count = (i : ℕ) → i < count → answer_at kept i ≡ Unknown
+
 -- where each line through a part is the same in both scenes, what was known of it is carried; else nothing is known
 pub record IsCarried (clues : Clues) (facts picture : List (List ℕ)) (clues_after : Clues) (facts_after picture_after : List (List ℕ)) (old : List KeptPart) (cells : List ℕ) (answer : Answer) : Type 0 where
   pub keeps : KeepsLines clues facts picture clues_after facts_after picture_after cells → (known : Answer) × (IsKept old cells known × (answer ≡ carried cells picture_after known))

@@ -1,11 +1,11 @@
 //! Answers of parts that are kept, and a picture judged by them.
 
-ghost use Rattle.std.specs.Prelude.{◌≡◌, ◌<◌, ◌≤◌, ℕ, length, IfOk, OnErr, MatchOption};
+ghost use Rattle.std.specs.Prelude.{◌≡◌, ◌<◌, ◌≤◌, ◌↔◌, ℕ, length, IfOk, IsTrue, OnErr, MatchOption};
 ghost use Rattle.picture.specs.CellSet.{HasCell};
 ghost use Rattle.line_settle.specs.Counting.{Counts};
 ghost use Rattle.second_search.specs.Parts.{AreParts, IsPart, IsScene};
 ghost use Rattle.second_search.specs.Answering.{IsAnswer};
-ghost use Rattle.second_search.specs.Carrying.{AreSameLines, Carries, IsCarried};
+ghost use Rattle.second_search.specs.Carrying.{AreSameLines, Carries, IsCarried, KnowsNothing};
 ghost use Rattle.second_search.specs.Judging.{
   AnswersAs,
   AreTrue,
@@ -141,8 +141,13 @@ impl Keeper {
         ensures carries { IfOk result
             (Carries before.now.clues.now before.now.facts.now before.now.picture.now after.now.clues.now after.now.facts.now after.now.picture.now self.now) }
     {
-        let same = same_lines(before, after);
+        same_cells_are_equal();
+        fillings_stay();
         let alloc = *self.kept.allocator();
+        if self.knows_nothing() {
+            return Keeper::start(alloc, after.facts);
+        }
+        let same = same_lines(before, after);
         let parts = Parts::of(alloc, after.facts)?;
         let mut kept = Vec::new(alloc);
         for i in 0..parts.len() {
@@ -151,6 +156,19 @@ impl Keeper {
             kept.push(KeptPart { cells, answer })?;
         }
         Ok(Keeper { kept })
+    }
+
+    // Whether nothing is known of any part.
+    fn knows_nothing(&self) -> bool
+        ensures { IsTrue result ↔ KnowsNothing self.now (length self.now) }
+    {
+        for i in 0..self.kept.len() {
+            match self.kept[i].answer {
+                Answer::Unknown => {}
+                _ => return false,
+            }
+        }
+        true
     }
 
     // What is known of a part of the scene after: what was known of it, where the lines through it are among those that are

@@ -1,11 +1,14 @@
-use Rattle.std.proofs.Common.{◌≡◌, ◌+◌, ◌<◌, List, true, sym, subst, length, replicate}
+use Rattle.std.proofs.Common.{◌≡◌, ◌+◌, ◌<◌, List, true, refl, sym, subst, length, replicate}
 use Rattle.clues.specs.declared.block.Block.{Block}
 use Rattle.line_settle.specs.Spelling.{pattern_of}
 use Rattle.line_settle.specs.Marking.{SweepsOut, finishes_marked}
 use Rattle.line_settle.proofs.BlockLemmas.{no_room}
 use Rattle.line_settle.proofs.MarkedLemmas.{forces_unmarked}
-use Rattle.line_settle.proofs.SweepLemmas.{leaves_out, leaves_all}
+use Rattle.line_settle.proofs.SweepLemmas.{leaves_all, leaves_open, leaves_out}
 use Rattle.line_settle.proofs.sweep.leave_out.Goals as goal
+
+pub returns-then-are_open : goal.returns-then-are_open
+returns-then-are_open c = leaves_open c.args.clue.now c.args.drawn.now c.args.left.now c.requires.forced (c.if-are_open.ensures.0 refl)
 
 pub returns-then-not-has_room : goal.returns-then-not-has_room
 returns-then-not-has_room c =
@@ -16,8 +19,8 @@ returns-then-not-has_room c =
     let P : List Block → Type 0 = λ bs. length old + 1 < length (pattern_of bs) in
     leaves_all c.args.clue.now c.args.drawn.now old c.fill.new.self told.clue full (subst P told.blocks long)
 
-pub returns-then-left-lt-NEAR : goal.returns-then-left-lt-NEAR
-returns-then-left-lt-NEAR c =
+pub returns-then-are_near : goal.returns-then-are_near
+returns-then-are_near c =
     let clue = c.args.clue.now in
     let old = c.args.left.now in
     let drawn = c.args.drawn.now in
@@ -27,13 +30,13 @@ returns-then-left-lt-NEAR c =
     let none = subst Q (sym told.blocks) (forces_unmarked clue old drawn told.clue c.requires.forced) in
     leaves_out clue drawn old c.leave_out_by.new.left told.clue (subst P told.blocks (c.leave_out_by.ensures none))
 
-pub returns-else-left-lt-NEAR : goal.returns-else-left-lt-NEAR
-returns-else-left-lt-NEAR c =
+pub returns-else-are_near : goal.returns-else-are_near
+returns-else-are_near c =
     let clue = c.args.clue.now in
     let old = c.args.left.now in
     let drawn = c.args.drawn.now in
     let told = c.blocks-blocks.ensures in
-    let P : List Block → Type 0 = λ bs. SweepsOut (pattern_of bs) drawn old c.leave_out_by-else-left-lt-NEAR.new.left (length old) in
+    let P : List Block → Type 0 = λ bs. SweepsOut (pattern_of bs) drawn old c.leave_out_by-else-are_near.new.left (length old) in
     let Q : List Block → Type 0 = λ bs. finishes_marked (pattern_of bs) old drawn 0 ≡ true → ⊥ in
     let none = subst Q (sym told.blocks) (forces_unmarked clue old drawn told.clue c.requires.forced) in
-    leaves_out clue drawn old c.leave_out_by-else-left-lt-NEAR.new.left told.clue (subst P told.blocks (c.leave_out_by-else-left-lt-NEAR.ensures none))
+    leaves_out clue drawn old c.leave_out_by-else-are_near.new.left told.clue (subst P told.blocks (c.leave_out_by-else-are_near.ensures none))

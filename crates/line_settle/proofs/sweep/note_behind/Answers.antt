@@ -1,7 +1,7 @@
 use Rattle.std.proofs.Common.{◌≡◌, ◌≤◌, ◌<◌, ℕ, List, suc, ◌-◌, refl, sym, subst, arith, length, drop, get_or, map, set}
 use Rattle.line_settle.specs.Spelling.{finishes}
 use Rattle.line_settle.specs.Marking.{finishes_marked, AreReached, AreBehind, reached_of}
-use Rattle.line_settle.specs.StateSets.{sets_of}
+use Rattle.line_settle.specs.StateSets.{MovesBy, moves_of, sets_of}
 use Rattle.std.proofs.lemmas.List.{length-map, map-set}
 use Rattle.line_settle.proofs.SweepLemmas.{end_reached, before_cell, noted_more}
 use Rattle.line_settle.proofs.sweep.note_behind.Goals as goal
@@ -9,8 +9,12 @@ use Rattle.line_settle.proofs.sweep.note_behind.Goals as goal
 pub loop-i-init : goal.loop-i-init
 loop-i-init g c = record {
   later_is = λ pattern are. end_reached g.W.Word.width pattern c.args.left.now c.args.drawn.now (sets_of g.W.Word.bits c.args.sets.now) (length c.args.left.now) (g.W.Word.bits c.low.result) refl c.low.ensures are;
+  cell_is = c.open_moves-cell.ensures.moves;
   noted = λ pattern are j h l. absurd (omega arith);
 }
+
+pub moves_after-cell-requires-clause-before : goal.moves_after-cell-requires-clause-before
+moves_after-cell-requires-clause-before g c = c.loop-i.invariant.cell_is
 
 pub loop-i-preserved : goal.loop-i-preserved
 loop-i-preserved g c =
@@ -24,8 +28,11 @@ loop-i-preserved g c =
       later_is = λ pattern are.
           let P : ℕ → Type 0 = λ n. AreReached pattern (finishes pattern (drop n left)) (finishes_marked pattern (drop n left) (drop n drawn)) (reached_of bits c.loop-i.later) in
           let later = subst P up (c.loop-i.invariant.later_is pattern are) in
+          let Q : ℕ → Type 0 = λ mask. MovesBy g.W.Word.width pattern mask (moves_of bits c.moves_after-cell.result.moves) in
+          let by = subst Q c.moves_after-cell.ensures.mask (c.moves_after-cell.ensures.moves pattern are) in
           before_cell pattern left drawn i (reached_of bits c.back-later.result) (omega arith) (omega arith)
-          (c.back-later.ensures pattern m (finishes pattern (drop (suc i) left)) (finishes_marked pattern (drop (suc i) left) (drop (suc i) drawn)) are (c.moves_by.ensures pattern are) later);
+          (c.back-later.ensures pattern m (finishes pattern (drop (suc i) left)) (finishes_marked pattern (drop (suc i) left) (drop (suc i) drawn)) are by later);
+      cell_is = c.moves_after-cell.ensures.moves;
       noted = λ pattern are.
           let P : ℕ → Type 0 = λ n. AreReached pattern (finishes pattern (drop n left)) (finishes_marked pattern (drop n left) (drop n drawn)) (reached_of bits c.loop-i.later) in
           let later = subst P up (c.loop-i.invariant.later_is pattern are) in

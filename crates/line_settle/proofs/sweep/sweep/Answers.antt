@@ -1,9 +1,10 @@
 use Rattle.std.proofs.Common.{◌≡◌, ◌⊎◌, ℕ, suc, ◌+◌, ◌<◌, List, sym, ◌∙◌, subst, arith, length, get_or, map}
 use Rattle.std.proofs.lemmas.Bool.{false≢true}
+use Rattle.line_settle.specs.declared.state_sets.MaskMoves.{MaskMoves}
 use Rattle.line_settle.specs.declared.sweep.Reached.{Reached}
 use Rattle.line_settle.specs.Spelling.{reaches}
 use Rattle.line_settle.specs.Marking.{reaches_marked, reached_of, SweepsOut}
-use Rattle.line_settle.specs.StateSets.{Shares, sets_of}
+use Rattle.line_settle.specs.StateSets.{AreMovesOf, Shares, moves_of, sets_of}
 use Rattle.line_settle.proofs.WordLemmas.{word_at}
 use Rattle.line_settle.proofs.SweepLemmas.{SweptTo, Reaches, first_reached, none_swept, step_kept, step_out}
 use Rattle.line_settle.proofs.sweep.sweep.Goals as goal
@@ -11,9 +12,12 @@ use Rattle.line_settle.proofs.sweep.sweep.Goals.{then-meets_marked, else-meets_m
 
 pub loop-i-init : goal.loop-i-init
 loop-i-init g c = record {
-  small = λ t. let fits = c.type_inv.left t in omega arith;
-  from_is = λ pattern are. first_reached g.W.Word.width pattern c.args.left.now c.args.drawn.now (sets_of g.W.Word.bits c.args.sets.now) (g.W.Word.bits c.low.result) (g.W.Word.bits c.low-2.result) c.low.ensures c.low-2.ensures are;
-  so_far = λ pattern are tables none. none_swept pattern c.args.drawn.now c.args.left.now none;
+  swept = record {
+    small = λ t. let fits = c.type_inv.left t in omega arith;
+    from_is = λ pattern are. first_reached g.W.Word.width pattern c.args.left.now c.args.drawn.now (sets_of g.W.Word.bits c.args.sets.now) (g.W.Word.bits c.low.result) (g.W.Word.bits c.low-2.result) c.low.ensures c.low-2.ensures are;
+    so_far = λ pattern are tables none. none_swept pattern c.args.drawn.now c.args.left.now none;
+  };
+  cell_is = c.open_moves-full.ensures.moves;
 }
 
 pub loop-i-preserved : goal.loop-i-preserved
@@ -29,7 +33,7 @@ loop-i-preserved g c =
     let i = c.loop-i.i in
     let on = reached_of bits c.reach-on.result in
     let from = reached_of bits c.loop-i.from in
-    let swept = c.loop-i.invariant in
+    let swept = c.loop-i.invariant.swept in
     let u = c.index-plain-i.result in
     let v = c.index-marked-i.result in
     let at_plain = word_at bits c.args.plain.now i u (omega arith) c.index-plain-i.is in
@@ -46,20 +50,31 @@ loop-i-preserved g c =
     let inside : i < length left = omega arith in
     let same : length drawn ≡ length left = omega arith in
     let next : suc i ≡ i + 1 = omega arith in
-    let ons : Reaches w sets drawn left i 65535 on = λ pattern are. c.reach-on.ensures pattern 65535 (reaches pattern left i) (reaches_marked pattern left drawn i) are (c.moves_by-full.ensures pattern are) (swept.from_is pattern are) in
+    let Full : ℕ → Type 0 = λ mask. AreMovesOf w sets mask (moves_of bits c.open_moves-full.result.moves) in
+    let full = subst Full c.open_moves-full.ensures.mask c.open_moves-full.ensures.moves in
+    let ons : Reaches w sets drawn left i 65535 on = λ pattern are. c.reach-on.ensures pattern 65535 (reaches pattern left i) (reaches_marked pattern left drawn i) are (full pattern are) (swept.from_is pattern are) in
     let I : ℕ → Type 0 = λ n. SweptTo w sets drawn plain marked old c.if-meets_marked.left (reached_of bits c.if-meets_marked.from) n in
     let F : Reached g.row.W.Denot → Type 0 = λ f. SweptTo w sets drawn plain marked old c.if-meets_marked.left (reached_of bits f) (suc i) in
-    subst I next (elim c.if-meets_marked.branch [
-      | then-meets_marked x ↦
-          let L : List ℕ → Type 0 = λ l. SweptTo w sets drawn plain marked old l (reached_of bits x.reach-from.result) (suc i) in
-          let nexts : Reaches w sets drawn left i (get_or left i 0) (reached_of bits x.reach-from.result) = λ pattern are. x.reach-from.ensures pattern (get_or left i 0) (reaches pattern left i) (reaches_marked pattern left drawn i) are (x.moves_by.ensures pattern are) (swept.from_is pattern are) in
-          subst F (sym x.from-is) (subst L (sym x.left-is) (step_kept w sets drawn plain marked old left from on (reached_of bits x.reach-from.result) i inside same swept ons nexts (to_sets (c.meets_marked.ensures.0 x.if-meets_marked.true))))
-      | else-meets_marked x ↦
-          let L : List ℕ → Type 0 = λ l. SweptTo w sets drawn plain marked old l on (suc i) in
-          subst F (sym x.from-is) (subst L (sym x.left-is) (step_out w sets drawn plain marked old left from on i inside same swept ons (λ s. false≢true (sym x.if-meets_marked.false ∙ c.meets_marked.ensures.1 (to_words s)))))
-    ])
+    let Cell : MaskMoves g.row.W.Denot → Type 0 = λ cell. AreMovesOf w sets cell.mask (moves_of bits cell.moves) in
+    record {
+      swept = subst I next (elim c.if-meets_marked.branch [
+        | then-meets_marked x ↦
+            let L : List ℕ → Type 0 = λ l. SweptTo w sets drawn plain marked old l (reached_of bits x.reach-from.result) (suc i) in
+            let Moved : ℕ → Type 0 = λ mask. AreMovesOf w sets mask (moves_of bits x.moves_after-cell.result.moves) in
+            let moves = subst Moved x.moves_after-cell.ensures.mask x.moves_after-cell.ensures.moves in
+            let nexts : Reaches w sets drawn left i (get_or left i 0) (reached_of bits x.reach-from.result) = λ pattern are. x.reach-from.ensures pattern (get_or left i 0) (reaches pattern left i) (reaches_marked pattern left drawn i) are (moves pattern are) (swept.from_is pattern are) in
+            subst F (sym x.from-is) (subst L (sym x.left-is) (step_kept w sets drawn plain marked old left from on (reached_of bits x.reach-from.result) i inside same swept ons nexts (to_sets (c.meets_marked.ensures.0 x.if-meets_marked.true))))
+        | else-meets_marked x ↦
+            let L : List ℕ → Type 0 = λ l. SweptTo w sets drawn plain marked old l on (suc i) in
+            subst F (sym x.from-is) (subst L (sym x.left-is) (step_out w sets drawn plain marked old left from on i inside same swept ons (λ s. false≢true (sym x.if-meets_marked.false ∙ c.meets_marked.ensures.1 (to_words s)))))
+      ]);
+      cell_is = elim c.if-meets_marked.branch [
+        | then-meets_marked x ↦ subst Cell (sym x.cell-is) x.moves_after-cell.ensures.moves
+        | else-meets_marked x ↦ subst Cell (sym x.cell-is) c.loop-i.invariant.cell_is
+      ];
+    }
 
 pub returns : goal.returns
 returns g c = λ pattern are tables none.
     let P : ℕ → Type 0 = λ n. SweepsOut pattern c.args.drawn.now c.args.left.now c.loop-i.left n in
-    subst P (let e : c.loop-i.i ≡ length c.args.left.now = omega arith in e) (c.loop-i.invariant.so_far pattern are tables none)
+    subst P (let e : c.loop-i.i ≡ length c.args.left.now = omega arith in e) (c.loop-i.invariant.swept.so_far pattern are tables none)
