@@ -31,8 +31,13 @@ function scripts() {
   return { page: lines.slice(0, at), worker: lines.slice(at + 1) };
 }
 
-// A source without the lines that are comments alone, and without blanks before lines: no text in it goes over several lines.
-const bare = (source) => source.replace(/^[ \t]*\/\*[^]*?\*\/[ \t]*\n/gm, '').replace(/^[ \t]*\/\/.*\n/gm, '').replace(/^[ \t]+/gm, '');
+// A source without the lines that are comments alone, blank lines and indents. A text over several lines would lose its own.
+function bare(source) {
+  const lines = source.replace(/^[ \t]*\/\*[^]*?\*\/[ \t]*\n/gm, '').replace(/^[ \t]*\/\/.*\n/gm, '').replace(/^\s+/gm, '');
+  const open = lines.split('\n').find((line) => line.split('`').length % 2 === 0);
+  if (open !== undefined) throw new Error(`a text goes on over the end of a line: ${open}`);
+  return lines;
+}
 
 const sources = (names) => names.map((name) => bare(read('page', name))).join('\n');
 

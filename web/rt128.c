@@ -8,13 +8,12 @@ void __multi3(struct w *o, u64 al, u64 ah, u64 bl, u64 bh) {
     o->lo = (p00 & 0xffffffff) | (mid << 32);
     o->hi = p11 + (p01 >> 32) + (p10 >> 32) + (mid >> 32) + al * bh + ah * bl;
 }
+// Without a branch, so that binaryen puts them in their callers: a shift takes its distance modulo 64, and that by 64 is two.
 void __lshrti3(struct w *o, u64 lo, u64 hi, int n) {
-    if (n & 64) o->lo = hi >> (n & 63), o->hi = 0;
-    else if (n) o->lo = lo >> n | hi << (64 - n), o->hi = hi >> n;
-    else o->lo = lo, o->hi = hi;
+    u64 low = lo >> (n & 63) | hi << 1 << (~n & 63), high = hi >> (n & 63);
+    o->lo = n & 64 ? high : low, o->hi = n & 64 ? 0 : high;
 }
 void __ashlti3(struct w *o, u64 lo, u64 hi, int n) {
-    if (n & 64) o->hi = lo << (n & 63), o->lo = 0;
-    else if (n) o->hi = hi << n | lo >> (64 - n), o->lo = lo << n;
-    else o->lo = lo, o->hi = hi;
+    u64 high = hi << (n & 63) | lo >> 1 >> (~n & 63), low = lo << (n & 63);
+    o->lo = n & 64 ? 0 : low, o->hi = n & 64 ? low : high;
 }

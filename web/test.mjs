@@ -132,12 +132,15 @@ test('handles that were never given are refused, by the plain calls', async () =
   assert.equal(calls.nonobench_take(cell, lines, 16n), 0n);
   const word = new Uint8Array(calls.memory.buffer, Number(lines), 16);
   word.set(new TextEncoder().encode('P3 1 1 255 0 0 0'));
-  for (const [non, history] of [[0, 0], [0, 1001], [0, -1]]) {
-    assert.equal(calls.nonobench_open(cell, lines, 16n, non, lines, 0n, history, cell + 8n), 6);
-  }
-  assert.equal(calls.nonobench_open(cell, lines, 16n, 0, lines, 16n, 1, cell + 8n), 6);
-  assert.equal(calls.nonobench_open(cell, lines, 16n, 0, lines, 0n, 1, cell + 8n), 0);
-  assert.equal(new DataView(calls.memory.buffer).getUint32(Number(cell) + 8, true), 1);
+  const handle = () => new DataView(calls.memory.buffer, Number(cell) + 8, 4);
+  const opens = (size, word, history) => {
+    handle().setUint32(0, 9, true);
+    return [calls.nonobench_open(cell, lines, size, 0, lines, word, history, cell + 8n), handle().getUint32(0, true)];
+  };
+  for (const history of [0, 1001, -1]) assert.deepEqual(opens(16n, 0n, history), [6, 0]);
+  assert.deepEqual(opens(16n, 16n, 1), [6, 0]);
+  assert.deepEqual(opens(15n, 0n, 1), [1, 0]);
+  assert.deepEqual(opens(16n, 0n, 1), [0, 1]);
 });
 
 test('lengths past the memory are refused, and the module goes on', async () => {

@@ -78,11 +78,11 @@ abbrev pub IsOpened : List ℕ → Options → Desk → Desk → ℕ → Type 0
 IsOpened file options old new handle =
     (handle ≡ old.given + 1) × ((new.given ≡ handle) × ((bench : Seen) × (IsStarted file options bench × (new.seats.items ≡ old.seats.items ++ seat handle bench ∷ []))))
 
--- what comes of a file that a bench is to be opened on
+-- What comes of a file that a bench is to be opened on. The handle is 0, which is never given, where it is refused.
 abbrev pub Opens : List ℕ → Options → Desk → Desk → ℕ → ℕ → Type 0
 Opens file options old new status handle =
     ((status ≡ 0) × ((new.text.items ≡ []) × IsOpened file options old new handle))
-    ⊎ (IsKept old new × IsRefused (λ fault. OpensFile file options (Err fault)) new.text.items status)
+    ⊎ ((handle ≡ 0) × (IsKept old new × IsRefused (λ fault. OpensFile file options (Err fault)) new.text.items status))
 
 -- the bench at a place is gone, or no bench has the handle
 abbrev pub ClosesAt : Option ℕ → Desk → Desk → ℕ → Type 0

@@ -47,7 +47,7 @@ pub extern "C" fn nonobench_end(held: Held) {
     drop(held.into_box());
 }
 
-/// Opens a bench on a file, and puts its handle out. A fault is the text.
+/// Opens a bench on a file, and puts its handle out, or 0 where it is refused. A fault is the text.
 #[unsafe(no_mangle)]
 pub extern "C" fn nonobench_open(
     held: &mut Held,
@@ -61,9 +61,11 @@ pub extern "C" fn nonobench_open(
         Opens file.now options held.old.desk held.new.desk result handle.new) }
     ensures refused { options_asked non background.now history ≡ None
         → IsUnasked held.old.desk held.new.desk result }
+    ensures none { options_asked non background.now history ≡ None → handle.new ≡ 0 }
 {
     let Some(options) = options_of(non, background, history) else {
         replace_with(held, (), forget_in);
+        *handle = 0;
         return OPTIONS;
     };
     let (status, given) = replace_with(held, Asked { file, options }, open_in);
