@@ -11,7 +11,6 @@ use crate::pool::Place;
 use crate::puzzle::{Choice, Node, Plan};
 use crate::regions::{Region, smallest_unfilled};
 use crate::telling::most_telling;
-use line_settle::laws::counts_add;
 use line_settle::{Facts, LineEngine, Meter};
 use picture::MAX_SIDE;
 use std::alloc::{AllocError, Global};
@@ -76,9 +75,7 @@ fn choose_any<E: LineEngine>(
         × Counts evaluations 0 meter.old meter.new (E.calls engine.old) (E.calls engine.new) }
     ensures same_longest { E.longest engine.new ≡ E.longest engine.old }
 {
-    let _ = engine.calls();
-    let _evaluations = meter.evaluations;
-    let _trials = meter.trials;
+    let (_calls, _evaluations, _trials) = (engine.calls(), meter.evaluations, meter.trials);
     let open = OpenCells::of(node.facts);
     let Some(region) = smallest_unfilled(node, &open) else {
         return Ok(Chosen::Nothing);
@@ -119,10 +116,7 @@ fn look_ahead<E: LineEngine>(
         × Counts evaluations 0 meter.old meter.new (E.calls engine.old) (E.calls engine.new) }
     ensures same_longest { E.longest engine.new ≡ E.longest engine.old }
 {
-    counts_add();
-    let _ = engine.calls();
-    let _evaluations = meter.evaluations;
-    let _trials = meter.trials;
+    let (_calls, _evaluations, _trials) = (engine.calls(), meter.evaluations, meter.trials);
     let enough = if node.own { 0 } else { 1 };
     let mut best = Best {
         worth: 0,

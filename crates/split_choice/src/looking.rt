@@ -7,7 +7,6 @@ use crate::cell::Cell;
 use crate::filling::{fills_all, is_filled};
 use crate::puzzle::{Node, Puzzle};
 use crate::settling::settle;
-use line_settle::laws::counts_add;
 use line_settle::{Facts, LineEngine, Meter};
 use picture::{Axis, LineId, LineSet, MAX_COLOURS, MAX_SIDE};
 use std::alloc::AllocError;
@@ -87,10 +86,7 @@ pub(crate) fn look_at<E: LineEngine>(
         × Counts evaluations 0 meter.old meter.new (E.calls engine.old) (E.calls engine.new) }
     ensures same_longest { E.longest engine.new ≡ E.longest engine.old }
 {
-    counts_add();
-    let _ = engine.calls();
-    let _evaluations = meter.evaluations;
-    let _trials = meter.trials;
+    let (_calls, _evaluations, _trials) = (engine.calls(), meter.evaluations, meter.trials);
     let mut tally = Tally {
         alive: 0,
         dead: 0,
@@ -137,9 +133,7 @@ fn try_colour<E: LineEngine>(
         × Counts evaluations 0 meter.old meter.new (E.calls engine.old) (E.calls engine.new) }
     ensures same_longest { E.longest engine.new ≡ E.longest engine.old }
 {
-    let _ = engine.calls();
-    let _evaluations = meter.evaluations;
-    let _trials = meter.trials;
+    let (_calls, _evaluations, _trials) = (engine.calls(), meter.evaluations, meter.trials);
     if !is_tried(node, cell, colour) {
         return Ok(Trial::Skipped);
     }

@@ -5,7 +5,6 @@ ghost use Rattle.line_settle.specs.Counting.{Counts};
 
 use crate::cell::Cell;
 use clues::ClueBook;
-use line_settle::laws::counts_add;
 use line_settle::{Facts, Forced, LineEngine, Meter, Outcome, force_crossing};
 use picture::{Axis, LineId, LineSet, MAX_SIDE};
 use propagate::{Agenda, InOrder};
@@ -32,10 +31,7 @@ pub(crate) fn settle<E: LineEngine>(
         × Counts evaluations 0 meter.old meter.new (E.calls engine.old) (E.calls engine.new) }
     ensures same_longest { E.longest engine.new ≡ E.longest engine.old }
 {
-    counts_add();
-    let _ = engine.calls();
-    let _evaluations = meter.evaluations;
-    let _trials = meter.trials;
+    let (_calls, _evaluations, _trials) = (engine.calls(), meter.evaluations, meter.trials);
     let mut agenda = InOrder::make();
     let mut settled = Settled {
         touched: lines_at(cell),
@@ -87,9 +83,7 @@ fn evaluate<E: LineEngine>(
         × Counts evaluations 0 meter.old meter.new (E.calls engine.old) (E.calls engine.new) }
     ensures same_longest { E.longest engine.new ≡ E.longest engine.old }
 {
-    let _ = engine.calls();
-    let _evaluations = meter.evaluations;
-    let _trials = meter.trials;
+    let (_calls, _evaluations, _trials) = (engine.calls(), meter.evaluations, meter.trials);
     let (count, clue_count) = match line.axis {
         Axis::Across => (facts.height(), clues.height()),
         Axis::Down => (facts.width(), clues.width()),
