@@ -83,7 +83,7 @@ rmSync(site, { recursive: true, force: true });
 mkdirSync(site, { recursive: true });
 for (const name of ['nonobench.wasm', 'nonobench.mjs', 'nonobench.d.ts']) copyFileSync(join(folder, name), join(site, name));
 if (existsSync(join(root, 'page', 'scripts.txt'))) {
-  const [, version] = /VERSION: &str = "([^"]+)"/.exec(read('crates', 'answers', 'src', 'version.rt'));
+  const [, version] = /VERSION: &str = "([^"]+)"/.exec(read('crates', 'program_options', 'src', 'version.rt'));
   writeFileSync(join(folder, 'nonobench.html'), pageText(version));
   copyFileSync(join(folder, 'nonobench.html'), join(site, 'index.html'));
 } else {

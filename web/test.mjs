@@ -213,7 +213,7 @@ test('products and shifts of 128 bits are those of whole numbers', async () => {
 
 test('the version is that of the crates, whole or as far as there is room', async () => {
   const { engine, calls } = await watched();
-  const [, version] = /VERSION: &str = "([^"]+)"/.exec(text('crates', 'answers', 'src', 'version.rt'));
+  const [, version] = /VERSION: &str = "([^"]+)"/.exec(text('crates', 'program_options', 'src', 'version.rt'));
   assert.equal(engine.version, version);
   const out = calls.malloc(16n), bytes = new Uint8Array(calls.memory.buffer, Number(out), 16).fill(0x2d);
   assert.equal(calls.nonobench_version(out, 3n), BigInt(version.length));
