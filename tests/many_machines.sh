@@ -192,6 +192,7 @@ accepted=$(grep -c ' 0 certificate accepted' "$work/wanted")
 make_packs
 make_network
 from=$(date +%s.%N)
+: >"$work/got"
 hand_out >"$work/got" &
 running=$!
 # In the middle the last host goes away without a word.
