@@ -58,7 +58,7 @@ uint32_t nonobench_start(nonobench_desk **desk);
 void nonobench_end(nonobench_desk *desk);
 
 /* Opens a bench on a P3 picture, or a .non text where `non` is true. `background` is a word as 255,0,0, and empty for white;
- * `history` is 1 to 1000. Puts the bench's handle, and 0 where the file or the options are refused. */
+ * `history` is 1 to 1000. Puts the bench's handle, and 0 where none is opened. */
 uint32_t nonobench_open(nonobench_desk **desk, const uint8_t *file, size_t size, bool non, const uint8_t *background,
                         size_t background_size, uint32_t history, uint32_t *handle);
 

@@ -40,7 +40,8 @@ const DEPTH: u16 = 100;
 /// Reads the words behind the program's own name. Without a word the clues are asked for.
 ///
 /// File, certificate, format, background and history are those of the words, as the parser reads
-/// them. Words that it refuses are a fault that carries its text.
+/// them. Help and version are a task. The faults are `Words`, which carries the parser's text, `Background`, `BackgroundOfNon`
+/// and `Memory`.
 pub fn read_words<'a>(alloc: Global, words: &'a [&str]) -> Result<Task<'a>, ProgramFault>
     ensures none { words.entry.now ≡ [] → result ≡ Ok Clues }
     ensures lawful { IfOk result IsLawfulTask }

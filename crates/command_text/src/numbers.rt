@@ -45,7 +45,8 @@ pub(crate) fn place_in(word: &[u8]) -> Option<u8>
     }
 }
 
-/// A sample of a colour: one to five digits, with a value up to 65535. Leading zeros are lawful.
+/// A sample of a colour: one to five digits, with a value up to 65535. Leading zeros are lawful. None for any
+/// other word.
 pub fn sample_in(word: &[u8]) -> Option<u16>
     ensures { result ≡ sample_of word.now }
 {

@@ -13,7 +13,7 @@ use std::alloc::Global;
 use std::io::{Read, Write};
 
 /// Does what the words ask for. `file` and `cert` are what the files that they name hold, and nothing is looked at where
-/// they name none.
+/// they name none. The fault is that of the file, the certificate or the input, of reading or writing, or `Memory`.
 pub fn carry_out<R: Read, W: Write>(
     alloc: Global,
     task: &Task<'_>,

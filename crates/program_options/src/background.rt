@@ -6,7 +6,8 @@ ghost use Rattle.program_options.specs.Background.{background_of, is_comma, samp
 use command_text::sample_in;
 use picture::Rgb;
 
-/// The colour that three samples with commas between them name, as `255,0,0`. Each is 0 to 65,535.
+/// The colour that three samples with commas between them name, as `255,0,0`. Each is 0 to 65,535. None for any
+/// other word.
 pub fn background_in(text: &[u8]) -> Option<Rgb>
     ensures { result ≡ background_of text.now }
 {

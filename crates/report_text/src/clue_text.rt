@@ -122,7 +122,8 @@ fn push_block(text: &mut Vec<u8>, block: Block) -> Result<(), AllocError>
 }
 
 #[tactic(auto, using(std::proofs::lemmas::Fmt::decimal_digit))]
-/// Puts a number without leading zeros behind a text. Most have one digit, and the others are kept out of their way.
+/// Puts a number behind a text, in decimal without leading zeros. Where memory is refused, a part may stand behind the text.
+// Most have one digit, and the others are kept out of their way.
 pub fn push_number(text: &mut Vec<u8>, number: usize) -> Result<(), AllocError>
     ensures items { OnOk result (text.new.items ≡ text.old.items ++ decimal number) }
     ensures room { TakesRoom text.old text.new (length (decimal number)) result }

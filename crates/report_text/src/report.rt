@@ -18,7 +18,8 @@ use std::alloc::AllocError;
 pub const ENDING_ROOM: usize = 68;
 
 #[tactic(auto, using(std::proofs::lemmas::List::append_assoc))]
-/// Puts a report up to its ending behind a text: the document, and what follows from it.
+/// Puts a report without its ending behind a text: size, palette, picture, givens, clues, map, and how many cells are open.
+/// Where memory is refused, a part may stand behind the text.
 pub fn push_front(
     text: &mut Vec<u8>,
     document: &Document,
@@ -186,7 +187,7 @@ fn open_in_row(map: &Facts, row: u8) -> usize
 
 #[tactic(auto, using(std::proofs::lemmas::List::append_assoc))]
 /// Puts the ending of a report behind a text: the verdict's word, and how many edits can be undone and made again. Where the
-/// room is there it takes no memory.
+/// room is there it takes no memory; where memory is refused, a part may stand behind the text.
 pub fn push_ending(
     text: &mut Vec<u8>,
     verdict: &[u8],

@@ -40,7 +40,7 @@ pub(crate) fn has_colour(mask: u16, colour: u8) -> bool
 }
 
 /// Puts the rows of a picture behind a text, a letter for each cell and a line feed behind each row. Where the room is there
-/// it takes no memory.
+/// it takes no memory; where memory is refused, a part may stand behind the text.
 pub fn push_picture(text: &mut Vec<u8>, picture: &Picture) -> Result<(), AllocError>
     ensures items { OnOk result (text.new.items ≡ text.old.items ++ picture_text picture.now) }
     ensures room { TakesRoom text.old text.new (picture_room picture.now) result }
@@ -65,7 +65,8 @@ fn push_row(text: &mut Vec<u8>, picture: &Picture, row: u8) -> Result<(), AllocE
     Ok(())
 }
 
-/// Puts the rows of a map behind a text: the letter of the one colour that is left in a cell, or `?`.
+/// Puts the rows of a map behind a text: the letter of the one colour that is left in a cell, or `?`. Where memory is refused, a
+/// part may stand behind the text.
 pub fn push_map(text: &mut Vec<u8>, facts: &Facts) -> Result<(), AllocError>
     ensures { OnOk result (text.new.items ≡ text.old.items ++ map_text facts.now) }
 {

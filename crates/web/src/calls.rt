@@ -47,7 +47,7 @@ pub extern "C" fn nonobench_end(held: Held) {
     drop(held.into_box());
 }
 
-/// Opens a bench on a file, and puts its handle out, or 0 where it is refused. A fault is the text.
+/// Opens a bench on a file, and puts its handle out, or 0 where none is opened. A fault is the text.
 #[unsafe(no_mangle)]
 pub extern "C" fn nonobench_open(
     held: &mut Held,
