@@ -1,11 +1,11 @@
 #!/usr/bin/env python3
 """Tells where the processor time of a run of the gate goes, by looking at its processes every second.
 
-Usage: .ci/minutes.py PID FILE: looks at the processes below PID until it is terminated, and then writes to FILE, one a
-line, the processor minutes of each kind that it saw: proofs (of crates), edits (their tries), seeds (what a crate's edits
-begin with, one more proof of it), tests (proofs of test functions) and builds (of programs). What a process does after the
-last look is not seen, so the sum is a little less than what the shell's `times` tells; the rest are the runs of tests,
-programs and scripts.
+Usage: .ci/minutes.py PID FILE CRATES: looks at the processes below PID until it is terminated, and then writes the processor
+minutes that it saw. To FILE, one a line, those of each kind: proofs (of crates), edits (their tries, with one more proof of
+the crate to begin with), tests (proofs of test functions) and builds (of programs). To CRATES, a line for each crate, the
+dearest first, its minutes by kind. What a process does after the last look is not seen, so the sum is a little less than
+what the shell's `times` tells; the rest are the runs of tests, programs and scripts.
 """
 
 import os
@@ -14,7 +14,7 @@ import signal
 import sys
 import time
 
-KINDS = ('proofs', 'seeds', 'edits', 'tests', 'builds')
+KINDS = ('proofs', 'edits', 'tests', 'builds')
 TICKS = os.sysconf('SC_CLK_TCK')
 
 
@@ -44,10 +44,12 @@ def kind_of(number, words):
         folder = os.readlink(f'/proc/{number}/cwd')
     except OSError:
         return None
-    if 'rt-edit' not in folder:
-        return 'proofs'
-    over = words[words.index('--incremental') + 1] if '--incremental' in words else ''
-    return 'seeds' if over.endswith('/seed') else 'edits'
+    return 'edits' if 'rt-edit' in folder else 'proofs'
+
+
+def crate_of(words):
+    """The crate that a process of the prover or of a compiler is at work on."""
+    return words[words.index('--crate-name') + 1] if '--crate-name' in words[:-1] else 'others'
 
 
 def below(top, parents):
@@ -61,8 +63,13 @@ def below(top, parents):
     return found
 
 
+def shares(minutes):
+    """The kinds that took some time, with their minutes."""
+    return [f'{kind} {minutes[kind]:.1f}' for kind in KINDS if minutes.get(kind)]
+
+
 def main():
-    top, file = int(sys.argv[1]), sys.argv[2]
+    top, file, crates = int(sys.argv[1]), pathlib.Path(sys.argv[2]), pathlib.Path(sys.argv[3])
     seen = {}
     ended = []
     signal.signal(signal.SIGTERM, lambda *_: ended.append(True))
@@ -72,12 +79,15 @@ def main():
         for number, _, start, seconds, words in running:
             kind = kind_of(number, words) if number in ours and words[0] else None
             if kind:
-                seen[number, start] = kind, seconds
+                seen[number, start] = kind, crate_of(words), seconds
         time.sleep(1)
-    minutes = dict.fromkeys(KINDS, 0)
-    for kind, seconds in seen.values():
-        minutes[kind] += seconds / 60
-    pathlib.Path(file).write_text(''.join(f'{kind} {minutes[kind]:.1f}\n' for kind in KINDS))
+    minutes = {}
+    for kind, crate, seconds in seen.values():
+        for row in ('', crate):
+            minutes.setdefault(row, dict.fromkeys(KINDS, 0))[kind] += seconds / 60
+    file.write_text(''.join(f'{told}\n' for told in shares(minutes.pop('', {}))))
+    dearest = sorted(minutes, key=lambda crate: -sum(minutes[crate].values()))
+    crates.write_text(''.join(f'{crate}: {", ".join(shares(minutes[crate]))}\n' for crate in dearest))
 
 
 if __name__ == '__main__':

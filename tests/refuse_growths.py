@@ -8,6 +8,7 @@ import time
 from pathlib import Path
 
 EXAMPLES = Path(__file__).resolve().parent.parent / 'examples'
+TESTS = Path(__file__).resolve().parent / 'sessions'
 MARK = b'refused\n'  # what the library says on standard error
 MEMORY = b'nonobench: memory\n'
 WANTED = b'refused: Memory\n'
@@ -38,6 +39,25 @@ write ppm
 write non
 colour set c 0 0 254
 report
+'''.splitlines()
+
+# Two parts, of which a stroke leaves one. What is kept of a part is seen where no split is allowed.
+PARTS = b'''allow 1
+verdict
+verdict
+allow 0
+verdict
+paint 4 3 b
+verdict
+undo
+verdict
+'''.splitlines()
+
+# A report that asks for the first verdict, and what it has kept.
+REPORTED = b'''allow 1
+report
+allow 0
+verdict
 '''.splitlines()
 
 
@@ -224,6 +244,8 @@ def sessions(folder):
     for path in sorted(EXAMPLES.glob('*.session')):
         yield f'session {path.stem}', opened(path.stem), path.read_bytes().splitlines()
     yield 'session of a day', ['work', str(EXAMPLES / 'diagonal.ppm'), '--history', '20'], DAY
+    for name, lines in (('parts', PARTS), ('a report', REPORTED)):
+        yield f'session of {name}', ['work', str(TESTS / 'parts.ppm')], lines
     puzzle = folder / 'puzzle'
     text = (EXAMPLES / 'key.non').read_bytes().splitlines(keepends=True)
     puzzle.write_bytes(b''.join(line for line in text if not line.startswith(b'goal')))

@@ -11,7 +11,6 @@ mod of_books;
 mod of_certificates;
 mod of_edits;
 mod of_searches;
-mod of_sessions;
 mod of_steps;
 mod shown;
 
