@@ -19,8 +19,8 @@ use Rattle.line_settle.specs.FactSets.{IsWithin, Leaves, SameShape}
 use Rattle.line_settle.specs.Laws.{ForcingClosesALine, OneLineDecides}
 use Rattle.line_settle.specs.GridLaws.{at_with_cell, off_with_cell, shape_refl, shape_trans, shape_with_cell}
 use Rattle.line_settle.specs.Narrowing.{Narrows}
-use Rattle.propagate.specs.Closing.{AreClosable}
-use Rattle.propagate.specs.Filling.{Fills}
+use Rattle.fixpoint.specs.Closing.{AreClosable}
+use Rattle.fixpoint.specs.Filling.{Fills}
 use Rattle.cert_text.specs.declared.tree_line.CellNumber.{CellNumber}
 use Rattle.cert_text.specs.declared.tree_line.LineNumber.{LineNumber}
 use Rattle.cert_text.specs.declared.tree_line.CertLine.{CertLine}

@@ -6,7 +6,7 @@ use Rattle.picture.specs.Picture.{IsPicture}
 use Rattle.clues.specs.ClueBook.{clues_of}
 use Rattle.clues.specs.Solution.{IsOther}
 use Rattle.line_settle.specs.FactSets.{IsBase}
-use Rattle.propagate.specs.Filling.{Fills}
+use Rattle.fixpoint.specs.Filling.{Fills}
 use Rattle.cert_text.specs.declared.tree_line.CellNumber.{CellNumber}
 use Rattle.cert_text.specs.declared.tree_line.CertLine.{CertLine}
 use Rattle.cert_text.specs.declared.tree_line.CertLine.TheVariants.{Line, Split, Dead, Done}

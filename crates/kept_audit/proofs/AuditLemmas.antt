@@ -18,13 +18,13 @@ use Rattle.line_settle.specs.Outside.{EachOutside}
 use Rattle.justify.specs.Book.{Account, account, AreTrimmed, IsAccount, IsDerivation}
 use Rattle.retract.specs.Dirty.{AreDirty}
 use Rattle.retract.specs.Standing.{AreStanding, HaveBooks}
-use Rattle.propagate.specs.Closing.{AreClosable, HasDeadLine, QuietOutside}
-use Rattle.propagate.specs.declared.fault.CloseFault.{CloseFault}
-use Rattle.propagate.specs.declared.fault.CloseFault.TheVariants.{Dead, Memory}
+use Rattle.fixpoint.specs.Closing.{AreClosable, HasDeadLine, QuietOutside}
+use Rattle.fixpoint.specs.declared.fault.CloseFault.{CloseFault}
+use Rattle.fixpoint.specs.declared.fault.CloseFault.TheVariants.{Dead, Memory}
 use Rattle.propagate.specs.ClosingBooks.{BookWorks, ClosesBook, IsClosedBook}
-use Rattle.propagate.specs.Filling.{Fills}
-use Rattle.propagate.specs.Laws.{ClosingKeepsFillings}
-use Rattle.propagate.specs.LineNames.{AllLines}
+use Rattle.fixpoint.specs.Filling.{Fills}
+use Rattle.fixpoint.specs.Laws.{ClosingKeepsFillings}
+use Rattle.fixpoint.specs.LineNames.{AllLines}
 use Rattle.propagate.specs.Turns.{steps_added}
 use Rattle.kept_audit.specs.Audit.{GoesOn, IsAnew, IsAudit, IsBaseOf}
 use Rattle.kept_audit.specs.Laws.{BasesLeavePictures}

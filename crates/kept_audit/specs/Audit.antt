@@ -10,10 +10,10 @@ use Rattle.justify.specs.declared.step.Step.{Step}
 use Rattle.justify.specs.Book.{Account, AreTrimmed, IsAccount, IsDerivation}
 use Rattle.retract.specs.Dirty.{AreDirty}
 use Rattle.retract.specs.Standing.{AreStanding}
-use Rattle.propagate.specs.Closing.{EachFits}
+use Rattle.fixpoint.specs.Closing.{EachFits}
 use Rattle.propagate.specs.ClosingBooks.{SufficeToClose}
-use Rattle.propagate.specs.Filling.{LeavesPicture}
-use Rattle.propagate.specs.LineNames.{AllLines}
+use Rattle.fixpoint.specs.Filling.{LeavesPicture}
+use Rattle.fixpoint.specs.LineNames.{AllLines}
 
 -- the facts of a picture's givens, say: of its shape, and leaving each of its colours
 pub record IsBaseOf (picture base : List (List ℕ)) : Type 0 where

@@ -6,16 +6,16 @@ ghost use Rattle.clues.specs.Change.{IsChangeOf};
 ghost use Rattle.clues.specs.ClueBook.{clues_of};
 ghost use Rattle.line_settle.specs.Counting.{Counts};
 ghost use Rattle.line_settle.specs.FactSets.{IsLeast};
-ghost use Rattle.propagate.specs.declared.fault.CloseFault.TheVariants as fault;
+ghost use Rattle.fixpoint.specs.declared.fault.CloseFault.TheVariants as fault;
 ghost use Rattle.kept_audit.specs.Audit.{GoesOn, IsAnew, IsAudit, IsBaseOf};
 
 use clues::laws::{clues_are_of_lines, untouched_clues_stand};
 use clues::{Change, ClueBook};
+use fixpoint::laws::closing_keeps_fillings;
 use justify::Book;
 use line_settle::laws::least_is_unique;
 use line_settle::{Facts, LineEngine, Meter};
 use picture::Picture;
-use propagate::laws::closing_keeps_fillings;
 use propagate::{Agenda, CloseFault, all_lines, close};
 use retract::{Kept, keep};
 use std::alloc::Global;

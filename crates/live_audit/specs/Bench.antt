@@ -7,7 +7,7 @@ use Rattle.clues.specs.ClueBook.{Clues, clues_of}
 use Rattle.line_settle.specs.declared.meter.Meter.{Meter}
 use Rattle.line_settle.specs.FactSets.{IsLeast, Leaves, SameShape}
 use Rattle.justify.specs.Book.{Account, AreTrimmed, IsAccount, IsDerivation}
-use Rattle.propagate.specs.Closing.{EachFits}
+use Rattle.fixpoint.specs.Closing.{EachFits}
 use Rattle.kept_audit.specs.Audit.{IsAnew, IsBaseOf}
 use Rattle.second_search.specs.declared.keeper.KeptPart.{KeptPart}
 use Rattle.second_search.specs.Judging.{AreTrue, Starts, parts_of}

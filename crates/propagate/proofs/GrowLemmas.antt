@@ -18,17 +18,17 @@ use Rattle.justify.specs.declared.step.Step.{Step}
 use Rattle.justify.specs.Steps.{step_at, IsTrimmed}
 use Rattle.justify.specs.Book.{Account, AreTrimmed, IsAccount, IsDerivation}
 use Rattle.justify.specs.Laws.{DerivationsStayInside}
-use Rattle.propagate.specs.Closing.{HasDeadLine, PutsCrossing}
-use Rattle.propagate.specs.declared.fault.CloseFault.{CloseFault}
-use Rattle.propagate.specs.declared.fault.CloseFault.TheVariants.{Dead, Memory}
+use Rattle.fixpoint.specs.Closing.{HasDeadLine, PutsCrossing}
+use Rattle.fixpoint.specs.declared.fault.CloseFault.{CloseFault}
+use Rattle.fixpoint.specs.declared.fault.CloseFault.TheVariants.{Dead, Memory}
 use Rattle.propagate.specs.ClosingBooks.{ClosesBook, IsClosedBook}
 use Rattle.propagate.specs.Turns.{cells_drawn, steps_added, Grows, Turn}
 use Rattle.picture.specs.LineSetLaws.{put_all_counts}
 use Rattle.line_settle.specs.GridLaws.{same_has_line, shape_sym, shape_trans}
 use Rattle.line_settle.specs.FitLaws.{counting_adds, tighter_fits, within_tighter}
-use Rattle.propagate.proofs.ClosingLemmas.{Closing, closing_ends, closing_goes_on, within_trans}
-use Rattle.propagate.proofs.NameLemmas.{take_counts}
-use Rattle.propagate.proofs.WorkLemmas.{crossing_put, left_to_do, less_to_do, nothing_counted}
+use Rattle.fixpoint.specs.ClosingLaws.{Closing, closing_ends, closing_goes_on, within_trans}
+use Rattle.worklist.specs.NameLaws.{take_counts}
+use Rattle.fixpoint.specs.WorkLaws.{crossing_put, left_to_do, less_to_do, nothing_counted}
 
 -- ---- growing
 

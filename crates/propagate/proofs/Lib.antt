@@ -1,9 +1,3 @@
-pub mod NameLemmas
-pub mod OrderLemmas
-pub mod AlongLemmas
-pub mod ClosingLemmas
-pub mod WorkLemmas
-pub mod PictureLemmas
 pub mod ScheduleLemmas
 pub mod TurnLemmas
 pub mod GrowLemmas

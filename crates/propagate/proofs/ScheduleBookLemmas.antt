@@ -12,14 +12,14 @@ use Rattle.line_settle.specs.Laws.{LeastIsUnique}
 use Rattle.justify.specs.declared.step.Step.{Step}
 use Rattle.justify.specs.Book.{Account, IsAccount, IsDerivation}
 use Rattle.justify.specs.Laws.{DerivationsStayInside}
-use Rattle.propagate.specs.declared.fault.CloseFault.{CloseFault}
-use Rattle.propagate.specs.declared.fault.CloseFault.TheVariants.{Dead, Memory}
-use Rattle.propagate.specs.Closing.{AreClosable}
+use Rattle.fixpoint.specs.declared.fault.CloseFault.{CloseFault}
+use Rattle.fixpoint.specs.declared.fault.CloseFault.TheVariants.{Dead, Memory}
+use Rattle.fixpoint.specs.Closing.{AreClosable}
 use Rattle.propagate.specs.Schedule.{AreAfter, IsDeadInTurn, RunsSchedule}
 use Rattle.propagate.specs.Turns.{Grows, TakesTurn, TakeTurns, Turn}
 use Rattle.propagate.specs.Laws.{SchedulesFillBooks}
 use Rattle.line_settle.specs.GridLaws.{same_has_line, shape_refl, shape_trans}
-use Rattle.propagate.proofs.ClosingLemmas.{same_sizes, within_trans}
+use Rattle.fixpoint.specs.ClosingLaws.{same_sizes, within_trans}
 use Rattle.propagate.proofs.ScheduleLemmas.{schedules_lead_inside}
 use Rattle.propagate.proofs.GrowLemmas.{grows_none, grows_on}
 

@@ -8,13 +8,13 @@ use Rattle.clues.specs.ClueBook.{Clues, clue_at}
 use Rattle.line_settle.specs.declared.line_engine.Outcome.TheVariants.{Narrowed}
 use Rattle.line_settle.specs.Fitting.{CanFit}
 use Rattle.line_settle.specs.FactSets.{Gains, IsClosed, IsLeast, IsWithin, SameShape}
-use Rattle.propagate.specs.Closing.{HasDeadLine}
+use Rattle.fixpoint.specs.Closing.{HasDeadLine}
 use Rattle.propagate.specs.Laws.{SchedulesLeadInside}
 use Rattle.propagate.specs.Schedule.{AreAfter, IsDeadInTurn}
 use Rattle.line_settle.specs.GridLaws.{same_has_line, shape_sym}
 use Rattle.line_settle.specs.ForceLaws.{gains_grows, gains_inside, gains_closes}
 use Rattle.line_settle.specs.FitLaws.{tighter_fits, within_both, within_tighter}
-use Rattle.propagate.proofs.ClosingLemmas.{within_refl, within_trans}
+use Rattle.fixpoint.specs.ClosingLaws.{within_refl, within_trans}
 
 -- what a line forces is one
 one_gain : (clues : Clues) (line : LineId) (base facts others : List (List ℕ)) → Gains (clue_at clues line) line base facts Narrowed → Gains (clue_at clues line) line base others Narrowed → facts ≡ others

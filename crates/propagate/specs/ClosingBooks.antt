@@ -7,9 +7,9 @@ use Rattle.line_settle.specs.Counting.{Counts}
 use Rattle.line_settle.specs.FactSets.{IsLeast}
 use Rattle.justify.specs.declared.step.Step.{Step}
 use Rattle.justify.specs.Book.{Account}
-use Rattle.propagate.specs.declared.fault.CloseFault.{CloseFault}
-use Rattle.propagate.specs.declared.fault.CloseFault.TheVariants as fault
-use Rattle.propagate.specs.Closing.{EachFits, HasDeadLine}
+use Rattle.fixpoint.specs.declared.fault.CloseFault.{CloseFault}
+use Rattle.fixpoint.specs.declared.fault.CloseFault.TheVariants as fault
+use Rattle.fixpoint.specs.Closing.{EachFits, HasDeadLine}
 use Rattle.propagate.specs.Turns.{cells_drawn, steps_added, Grows}
 
 -- The old book grown by trimmed steps to a derivation whose facts are the least closed ones over its base, and some list fits

@@ -1,11 +1,4 @@
-pub mod Agenda
-pub mod Closing
 pub mod ClosingBooks
-pub mod Filling
-pub mod FillingLaws
-pub mod LineNames
-pub mod Orders
 pub mod Schedule
-pub mod Settling
 pub mod Turns
 pub mod Laws

@@ -9,8 +9,8 @@ use Rattle.line_settle.specs.Counting.{Counts}
 use Rattle.line_settle.specs.Fitting.{CanFit}
 use Rattle.line_settle.specs.FactSets.{Gains}
 use Rattle.justify.specs.Book.{Account}
-use Rattle.propagate.specs.declared.fault.CloseFault.{CloseFault}
-use Rattle.propagate.specs.declared.fault.CloseFault.TheVariants as fault
+use Rattle.fixpoint.specs.declared.fault.CloseFault.{CloseFault}
+use Rattle.fixpoint.specs.declared.fault.CloseFault.TheVariants as fault
 use Rattle.propagate.specs.Turns.{steps_added, Grows, TakeTurns}
 
 -- the facts after a schedule: in turn, each line that it names forces all that it can, and some list fits each in its turn

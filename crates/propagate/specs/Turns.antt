@@ -15,13 +15,13 @@ use Rattle.justify.specs.Premises.{Mentions}
 use Rattle.justify.specs.Steps.{step_at, IsTrimmed}
 use Rattle.justify.specs.Book.{Account, Adds, IsDerivation}
 use Rattle.justify.specs.Making.{DrawsNothing, IsNewStep}
-use Rattle.propagate.specs.declared.fault.CloseFault.{CloseFault}
-use Rattle.propagate.specs.declared.fault.CloseFault.TheVariants as fault
+use Rattle.fixpoint.specs.declared.fault.CloseFault.{CloseFault}
+use Rattle.fixpoint.specs.declared.fault.CloseFault.TheVariants as fault
 
 -- the fault of closing that a step's fault is
-abbrev pub close_fault : StepFault → CloseFault
-close_fault step.Dead = fault.Dead
-close_fault step.Memory = fault.Memory
+abbrev pub after_step : StepFault → CloseFault
+after_step step.Dead = fault.Dead
+after_step step.Memory = fault.Memory
 
 -- A line in its turn, which some list fits: it forces nothing new and the book stays, or the step of all that it newly forces
 -- is put behind the others.

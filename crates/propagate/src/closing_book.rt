@@ -2,18 +2,18 @@
 
 ghost use Rattle.std.specs.Prelude.{◌≡◌, IfOk};
 ghost use Rattle.justify.specs.Book.{AreTrimmed, IsDerivation};
-ghost use Rattle.propagate.specs.Closing.{AreClosable, QuietOutside};
+ghost use Rattle.fixpoint.specs.Closing.{AreClosable, QuietOutside};
 ghost use Rattle.propagate.specs.ClosingBooks.{BookWorks, ClosesBook};
-ghost use Rattle.propagate.specs.LineNames.{AreLinesOf};
+ghost use Rattle.fixpoint.specs.LineNames.{AreLinesOf};
 
-use crate::agenda::Agenda;
-use crate::fault::CloseFault;
 use crate::turn::take_turn;
 use clues::ClueBook;
+use fixpoint::CloseFault;
 use justify::Book;
 use justify::laws::derivations_stay_inside;
 use line_settle::{LineEngine, Meter};
 use picture::LineSet;
+use worklist::Agenda;
 
 /// Puts steps behind those of a book until no line forces more: its facts are then the least closed ones over its base.
 /// The book is a derivation from the clues, and every line that is not in `dirty` has to be quiet under its facts: it

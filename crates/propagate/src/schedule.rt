@@ -4,12 +4,12 @@ ghost use Rattle.std.specs.Prelude.{◌≡◌, IfOk};
 ghost use Rattle.std.specs.List.{All};
 ghost use Rattle.picture.specs.Rows.{HasLine};
 ghost use Rattle.justify.specs.Book.{AreTrimmed, IsDerivation};
-ghost use Rattle.propagate.specs.Closing.{AreClosable};
+ghost use Rattle.fixpoint.specs.Closing.{AreClosable};
 ghost use Rattle.propagate.specs.Schedule.{RunsSchedule, ScheduleWorks};
 
-use crate::fault::CloseFault;
 use crate::turn::take_turn;
 use clues::ClueBook;
+use fixpoint::CloseFault;
 use justify::Book;
 use line_settle::{LineEngine, Meter};
 use picture::LineId;

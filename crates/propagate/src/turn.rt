@@ -9,14 +9,14 @@ ghost use Rattle.line_settle.specs.FactSets.{IsFacts};
 ghost use Rattle.line_settle.specs.Fitting.{CanFit};
 ghost use Rattle.justify.specs.Premises.{ArePremises, Mentions};
 ghost use Rattle.justify.specs.Book.{IsAccount, IsDerivation};
-ghost use Rattle.propagate.specs.Closing.{AreClosable};
-ghost use Rattle.propagate.specs.Turns.{CrossesDrawn, TakesTurn, Turn};
-ghost use Rattle.propagate.specs.declared.fault.CloseFault.TheVariants as fault;
+ghost use Rattle.fixpoint.specs.Closing.{AreClosable};
+ghost use Rattle.propagate.specs.Turns.{CrossesDrawn, TakesTurn, Turn, after_step};
+ghost use Rattle.fixpoint.specs.declared.fault.CloseFault.TheVariants as fault;
 
-use crate::fault::CloseFault;
 use clues::ClueBook;
+use fixpoint::CloseFault;
 use justify::laws::{derivations_grow, new_steps_derive, new_steps_follow};
-use justify::{Book, Step};
+use justify::{Book, Step, StepFault};
 use line_settle::{LineEngine, Meter};
 use picture::{Axis, LineId, LineSet, MAX_SIDE};
 
@@ -44,13 +44,27 @@ pub(crate) fn take_turn<E: LineEngine>(
     new_steps_derive();
     derivations_grow();
     let _ = book.facts().line_len(line);
-    match book.make_step(engine, clues.clue(line), line, meter)? {
+    let made = match book.make_step(engine, clues.clue(line), line, meter) {
+        Ok(made) => made,
+        Err(fault) => return Err(close_fault(fault)),
+    };
+    match made {
         None => Ok(LineSet::empty()),
         Some(step) => {
             let changed = crossing_drawn(&step);
             book.add_step(step)?;
             Ok(changed)
         }
+    }
+}
+
+// Why a book is not closed, where a step could not be made.
+fn close_fault(fault: StepFault) -> CloseFault
+    ensures { result ≡ after_step fault }
+{
+    match fault {
+        StepFault::Dead => CloseFault::Dead,
+        StepFault::Memory => CloseFault::Memory,
     }
 }
 

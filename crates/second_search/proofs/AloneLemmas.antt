@@ -19,10 +19,10 @@ use Rattle.line_settle.specs.FactSets.{IsFacts, SameShape}
 use Rattle.line_settle.specs.GridLaws.{same_has_line, shape_sym, shape_trans}
 use Rattle.picture.specs.BitLaws.{no_bit, power_has}
 use Rattle.line_settle.specs.MaskLaws.{only_is_power}
-use Rattle.propagate.specs.Closing.{AreClosable}
-use Rattle.propagate.specs.Filling.{only}
-use Rattle.propagate.specs.Laws.{OnlyIsClosed}
-use Rattle.propagate.specs.LineNames.{AreLinesOf}
+use Rattle.fixpoint.specs.Closing.{AreClosable}
+use Rattle.fixpoint.specs.Filling.{only}
+use Rattle.fixpoint.specs.Laws.{OnlyIsClosed}
+use Rattle.fixpoint.specs.LineNames.{AreLinesOf}
 use Rattle.second_search.specs.declared.counting.Ending.{Ending}
 use Rattle.second_search.specs.Parts.{IsChained, IsOpenCell, IsPart, begins, goes_on, is_in, picked, picked_cell, picked_row}
 use Rattle.second_search.specs.Searching.{EndsAs, KeepsOutside, NamesLinesOf, alone, raised}

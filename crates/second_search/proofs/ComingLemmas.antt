@@ -12,7 +12,7 @@ use Rattle.line_settle.specs.GridLaws.{same_has_line, shape_sym, shape_trans}
 use Rattle.line_settle.specs.declared.line_engine.Outcome.{Outcome}
 use Rattle.line_settle.specs.declared.line_engine.Outcome.TheVariants.{Narrowed}
 use Rattle.line_settle.specs.Branches.{branches}
-use Rattle.propagate.specs.Closing.{Closes, HasDeadLine}
+use Rattle.fixpoint.specs.Closing.{Closes, HasDeadLine}
 use Rattle.split_choice.specs.declared.cell.Cell.{Cell}
 use Rattle.second_search.specs.declared.coming.Coming.{Coming}
 use Rattle.second_search.specs.declared.coming.Coming.TheVariants.{Dies, Ends, Splits}

@@ -16,7 +16,7 @@ use Rattle.line_settle.specs.FactSets.{IsFacts, IsLeast, SameShape}
 use Rattle.line_settle.specs.GridLaws.{at_with_cell, off_with_cell, shape_with_cell}
 use Rattle.line_settle.specs.MaskLaws.{lowest_of_power, only_is_power}
 use Rattle.line_settle.specs.Masks.{IsOnly}
-use Rattle.propagate.specs.Closing.{EachFits}
+use Rattle.fixpoint.specs.Closing.{EachFits}
 use Rattle.split_choice.specs.declared.cell.Cell.{Cell}
 use Rattle.second_search.specs.declared.coming.Coming.{Coming}
 use Rattle.second_search.specs.declared.coming.Coming.TheVariants.{Dies, Ends, Splits}

@@ -8,8 +8,8 @@ use Rattle.picture.specs.Rows.{cell_at, row_at, width_of}
 use Rattle.clues.specs.ClueBook.{Clues}
 use Rattle.line_settle.specs.FactSets.{IsFacts, SameShape}
 use Rattle.line_settle.specs.GridLaws.{shape_sym, shape_trans}
-use Rattle.propagate.specs.Filling.{only}
-use Rattle.propagate.specs.Laws.{OnlyIsClosed}
+use Rattle.fixpoint.specs.Filling.{only}
+use Rattle.fixpoint.specs.Laws.{OnlyIsClosed}
 use Rattle.second_search.specs.declared.counting.Ending.{Ending}
 use Rattle.second_search.specs.declared.counting.Ending.TheVariants as ending
 use Rattle.second_search.specs.declared.keeper.Answer.{Answer}

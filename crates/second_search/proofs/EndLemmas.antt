@@ -13,9 +13,9 @@ use Rattle.line_settle.specs.FactSets.{IsFacts, SameShape, col_on, row_on}
 use Rattle.line_settle.specs.AlongLaws.{place_on}
 use Rattle.line_settle.specs.GridLaws.{cell_on, same_has_line, same_line_length, same_list, shape_sym, shape_trans, shape_with_cell}
 use Rattle.line_settle.specs.Branches.{branches, colours_of, held}
-use Rattle.propagate.specs.Closing.{EachFits}
-use Rattle.propagate.specs.Filling.{Fills, only}
-use Rattle.propagate.specs.Laws.{ClosingKeepsFillings, OnlyIsClosed}
+use Rattle.fixpoint.specs.Closing.{EachFits}
+use Rattle.fixpoint.specs.Filling.{Fills, only}
+use Rattle.fixpoint.specs.Laws.{ClosingKeepsFillings, OnlyIsClosed}
 use Rattle.second_search.specs.declared.counting.Ending.{Ending}
 use Rattle.second_search.specs.declared.counting.Ending.TheVariants.{BrokenOff, Found, Nothing}
 use Rattle.second_search.specs.Branching.{FillsSome}

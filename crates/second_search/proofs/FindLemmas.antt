@@ -12,9 +12,9 @@ use Rattle.picture.specs.Picture.{IsPicture}
 use Rattle.picture.specs.Rows.{width_of, row_at, cell_at, lines_along, with_cell}
 use Rattle.clues.specs.ClueBook.{Clues, clues_along, clues_of}
 use Rattle.line_settle.specs.FactSets.{IsFacts, IsWithin, Leaves, SameShape}
-use Rattle.propagate.specs.Closing.{AreClosable}
-use Rattle.propagate.specs.FillingLaws.{fills_fewer}
-use Rattle.propagate.specs.Filling.{Fills}
+use Rattle.fixpoint.specs.Closing.{AreClosable}
+use Rattle.fixpoint.specs.FillingLaws.{fills_fewer}
+use Rattle.fixpoint.specs.Filling.{Fills}
 use Rattle.second_search.specs.Branching.{FillsSome}
 use Rattle.second_search.specs.Looking.{FindsFilling}
 use Rattle.second_search.specs.Other.{AreSound, FindsFirst, FindsOther, HasClues}

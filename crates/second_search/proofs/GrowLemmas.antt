@@ -10,7 +10,7 @@ use Rattle.picture.specs.LineSet.{HasName, Lines}
 use Rattle.picture.specs.Rows.{width_of, lines_along, line_along, line_of, HasLine}
 use Rattle.clues.specs.Laws.{IsOnLine, IsAtPlace}
 use Rattle.line_settle.specs.FactSets.{IsFacts, col_on, row_on}
-use Rattle.propagate.specs.LineNames.{AllLines}
+use Rattle.fixpoint.specs.LineNames.{AllLines}
 use Rattle.second_search.specs.declared.parts.growth.Growth.{Growth}
 use Rattle.second_search.specs.Growing.{HasOpenCellsOf, IsGrown, Leaves, TakesIn}
 use Rattle.second_search.specs.Parts.{IsChained, IsOpenCell, ShareLine, begins, goes_on}

@@ -19,8 +19,8 @@ use Rattle.line_settle.specs.Fitting.{Fits}
 use Rattle.line_settle.specs.GridLaws.{same_has_line, same_line_length, same_list, shape_refl, shape_sym, shape_trans, cell_on, off_with_cell, shape_with_cell}
 use Rattle.picture.specs.BitLaws.{no_bit}
 use Rattle.line_settle.specs.Branches.{branches, colours_of, held}
-use Rattle.propagate.specs.Closing.{AreClosable, EachFits, IsQuietLine, QuietOutside}
-use Rattle.propagate.specs.LineNames.{AreLinesOf}
+use Rattle.fixpoint.specs.Closing.{AreClosable, EachFits, IsQuietLine, QuietOutside}
+use Rattle.fixpoint.specs.LineNames.{AreLinesOf}
 use Rattle.split_choice.specs.declared.cell.Cell.{Cell}
 use Rattle.second_search.specs.declared.counting.Step.TheVariants as step
 use Rattle.second_search.specs.Branching.{GoesOn, Search, place, places, search_of}

@@ -17,7 +17,7 @@ use Rattle.line_settle.specs.FactSets.{IsClosed, IsClosedLine, IsFacts, IsLeast,
 use Rattle.line_settle.specs.FitLaws.{tighter_can_fit, tighter_have, within_tighter}
 use Rattle.line_settle.specs.GridLaws.{at_with_cell, cell_on, off_with_cell, same_has_line, shape_refl, shape_sym, shape_trans, shape_with_cell}
 use Rattle.line_settle.specs.MaskLaws.{without_bit}
-use Rattle.propagate.specs.Closing.{EachFits, HasDeadLine}
+use Rattle.fixpoint.specs.Closing.{EachFits, HasDeadLine}
 use Rattle.second_search.proofs.FitLemmas.{AreSmall, both_or_not, fit_or_not, have_or_not}
 use Rattle.second_search.proofs.GrowLemmas.{place_inside}
 use Rattle.second_search.proofs.PickLemmas.{find_below}

@@ -9,8 +9,8 @@ use Rattle.line_settle.specs.Masks.{IsOnly}
 use Rattle.line_settle.specs.FactSets.{IsFacts, IsWithin, SameShape}
 use Rattle.line_settle.specs.declared.line_engine.Outcome.{Outcome}
 use Rattle.line_settle.specs.declared.line_engine.Outcome.TheVariants.{Narrowed}
-use Rattle.propagate.specs.Closing.{Closes, EachFits}
-use Rattle.propagate.specs.Filling.{Fills}
+use Rattle.fixpoint.specs.Closing.{Closes, EachFits}
+use Rattle.fixpoint.specs.Filling.{Fills}
 use Rattle.second_search.specs.Branching.{AreSameAbove}
 use Rattle.second_search.specs.Looking.{AreRowsSettled, Shows, ShowsRow}
 use Rattle.second_search.specs.Through.{across}

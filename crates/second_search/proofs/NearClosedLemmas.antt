@@ -2,7 +2,7 @@
 use Rattle.std.proofs.Common.{ℕ, List}
 use Rattle.clues.specs.ClueBook.{Clues}
 use Rattle.line_settle.specs.FactSets.{IsLeast}
-use Rattle.propagate.specs.Closing.{EachFits}
+use Rattle.fixpoint.specs.Closing.{EachFits}
 use Rattle.second_search.specs.Laws.{SoundFacts}
 use Rattle.second_search.specs.Parts.{IsScene}
 

@@ -6,7 +6,7 @@ use Rattle.picture.specs.LineSet.{Lines, HasName}
 use Rattle.picture.specs.Rows.{width_of}
 use Rattle.clues.specs.ClueBook.{Clues}
 use Rattle.clues.specs.Laws.{BooksAreTheirClues, CluesAreOfLines}
-use Rattle.propagate.specs.Laws.{ClosingKeepsFillings, OnlyIsClosed}
+use Rattle.fixpoint.specs.Laws.{ClosingKeepsFillings, OnlyIsClosed}
 use Rattle.second_search.specs.declared.counting.Ending.{Ending}
 use Rattle.second_search.specs.declared.counting.Ending.TheVariants.{Found}
 use Rattle.second_search.specs.declared.near.Window.{Window}

@@ -18,8 +18,8 @@ use Rattle.clues.specs.Solution.{IsOther, Solves}
 use Rattle.line_settle.specs.FactSets.{SameShape}
 use Rattle.line_settle.specs.Masks.{IsOnly}
 use Rattle.line_settle.specs.SolutionLaws.{solved_shape}
-use Rattle.propagate.specs.Filling.{Fills, only}
-use Rattle.propagate.specs.Laws.{OnlyIsClosed}
+use Rattle.fixpoint.specs.Filling.{Fills, only}
+use Rattle.fixpoint.specs.Laws.{OnlyIsClosed}
 use Rattle.second_search.specs.Laws.{FillingsAreOfFacts}
 use Rattle.second_search.specs.Parts.{AreParts, GoesThrough, IsBefore, IsOpenCell, IsOtherFilling, IsPart, IsScene, goes_on, part_at, picked}
 use Rattle.second_search.proofs.ChainLemmas.{bit_or_not, chain_back, chain_end, chain_on, none_has_two}

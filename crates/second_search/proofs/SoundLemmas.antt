@@ -8,8 +8,8 @@ use Rattle.picture.specs.Picture.{IsPicture}
 use Rattle.picture.specs.Rows.{width_of, row_at, cell_at, with_cell}
 use Rattle.clues.specs.ClueBook.{Clues}
 use Rattle.line_settle.specs.FactSets.{IsBase, IsLeast, Leaves, nothing_excluded, with_given}
-use Rattle.propagate.specs.Filling.{Fills}
-use Rattle.propagate.specs.Laws.{ClosingKeepsFillings}
+use Rattle.fixpoint.specs.Filling.{Fills}
+use Rattle.fixpoint.specs.Laws.{ClosingKeepsFillings}
 use Rattle.second_search.specs.Laws.{SoundFacts}
 use Rattle.second_search.specs.Other.{AreSound}
 use Rattle.line_settle.specs.SolutionLaws.{solved_shape}

@@ -25,10 +25,10 @@ use Rattle.line_settle.specs.FactSets.{Gains, IsClosedLine, IsFacts, IsWithin, L
 use Rattle.line_settle.specs.FitLaws.{tighter_can_fit, within_tighter}
 use Rattle.line_settle.specs.ForceLaws.{gains_grows, gains_inside, on_or_not}
 use Rattle.line_settle.specs.GridLaws.{cell_on, same_has_line, shape_refl, shape_sym, shape_trans, shape_with_cell}
-use Rattle.propagate.specs.Closing.{AreClosable, EachFits}
-use Rattle.propagate.specs.Filling.{Fills, only}
-use Rattle.propagate.specs.FillingLaws.{fills_fewer}
-use Rattle.propagate.specs.Laws.{ClosingKeepsFillings, OnlyIsClosed}
+use Rattle.fixpoint.specs.Closing.{AreClosable, EachFits}
+use Rattle.fixpoint.specs.Filling.{Fills, only}
+use Rattle.fixpoint.specs.FillingLaws.{fills_fewer}
+use Rattle.fixpoint.specs.Laws.{ClosingKeepsFillings, OnlyIsClosed}
 use Rattle.split_choice.specs.declared.cell.Cell.{Cell}
 use Rattle.split_choice.specs.Choosing.{IsUnsettled}
 use Rattle.cert_text.specs.declared.tree_line.CellNumber.{CellNumber}

@@ -4,7 +4,7 @@ use Rattle.picture.specs.Rows.{cell_at, with_cell}
 use Rattle.clues.specs.ClueBook.{Clues}
 use Rattle.line_settle.specs.FactSets.{SameShape}
 use Rattle.line_settle.specs.Branches.{branches, colours_of}
-use Rattle.propagate.specs.Filling.{Fills}
+use Rattle.fixpoint.specs.Filling.{Fills}
 use Rattle.split_choice.specs.declared.cell.Cell.{Cell}
 use Rattle.second_search.specs.declared.note.CellMask.{CellMask}
 use Rattle.second_search.specs.declared.note.Note.{Note}

@@ -9,7 +9,7 @@ use Rattle.clues.specs.Laws.{IsOnLine}
 use Rattle.clues.specs.Solution.{IsOther}
 use Rattle.line_settle.specs.FactSets.{IsBase, IsLeast, nothing_excluded, with_given}
 use Rattle.line_settle.specs.Masks.{IsOnly}
-use Rattle.propagate.specs.Filling.{Fills, only}
+use Rattle.fixpoint.specs.Filling.{Fills, only}
 use Rattle.second_search.specs.declared.keeper.KeptPart.{KeptPart}
 use Rattle.second_search.specs.declared.keeper.Verdict.TheVariants.{Undecided}
 use Rattle.second_search.specs.Judging.{Judges}

@@ -5,7 +5,7 @@ use Rattle.picture.specs.Rows.{width_of, cell_at}
 use Rattle.clues.specs.ClueBook.{Clues}
 use Rattle.line_settle.specs.Masks.{IsOnly}
 use Rattle.line_settle.specs.FactSets.{SameShape}
-use Rattle.propagate.specs.Filling.{Fills}
+use Rattle.fixpoint.specs.Filling.{Fills}
 use Rattle.split_choice.specs.declared.cell.Cell.{Cell}
 use Rattle.split_choice.specs.Choosing.{IsUnsettled}
 use Rattle.second_search.specs.Parts.{IsBefore}

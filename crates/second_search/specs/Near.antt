@@ -1,7 +1,7 @@
 -- Windows, in which alone another picture is looked for at first.
 use Rattle.std.specs.Prelude.{List, ℕ}
 use Rattle.picture.specs.CellSet.{HasCell}
-use Rattle.propagate.specs.LineNames.{AreLinesOf}
+use Rattle.fixpoint.specs.LineNames.{AreLinesOf}
 use Rattle.second_search.specs.declared.near.Window.{Window}
 use Rattle.second_search.specs.Carrying.{LieInside}
 use Rattle.second_search.specs.Searching.{NamesLinesOf}

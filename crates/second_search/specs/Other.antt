@@ -6,7 +6,7 @@ use Rattle.picture.specs.Rows.{cell_at}
 use Rattle.clues.specs.ClueBook.{Clues, clues_of}
 use Rattle.clues.specs.Solution.{IsOther, Solves}
 use Rattle.line_settle.specs.FactSets.{Leaves, SameShape}
-use Rattle.propagate.specs.Filling.{LeavesPicture}
+use Rattle.fixpoint.specs.Filling.{LeavesPicture}
 
 -- Facts that a search for another picture may start from: in a given they leave no colour but the picture's, and they
 -- exclude nothing that a picture with the clues and the givens shows.

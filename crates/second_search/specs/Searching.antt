@@ -10,8 +10,8 @@ use Rattle.line_settle.specs.Counting.{Counts}
 use Rattle.line_settle.specs.Masks.{IsOnly}
 use Rattle.line_settle.specs.FactSets.{IsFacts, IsLeast, SameShape}
 use Rattle.line_settle.specs.Branches.{branches}
-use Rattle.propagate.specs.Closing.{EachFits, HasDeadLine}
-use Rattle.propagate.specs.Filling.{only}
+use Rattle.fixpoint.specs.Closing.{EachFits, HasDeadLine}
+use Rattle.fixpoint.specs.Filling.{only}
 use Rattle.split_choice.specs.declared.cell.Cell.{Cell}
 use Rattle.second_search.specs.declared.coming.Coming.{Coming}
 use Rattle.second_search.specs.declared.coming.Coming.TheVariants.{Dies, Ends, Splits}

@@ -9,7 +9,7 @@ use Rattle.line_settle.specs.declared.line_engine.Outcome.TheVariants.{Narrowed,
 use Rattle.line_settle.specs.Fitting.{CanFit}
 use Rattle.line_settle.specs.Masks.{IsOnly}
 use Rattle.line_settle.specs.FactSets.{Gains, IsWithin, Leaves}
-use Rattle.propagate.specs.Filling.{Fills}
+use Rattle.fixpoint.specs.Filling.{Fills}
 use Rattle.split_choice.specs.Choosing.{IsUnsettled}
 use Rattle.cert_text.specs.declared.tree_line.CellNumber.{CellNumber}
 use Rattle.cert_text.specs.declared.tree_line.LineNumber.{LineNumber}

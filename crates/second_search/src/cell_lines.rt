@@ -2,7 +2,7 @@
 
 ghost use Rattle.std.specs.Prelude.{◌<◌, length};
 ghost use Rattle.picture.specs.Rows.{width_of};
-ghost use Rattle.propagate.specs.LineNames.{AreLinesOf};
+ghost use Rattle.fixpoint.specs.LineNames.{AreLinesOf};
 ghost use Rattle.second_search.specs.Through.{NamesBoth, PutsBoth};
 
 use line_settle::Facts;

@@ -4,18 +4,19 @@ ghost use Rattle.std.specs.Prelude.{◌≡◌, ◌<◌, ℕ, IfOk, OnOk};
 ghost use Rattle.picture.specs.LineSet.{name_count};
 ghost use Rattle.line_settle.specs.Counting.{Counts};
 ghost use Rattle.line_settle.specs.FactSets.{IsFacts};
-ghost use Rattle.propagate.specs.Closing.{AreClosable, EachFits, QuietOutside};
-ghost use Rattle.propagate.specs.LineNames.{AreLinesOf};
+ghost use Rattle.fixpoint.specs.Closing.{AreClosable, EachFits, QuietOutside};
+ghost use Rattle.fixpoint.specs.LineNames.{AreLinesOf};
 ghost use Rattle.second_search.specs.Looking.{AreRowsSettled, Shows};
 ghost use Rattle.second_search.specs.Searching.{Comes, ComesClosed, CountsSome};
 
 use crate::looking::{first_unsettled, shown_picture};
 use clues::ClueBook;
+use fixpoint::close_facts;
 use line_settle::{Facts, LineEngine, Meter, Outcome};
 use picture::{LineSet, Picture};
-use propagate::{InOrder, close_facts};
 use split_choice::Cell;
 use std::alloc::{AllocError, Global};
+use worklist::InOrder;
 
 // What facts come to: no list fits some line, or they leave one picture, or a cell is to be split.
 #[derive(Drop)]

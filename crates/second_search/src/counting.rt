@@ -3,8 +3,8 @@
 ghost use Rattle.std.specs.Prelude.{◌≡◌, ◌<◌, ◌≤◌, ℕ, IfOk, OnOk};
 ghost use Rattle.picture.specs.LineSet.{name_count};
 ghost use Rattle.line_settle.specs.Counting.{Counts};
-ghost use Rattle.propagate.specs.Closing.{AreClosable, QuietOutside};
-ghost use Rattle.propagate.specs.LineNames.{AreLinesOf};
+ghost use Rattle.fixpoint.specs.Closing.{AreClosable, QuietOutside};
+ghost use Rattle.fixpoint.specs.LineNames.{AreLinesOf};
 ghost use Rattle.second_search.specs.Looking.{AreRowsSettled};
 ghost use Rattle.second_search.specs.Searching.{CountsSome, EndsAs, raised};
 ghost use Rattle.second_search.specs.Stepping.{Compares, Spends, Steps};

@@ -3,7 +3,7 @@
 ghost use Rattle.std.specs.Prelude.{◌≡◌, ◌≤◌, ℕ, List, length, IfOk};
 ghost use Rattle.clues.specs.ClueBook.{clues_of};
 ghost use Rattle.line_settle.specs.FactSets.{SameShape};
-ghost use Rattle.propagate.specs.Closing.{AreClosable};
+ghost use Rattle.fixpoint.specs.Closing.{AreClosable};
 ghost use Rattle.second_search.specs.Other.{AreSound, FindsFirst, FindsOther};
 ghost use Rattle.second_search.specs.Looking.{FindsFilling};
 
@@ -13,9 +13,9 @@ use crate::near_closed::find_near_other;
 use crate::scene::Scene;
 use clues::ClueBook;
 use clues::laws::clues_are_of_lines;
+use fixpoint::laws::{closing_keeps_fillings, only_is_closed};
 use line_settle::{Facts, LineEngine, Meter};
 use picture::{CellSet, Picture};
-use propagate::laws::{closing_keeps_fillings, only_is_closed};
 use std::alloc::{AllocError, Global};
 
 /// A picture with these clues. There is none exactly where the answer is None. No line is longer than the engine's

@@ -5,9 +5,9 @@ ghost use Rattle.second_search.specs.Laws.{AllowancesBreakOff, FillingsAreOfFact
 ghost use Rattle.second_search.specs.Searching.{CostsAreUnique};
 
 use clues::laws::{books_are_their_clues, clues_are_of_lines};
+use fixpoint::laws::{closing_keeps_fillings, only_is_closed};
 use line_settle::laws::least_is_unique;
 use picture::laws::{cells_are_members, same_cells_are_equal};
-use propagate::laws::{closing_keeps_fillings, only_is_closed};
 
 /// Facts that exclude nothing are sound where there is no given, and so is the base of any givens; facts stay sound with
 /// a given more, and when they are closed.

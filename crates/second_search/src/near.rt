@@ -14,10 +14,10 @@ use crate::part_search::{leave_alone, lines_through};
 use crate::parts::Parts;
 use crate::scene::Scene;
 use clues::laws::{books_are_their_clues, clues_are_of_lines};
+use fixpoint::laws::{closing_keeps_fillings, only_is_closed};
 use line_settle::laws::counts_add;
 use line_settle::{Facts, LineEngine, Meter};
 use picture::{Axis, CellSet, LineId, LineSet, MAX_SIDE, Picture};
-use propagate::laws::{closing_keeps_fillings, only_is_closed};
 use std::alloc::{AllocError, Global};
 
 /// How many of a part's rows and columns a window has, one size after the other.

@@ -10,11 +10,12 @@ use crate::laws::sound_facts;
 use crate::near::find_in_parts;
 use crate::scene::Scene;
 use clues::laws::clues_are_of_lines;
+use fixpoint::{CloseFault, settle_afresh};
 use line_settle::laws::counts_add;
 use line_settle::{Facts, LineEngine, Meter};
 use picture::Picture;
-use propagate::{CloseFault, InOrder, settle_afresh};
 use std::alloc::{AllocError, Global};
+use worklist::InOrder;
 
 /// Looks for another picture that differs in one window of a part alone, by windows of five sizes and so many splits in each at
 /// most. The parts are those of the scene's facts when they are closed. There may be other pictures where the answer is None. No

@@ -14,10 +14,10 @@ use crate::near::{SIZES, Windows, find_near};
 use crate::part_search::{leave_alone, search_part};
 use crate::scene::Scene;
 use clues::laws::clues_are_of_lines;
+use fixpoint::laws::{closing_keeps_fillings, only_is_closed};
 use line_settle::laws::counts_add;
 use line_settle::{LineEngine, Meter};
 use picture::{CellSet, Picture};
-use propagate::laws::{closing_keeps_fillings, only_is_closed};
 use std::alloc::{AllocError, Global};
 
 // Decides a part under an allowance; or, where none is set, within the bounds of the program.

@@ -4,7 +4,7 @@ ghost use Rattle.std.specs.Prelude.{◌≡◌, ◌≤◌, ◌<◌, ℕ, length, 
 ghost use Rattle.picture.specs.Rows.{width_of};
 ghost use Rattle.line_settle.specs.Counting.{Counts};
 ghost use Rattle.line_settle.specs.FactSets.{SameShape};
-ghost use Rattle.propagate.specs.LineNames.{AreLinesOf};
+ghost use Rattle.fixpoint.specs.LineNames.{AreLinesOf};
 ghost use Rattle.second_search.specs.Parts.{IsPart, IsScene};
 ghost use Rattle.second_search.specs.Searching.{CountsSome, EndsAs, alone, raised};
 ghost use Rattle.second_search.specs.Through.{LeavesAlone, LeavesRowAlone, PutsRow, PutsThrough};
@@ -13,9 +13,9 @@ use crate::cell_lines::put_both;
 use crate::counting::{Ending, search_counted};
 use crate::scene::Scene;
 use clues::laws::clues_are_of_lines;
+use fixpoint::laws::only_is_closed;
 use line_settle::{Facts, LineEngine, Meter};
 use picture::{CellSet, LineSet, Picture};
-use propagate::laws::only_is_closed;
 use std::alloc::{AllocError, Global};
 
 // Searches one part for another filling. Only the lines through the part are evaluated.

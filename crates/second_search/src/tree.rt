@@ -3,7 +3,7 @@
 
 ghost use Rattle.std.specs.Prelude.{◌≡◌, ℕ, None, IfOk, IsTrue};
 ghost use Rattle.line_settle.specs.Counting.{Counts};
-ghost use Rattle.propagate.specs.Closing.{AreClosable};
+ghost use Rattle.fixpoint.specs.Closing.{AreClosable};
 ghost use Rattle.second_search.specs.Trees.{Advances, Turns, Writes};
 
 use crate::cell_lines::put_both;
@@ -13,11 +13,11 @@ use crate::tree_closing::close_written;
 use crate::tree_lines::{Lines, cell_number};
 use crate::tree_step::{TreeStep, Way, next_step};
 use cert_text::CertLine;
+use fixpoint::all_lines;
+use fixpoint::laws::{closing_keeps_fillings, only_is_closed};
 use line_settle::laws::counts_add;
 use line_settle::{LineEngine, Meter, Outcome};
 use picture::{LineSet, MAX_SIDE, Picture};
-use propagate::all_lines;
-use propagate::laws::{closing_keeps_fillings, only_is_closed};
 use split_choice::Cell;
 use std::alloc::{AllocError, Global};
 

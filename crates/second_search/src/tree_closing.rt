@@ -5,7 +5,7 @@ ghost use Rattle.picture.specs.Rows.{line_of, HasLine};
 ghost use Rattle.clues.specs.ClueBook.{HasClue};
 ghost use Rattle.line_settle.specs.Counting.{Counts};
 ghost use Rattle.line_settle.specs.FactSets.{IsFacts};
-ghost use Rattle.propagate.specs.Closing.{AreClosable};
+ghost use Rattle.fixpoint.specs.Closing.{AreClosable};
 ghost use Rattle.second_search.specs.Trees.{Settles};
 
 use crate::tree_lines::{Lines, line_number};
@@ -14,8 +14,8 @@ use clues::ClueBook;
 use line_settle::laws::{counts_add, forcing_closes_a_line};
 use line_settle::{Facts, Forced, LineEngine, Meter, Outcome, force_crossing};
 use picture::{Axis, LineId, LineSet};
-use propagate::{Agenda, InOrder};
 use std::alloc::AllocError;
+use worklist::{Agenda, InOrder};
 
 // More lines are never due on one branch: each evaluation but the first of a line goes with a colour that was excluded.
 const MOST_LINES: u32 = 100_000_000;

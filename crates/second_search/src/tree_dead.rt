@@ -5,7 +5,7 @@ ghost use Rattle.picture.specs.Rows.{HasLine, line_of};
 ghost use Rattle.clues.specs.ClueBook.{clue_at};
 ghost use Rattle.line_settle.specs.Counting.{Counts};
 ghost use Rattle.line_settle.specs.Fitting.{CanFit};
-ghost use Rattle.propagate.specs.Closing.{AreClosable, EachFits};
+ghost use Rattle.fixpoint.specs.Closing.{AreClosable, EachFits};
 ghost use Rattle.second_search.specs.Trees.{EachFitsAlong, IsDeadLine};
 
 use clues::ClueBook;

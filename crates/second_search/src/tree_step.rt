@@ -5,8 +5,8 @@ ghost use Rattle.picture.specs.Picture.{IsPicture};
 ghost use Rattle.picture.specs.Rows.{cell_at, width_of};
 ghost use Rattle.line_settle.specs.Counting.{Counts};
 ghost use Rattle.line_settle.specs.FactSets.{Leaves, SameShape};
-ghost use Rattle.propagate.specs.Closing.{AreClosable};
-ghost use Rattle.propagate.specs.Filling.{LeavesPicture};
+ghost use Rattle.fixpoint.specs.Closing.{AreClosable};
+ghost use Rattle.fixpoint.specs.Filling.{LeavesPicture};
 ghost use Rattle.second_search.specs.Looking.{AreSettled};
 ghost use Rattle.second_search.specs.Trees.{Continues, IsComparedTo, IsOtherIn};
 

@@ -7,7 +7,7 @@ use crate::cell::Cell;
 use clues::ClueBook;
 use line_settle::{Facts, Forced, LineEngine, Meter, Outcome, force_crossing};
 use picture::{Axis, LineId, LineSet, MAX_SIDE};
-use propagate::{Agenda, InOrder};
+use worklist::{Agenda, InOrder};
 
 // More lines are not evaluated in one trial: each colour of each cell is excluded once at the most.
 const MOST_LINES: u32 = 10_000_000;

@@ -9,9 +9,9 @@ ghost use Rattle.second_search.specs.Growing.{HasOpenCellsOf, IsGrown, Leaves, T
 ghost use Rattle.second_search.specs.Parts.{IsChained, IsOpenCell};
 
 use crate::parts::open_cells::is_open;
+use fixpoint::all_lines;
 use line_settle::Facts;
 use picture::{Axis, CellSet, LineId, LineSet, MAX_SIDE};
-use propagate::all_lines;
 use split_choice::Cell;
 
 // The cells found so far, the lines through them that are still to be visited, and all lines that were not visited yet.

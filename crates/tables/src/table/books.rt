@@ -12,7 +12,7 @@ ghost use Rattle.clues.specs.Change.{IsChangeOf};
 ghost use Rattle.clues.specs.ClueBook.{clues_of};
 ghost use Rattle.edits.specs.History.{IsPlanFor};
 ghost use Rattle.justify.specs.Book.{IsDerivation};
-ghost use Rattle.propagate.specs.Closing.{AreClosable};
+ghost use Rattle.fixpoint.specs.Closing.{AreClosable};
 
 use anyhow::{Result, bail, ensure};
 use clues::ClueBook;

@@ -1,7 +1,7 @@
 use Rattle.std.proofs.Common.{List, ℕ, subst, sym}
 use Rattle.std.proofs.lemmas.Result.{err_from_is_err_and}
 use Rattle.line_settle.specs.FactSets.{SameShape}
-use Rattle.propagate.specs.Closing.{HasDeadLine}
+use Rattle.fixpoint.specs.Closing.{HasDeadLine}
 use Rattle.kept_audit.proofs.AuditLemmas.{audit_of, base_after, book_closable, can_refresh, goes_on, have_books, never_dead, no_fault_but_memory, quiet_outside, same_as_fresh}
 use Rattle.kept_audit.proofs.audit.audit_again.Goals as goal
 

@@ -1,6 +1,6 @@
 use Rattle.std.proofs.Common.{◌≡◌, List, ℕ, ap, sym, subst}
 use Rattle.picture.specs.Rows.{HasLine}
-use Rattle.propagate.specs.LineNames.{AllLines}
+use Rattle.fixpoint.specs.LineNames.{AllLines}
 use Rattle.line_settle.specs.FactSets.{SameShape}
 use Rattle.justify.specs.Book.{Account, IsDerivation}
 use Rattle.kept_audit.proofs.AuditLemmas.{audit_of, book_closable, derives_anew, is_anew, starts_trimmed}

@@ -2,8 +2,8 @@ use Rattle.std.proofs.Common.{ℕ, ◌+◌, Err, refl, sym, ap, ◌∙◌, subst
 use Rattle.std.proofs.lemmas.Result.{err_from_is_err_and}
 use Rattle.picture.specs.LineSet.{Lines}
 use Rattle.line_settle.specs.ForceLaws.{gains_grows}
-use Rattle.propagate.proofs.AlongLemmas.{filled}
-use Rattle.propagate.proofs.ClosingLemmas.{Closing, closing_starts}
+use Rattle.worklist.specs.NameLaws.{filled}
+use Rattle.fixpoint.specs.ClosingLaws.{Closing, closing_starts}
 use Rattle.propagate.proofs.GrowLemmas.{ClosingBook, all_trimmed, book_closes, book_comes_nearer, book_dies, book_fails, book_goes_on, book_starts, one_more}
 use Rattle.propagate.proofs.closing_book.close.Goals as goal
 

@@ -2,7 +2,7 @@ use Rattle.std.proofs.Common.{ℕ, ◌+◌, drop, Err, refl, sym, ap, ◌∙◌,
 use Rattle.std.proofs.lemmas.Result.{err_from_is_err_and}
 use Rattle.propagate.proofs.GrowLemmas.{all_trimmed, one_more}
 use Rattle.propagate.proofs.ScheduleBookLemmas.{Scheduled, next_in_turn, schedule_dies, schedule_fails, schedule_goes_on, schedule_starts}
-use Rattle.propagate.proofs.WorkLemmas.{nothing_counted}
+use Rattle.fixpoint.specs.WorkLaws.{nothing_counted}
 use Rattle.propagate.proofs.schedule.run_schedule.Goals as goal
 
 pub loop-line-init : goal.loop-line-init

@@ -1,6 +1,6 @@
 use Rattle.std.proofs.Common.{ℕ, ◌<◌, ◌∙◌, List, length, Option, Some, arith, refl, subst, sym}
 use Rattle.picture.specs.Rows.{width_of}
-use Rattle.propagate.specs.LineNames.{AreLinesOf}
+use Rattle.fixpoint.specs.LineNames.{AreLinesOf}
 use Rattle.split_choice.specs.declared.cell.Cell.{Cell}
 use Rattle.second_search.specs.Branching.{GoesOn}
 use Rattle.second_search.specs.Through.{across}

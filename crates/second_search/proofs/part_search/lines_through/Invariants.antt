@@ -1,4 +1,4 @@
-use Rattle.propagate.specs.LineNames.{AreLinesOf}
+use Rattle.fixpoint.specs.LineNames.{AreLinesOf}
 use Rattle.second_search.specs.Through.{PutsThrough}
 use Rattle.second_search.proofs.part_search.lines_through.Given as goal
 

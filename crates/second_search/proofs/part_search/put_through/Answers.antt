@@ -1,7 +1,7 @@
 use Rattle.std.proofs.Common.{◌+◌, subst, sym, arith}
 use Rattle.std.proofs.lemmas.Bool.{false≢true}
 use Rattle.picture.specs.LineSet.{Lines}
-use Rattle.propagate.specs.LineNames.{AreLinesOf}
+use Rattle.fixpoint.specs.LineNames.{AreLinesOf}
 use Rattle.second_search.specs.Through.{PutsRow}
 use Rattle.second_search.proofs.AloneLemmas.{lines_more, row_put, row_same}
 use Rattle.second_search.proofs.part_search.put_through.Goals as goal

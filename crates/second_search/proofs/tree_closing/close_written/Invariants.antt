@@ -1,7 +1,7 @@
 use Rattle.std.proofs.Common.{◌≡◌, ℕ}
 use Rattle.line_settle.specs.declared.line_engine.Outcome.TheVariants.{Narrowed}
 use Rattle.line_settle.specs.Counting.{Counts}
-use Rattle.propagate.specs.Closing.{AreClosable}
+use Rattle.fixpoint.specs.Closing.{AreClosable}
 use Rattle.second_search.specs.Trees.{Settles}
 use Rattle.second_search.proofs.tree_closing.close_written.Given as goal
 

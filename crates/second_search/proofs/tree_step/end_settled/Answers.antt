@@ -2,7 +2,7 @@ use Rattle.std.proofs.Common.{Option, refl, subst}
 use Rattle.std.proofs.lemmas.Bool.{false≢true}
 use Rattle.std.specs.Prelude.{MatchOption}
 use Rattle.picture.specs.declared.line_id.LineId.{LineId}
-use Rattle.propagate.specs.Closing.{EachFits}
+use Rattle.fixpoint.specs.Closing.{EachFits}
 use Rattle.second_search.specs.Trees.{IsDeadLine}
 use Rattle.second_search.proofs.TreeLemmas.{compare_continues, dead_continues, none_dead}
 use Rattle.second_search.proofs.tree_step.end_settled.Goals as goal

@@ -1,6 +1,6 @@
 use Rattle.std.proofs.Common.{◌∙◌, List, ℕ, ap, refl, subst, sym}
 use Rattle.line_settle.specs.declared.line_engine.Outcome.{Outcome}
-use Rattle.propagate.specs.Closing.{AreClosable}
+use Rattle.fixpoint.specs.Closing.{AreClosable}
 use Rattle.second_search.specs.Branching.{Search}
 use Rattle.second_search.specs.Trees.{Settles, Turns}
 use Rattle.second_search.proofs.CountLemmas.{counts_more}

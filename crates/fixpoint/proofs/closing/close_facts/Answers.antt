@@ -1,0 +1,52 @@
+use Rattle.std.proofs.Common.{ℕ, refl, sym, ◌∙◌, subst, arith}
+use Rattle.picture.specs.LineSet.{Lines}
+use Rattle.line_settle.specs.ForceLaws.{gains_grows}
+use Rattle.worklist.specs.NameLaws.{filled}
+use Rattle.fixpoint.specs.ClosingLaws.{Closing, closing_dies, closing_ends, closing_goes_on, closing_starts}
+use Rattle.fixpoint.specs.WorkLaws.{working_dies, working_goes_on, working_starts, less_to_do}
+use Rattle.fixpoint.proofs.closing.close_facts.Goals as goal
+
+pub returns-in-Dead-clause-closes : goal.returns-in-Dead-clause-closes
+returns-in-Dead-clause-closes g c = closing_dies _ _ _ _ _ _ _ _ c.loop-line.invariant.closing c.in-Some.ensures.0 c.in-Dead.ensures.gains refl
+
+pub returns-in-Dead-clause-works : goal.returns-in-Dead-clause-works
+returns-in-Dead-clause-works g c =
+    let i = c.loop-line.invariant in
+    let s = c.in-Some.ensures in
+    let e = c.in-Dead.ensures in
+    working_dies _ _ _ _ _ _ _ _ _ _ _ _ _ _ _ _ i.working s.0 s.1 (i.closing.lines c.in-Some.line s.0) e.gains e.puts e.counts refl
+
+pub loop-line-smaller : goal.loop-line-smaller
+loop-line-smaller g c =
+    let i = c.loop-line.invariant in
+    let s = c.in-Some.ensures in
+    let e = c.in-Narrowed.ensures in
+    let has = i.closing.lines c.in-Some.line s.0 in
+    less_to_do _ _ _ _ _ _ e.facts has (gains_grows _ _ _ _ _ e.gains) s.0 s.1 e.puts
+
+pub loop-line-preserved : goal.loop-line-preserved
+loop-line-preserved g c =
+    let i = c.loop-line.invariant in
+    let s = c.in-Some.ensures in
+    let e = c.in-Narrowed.ensures in
+    let has = i.closing.lines c.in-Some.line s.0 in
+    let P : ℕ → Type 0 = λ n. Closing c.args.book.now n c.args.facts.now c.evaluate.new.facts (g.A.Agenda.members c.evaluate.new.agenda) in
+    record {
+      closing = subst P (sym e.same_longest) (closing_goes_on _ _ _ _ _ _ _ _ _ _ i.closing s.0 s.1 e.facts e.gains refl e.puts);
+      working = working_goes_on _ _ _ _ _ _ _ _ _ _ _ _ _ _ _ _ i.working s.0 s.1 has e.gains e.puts e.counts;
+      same_longest = e.same_longest ∙ i.same_longest;
+    }
+
+pub returns-clause-closes : goal.returns-clause-closes
+returns-clause-closes g c =
+    closing_ends _ _ _ _ _ _ c.loop-line.invariant.closing c.in_default.ensures.0 refl
+
+pub loop-line-init : goal.loop-line-init
+loop-line-init g c =
+    let all = filled _ _ _ c.clear.ensures c.put_all.ensures in
+    let P : Lines → Type 0 = λ lines. Closing c.args.book.now (g.E.LineEngine.longest c.args.engine.now) c.args.facts.now c.args.facts.now lines in
+    record {
+      closing = subst P (sym all) (closing_starts _ _ _ _ c.requires.closable c.requires.lines c.requires.quiet);
+      working = working_starts _ _ _ _ _ _ all (omega arith) (omega arith) (omega arith);
+      same_longest = refl;
+    }

@@ -1,0 +1,14 @@
+use Rattle.std.proofs.Common.{◌≡◌}
+use Rattle.fixpoint.specs.ClosingLaws.{Closing}
+use Rattle.fixpoint.specs.WorkLaws.{Working, left_to_do}
+use Rattle.fixpoint.proofs.closing.close_facts.Given as goal
+
+abbrev pub invariant-loop-line : goal.invariant-loop-line
+invariant-loop-line g l = record {
+  closing : Closing l.book (g.E.LineEngine.longest l.engine) l.fn.facts l.facts (g.A.Agenda.members l.agenda);
+  working : Working l.book l.dirty l.fn.facts l.facts (g.A.Agenda.members l.agenda) l.fn.meter l.meter (g.E.LineEngine.calls l.fn.engine) (g.E.LineEngine.calls l.engine);
+  same_longest : g.E.LineEngine.longest l.engine ≡ g.E.LineEngine.longest l.fn.engine;
+}
+
+abbrev pub decreases-loop-line : goal.decreases-loop-line
+decreases-loop-line g l = left_to_do l.facts (g.A.Agenda.members l.agenda)

@@ -1,0 +1,13 @@
+//! Facts propagated to the fixpoint of all lines: the least closed facts that hold a base.
+#![tactic(auto)]
+
+mod closing;
+mod fault;
+pub mod laws;
+mod line_names;
+mod settling;
+
+pub use closing::close_facts;
+pub use fault::CloseFault;
+pub use line_names::all_lines;
+pub use settling::settle_afresh;

@@ -1,0 +1,3 @@
+pub mod StackLemmas
+pub mod OrderLemmas
+pub mod AlongLemmas

@@ -1,0 +1,3 @@
+pub mod Agenda
+pub mod Orders
+pub mod NameLaws
