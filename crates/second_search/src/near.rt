@@ -33,11 +33,12 @@ pub(crate) struct Windows {
     pub splits: u32,
 }
 
-// The open cells of a window, and the lines through them.
+// The open cells of a window, the lines through them, and how many splits a search in it may make.
 #[derive(Drop)]
 pub(crate) struct Window {
     pub cells: CellSet,
     pub lines: LineSet,
+    pub splits: u32,
 }
 
 // Some rows of a part, all its columns, and what its windows are.
@@ -183,9 +184,8 @@ fn find_in_band<E: LineEngine>(
     let _trials = meter.trials;
     for at in 0..windows_along(band.columns, band.windows.size) {
         let columns = window_along(band.columns, at, band.windows.size);
-        let window = window_of(scene.facts, cells, band.rows, columns);
-        let splits = band.windows.splits;
-        let found = find_inside(alloc, engine, scene, cells, window, splits, meter)?;
+        let window = window_of(scene.facts, cells, band, columns);
+        let found = find_inside(alloc, engine, scene, cells, window, meter)?;
         if found.is_some() {
             return Ok(found);
         }
@@ -193,14 +193,13 @@ fn find_in_band<E: LineEngine>(
     Ok(None)
 }
 
-// Looks for another picture that differs in the cells of a window alone, by so many splits at most.
+// Looks for another picture that differs in the cells of a window alone, by so many splits at most as it may make.
 fn find_inside<E: LineEngine>(
     alloc: Global,
     engine: &mut E,
     scene: &Scene,
     cells: &CellSet,
     window: Window,
-    splits: u32,
     meter: &mut Meter,
 ) -> Result<Option<Picture>, AllocError>
     requires scene { IsScene scene.now.clues.now scene.now.givens.now scene.now.facts.now
@@ -236,7 +235,7 @@ fn find_inside<E: LineEngine>(
         scene.picture,
         window.lines,
         facts,
-        Some(splits),
+        Some(window.splits),
         meter,
         &mut made,
     )? {
@@ -246,15 +245,16 @@ fn find_inside<E: LineEngine>(
     }
 }
 
-// The open cells of a part in some rows and columns, and the lines through them.
-fn window_of(facts: &Facts, cells: &CellSet, rows: &[u8], columns: &[u8]) -> Window
+// The open cells of a part in the rows of a band and some columns, and the lines through them.
+fn window_of(facts: &Facts, cells: &CellSet, band: Band<'_>, columns: &[u8]) -> Window
     ensures { IsWindow facts.now cells.now result }
 {
     let mut window = Window {
         cells: CellSet::empty(),
         lines: LineSet::empty(),
+        splits: band.windows.splits,
     };
-    for row in rows {
+    for row in band.rows {
         open_row(facts, cells, *row, columns, &mut window);
     }
     window
