@@ -19,8 +19,8 @@ use Rattle.second_search.proofs.AloneLemmas.{alone_is, lines_more}
 use Rattle.second_search.proofs.EndLemmas.{one_found}
 
 -- a window stays one when an open cell of the part is put in with its lines
-pub more_open : (facts : List (List ℕ)) (part : List ℕ) (old : Window) (cells : List ℕ) (lines : Lines) (row col : ℕ) → row < length facts → col < width_of facts → HasCell part row col → IsWindow facts part old → PutsCell old.cells cells row col → PutsBoth row col old.lines lines → IsWindow facts part (record { cells = cells; lines = lines })
-more_open facts part old cells lines row col h l has is puts both = record {
+pub more_open : (facts : List (List ℕ)) (part : List ℕ) (old : Window) (cells : List ℕ) (lines : Lines) (splits row col : ℕ) → row < length facts → col < width_of facts → HasCell part row col → IsWindow facts part old → PutsCell old.cells cells row col → PutsBoth row col old.lines lines → IsWindow facts part (record { cells = cells; lines = lines; splits = splits })
+more_open facts part old cells lines splits row col h l has is puts both = record {
   among = λ r c m. elim ((puts r c).0 m) [
     | inl before ↦ is.among r c before
     | inr e ↦
@@ -45,8 +45,8 @@ more_open facts part old cells lines row col h l has is puts both = record {
   ];
 }
 
-pub no_window : (facts : List (List ℕ)) (part cells : List ℕ) (lines : Lines) → ((r c : ℕ) → HasCell cells r c → ⊥) → ((line : LineId) → HasName lines line → ⊥) → IsWindow facts part (record { cells = cells; lines = lines })
-no_window facts part cells lines none nameless = record {
+pub no_window : (facts : List (List ℕ)) (part cells : List ℕ) (lines : Lines) (splits : ℕ) → ((r c : ℕ) → HasCell cells r c → ⊥) → ((line : LineId) → HasName lines line → ⊥) → IsWindow facts part (record { cells = cells; lines = lines; splits = splits })
+no_window facts part cells lines splits none nameless = record {
   among = λ r c m. absurd (none r c m);
   inside = λ r c m. absurd (none r c m);
   lines = λ line h. absurd (nameless line h);
