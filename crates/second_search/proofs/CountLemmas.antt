@@ -144,10 +144,6 @@ raised_again start before after n a b = omega arith
 pub raised_none : (count : ℕ) → count < 2 ^ 32 → count ≡ raised count 0
 raised_none count l = omega arith
 
-pub spending_rises : (old new : Option ℕ) (count more : ℕ) (spent : Bool) → count < 2 ^ 32 → Spends old new count more spent → count ≤ more
-spending_rises old new count more true l h = let e = h.1 in omega arith
-spending_rises old new count more false l h = let e = h.1.1 in omega arith
-
 -- ---- while facts wait
 
 -- what waits ends as the first facts do, but for the splits that were made and counted

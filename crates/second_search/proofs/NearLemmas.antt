@@ -53,8 +53,8 @@ no_window facts part cells lines splits none nameless = record {
   through = λ r c m. absurd (none r c m);
 }
 
-pub found_inside : CluesAreOfLines → BooksAreTheirClues → ClosingKeepsFillings → OnlyIsClosed → FillingsAreOfFacts → (clues : Clues) (givens : List ℕ) (facts picture : List (List ℕ)) → IsScene clues givens facts picture → (cells : List ℕ) (first new : List (List ℕ)) → first ≡ facts → LeavesAlone cells picture first new (length first) → (most : Option ℕ) (start count : ℕ) (ending : Ending) (other : List (List ℕ)) → ending ≡ Found other → (part : List ℕ) → ((r c : ℕ) → HasCell cells r c → HasCell part r c) → (n : ℕ) × ((count ≡ raised start n) × EndsAs clues picture new most ending n) → IsOtherFilling clues givens picture part other
-found_inside law books closing own fillings clues givens facts picture scene cells first new e left most start count ending other f part among h =
+pub found_inside : CluesAreOfLines → BooksAreTheirClues → ClosingKeepsFillings → OnlyIsClosed → FillingsAreOfFacts → (clues : Clues) (givens : List ℕ) (facts picture : List (List ℕ)) → IsScene clues givens facts picture → (cells : List ℕ) (first new : List (List ℕ)) → first ≡ facts → LeavesAlone cells picture first new (length first) → (most : Option ℕ) (count : ℕ) (ending : Ending) (other : List (List ℕ)) → ending ≡ Found other → (part : List ℕ) → ((r c : ℕ) → HasCell cells r c → HasCell part r c) → (n : ℕ) × ((count ≡ raised 0 n) × EndsAs clues picture new most ending n) → IsOtherFilling clues givens picture part other
+found_inside law books closing own fillings clues givens facts picture scene cells first new e left most count ending other f part among h =
     let P : List (List ℕ) → Type 0 = λ x. LeavesAlone cells picture x new (length x) in
     let same = alone_is own cells picture facts new (length facts) scene.is_picture scene.sound.same_shape refl (subst P e left) in
     let Q : Ending → Type 0 = λ x. EndsAs clues picture new most x h.0 in

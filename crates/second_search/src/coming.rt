@@ -25,22 +25,27 @@ pub(crate) enum Coming {
     Splits(Facts, Cell),
 }
 
-// Closes facts and looks at what they leave. A line is named, and each line that is not named has to be quiet; each row above
-// one has to be settled.
+// What is due at facts: the lines that may still exclude something, and the row above which each cell is settled.
+#[derive(Drop)]
+pub(crate) struct Due {
+    pub lines: LineSet,
+    pub top: u8,
+}
+
+// Closes facts and looks at what they leave. A line is due, and each line that is not has to be quiet.
 pub(crate) fn come_to<E: LineEngine>(
     alloc: Global,
     engine: &mut E,
     book: &ClueBook,
     facts: &Facts,
-    lines: &LineSet,
-    top: u8,
+    due: &Due,
     meter: &mut Meter,
 ) -> Result<Coming, AllocError>
     requires closable { AreClosable book.now (E.longest engine.old) facts.now }
-    requires lines { AreLinesOf facts.now lines.now }
-    requires quiet { QuietOutside book.now facts.now lines.now }
-    requires some { 0 < name_count lines.now }
-    requires above { AreRowsSettled facts.now top }
+    requires lines { AreLinesOf facts.now due.now.lines }
+    requires quiet { QuietOutside book.now facts.now due.now.lines }
+    requires some { 0 < name_count due.now.lines }
+    requires above { AreRowsSettled facts.now due.now.top }
     ensures comes { IfOk result (Comes book.now facts.now) }
     ensures counts { (evaluations : ℕ)
         × Counts evaluations 0 meter.old meter.new (E.calls engine.old) (E.calls engine.new) }
@@ -53,9 +58,9 @@ pub(crate) fn come_to<E: LineEngine>(
     let _trials = meter.trials;
     let mut settled = facts.copy()?;
     let mut agenda = InOrder::make();
-    match close_facts(engine, &mut agenda, &mut settled, book, lines, meter) {
+    match close_facts(engine, &mut agenda, &mut settled, book, &due.lines, meter) {
         Outcome::Dead => Ok(Coming::Dies),
-        Outcome::Narrowed => split_or_end(alloc, settled, top),
+        Outcome::Narrowed => split_or_end(alloc, settled, due.top),
     }
 }
 

@@ -8,7 +8,7 @@ ghost use Rattle.second_search.specs.Near.{IsWindow};
 ghost use Rattle.second_search.specs.Parts.{IsOtherFilling, IsScene};
 
 use crate::cell_lines::put_both;
-use crate::counting::{Ending, search_counted};
+use crate::counting::{Ending, Start, search_counted};
 use crate::laws::fillings_are_of_facts;
 use crate::part_search::{leave_alone, lines_through};
 use crate::parts::Parts;
@@ -227,18 +227,13 @@ fn find_inside<E: LineEngine>(
     let _ = scene.facts.height();
     let mut facts = scene.facts.copy()?;
     leave_alone(&mut facts, scene.picture, &window.cells);
-    let mut made = 0;
-    match search_counted(
-        alloc,
-        engine,
-        scene.clues,
-        scene.picture,
-        window.lines,
+    let start = Start {
         facts,
-        Some(window.splits),
-        meter,
-        &mut made,
-    )? {
+        lines: window.lines,
+        allowance: Some(window.splits),
+    };
+    let searched = search_counted(alloc, engine, scene.clues, scene.picture, start, meter)?;
+    match searched.ending {
         Ending::Found(picture) => Ok(Some(picture)),
         Ending::Nothing => Ok(None),
         Ending::BrokenOff => Ok(None),

@@ -10,7 +10,7 @@ ghost use Rattle.second_search.specs.Searching.{CountsSome, EndsAs, alone, raise
 ghost use Rattle.second_search.specs.Through.{LeavesAlone, LeavesRowAlone, PutsRow, PutsThrough};
 
 use crate::cell_lines::put_both;
-use crate::counting::{Ending, search_counted};
+use crate::counting::{Searched, Start, search_counted};
 use crate::scene::Scene;
 use clues::laws::clues_are_of_lines;
 use line_settle::{Facts, LineEngine, Meter};
@@ -26,41 +26,35 @@ pub(crate) fn search_part<E: LineEngine>(
     cells: &CellSet,
     allowance: Option<u32>,
     meter: &mut Meter,
-    splits: &mut u32,
-) -> Result<Ending, AllocError>
+) -> Result<Searched, AllocError>
     requires scene { IsScene scene.now.clues.now scene.now.givens.now scene.now.facts.now
         scene.now.picture.now }
     requires part { IsPart scene.now.facts.now cells.now }
     requires tall { length scene.now.clues.now.rows ≤ E.longest engine.old }
     requires wide { length scene.now.clues.now.columns ≤ E.longest engine.old }
-    ensures ends { IfOk result (λ ending. (n : ℕ) × ((splits.new ≡ raised splits.old n)
-        × EndsAs scene.now.clues.now scene.now.picture.now (alone cells.now scene.now.facts.now scene.now.picture.now) allowance ending n)) }
+    ensures ends { IfOk result (λ searched. (n : ℕ) × ((searched.splits ≡ raised 0 n)
+        × EndsAs scene.now.clues.now scene.now.picture.now
+        (alone cells.now scene.now.facts.now scene.now.picture.now) allowance searched.ending n)) }
     ensures counts { (evaluations : ℕ)
         × Counts evaluations 0 meter.old meter.new (E.calls engine.old) (E.calls engine.new) }
     ensures evaluates { OnOk result
         (CountsSome meter.old meter.new (E.calls engine.old) (E.calls engine.new)) }
-    ensures rises { splits.old ≤ splits.new }
     ensures same_longest { E.longest engine.new ≡ E.longest engine.old }
 {
     clues_are_of_lines();
     only_is_closed();
-    let _ = (engine.calls(), *splits, scene.facts.height());
+    let _ = (engine.calls(), scene.facts.height());
     let _evaluations = meter.evaluations;
     let _trials = meter.trials;
     let lines = lines_through(cells, scene.facts);
     let mut facts = scene.facts.copy()?;
     leave_alone(&mut facts, scene.picture, cells);
-    search_counted(
-        alloc,
-        engine,
-        scene.clues,
-        scene.picture,
-        lines,
+    let start = Start {
         facts,
+        lines,
         allowance,
-        meter,
-        splits,
-    )
+    };
+    search_counted(alloc, engine, scene.clues, scene.picture, start, meter)
 }
 
 // The names of the lines that go through some cells.

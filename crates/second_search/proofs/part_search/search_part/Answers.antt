@@ -25,7 +25,7 @@ search_counted-requires-clause-quiet g c =
 pub returns-clause-ends : goal.returns-clause-ends
 returns-clause-ends g c =
     let scene = c.args.scene.now in
-    searched_alone c.only_is_closed.ensures scene.clues.now c.args.cells.now scene.picture.now scene.facts.now c.in_ok-facts.facts c.leave_alone.new.facts c.args.allowance c.args.splits.now c.search_counted.new.splits c.search_counted.result c.requires.scene.is_picture c.requires.scene.sound.same_shape c.in_ok-facts.ensures c.leave_alone.ensures c.search_counted.ensures.ends
+    searched_alone c.only_is_closed.ensures scene.clues.now c.args.cells.now scene.picture.now scene.facts.now c.in_ok-facts.facts c.leave_alone.new.facts c.args.allowance c.search_counted.result c.requires.scene.is_picture c.requires.scene.sound.same_shape c.in_ok-facts.ensures c.leave_alone.ensures c.search_counted.ensures.ends
 
 pub search_counted-requires-clause-some : goal.search_counted-requires-clause-some
 search_counted-requires-clause-some g c =
