@@ -1,13 +1,12 @@
 //! What facts come to when they are closed, exactly: a dead line, a picture, or a first open cell.
 
-ghost use Rattle.std.specs.Prelude.{◌≡◌, ◌<◌, ℕ, IfOk, OnOk};
+ghost use Rattle.std.specs.Prelude.{◌≡◌, ◌<◌, IfOk, OnOk};
 ghost use Rattle.picture.specs.LineSet.{name_count};
-ghost use Rattle.line_settle.specs.Counting.{Counts};
 ghost use Rattle.line_settle.specs.FactSets.{IsFacts};
 ghost use Rattle.propagate.specs.Closing.{AreClosable, EachFits, QuietOutside};
 ghost use Rattle.propagate.specs.LineNames.{AreLinesOf};
 ghost use Rattle.second_search.specs.Looking.{AreRowsSettled, Shows};
-ghost use Rattle.second_search.specs.Searching.{Comes, ComesClosed, CountsSome};
+ghost use Rattle.second_search.specs.Searching.{Comes, ComesClosed, CountsAny, CountsSome};
 
 use crate::looking::{first_unsettled, shown_picture};
 use clues::ClueBook;
@@ -47,8 +46,7 @@ pub(crate) fn come_to<E: LineEngine>(
     requires some { 0 < name_count due.now.lines }
     requires above { AreRowsSettled facts.now due.now.top }
     ensures comes { IfOk result (Comes book.now facts.now) }
-    ensures counts { (evaluations : ℕ)
-        × Counts evaluations 0 meter.old meter.new (E.calls engine.old) (E.calls engine.new) }
+    ensures counts { CountsAny meter.old meter.new (E.calls engine.old) (E.calls engine.new) }
     ensures evaluates { OnOk result
         (CountsSome meter.old meter.new (E.calls engine.old) (E.calls engine.new)) }
     ensures same_longest { E.longest engine.new ≡ E.longest engine.old }

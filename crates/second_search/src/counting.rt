@@ -2,11 +2,10 @@
 
 ghost use Rattle.std.specs.Prelude.{◌≡◌, ◌<◌, ℕ, IfOk, OnOk};
 ghost use Rattle.picture.specs.LineSet.{name_count};
-ghost use Rattle.line_settle.specs.Counting.{Counts};
 ghost use Rattle.propagate.specs.Closing.{AreClosable, QuietOutside};
 ghost use Rattle.propagate.specs.LineNames.{AreLinesOf};
 ghost use Rattle.second_search.specs.Looking.{AreRowsSettled};
-ghost use Rattle.second_search.specs.Searching.{CountsSome, EndsAs, raised};
+ghost use Rattle.second_search.specs.Searching.{CountsAny, CountsSome, EndsAs, raised};
 ghost use Rattle.second_search.specs.Stepping.{Compares, Spends, Steps};
 
 use crate::cell_lines::lines_at;
@@ -79,8 +78,7 @@ pub(crate) fn search_counted<E: LineEngine>(
     requires some { 0 < name_count start.lines }
     ensures ends { IfOk result (λ searched. (n : ℕ) × ((searched.splits ≡ raised 0 n)
         × EndsAs book.now known.now start.facts start.allowance searched.ending n)) }
-    ensures counts { (evaluations : ℕ)
-        × Counts evaluations 0 meter.old meter.new (E.calls engine.old) (E.calls engine.new) }
+    ensures counts { CountsAny meter.old meter.new (E.calls engine.old) (E.calls engine.new) }
     ensures evaluates { OnOk result
         (CountsSome meter.old meter.new (E.calls engine.old) (E.calls engine.new)) }
     ensures same_longest { E.longest engine.new ≡ E.longest engine.old }
@@ -149,8 +147,7 @@ impl Counted {
         requires above { AreRowsSettled self.old.pending.at_hand self.old.due.top }
         ensures steps { IfOk result (Steps book.now known.now self.old.pending self.new.pending
             self.old.left self.new.left self.old.splits self.new.splits) }
-        ensures counts { (evaluations : ℕ)
-            × Counts evaluations 0 meter.old meter.new (E.calls engine.old) (E.calls engine.new) }
+        ensures counts { CountsAny meter.old meter.new (E.calls engine.old) (E.calls engine.new) }
         ensures evaluates { OnOk result
             (CountsSome meter.old meter.new (E.calls engine.old) (E.calls engine.new)) }
         ensures same_longest { E.longest engine.new ≡ E.longest engine.old }

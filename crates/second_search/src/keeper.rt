@@ -30,6 +30,7 @@ ghost use Rattle.second_search.specs.Judging.{
   kept_at,
   parts_of,
 };
+ghost use Rattle.second_search.specs.Searching.{CountsAny};
 
 use crate::carrying::{answer_for, are_named, first_cell};
 use crate::counting::{Ending, Searched};
@@ -352,8 +353,7 @@ impl Keeper {
         ensures shown { IfOk result (λ decided. IsShown self.new decided.0) }
         ensures verdict { IfOk result (λ decided. IsVerdict scene.now.clues.now
             scene.now.givens.now scene.now.picture.now decided.0) }
-        ensures counts { (evaluations : ℕ)
-            × Counts evaluations 0 meter.old meter.new (E.calls engine.old) (E.calls engine.new) }
+        ensures counts { CountsAny meter.old meter.new (E.calls engine.old) (E.calls engine.new) }
         ensures same_longest { E.longest engine.new ≡ E.longest engine.old }
     {
         clues_are_of_lines();
@@ -419,8 +419,7 @@ impl Keeper {
         ensures stops { IfOk result (λ gone. DoneBy gone.1 meter.old meter.new
             (E.calls engine.old) (E.calls engine.new) (Stops scene.now.clues.now
             scene.now.facts.now scene.now.picture.now allowance self.now gone.0)) }
-        ensures counts { (evaluations : ℕ)
-            × Counts evaluations 0 meter.old meter.new (E.calls engine.old) (E.calls engine.new) }
+        ensures counts { CountsAny meter.old meter.new (E.calls engine.old) (E.calls engine.new) }
         ensures same_longest { E.longest engine.new ≡ E.longest engine.old }
     {
         counts_add();
@@ -458,8 +457,7 @@ impl Keeper {
         ensures ends { IfOk result (λ ended. DoneBy ended.1 meter.old meter.new
             (E.calls engine.old) (E.calls engine.new) (EndsPart scene.now.clues.now
             scene.now.facts.now scene.now.picture.now allowance (kept_at self.now i) ended.0)) }
-        ensures counts { (evaluations : ℕ)
-            × Counts evaluations 0 meter.old meter.new (E.calls engine.old) (E.calls engine.new) }
+        ensures counts { CountsAny meter.old meter.new (E.calls engine.old) (E.calls engine.new) }
         ensures same_longest { E.longest engine.new ≡ E.longest engine.old }
     {
         let _ = engine.calls();

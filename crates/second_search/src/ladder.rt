@@ -4,6 +4,7 @@ ghost use Rattle.std.specs.Prelude.{◌≡◌, ℕ, None, IfOk, IfSome, IsNone};
 ghost use Rattle.line_settle.specs.Counting.{Counts};
 ghost use Rattle.propagate.specs.Closing.{AreClosable};
 ghost use Rattle.second_search.specs.Trees.{AreNone, Decides};
+ghost use Rattle.second_search.specs.Searching.{CountsAny};
 
 use crate::scene::Scene;
 use crate::tree::{Written, write_tree};
@@ -91,8 +92,7 @@ fn try_both<E: LineEngine>(
     requires { AreClosable scene.now.clues.now (E.longest engine.old) scene.now.facts.now }
     ensures decides { IfOk result (λ found. IfSome found (Decides scene.now.clues.now
         scene.now.picture.now scene.now.facts.now ladder.keeps)) }
-    ensures counts { (evaluations : ℕ)
-        × Counts evaluations 0 meter.old meter.new (E.calls engine.old) (E.calls engine.new) }
+    ensures counts { CountsAny meter.old meter.new (E.calls engine.old) (E.calls engine.new) }
     ensures same_longest { E.longest engine.new ≡ E.longest engine.old }
 {
     counts_add();
@@ -131,8 +131,7 @@ fn write<E: LineEngine>(
     ensures decides { IfOk result (λ found. IfSome found (Decides scene.now.clues.now
         scene.now.picture.now scene.now.facts.now keeps)) }
     ensures broken_off { IfOk result (λ found. IsNone found → way.until ≡ None → ⊥) }
-    ensures counts { (evaluations : ℕ)
-        × Counts evaluations 0 meter.old meter.new (E.calls engine.old) (E.calls engine.new) }
+    ensures counts { CountsAny meter.old meter.new (E.calls engine.old) (E.calls engine.new) }
     ensures same_longest { E.longest engine.new ≡ E.longest engine.old }
 {
     let written = write_tree(alloc, engine, scene, no_lines(alloc, keeps), way, meter)?;

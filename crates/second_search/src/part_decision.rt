@@ -4,7 +4,7 @@
 ghost use Rattle.std.specs.Prelude.{◌≡◌, ◌≤◌, ℕ, length, IfOk, OnOk};
 ghost use Rattle.line_settle.specs.Counting.{Counts};
 ghost use Rattle.second_search.specs.Parts.{IsOtherFilling, IsPart, IsScene};
-ghost use Rattle.second_search.specs.Searching.{CountsSome, EndsPast, EndsTrue, EndsWithin, alone, raised};
+ghost use Rattle.second_search.specs.Searching.{CountsAny, CountsSome, EndsPast, EndsTrue, EndsWithin, alone, raised};
 
 use crate::bounds::{BOUNDS, Bounds};
 use crate::counting::{Ending, Searched};
@@ -37,8 +37,7 @@ pub(crate) fn decide_part<E: LineEngine>(
     ensures ends { IfOk result (λ searched. (n : ℕ) × ((searched.splits ≡ raised 0 n)
         × EndsWithin scene.now.clues.now scene.now.picture.now
         (alone cells.now scene.now.facts.now scene.now.picture.now) allowance searched.ending n)) }
-    ensures counts { (evaluations : ℕ)
-        × Counts evaluations 0 meter.old meter.new (E.calls engine.old) (E.calls engine.new) }
+    ensures counts { CountsAny meter.old meter.new (E.calls engine.old) (E.calls engine.new) }
     ensures evaluates { OnOk result
         (CountsSome meter.old meter.new (E.calls engine.old) (E.calls engine.new)) }
     ensures same_longest { E.longest engine.new ≡ E.longest engine.old }
@@ -114,8 +113,7 @@ fn climb_part<E: LineEngine>(
     requires wide { length scene.now.clues.now.columns ≤ E.longest engine.old }
     ensures ends { IfOk result (EndsTrue scene.now.clues.now scene.now.picture.now
         (alone cells.now scene.now.facts.now scene.now.picture.now)) }
-    ensures counts { (evaluations : ℕ)
-        × Counts evaluations 0 meter.old meter.new (E.calls engine.old) (E.calls engine.new) }
+    ensures counts { CountsAny meter.old meter.new (E.calls engine.old) (E.calls engine.new) }
     ensures same_longest { E.longest engine.new ≡ E.longest engine.old }
 {
     counts_add();
@@ -151,8 +149,7 @@ fn search_alone<E: LineEngine>(
     requires wide { length scene.now.clues.now.columns ≤ E.longest engine.old }
     ensures ends { IfOk result (EndsTrue scene.now.clues.now scene.now.picture.now
         (alone cells.now scene.now.facts.now scene.now.picture.now)) }
-    ensures counts { (evaluations : ℕ)
-        × Counts evaluations 0 meter.old meter.new (E.calls engine.old) (E.calls engine.new) }
+    ensures counts { CountsAny meter.old meter.new (E.calls engine.old) (E.calls engine.new) }
     ensures same_longest { E.longest engine.new ≡ E.longest engine.old }
 {
     clues_are_of_lines();

@@ -1,10 +1,10 @@
 //! The search that writes a tree, whose lines may be kept or dropped. Each line is lawful where it is written; which cell is split is
 //! free.
 
-ghost use Rattle.std.specs.Prelude.{◌≡◌, ℕ, None, IfOk, IsTrue};
-ghost use Rattle.line_settle.specs.Counting.{Counts};
+ghost use Rattle.std.specs.Prelude.{◌≡◌, None, IfOk, IsTrue};
 ghost use Rattle.propagate.specs.Closing.{AreClosable};
 ghost use Rattle.second_search.specs.Trees.{Advances, Turns, Writes};
+ghost use Rattle.second_search.specs.Searching.{CountsAny};
 
 use crate::cell_lines::put_both;
 use crate::pending::Pending;
@@ -56,8 +56,7 @@ pub(crate) fn write_tree<E: LineEngine>(
     requires { AreClosable scene.now.clues.now (E.longest engine.old) scene.now.facts.now }
     ensures writes { IfOk result
         (Writes scene.now.clues.now scene.now.picture.now scene.now.facts.now lines way.until) }
-    ensures counts { (evaluations : ℕ)
-        × Counts evaluations 0 meter.old meter.new (E.calls engine.old) (E.calls engine.new) }
+    ensures counts { CountsAny meter.old meter.new (E.calls engine.old) (E.calls engine.new) }
     ensures same_longest { E.longest engine.new ≡ E.longest engine.old }
 {
     counts_add();
@@ -121,8 +120,7 @@ impl Growing {
         requires { AreClosable scene.now.clues.now (E.longest engine.old) self.old.pending.at_hand }
         ensures turns { IfOk result
             (Turns scene.now.clues.now scene.now.picture.now self.old self.new) }
-        ensures counts { (evaluations : ℕ)
-            × Counts evaluations 0 meter.old meter.new (E.calls engine.old) (E.calls engine.new) }
+        ensures counts { CountsAny meter.old meter.new (E.calls engine.old) (E.calls engine.new) }
         ensures same_longest { E.longest engine.new ≡ E.longest engine.old }
     {
         counts_add();
@@ -159,8 +157,7 @@ impl Growing {
         requires { AreClosable scene.now.clues.now (E.longest engine.old) self.old.pending.at_hand }
         ensures turns { IfOk result
             (Turns scene.now.clues.now scene.now.picture.now self.old self.new) }
-        ensures counts { (evaluations : ℕ)
-            × Counts evaluations 0 meter.old meter.new (E.calls engine.old) (E.calls engine.new) }
+        ensures counts { CountsAny meter.old meter.new (E.calls engine.old) (E.calls engine.new) }
         ensures same_longest { E.longest engine.new ≡ E.longest engine.old }
     {
         let facts = self.pending.at_hand();

@@ -1,12 +1,12 @@
 //! Closing a branch line by line, with the lines that force something written.
 
-ghost use Rattle.std.specs.Prelude.{◌≡◌, ◌≤◌, ℕ, length, IfOk, IsTrue};
+ghost use Rattle.std.specs.Prelude.{◌≡◌, ◌≤◌, length, IfOk, IsTrue};
 ghost use Rattle.picture.specs.Rows.{line_of, HasLine};
 ghost use Rattle.clues.specs.ClueBook.{HasClue};
-ghost use Rattle.line_settle.specs.Counting.{Counts};
 ghost use Rattle.line_settle.specs.FactSets.{IsFacts};
 ghost use Rattle.propagate.specs.Closing.{AreClosable};
 ghost use Rattle.second_search.specs.Trees.{Settles};
+ghost use Rattle.second_search.specs.Searching.{CountsAny};
 
 use crate::tree_lines::{Lines, line_number};
 use cert_text::CertLine;
@@ -31,8 +31,7 @@ pub(crate) fn close_written<E: LineEngine>(
 ) -> Result<Outcome, AllocError>
     requires { AreClosable clues.now (E.longest engine.old) facts.old }
     ensures settles { IfOk result (Settles clues.now facts.old facts.new lines.old lines.new) }
-    ensures counts { (evaluations : ℕ)
-        × Counts evaluations 0 meter.old meter.new (E.calls engine.old) (E.calls engine.new) }
+    ensures counts { CountsAny meter.old meter.new (E.calls engine.old) (E.calls engine.new) }
     ensures same_longest { E.longest engine.new ≡ E.longest engine.old }
 {
     counts_add();
@@ -82,8 +81,7 @@ fn take_line<E: LineEngine>(
     requires line { HasLine facts.old line }
     ensures settles { IfOk result (λ forced.
         Settles clues.now facts.old facts.new lines.old lines.new forced.outcome) }
-    ensures counts { (evaluations : ℕ)
-        × Counts evaluations 0 meter.old meter.new (E.calls engine.old) (E.calls engine.new) }
+    ensures counts { CountsAny meter.old meter.new (E.calls engine.old) (E.calls engine.new) }
     ensures same_longest { E.longest engine.new ≡ E.longest engine.old }
 {
     forcing_closes_a_line();

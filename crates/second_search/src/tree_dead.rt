@@ -1,12 +1,12 @@
 //! Dead lines of a branch whose picture does not have the clues.
 
-ghost use Rattle.std.specs.Prelude.{◌≡◌, ◌↔◌, ℕ, IfOk, IsTrue, MatchOption};
+ghost use Rattle.std.specs.Prelude.{◌≡◌, ◌↔◌, IfOk, IsTrue, MatchOption};
 ghost use Rattle.picture.specs.Rows.{HasLine, line_of};
 ghost use Rattle.clues.specs.ClueBook.{clue_at};
-ghost use Rattle.line_settle.specs.Counting.{Counts};
 ghost use Rattle.line_settle.specs.Fitting.{CanFit};
 ghost use Rattle.propagate.specs.Closing.{AreClosable, EachFits};
 ghost use Rattle.second_search.specs.Trees.{EachFitsAlong, IsDeadLine};
+ghost use Rattle.second_search.specs.Searching.{CountsAny};
 
 use clues::ClueBook;
 use line_settle::laws::counts_add;
@@ -25,8 +25,7 @@ pub(crate) fn dead_line<E: LineEngine>(
     requires { AreClosable clues.now (E.longest engine.old) facts.now }
     ensures dead { IfOk result (λ found.
         MatchOption found (EachFits clues.now facts.now) (IsDeadLine clues.now facts.now)) }
-    ensures counts { (evaluations : ℕ)
-        × Counts evaluations 0 meter.old meter.new (E.calls engine.old) (E.calls engine.new) }
+    ensures counts { CountsAny meter.old meter.new (E.calls engine.old) (E.calls engine.new) }
     ensures same_longest { E.longest engine.new ≡ E.longest engine.old }
 {
     counts_add();
@@ -50,8 +49,7 @@ fn dead_along<E: LineEngine>(
     requires { AreClosable clues.now (E.longest engine.old) facts.now }
     ensures dead { IfOk result (λ found. MatchOption found (EachFitsAlong clues.now facts.now axis)
         (IsDeadLine clues.now facts.now)) }
-    ensures counts { (evaluations : ℕ)
-        × Counts evaluations 0 meter.old meter.new (E.calls engine.old) (E.calls engine.new) }
+    ensures counts { CountsAny meter.old meter.new (E.calls engine.old) (E.calls engine.new) }
     ensures same_longest { E.longest engine.new ≡ E.longest engine.old }
 {
     counts_add();
@@ -83,8 +81,7 @@ fn some_fits<E: LineEngine>(
     requires line { HasLine facts.now line }
     ensures fits { IfOk result (λ fits.
         IsTrue fits ↔ CanFit (clue_at clues.now line) (line_of facts.now line)) }
-    ensures counts { (evaluations : ℕ)
-        × Counts evaluations 0 meter.old meter.new (E.calls engine.old) (E.calls engine.new) }
+    ensures counts { CountsAny meter.old meter.new (E.calls engine.old) (E.calls engine.new) }
     ensures same_longest { E.longest engine.new ≡ E.longest engine.old }
 {
     let _ = (facts.height(), engine.calls());

@@ -3,12 +3,12 @@
 ghost use Rattle.std.specs.Prelude.{◌≡◌, ◌<◌, ◌↔◌, ℕ, length, IfOk, IfSome, IsTrue, MatchOption};
 ghost use Rattle.picture.specs.Picture.{IsPicture};
 ghost use Rattle.picture.specs.Rows.{cell_at, width_of};
-ghost use Rattle.line_settle.specs.Counting.{Counts};
 ghost use Rattle.line_settle.specs.FactSets.{Leaves, SameShape};
 ghost use Rattle.propagate.specs.Closing.{AreClosable};
 ghost use Rattle.propagate.specs.Filling.{LeavesPicture};
 ghost use Rattle.second_search.specs.Looking.{AreSettled};
 ghost use Rattle.second_search.specs.Trees.{Continues, IsComparedTo, IsOtherIn};
+ghost use Rattle.second_search.specs.Searching.{CountsAny};
 
 use crate::looking::{first_unsettled, shown_picture};
 use crate::scene::Scene;
@@ -52,8 +52,7 @@ pub(crate) fn next_step<E: LineEngine>(
     requires { AreClosable scene.now.clues.now (E.longest engine.old) facts.now }
     ensures continues { IfOk result
         (Continues scene.now.clues.now scene.now.picture.now facts.now) }
-    ensures counts { (evaluations : ℕ)
-        × Counts evaluations 0 meter.old meter.new (E.calls engine.old) (E.calls engine.new) }
+    ensures counts { CountsAny meter.old meter.new (E.calls engine.old) (E.calls engine.new) }
     ensures same_longest { E.longest engine.new ≡ E.longest engine.old }
 {
     counts_add();
@@ -185,8 +184,7 @@ fn end_at<E: LineEngine>(
     requires { AreClosable scene.now.clues.now (E.longest engine.old) facts.now }
     ensures continues { IfOk result
         (Continues scene.now.clues.now scene.now.picture.now facts.now) }
-    ensures counts { (evaluations : ℕ)
-        × Counts evaluations 0 meter.old meter.new (E.calls engine.old) (E.calls engine.new) }
+    ensures counts { CountsAny meter.old meter.new (E.calls engine.old) (E.calls engine.new) }
     ensures same_longest { E.longest engine.new ≡ E.longest engine.old }
 {
     let _ = engine.calls();
@@ -211,8 +209,7 @@ fn end_settled<E: LineEngine>(
     requires settled { AreSettled facts.now }
     ensures continues { IfOk result
         (Continues scene.now.clues.now scene.now.picture.now facts.now) }
-    ensures counts { (evaluations : ℕ)
-        × Counts evaluations 0 meter.old meter.new (E.calls engine.old) (E.calls engine.new) }
+    ensures counts { CountsAny meter.old meter.new (E.calls engine.old) (E.calls engine.new) }
     ensures same_longest { E.longest engine.new ≡ E.longest engine.old }
 {
     clues_are_of_lines();
