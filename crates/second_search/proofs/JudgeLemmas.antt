@@ -4,7 +4,7 @@ use Rattle.std.proofs.lemmas.Bool.{cases_eq}
 use Rattle.std.proofs.lemmas.List.{get_or-set_other, get_or-set_same, length-set}
 use Rattle.clues.specs.ClueBook.{Clues}
 use Rattle.line_settle.specs.declared.meter.Meter.{Meter}
-use Rattle.line_settle.specs.Laws.{CountsAdd}
+use Rattle.line_settle.specs.FitLaws.{counting_adds}
 use Rattle.second_search.specs.declared.counting.Ending.{Ending}
 use Rattle.second_search.specs.declared.counting.Ending.TheVariants as ending
 use Rattle.second_search.specs.declared.keeper.Answer.{Answer}
@@ -52,15 +52,15 @@ done_as s t a b start end p q One Is d turn = record {
   at_least = d.at_least;
 }
 
-pub done_both : CountsAdd → (s t u a b c : ℕ) (start between end : Meter) (p q r : ℕ) (One Other Is : ℕ → ℕ → Type 0) → Done s t a b start between p q One → Done t u b c between end q r Other → ((m n x y : ℕ) → One m n → Other x y → Is (m + x) (n + y)) → Done s u a c start end p r Is
-done_both add s t u a b c start between end p q r One Other Is d f join = record {
+pub done_both : (s t u a b c : ℕ) (start between end : Meter) (p q r : ℕ) (One Other Is : ℕ → ℕ → Type 0) → Done s t a b start between p q One → Done t u b c between end q r Other → ((m n x y : ℕ) → One m n → Other x y → Is (m + x) (n + y)) → Done s u a c start end p r Is
+done_both s t u a b c start between end p q r One Other Is d f join = record {
   searched = d.searched + f.searched;
   splits = d.splits + f.splits;
   evaluations = d.evaluations + f.evaluations;
   is = join d.searched d.splits f.searched f.splits d.is f.is;
   searched_is = raised_both s t u d.searched f.searched d.searched_is f.searched_is;
   splits_is = raised_both a b c d.splits f.splits d.splits_is f.splits_is;
-  counts = add d.evaluations 0 f.evaluations 0 start between end p q r d.counts f.counts;
+  counts = counting_adds d.evaluations 0 f.evaluations 0 start between end p q r d.counts f.counts;
   none = no_work d.searched f.searched d.evaluations f.evaluations d.none f.none;
   at_least = (let one = d.at_least in let other = f.at_least in omega arith);
 }
@@ -80,9 +80,9 @@ done_added s t a b spent start end p q Is d x y = record {
 }
 
 -- what is done first and what is done then, counted together
-pub done_then : CountsAdd → (before here after : Spent) (start between end : Meter) (p q r : ℕ) (One Other Is : ℕ → ℕ → Type 0) → DoneBy before start between p q One → DoneBy here between end q r Other → AddsUp before here after → ((m n x y : ℕ) → One m n → Other x y → Is (m + x) (n + y)) → DoneBy after start end p r Is
-done_then add before here after start between end p q r One Other Is d f up join =
-    done_both add 0 before.searched after.searched 0 before.splits after.splits start between end p q r One Other Is d (done_added before.searched after.searched before.splits after.splits here between end q r Other f up.searched up.splits) join
+pub done_then : (before here after : Spent) (start between end : Meter) (p q r : ℕ) (One Other Is : ℕ → ℕ → Type 0) → DoneBy before start between p q One → DoneBy here between end q r Other → AddsUp before here after → ((m n x y : ℕ) → One m n → Other x y → Is (m + x) (n + y)) → DoneBy after start end p r Is
+done_then before here after start between end p q r One Other Is d f up join =
+    done_both 0 before.searched after.searched 0 before.splits after.splits start between end p q r One Other Is d (done_added before.searched after.searched before.splits after.splits here between end q r Other f up.searched up.splits) join
 
 module _ (clues : Clues) (facts picture : List (List ℕ)) (allowance : Option ℕ) (kept : List KeptPart) where
   pub passes_more : (i : ℕ) (m n x y : ℕ) → Passes clues facts picture allowance kept i m n → EndsPart clues facts picture allowance (kept_at kept i) ending.Nothing x y → Passes clues facts picture allowance kept (suc i) (m + x) (n + y)

@@ -12,7 +12,7 @@ use crate::cell_lines::lines_at;
 use crate::coming::{Coming, Due, come_to};
 use crate::pending::Pending;
 use clues::ClueBook;
-use line_settle::laws::{counts_add, least_is_unique};
+use line_settle::laws::least_is_unique;
 use line_settle::{Facts, LineEngine, Meter};
 use picture::{LineSet, Picture};
 use std::alloc::{AllocError, Global};
@@ -83,7 +83,6 @@ pub(crate) fn search_counted<E: LineEngine>(
         (CountsSome meter.old meter.new (E.calls engine.old) (E.calls engine.new)) }
     ensures same_longest { E.longest engine.new ≡ E.longest engine.old }
 {
-    counts_add();
     least_is_unique();
     let _ = (known.height(), engine.calls());
     let _evaluations = meter.evaluations;

@@ -40,7 +40,6 @@ use crate::parts::Parts;
 use crate::same_lines::same_lines;
 use crate::scene::Scene;
 use clues::laws::{books_are_their_clues, clues_are_of_lines};
-use line_settle::laws::counts_add;
 use line_settle::{Facts, LineEngine, Meter};
 use picture::laws::same_cells_are_equal;
 use picture::{CellSet, LineSet, MAX_SIDE, Picture};
@@ -422,7 +421,6 @@ impl Keeper {
         ensures counts { CountsAny meter.old meter.new (E.calls engine.old) (E.calls engine.new) }
         ensures same_longest { E.longest engine.new ≡ E.longest engine.old }
     {
-        counts_add();
         let _ = engine.calls();
         let _evaluations = meter.evaluations;
         let _trials = meter.trials;

@@ -10,7 +10,6 @@ use crate::scene::Scene;
 use crate::tree::{Written, write_tree};
 use crate::tree_lines::Lines;
 use crate::tree_step::Way;
-use line_settle::laws::counts_add;
 use line_settle::{LineEngine, Meter};
 use picture::Picture;
 use split_choice::Choice;
@@ -55,7 +54,6 @@ pub fn climb<E: LineEngine>(
         × Counts evaluations 0 meter.old meter.new (E.calls engine.old) (E.calls engine.new) }
     ensures same_longest { E.longest engine.new ≡ E.longest engine.old }
 {
-    counts_add();
     let _ = engine.calls();
     let _evaluations = meter.evaluations;
     let _trials = meter.trials;
@@ -95,7 +93,6 @@ fn try_both<E: LineEngine>(
     ensures counts { CountsAny meter.old meter.new (E.calls engine.old) (E.calls engine.new) }
     ensures same_longest { E.longest engine.new ≡ E.longest engine.old }
 {
-    counts_add();
     let _ = engine.calls();
     let _evaluations = meter.evaluations;
     let _trials = meter.trials;

@@ -14,7 +14,6 @@ use crate::part_search::{leave_alone, lines_through};
 use crate::parts::Parts;
 use crate::scene::Scene;
 use clues::laws::{books_are_their_clues, clues_are_of_lines};
-use line_settle::laws::counts_add;
 use line_settle::{Facts, LineEngine, Meter};
 use picture::{Axis, CellSet, LineId, LineSet, MAX_SIDE, Picture};
 use propagate::laws::{closing_keeps_fillings, only_is_closed};
@@ -67,7 +66,6 @@ pub(crate) fn find_in_parts<E: LineEngine>(
     ensures counts { CountsAny meter.old meter.new (E.calls engine.old) (E.calls engine.new) }
     ensures same_longest { E.longest engine.new ≡ E.longest engine.old }
 {
-    counts_add();
     let _ = engine.calls();
     let _evaluations = meter.evaluations;
     let _trials = meter.trials;
@@ -103,7 +101,6 @@ fn find_in_each<E: LineEngine>(
     ensures counts { CountsAny meter.old meter.new (E.calls engine.old) (E.calls engine.new) }
     ensures same_longest { E.longest engine.new ≡ E.longest engine.old }
 {
-    counts_add();
     let _ = engine.calls();
     let _evaluations = meter.evaluations;
     let _trials = meter.trials;
@@ -135,7 +132,6 @@ pub(crate) fn find_near<E: LineEngine>(
     ensures counts { CountsAny meter.old meter.new (E.calls engine.old) (E.calls engine.new) }
     ensures same_longest { E.longest engine.new ≡ E.longest engine.old }
 {
-    counts_add();
     let _ = engine.calls();
     let _evaluations = meter.evaluations;
     let _trials = meter.trials;
@@ -174,7 +170,6 @@ fn find_in_band<E: LineEngine>(
     ensures counts { CountsAny meter.old meter.new (E.calls engine.old) (E.calls engine.new) }
     ensures same_longest { E.longest engine.new ≡ E.longest engine.old }
 {
-    counts_add();
     let _ = engine.calls();
     let _evaluations = meter.evaluations;
     let _trials = meter.trials;

@@ -11,7 +11,6 @@ use crate::laws::sound_facts;
 use crate::near::find_in_parts;
 use crate::scene::Scene;
 use clues::laws::clues_are_of_lines;
-use line_settle::laws::counts_add;
 use line_settle::{Facts, LineEngine, Meter};
 use picture::Picture;
 use propagate::{CloseFault, InOrder, settle_afresh};
@@ -37,7 +36,6 @@ pub fn find_near_other<E: LineEngine>(
         × Counts evaluations 0 meter.old meter.new (E.calls engine.old) (E.calls engine.new) }
     ensures same_longest { E.longest engine.new ≡ E.longest engine.old }
 {
-    counts_add();
     let _ = engine.calls();
     let _evaluations = meter.evaluations;
     let _trials = meter.trials;

@@ -14,7 +14,6 @@ use crate::near::{SIZES, Windows, find_near};
 use crate::part_search::{leave_alone, search_part};
 use crate::scene::Scene;
 use clues::laws::clues_are_of_lines;
-use line_settle::laws::counts_add;
 use line_settle::{LineEngine, Meter};
 use picture::{CellSet, Picture};
 use propagate::laws::{closing_keeps_fillings, only_is_closed};
@@ -73,7 +72,6 @@ pub fn decide_within<E: LineEngine>(
         (CountsSome meter.old meter.new (E.calls engine.old) (E.calls engine.new)) }
     ensures same_longest { E.longest engine.new ≡ E.longest engine.old }
 {
-    counts_add();
     let _ = engine.calls();
     let _evaluations = meter.evaluations;
     let _trials = meter.trials;
@@ -116,7 +114,6 @@ fn climb_part<E: LineEngine>(
     ensures counts { CountsAny meter.old meter.new (E.calls engine.old) (E.calls engine.new) }
     ensures same_longest { E.longest engine.new ≡ E.longest engine.old }
 {
-    counts_add();
     fillings_are_of_facts();
     let _ = engine.calls();
     let _evaluations = meter.evaluations;

@@ -13,7 +13,6 @@ use crate::tree_closing::close_written;
 use crate::tree_lines::{Lines, cell_number};
 use crate::tree_step::{TreeStep, Way, next_step};
 use cert_text::CertLine;
-use line_settle::laws::counts_add;
 use line_settle::{LineEngine, Meter, Outcome};
 use picture::{LineSet, MAX_SIDE, Picture};
 use propagate::all_lines;
@@ -59,7 +58,6 @@ pub(crate) fn write_tree<E: LineEngine>(
     ensures counts { CountsAny meter.old meter.new (E.calls engine.old) (E.calls engine.new) }
     ensures same_longest { E.longest engine.new ≡ E.longest engine.old }
 {
-    counts_add();
     only_is_closed();
     closing_keeps_fillings();
     let _ = engine.calls();
@@ -123,7 +121,6 @@ impl Growing {
         ensures counts { CountsAny meter.old meter.new (E.calls engine.old) (E.calls engine.new) }
         ensures same_longest { E.longest engine.new ≡ E.longest engine.old }
     {
-        counts_add();
         let _ = engine.calls();
         let _evaluations = meter.evaluations;
         let _trials = meter.trials;

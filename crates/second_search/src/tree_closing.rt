@@ -11,7 +11,7 @@ ghost use Rattle.second_search.specs.Searching.{CountsAny};
 use crate::tree_lines::{Lines, line_number};
 use cert_text::CertLine;
 use clues::ClueBook;
-use line_settle::laws::{counts_add, forcing_closes_a_line};
+use line_settle::laws::forcing_closes_a_line;
 use line_settle::{Facts, Forced, LineEngine, Meter, Outcome, force_crossing};
 use picture::{Axis, LineId, LineSet};
 use propagate::{Agenda, InOrder};
@@ -34,7 +34,6 @@ pub(crate) fn close_written<E: LineEngine>(
     ensures counts { CountsAny meter.old meter.new (E.calls engine.old) (E.calls engine.new) }
     ensures same_longest { E.longest engine.new ≡ E.longest engine.old }
 {
-    counts_add();
     let _ = engine.calls();
     let _evaluations = meter.evaluations;
     let _trials = meter.trials;

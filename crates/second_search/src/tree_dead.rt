@@ -9,7 +9,6 @@ ghost use Rattle.second_search.specs.Trees.{EachFitsAlong, IsDeadLine};
 ghost use Rattle.second_search.specs.Searching.{CountsAny};
 
 use clues::ClueBook;
-use line_settle::laws::counts_add;
 use line_settle::{Facts, LineEngine, Meter, Outcome, force};
 use picture::{Axis, LineId};
 use std::alloc::AllocError;
@@ -28,7 +27,6 @@ pub(crate) fn dead_line<E: LineEngine>(
     ensures counts { CountsAny meter.old meter.new (E.calls engine.old) (E.calls engine.new) }
     ensures same_longest { E.longest engine.new ≡ E.longest engine.old }
 {
-    counts_add();
     let _ = engine.calls();
     let _evaluations = meter.evaluations;
     let _trials = meter.trials;
@@ -52,7 +50,6 @@ fn dead_along<E: LineEngine>(
     ensures counts { CountsAny meter.old meter.new (E.calls engine.old) (E.calls engine.new) }
     ensures same_longest { E.longest engine.new ≡ E.longest engine.old }
 {
-    counts_add();
     let _ = engine.calls();
     let _evaluations = meter.evaluations;
     let _trials = meter.trials;

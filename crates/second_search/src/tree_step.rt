@@ -16,7 +16,6 @@ use crate::tree_dead::dead_line;
 use crate::tree_lines::line_number;
 use cert_text::CertLine;
 use clues::laws::{books_are_their_clues, clues_are_of_lines};
-use line_settle::laws::counts_add;
 use line_settle::{Facts, LineEngine, Meter};
 use picture::Picture;
 use split_choice::{Cell, Choice, Chosen, Node, Plan, Puzzle, choose, filled, fills_all, leaves};
@@ -55,7 +54,6 @@ pub(crate) fn next_step<E: LineEngine>(
     ensures counts { CountsAny meter.old meter.new (E.calls engine.old) (E.calls engine.new) }
     ensures same_longest { E.longest engine.new ≡ E.longest engine.old }
 {
-    counts_add();
     let _ = engine.calls();
     let _evaluations = meter.evaluations;
     let _trials = meter.trials;

@@ -26,28 +26,28 @@ look_once-requires-clause-closable g c =
     can_close_like c.args.book.now _ _ c.args.start.facts c.loop-search.search.pending.at_hand i.ready.same_shape i.same_longest c.requires.closable
 
 pub returns-in_err-step-clause-counts : goal.returns-in_err-step-clause-counts
-returns-in_err-step-clause-counts g c = counts_more c.counts_add.ensures _ _ _ _ _ _ c.loop-search.invariant.counts c.look_once.ensures.counts
+returns-in_err-step-clause-counts g c = counts_more _ _ _ _ _ _ c.loop-search.invariant.counts c.look_once.ensures.counts
 
 pub returns-in-Other-clause-counts : goal.returns-in-Other-clause-counts
-returns-in-Other-clause-counts g c = counts_more c.counts_add.ensures _ _ _ _ _ _ c.loop-search.invariant.counts c.look_once.ensures.counts
+returns-in-Other-clause-counts g c = counts_more _ _ _ _ _ _ c.loop-search.invariant.counts c.look_once.ensures.counts
 
 pub returns-in-Halted-clause-counts : goal.returns-in-Halted-clause-counts
-returns-in-Halted-clause-counts g c = counts_more c.counts_add.ensures _ _ _ _ _ _ c.loop-search.invariant.counts c.look_once.ensures.counts
+returns-in-Halted-clause-counts g c = counts_more _ _ _ _ _ _ c.loop-search.invariant.counts c.look_once.ensures.counts
 
 pub returns-in_err-next-clause-counts : goal.returns-in_err-next-clause-counts
-returns-in_err-next-clause-counts g c = counts_more c.counts_add.ensures _ _ _ _ _ _ c.loop-search.invariant.counts c.look_once.ensures.counts
+returns-in_err-next-clause-counts g c = counts_more _ _ _ _ _ _ c.loop-search.invariant.counts c.look_once.ensures.counts
 
 pub returns-in-None-clause-counts : goal.returns-in-None-clause-counts
-returns-in-None-clause-counts g c = counts_more c.counts_add.ensures _ _ _ _ _ _ c.loop-search.invariant.counts c.look_once.ensures.counts
+returns-in-None-clause-counts g c = counts_more _ _ _ _ _ _ c.loop-search.invariant.counts c.look_once.ensures.counts
 
 pub returns-in-Other-clause-evaluates : goal.returns-in-Other-clause-evaluates
-returns-in-Other-clause-evaluates g c = counts_some c.counts_add.ensures _ _ _ _ _ _ c.loop-search.invariant.counts c.in_ok-step.ensures.evaluates
+returns-in-Other-clause-evaluates g c = counts_some _ _ _ _ _ _ c.loop-search.invariant.counts c.in_ok-step.ensures.evaluates
 
 pub returns-in-Halted-clause-evaluates : goal.returns-in-Halted-clause-evaluates
-returns-in-Halted-clause-evaluates g c = counts_some c.counts_add.ensures _ _ _ _ _ _ c.loop-search.invariant.counts c.in_ok-step.ensures.evaluates
+returns-in-Halted-clause-evaluates g c = counts_some _ _ _ _ _ _ c.loop-search.invariant.counts c.in_ok-step.ensures.evaluates
 
 pub returns-in-None-clause-evaluates : goal.returns-in-None-clause-evaluates
-returns-in-None-clause-evaluates g c = counts_some c.counts_add.ensures _ _ _ _ _ _ c.loop-search.invariant.counts c.in_ok-step.ensures.evaluates
+returns-in-None-clause-evaluates g c = counts_some _ _ _ _ _ _ c.loop-search.invariant.counts c.in_ok-step.ensures.evaluates
 
 pub returns-in-Other-clause-ends : goal.returns-in-Other-clause-ends
 returns-in-Other-clause-ends g c =
@@ -133,7 +133,7 @@ loop-search-preserved g c =
       ready = ready_at book first u.at_hand cell c.lines_at-dirty.result next.0.0 next.0.1 (subst Q c.at_hand.ensures c.lines_at-dirty.ensures.lines) c.lines_at-dirty.ensures.both;
       some = name_counts c.lines_at-dirty.result (across cell.row) c.lines_at-dirty.ensures.both.0;
       behind = next.1;
-      counts = counts_more c.counts_add.ensures _ _ _ _ _ _ c.loop-search.invariant.counts c.look_once.ensures.counts;
+      counts = counts_more _ _ _ _ _ _ c.loop-search.invariant.counts c.look_once.ensures.counts;
       same_longest = c.look_once.ensures.same_longest ∙ c.loop-search.invariant.same_longest;
     }
 

@@ -3,13 +3,13 @@ use Rattle.second_search.proofs.CountLemmas.{counts_more}
 use Rattle.second_search.proofs.near.find_in_band.Goals as goal
 
 pub returns-in_err-found-clause-counts : goal.returns-in_err-found-clause-counts
-returns-in_err-found-clause-counts g c = counts_more c.counts_add.ensures _ _ _ _ _ _ c.loop-at.invariant.counts c.find_inside.ensures.counts
+returns-in_err-found-clause-counts g c = counts_more _ _ _ _ _ _ c.loop-at.invariant.counts c.find_inside.ensures.counts
 
 pub returns-then-is_some-clause-counts : goal.returns-then-is_some-clause-counts
-returns-then-is_some-clause-counts g c = counts_more c.counts_add.ensures _ _ _ _ _ _ c.loop-at.invariant.counts c.find_inside.ensures.counts
+returns-then-is_some-clause-counts g c = counts_more _ _ _ _ _ _ c.loop-at.invariant.counts c.find_inside.ensures.counts
 
 pub loop-at-preserved : goal.loop-at-preserved
 loop-at-preserved g c = record {
-  counts = counts_more c.counts_add.ensures _ _ _ _ _ _ c.loop-at.invariant.counts c.find_inside.ensures.counts;
+  counts = counts_more _ _ _ _ _ _ c.loop-at.invariant.counts c.find_inside.ensures.counts;
   same_longest = c.find_inside.ensures.same_longest ∙ c.loop-at.invariant.same_longest;
 }

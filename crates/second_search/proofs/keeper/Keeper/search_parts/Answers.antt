@@ -9,17 +9,17 @@ use Rattle.second_search.proofs.keeper.Keeper.search_parts.Goals as goal
 pub returns-in_err-ending-clause-counts : goal.returns-in_err-ending-clause-counts
 returns-in_err-ending-clause-counts g c =
     let i = c.loop-i.invariant in
-    counts_more c.counts_add.ensures _ _ _ _ _ _ (i.done.evaluations, i.done.counts) c.search_one.ensures.counts
+    counts_more _ _ _ _ _ _ (i.done.evaluations, i.done.counts) c.search_one.ensures.counts
 
 pub returns-in-Found-clause-counts : goal.returns-in-Found-clause-counts
 returns-in-Found-clause-counts g c =
     let i = c.loop-i.invariant in
-    counts_more c.counts_add.ensures _ _ _ _ _ _ (i.done.evaluations, i.done.counts) c.search_one.ensures.counts
+    counts_more _ _ _ _ _ _ (i.done.evaluations, i.done.counts) c.search_one.ensures.counts
 
 pub returns-in-BrokenOff-clause-counts : goal.returns-in-BrokenOff-clause-counts
 returns-in-BrokenOff-clause-counts g c =
     let i = c.loop-i.invariant in
-    counts_more c.counts_add.ensures _ _ _ _ _ _ (i.done.evaluations, i.done.counts) c.search_one.ensures.counts
+    counts_more _ _ _ _ _ _ (i.done.evaluations, i.done.counts) c.search_one.ensures.counts
 
 pub returns-in-Found-clause-stops : goal.returns-in-Found-clause-stops
 returns-in-Found-clause-stops g c =
@@ -32,7 +32,7 @@ returns-in-Found-clause-stops g c =
     let here = EndsPart s.clues.now s.facts.now s.picture.now c.args.allowance (kept_at kept n) in
     let P : Ending → Type 0 = λ x. DoneBy c.in_ok-ending.field-0.1 c.loop-i.meter c.search_one.new.meter (g.E.LineEngine.calls c.loop-i.engine) (g.E.LineEngine.calls c.search_one.new.engine) (here x) in
     let found = ending.Found c.in-Found.picture in
-    done_then c.counts_add.ensures _ _ _ _ _ _ _ _ _ before (here found) (StopsAt s.clues.now s.facts.now s.picture.now c.args.allowance kept n found) c.loop-i.invariant.done (subst P c.in-Found.is c.in_ok-ending.ensures.ends) c.plus.ensures (λ m k x y. stops_here s.clues.now s.facts.now s.picture.now c.args.allowance kept n found m k x y inside)
+    done_then _ _ _ _ _ _ _ _ _ before (here found) (StopsAt s.clues.now s.facts.now s.picture.now c.args.allowance kept n found) c.loop-i.invariant.done (subst P c.in-Found.is c.in_ok-ending.ensures.ends) c.plus.ensures (λ m k x y. stops_here s.clues.now s.facts.now s.picture.now c.args.allowance kept n found m k x y inside)
 
 pub returns-in-BrokenOff-clause-stops : goal.returns-in-BrokenOff-clause-stops
 returns-in-BrokenOff-clause-stops g c =
@@ -44,7 +44,7 @@ returns-in-BrokenOff-clause-stops g c =
     let before = Passes s.clues.now s.facts.now s.picture.now c.args.allowance kept n in
     let here = EndsPart s.clues.now s.facts.now s.picture.now c.args.allowance (kept_at kept n) in
     let P : Ending → Type 0 = λ x. DoneBy c.in_ok-ending.field-0.1 c.loop-i.meter c.search_one.new.meter (g.E.LineEngine.calls c.loop-i.engine) (g.E.LineEngine.calls c.search_one.new.engine) (here x) in
-    done_then c.counts_add.ensures _ _ _ _ _ _ _ _ _ before (here ending.BrokenOff) (StopsAt s.clues.now s.facts.now s.picture.now c.args.allowance kept n ending.BrokenOff) c.loop-i.invariant.done (subst P c.in-BrokenOff.is c.in_ok-ending.ensures.ends) c.plus.ensures (λ m k x y. stops_here s.clues.now s.facts.now s.picture.now c.args.allowance kept n ending.BrokenOff m k x y inside)
+    done_then _ _ _ _ _ _ _ _ _ before (here ending.BrokenOff) (StopsAt s.clues.now s.facts.now s.picture.now c.args.allowance kept n ending.BrokenOff) c.loop-i.invariant.done (subst P c.in-BrokenOff.is c.in_ok-ending.ensures.ends) c.plus.ensures (λ m k x y. stops_here s.clues.now s.facts.now s.picture.now c.args.allowance kept n ending.BrokenOff m k x y inside)
 
 pub loop-i-preserved : goal.loop-i-preserved
 loop-i-preserved g c =
@@ -57,6 +57,6 @@ loop-i-preserved g c =
     let Q : ℕ → Type 0 = λ k. DoneBy c.plus.result c.args.meter.now c.search_one.new.meter (g.E.LineEngine.calls c.args.engine.now) (g.E.LineEngine.calls c.search_one.new.engine) (Passes s.clues.now s.facts.now s.picture.now c.args.allowance kept k) in
     let next : suc n ≡ n + 1 = omega arith in
     record {
-      done = subst Q next (done_then c.counts_add.ensures _ _ _ _ _ _ _ _ _ before (here ending.Nothing) (Passes s.clues.now s.facts.now s.picture.now c.args.allowance kept (suc n)) c.loop-i.invariant.done (subst P c.in-Nothing.is c.in_ok-ending.ensures.ends) c.plus.ensures (λ m k x y. passes_more s.clues.now s.facts.now s.picture.now c.args.allowance kept n m k x y));
+      done = subst Q next (done_then _ _ _ _ _ _ _ _ _ before (here ending.Nothing) (Passes s.clues.now s.facts.now s.picture.now c.args.allowance kept (suc n)) c.loop-i.invariant.done (subst P c.in-Nothing.is c.in_ok-ending.ensures.ends) c.plus.ensures (λ m k x y. passes_more s.clues.now s.facts.now s.picture.now c.args.allowance kept n m k x y));
       same_longest = c.search_one.ensures.same_longest ∙ c.loop-i.invariant.same_longest;
     }
