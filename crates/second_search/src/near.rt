@@ -40,14 +40,6 @@ pub(crate) struct Window {
     pub splits: u32,
 }
 
-// Some rows of a part, all its columns, and what its windows are.
-#[derive(Clone, Copy, Drop)]
-struct Band<'a> {
-    rows: &'a [u8],
-    columns: &'a [u8],
-    windows: Windows,
-}
-
 // Looks for another picture that differs in one window of a part alone, by one size after the other. There may be others where the
 // answer is None.
 pub(crate) fn find_in_parts<E: LineEngine>(
@@ -75,39 +67,11 @@ pub(crate) fn find_in_parts<E: LineEngine>(
             size: *size,
             splits,
         };
-        let found = find_in_each(alloc, engine, scene, &parts, windows, meter)?;
-        if found.is_some() {
-            return Ok(found);
-        }
-    }
-    Ok(None)
-}
-
-// The same in windows of one size.
-fn find_in_each<E: LineEngine>(
-    alloc: Global,
-    engine: &mut E,
-    scene: &Scene,
-    parts: &Parts,
-    windows: Windows,
-    meter: &mut Meter,
-) -> Result<Option<Picture>, AllocError>
-    requires scene { IsScene scene.now.clues.now scene.now.givens.now scene.now.facts.now
-        scene.now.picture.now }
-    requires tall { length scene.now.clues.now.rows ≤ E.longest engine.old }
-    requires wide { length scene.now.clues.now.columns ≤ E.longest engine.old }
-    ensures other { IfOk result (λ found. IfSome found
-        (IsOther scene.now.clues.now (HasCell scene.now.givens.now) scene.now.picture.now)) }
-    ensures counts { CountsAny meter.old meter.new (E.calls engine.old) (E.calls engine.new) }
-    ensures same_longest { E.longest engine.new ≡ E.longest engine.old }
-{
-    let _ = engine.calls();
-    let _evaluations = meter.evaluations;
-    let _trials = meter.trials;
-    for i in 0..parts.len() {
-        let found = find_near(alloc, engine, scene, parts.cells(i), windows, meter)?;
-        if let Some(picture) = found {
-            return Ok(Some(picture));
+        for i in 0..parts.len() {
+            let found = find_near(alloc, engine, scene, parts.cells(i), windows, meter)?;
+            if let Some(picture) = found {
+                return Ok(Some(picture));
+            }
         }
     }
     Ok(None)
@@ -138,47 +102,15 @@ pub(crate) fn find_near<E: LineEngine>(
     let lines = lines_through(cells, scene.facts);
     let rows = places_along(alloc, &lines, Axis::Across)?;
     let columns = places_along(alloc, &lines, Axis::Down)?;
-    for at in 0..windows_along(&rows, windows.size) {
-        let band = Band {
-            rows: window_along(&rows, at, windows.size),
-            columns: &columns,
-            windows,
-        };
-        let found = find_in_band(alloc, engine, scene, cells, band, meter)?;
-        if found.is_some() {
-            return Ok(found);
-        }
-    }
-    Ok(None)
-}
-
-// The same in the windows of some rows.
-fn find_in_band<E: LineEngine>(
-    alloc: Global,
-    engine: &mut E,
-    scene: &Scene,
-    cells: &CellSet,
-    band: Band<'_>,
-    meter: &mut Meter,
-) -> Result<Option<Picture>, AllocError>
-    requires scene { IsScene scene.now.clues.now scene.now.givens.now scene.now.facts.now
-        scene.now.picture.now }
-    requires tall { length scene.now.clues.now.rows ≤ E.longest engine.old }
-    requires wide { length scene.now.clues.now.columns ≤ E.longest engine.old }
-    ensures other { IfOk result (λ found. IfSome found
-        (IsOtherFilling scene.now.clues.now scene.now.givens.now scene.now.picture.now cells.now)) }
-    ensures counts { CountsAny meter.old meter.new (E.calls engine.old) (E.calls engine.new) }
-    ensures same_longest { E.longest engine.new ≡ E.longest engine.old }
-{
-    let _ = engine.calls();
-    let _evaluations = meter.evaluations;
-    let _trials = meter.trials;
-    for at in 0..windows_along(band.columns, band.windows.size) {
-        let columns = window_along(band.columns, at, band.windows.size);
-        let window = window_of(scene.facts, cells, band, columns);
-        let found = find_inside(alloc, engine, scene, cells, window, meter)?;
-        if found.is_some() {
-            return Ok(found);
+    for i in 0..windows_along(&rows, windows.size) {
+        let down = window_along(&rows, i, windows.size);
+        for j in 0..windows_along(&columns, windows.size) {
+            let across = window_along(&columns, j, windows.size);
+            let window = window_of(scene.facts, cells, down, across, windows.splits);
+            let found = find_inside(alloc, engine, scene, cells, window, meter)?;
+            if found.is_some() {
+                return Ok(found);
+            }
         }
     }
     Ok(None)
@@ -230,16 +162,16 @@ fn find_inside<E: LineEngine>(
     }
 }
 
-// The open cells of a part in the rows of a band and some columns, and the lines through them.
-fn window_of(facts: &Facts, cells: &CellSet, band: Band<'_>, columns: &[u8]) -> Window
+// The open cells of a part in some rows and columns, with the lines through them, and how many splits a search there may make.
+fn window_of(facts: &Facts, cells: &CellSet, rows: &[u8], columns: &[u8], splits: u32) -> Window
     ensures { IsWindow facts.now cells.now result }
 {
     let mut window = Window {
         cells: CellSet::empty(),
         lines: LineSet::empty(),
-        splits: band.windows.splits,
+        splits,
     };
-    for row in band.rows {
+    for row in rows {
         open_row(facts, cells, *row, columns, &mut window);
     }
     window
