@@ -31,6 +31,7 @@ ghost use Rattle.second_search.specs.Judging.{
   parts_of,
 };
 ghost use Rattle.second_search.specs.Searching.{CountsAny};
+ghost use Rattle.second_search.specs.Scene.{CanSearch};
 
 use crate::carrying::{answer_for, are_named, first_cell};
 use crate::counting::{Ending, Searched};
@@ -335,13 +336,10 @@ impl Keeper {
         allowance: Option<u32>,
         meter: &mut Meter,
     ) -> Result<(Verdict, Spent), AllocError>
-        requires scene { IsScene scene.now.clues.now scene.now.givens.now scene.now.facts.now
-            scene.now.picture.now }
+        requires can { CanSearch scene.now (E.longest engine.old) }
         requires parts { AreParts scene.now.facts.now (parts_of self.old) }
         requires true_answers { AreTrue scene.now.clues.now scene.now.givens.now
             scene.now.picture.now self.old }
-        requires tall { length scene.now.clues.now.rows ≤ E.longest engine.old }
-        requires wide { length scene.now.clues.now.columns ≤ E.longest engine.old }
         ensures judges { IfOk result (λ decided. DoneBy decided.1 meter.old meter.new
             (E.calls engine.old) (E.calls engine.new) (Judges scene.now.clues.now
             scene.now.facts.now scene.now.picture.now allowance self.old self.new decided.0)) }
@@ -409,12 +407,9 @@ impl Keeper {
         allowance: Option<u32>,
         meter: &mut Meter,
     ) -> Result<(Stop, Spent), AllocError>
-        requires scene { IsScene scene.now.clues.now scene.now.givens.now scene.now.facts.now
-            scene.now.picture.now }
+        requires can { CanSearch scene.now (E.longest engine.old) }
         requires parts { (i : ℕ) → i < length self.now
             → IsPart scene.now.facts.now (cells_at self.now i) }
-        requires tall { length scene.now.clues.now.rows ≤ E.longest engine.old }
-        requires wide { length scene.now.clues.now.columns ≤ E.longest engine.old }
         ensures stops { IfOk result (λ gone. DoneBy gone.1 meter.old meter.new
             (E.calls engine.old) (E.calls engine.new) (Stops scene.now.clues.now
             scene.now.facts.now scene.now.picture.now allowance self.now gone.0)) }
@@ -447,11 +442,8 @@ impl Keeper {
         meter: &mut Meter,
     ) -> Result<(Ending, Spent), AllocError>
         requires place { i < length self.now }
-        requires scene { IsScene scene.now.clues.now scene.now.givens.now scene.now.facts.now
-            scene.now.picture.now }
+        requires can { CanSearch scene.now (E.longest engine.old) }
         requires part { IsPart scene.now.facts.now (cells_at self.now i) }
-        requires tall { length scene.now.clues.now.rows ≤ E.longest engine.old }
-        requires wide { length scene.now.clues.now.columns ≤ E.longest engine.old }
         ensures ends { IfOk result (λ ended. DoneBy ended.1 meter.old meter.new
             (E.calls engine.old) (E.calls engine.new) (EndsPart scene.now.clues.now
             scene.now.facts.now scene.now.picture.now allowance (kept_at self.now i) ended.0)) }

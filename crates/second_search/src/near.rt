@@ -1,11 +1,12 @@
 //! Near pictures: other ones that differ from the known picture inside of one window of a part.
 
-ghost use Rattle.std.specs.Prelude.{◌≡◌, ◌≤◌, ◌<◌, length, IfOk, IfSome};
+ghost use Rattle.std.specs.Prelude.{◌≡◌, ◌<◌, IfOk, IfSome};
 ghost use Rattle.picture.specs.CellSet.{HasCell};
 ghost use Rattle.clues.specs.Solution.{IsOther};
 ghost use Rattle.second_search.specs.Near.{IsWindow};
-ghost use Rattle.second_search.specs.Parts.{IsOtherFilling, IsScene};
+ghost use Rattle.second_search.specs.Parts.{IsOtherFilling};
 ghost use Rattle.second_search.specs.Searching.{CountsAny};
+ghost use Rattle.second_search.specs.Scene.{CanSearch};
 
 use crate::cell_lines::put_both;
 use crate::counting::{Ending, Start, search_counted};
@@ -49,10 +50,7 @@ pub(crate) fn find_in_parts<E: LineEngine>(
     splits: u32,
     meter: &mut Meter,
 ) -> Result<Option<Picture>, AllocError>
-    requires scene { IsScene scene.now.clues.now scene.now.givens.now scene.now.facts.now
-        scene.now.picture.now }
-    requires tall { length scene.now.clues.now.rows ≤ E.longest engine.old }
-    requires wide { length scene.now.clues.now.columns ≤ E.longest engine.old }
+    requires { CanSearch scene.now (E.longest engine.old) }
     ensures other { IfOk result (λ found. IfSome found
         (IsOther scene.now.clues.now (HasCell scene.now.givens.now) scene.now.picture.now)) }
     ensures counts { CountsAny meter.old meter.new (E.calls engine.old) (E.calls engine.new) }
@@ -87,10 +85,7 @@ pub(crate) fn find_near<E: LineEngine>(
     windows: Windows,
     meter: &mut Meter,
 ) -> Result<Option<Picture>, AllocError>
-    requires scene { IsScene scene.now.clues.now scene.now.givens.now scene.now.facts.now
-        scene.now.picture.now }
-    requires tall { length scene.now.clues.now.rows ≤ E.longest engine.old }
-    requires wide { length scene.now.clues.now.columns ≤ E.longest engine.old }
+    requires { CanSearch scene.now (E.longest engine.old) }
     ensures other { IfOk result (λ found. IfSome found
         (IsOtherFilling scene.now.clues.now scene.now.givens.now scene.now.picture.now cells.now)) }
     ensures counts { CountsAny meter.old meter.new (E.calls engine.old) (E.calls engine.new) }
@@ -125,11 +120,8 @@ fn find_inside<E: LineEngine>(
     window: Window,
     meter: &mut Meter,
 ) -> Result<Option<Picture>, AllocError>
-    requires scene { IsScene scene.now.clues.now scene.now.givens.now scene.now.facts.now
-        scene.now.picture.now }
+    requires can { CanSearch scene.now (E.longest engine.old) }
     requires window { IsWindow scene.now.facts.now cells.now window }
-    requires tall { length scene.now.clues.now.rows ≤ E.longest engine.old }
-    requires wide { length scene.now.clues.now.columns ≤ E.longest engine.old }
     ensures other { IfOk result (λ found. IfSome found
         (IsOtherFilling scene.now.clues.now scene.now.givens.now scene.now.picture.now cells.now)) }
     ensures counts { CountsAny meter.old meter.new (E.calls engine.old) (E.calls engine.new) }

@@ -6,6 +6,7 @@ ghost use Rattle.clues.specs.Solution.{IsOther};
 ghost use Rattle.line_settle.specs.Counting.{Counts};
 ghost use Rattle.second_search.specs.Parts.{IsScene};
 ghost use Rattle.second_search.specs.Searching.{CountsAny};
+ghost use Rattle.second_search.specs.Scene.{CanSearch};
 
 use crate::laws::sound_facts;
 use crate::near::find_in_parts;
@@ -58,10 +59,7 @@ fn closed<E: LineEngine>(
     scene: &Scene,
     meter: &mut Meter,
 ) -> Result<Option<Facts>, AllocError>
-    requires scene { IsScene scene.now.clues.now scene.now.givens.now scene.now.facts.now
-        scene.now.picture.now }
-    requires tall { length scene.now.clues.now.rows ≤ E.longest engine.old }
-    requires wide { length scene.now.clues.now.columns ≤ E.longest engine.old }
+    requires { CanSearch scene.now (E.longest engine.old) }
     ensures scene { IfOk result (λ found. IfSome found (λ facts.
         IsScene scene.now.clues.now scene.now.givens.now facts scene.now.picture.now)) }
     ensures counts { CountsAny meter.old meter.new (E.calls engine.old) (E.calls engine.new) }

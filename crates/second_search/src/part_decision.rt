@@ -3,8 +3,9 @@
 
 ghost use Rattle.std.specs.Prelude.{◌≡◌, ◌≤◌, ℕ, length, IfOk, OnOk};
 ghost use Rattle.line_settle.specs.Counting.{Counts};
-ghost use Rattle.second_search.specs.Parts.{IsOtherFilling, IsPart, IsScene};
+ghost use Rattle.second_search.specs.Parts.{IsPart, IsScene};
 ghost use Rattle.second_search.specs.Searching.{CountsAny, CountsSome, EndsPast, EndsTrue, EndsWithin, alone, raised};
+ghost use Rattle.second_search.specs.Scene.{CanSearch};
 
 use crate::bounds::{BOUNDS, Bounds};
 use crate::counting::{Ending, Searched};
@@ -28,11 +29,8 @@ pub(crate) fn decide_part<E: LineEngine>(
     allowance: Option<u32>,
     meter: &mut Meter,
 ) -> Result<Searched, AllocError>
-    requires scene { IsScene scene.now.clues.now scene.now.givens.now scene.now.facts.now
-        scene.now.picture.now }
+    requires can { CanSearch scene.now (E.longest engine.old) }
     requires part { IsPart scene.now.facts.now cells.now }
-    requires tall { length scene.now.clues.now.rows ≤ E.longest engine.old }
-    requires wide { length scene.now.clues.now.columns ≤ E.longest engine.old }
     ensures ends { IfOk result (λ searched. (n : ℕ) × ((searched.splits ≡ raised 0 n)
         × EndsWithin scene.now.clues.now scene.now.picture.now
         (alone cells.now scene.now.facts.now scene.now.picture.now) allowance searched.ending n)) }
@@ -105,10 +103,7 @@ fn climb_part<E: LineEngine>(
     bounds: Bounds,
     meter: &mut Meter,
 ) -> Result<Ending, AllocError>
-    requires scene { IsScene scene.now.clues.now scene.now.givens.now scene.now.facts.now
-        scene.now.picture.now }
-    requires tall { length scene.now.clues.now.rows ≤ E.longest engine.old }
-    requires wide { length scene.now.clues.now.columns ≤ E.longest engine.old }
+    requires { CanSearch scene.now (E.longest engine.old) }
     ensures ends { IfOk result (EndsTrue scene.now.clues.now scene.now.picture.now
         (alone cells.now scene.now.facts.now scene.now.picture.now)) }
     ensures counts { CountsAny meter.old meter.new (E.calls engine.old) (E.calls engine.new) }
@@ -140,10 +135,7 @@ fn search_alone<E: LineEngine>(
     bounds: Bounds,
     meter: &mut Meter,
 ) -> Result<Ending, AllocError>
-    requires scene { IsScene scene.now.clues.now scene.now.givens.now scene.now.facts.now
-        scene.now.picture.now }
-    requires tall { length scene.now.clues.now.rows ≤ E.longest engine.old }
-    requires wide { length scene.now.clues.now.columns ≤ E.longest engine.old }
+    requires { CanSearch scene.now (E.longest engine.old) }
     ensures ends { IfOk result (EndsTrue scene.now.clues.now scene.now.picture.now
         (alone cells.now scene.now.facts.now scene.now.picture.now)) }
     ensures counts { CountsAny meter.old meter.new (E.calls engine.old) (E.calls engine.new) }

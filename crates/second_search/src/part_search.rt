@@ -1,12 +1,13 @@
 //! The search of one part: the facts on it, with the picture's colours alone left elsewhere.
 
-ghost use Rattle.std.specs.Prelude.{◌≡◌, ◌≤◌, ◌<◌, ℕ, length, IfOk, OnOk};
+ghost use Rattle.std.specs.Prelude.{◌≡◌, ◌<◌, ℕ, length, IfOk, OnOk};
 ghost use Rattle.picture.specs.Rows.{width_of};
 ghost use Rattle.line_settle.specs.FactSets.{SameShape};
 ghost use Rattle.propagate.specs.LineNames.{AreLinesOf};
-ghost use Rattle.second_search.specs.Parts.{IsPart, IsScene};
+ghost use Rattle.second_search.specs.Parts.{IsPart};
 ghost use Rattle.second_search.specs.Searching.{CountsAny, CountsSome, EndsAs, alone, raised};
 ghost use Rattle.second_search.specs.Through.{LeavesAlone, LeavesRowAlone, PutsRow, PutsThrough};
+ghost use Rattle.second_search.specs.Scene.{CanSearch};
 
 use crate::cell_lines::put_both;
 use crate::counting::{Searched, Start, search_counted};
@@ -26,11 +27,8 @@ pub(crate) fn search_part<E: LineEngine>(
     allowance: Option<u32>,
     meter: &mut Meter,
 ) -> Result<Searched, AllocError>
-    requires scene { IsScene scene.now.clues.now scene.now.givens.now scene.now.facts.now
-        scene.now.picture.now }
+    requires can { CanSearch scene.now (E.longest engine.old) }
     requires part { IsPart scene.now.facts.now cells.now }
-    requires tall { length scene.now.clues.now.rows ≤ E.longest engine.old }
-    requires wide { length scene.now.clues.now.columns ≤ E.longest engine.old }
     ensures ends { IfOk result (λ searched. (n : ℕ) × ((searched.splits ≡ raised 0 n)
         × EndsAs scene.now.clues.now scene.now.picture.now
         (alone cells.now scene.now.facts.now scene.now.picture.now) allowance searched.ending n)) }

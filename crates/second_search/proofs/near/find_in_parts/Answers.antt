@@ -1,4 +1,5 @@
-use Rattle.std.proofs.Common.{◌∙◌}
+use Rattle.std.proofs.Common.{◌∙◌, subst, sym}
+use Rattle.second_search.specs.Scene.{CanSearch}
 use Rattle.second_search.proofs.CountLemmas.{counts_more}
 use Rattle.second_search.proofs.near.find_in_parts.Goals as goal
 
@@ -13,3 +14,6 @@ loop-i-preserved g c = record {
   counts = counts_more _ _ _ _ _ _ c.loop-i.invariant.counts c.find_near.ensures.counts;
   same_longest = c.find_near.ensures.same_longest ∙ c.loop-i.invariant.same_longest;
 }
+
+pub find_near-requires : goal.find_near-requires
+find_near-requires g c = subst (CanSearch c.args.scene.now) (sym c.loop-i.invariant.same_longest) c.requires

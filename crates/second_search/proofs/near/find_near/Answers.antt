@@ -1,4 +1,5 @@
-use Rattle.std.proofs.Common.{◌∙◌}
+use Rattle.std.proofs.Common.{◌∙◌, subst, sym}
+use Rattle.second_search.specs.Scene.{CanSearch}
 use Rattle.second_search.proofs.CountLemmas.{counts_more}
 use Rattle.second_search.proofs.near.find_near.Goals as goal
 
@@ -13,3 +14,6 @@ loop-j-preserved g c = record {
   counts = counts_more _ _ _ _ _ _ c.loop-j.invariant.counts c.find_inside.ensures.counts;
   same_longest = c.find_inside.ensures.same_longest ∙ c.loop-j.invariant.same_longest;
 }
+
+pub find_inside-requires-clause-can : goal.find_inside-requires-clause-can
+find_inside-requires-clause-can g c = subst (CanSearch c.args.scene.now) (sym c.loop-j.invariant.same_longest) c.requires

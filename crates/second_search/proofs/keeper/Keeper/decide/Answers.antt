@@ -39,7 +39,7 @@ returns-in_ok-stop-in-None-clause-true_answers g c =
     let turn = judges_as s.clues.now s.facts.now s.picture.now c.args.allowance old new c.in_ok-stop-in-None.field-0.0 c.note.result in
     let d = c.in_ok-stop-in-None.ensures.stops in
     let j = turn d.searched d.splits c.in-None.ensures d.is c.note.ensures in
-    judged_true c.clues_are_of_lines.ensures c.books_are_their_clues.ensures c.closing_keeps_fillings.ensures c.only_is_closed.ensures c.fillings_are_of_facts.ensures c.parts_decide.ensures s.clues.now s.givens.now s.facts.now s.picture.now c.requires.scene c.args.allowance old new c.note.result d.searched d.splits c.requires.true_answers j
+    judged_true c.clues_are_of_lines.ensures c.books_are_their_clues.ensures c.closing_keeps_fillings.ensures c.only_is_closed.ensures c.fillings_are_of_facts.ensures c.parts_decide.ensures s.clues.now s.givens.now s.facts.now s.picture.now c.requires.can.is_scene c.args.allowance old new c.note.result d.searched d.splits c.requires.true_answers j
 
 pub returns-in_ok-stop-in-None-clause-shown : goal.returns-in_ok-stop-in-None-clause-shown
 returns-in_ok-stop-in-None-clause-shown g c =
@@ -59,4 +59,4 @@ returns-in_ok-stop-in-None-clause-verdict g c =
     let turn = judges_as s.clues.now s.facts.now s.picture.now c.args.allowance old new c.in_ok-stop-in-None.field-0.0 c.note.result in
     let d = c.in_ok-stop-in-None.ensures.stops in
     let j = turn d.searched d.splits c.in-None.ensures d.is c.note.ensures in
-    verdict_true c.clues_are_of_lines.ensures c.books_are_their_clues.ensures c.closing_keeps_fillings.ensures c.only_is_closed.ensures c.fillings_are_of_facts.ensures c.parts_decide.ensures s.clues.now s.givens.now s.facts.now s.picture.now c.requires.scene c.args.allowance old new c.note.result d.searched d.splits c.requires.parts c.requires.true_answers j
+    verdict_true c.clues_are_of_lines.ensures c.books_are_their_clues.ensures c.closing_keeps_fillings.ensures c.only_is_closed.ensures c.fillings_are_of_facts.ensures c.parts_decide.ensures s.clues.now s.givens.now s.facts.now s.picture.now c.requires.can.is_scene c.args.allowance old new c.note.result d.searched d.splits c.requires.parts c.requires.true_answers j

@@ -1,7 +1,8 @@
-use Rattle.std.proofs.Common.{◌≡◌, ◌∙◌, ◌<◌, ◌+◌, ℕ, suc, ap, arith, length, subst}
+use Rattle.std.proofs.Common.{ℕ, ◌+◌, ◌<◌, ◌∙◌, ◌≡◌, ap, arith, length, subst, suc, sym}
 use Rattle.second_search.specs.declared.counting.Ending.{Ending}
 use Rattle.second_search.specs.declared.counting.Ending.TheVariants as ending
 use Rattle.second_search.specs.Judging.{DoneBy, EndsPart, Passes, StopsAt, kept_at}
+use Rattle.second_search.specs.Scene.{CanSearch}
 use Rattle.second_search.proofs.CountLemmas.{counts_more}
 use Rattle.second_search.proofs.JudgeLemmas.{done_then, passes_more, stops_here}
 use Rattle.second_search.proofs.keeper.Keeper.search_parts.Goals as goal
@@ -60,3 +61,6 @@ loop-i-preserved g c =
       done = subst Q next (done_then _ _ _ _ _ _ _ _ _ before (here ending.Nothing) (Passes s.clues.now s.facts.now s.picture.now c.args.allowance kept (suc n)) c.loop-i.invariant.done (subst P c.in-Nothing.is c.in_ok-ending.ensures.ends) c.plus.ensures (λ m k x y. passes_more s.clues.now s.facts.now s.picture.now c.args.allowance kept n m k x y));
       same_longest = c.search_one.ensures.same_longest ∙ c.loop-i.invariant.same_longest;
     }
+
+pub search_one-requires-clause-can : goal.search_one-requires-clause-can
+search_one-requires-clause-can g c = subst (CanSearch c.args.scene.now) (sym c.loop-i.invariant.same_longest) c.requires.can
