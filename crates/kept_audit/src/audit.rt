@@ -58,9 +58,8 @@ pub fn audit_anew<E: LineEngine, A: Agenda>(
 {
     clues_are_of_lines();
     closing_keeps_fillings();
-    let _ = (picture.height(), engine.calls());
-    let _evaluations = meter.evaluations;
-    let _trials = meter.trials;
+    let _ = picture.height();
+    let (_calls, _evaluations, _trials) = (engine.calls(), meter.evaluations, meter.trials);
     let clues = ClueBook::of(alloc, picture)?;
     let book = Book::start(alloc, base)?;
     let dirty = all_lines(book.facts());
@@ -104,9 +103,8 @@ pub fn audit_again<E: LineEngine, A: Agenda>(
     least_is_unique();
     let before = revision.audit;
     let change = revision.change;
-    let _ = (revision.new.height(), engine.calls());
-    let _evaluations = meter.evaluations;
-    let _trials = meter.trials;
+    let _ = revision.new.height();
+    let (_calls, _evaluations, _trials) = (engine.calls(), meter.evaluations, meter.trials);
     let clues = before.clues.refresh(revision.new, change)?;
     let Kept { book, dirty } = keep(alloc, &before.book, &before.clues, &clues, change, base)?;
     let _ = book.facts();

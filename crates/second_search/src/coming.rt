@@ -51,9 +51,7 @@ pub(crate) fn come_to<E: LineEngine>(
         (CountsSome meter.old meter.new (E.calls engine.old) (E.calls engine.new)) }
     ensures same_longest { E.longest engine.new ≡ E.longest engine.old }
 {
-    let _ = engine.calls();
-    let _evaluations = meter.evaluations;
-    let _trials = meter.trials;
+    let (_calls, _evaluations, _trials) = (engine.calls(), meter.evaluations, meter.trials);
     let mut settled = facts.copy()?;
     let mut agenda = InOrder::make();
     match close_facts(engine, &mut agenda, &mut settled, book, &due.lines, meter) {

@@ -84,9 +84,8 @@ pub(crate) fn search_counted<E: LineEngine>(
     ensures same_longest { E.longest engine.new ≡ E.longest engine.old }
 {
     least_is_unique();
-    let _ = (known.height(), engine.calls());
-    let _evaluations = meter.evaluations;
-    let _trials = meter.trials;
+    let _ = known.height();
+    let (_calls, _evaluations, _trials) = (engine.calls(), meter.evaluations, meter.trials);
     let Start {
         facts,
         lines,

@@ -359,9 +359,7 @@ impl Keeper {
         only_is_closed();
         fillings_are_of_facts();
         parts_decide();
-        let _ = engine.calls();
-        let _evaluations = meter.evaluations;
-        let _trials = meter.trials;
+        let (_calls, _evaluations, _trials) = (engine.calls(), meter.evaluations, meter.trials);
         match self.kept_filling() {
             Some(_) => Ok((Verdict::Other, NOTHING_SPENT)),
             None => {
@@ -416,9 +414,7 @@ impl Keeper {
         ensures counts { CountsAny meter.old meter.new (E.calls engine.old) (E.calls engine.new) }
         ensures same_longest { E.longest engine.new ≡ E.longest engine.old }
     {
-        let _ = engine.calls();
-        let _evaluations = meter.evaluations;
-        let _trials = meter.trials;
+        let (_calls, _evaluations, _trials) = (engine.calls(), meter.evaluations, meter.trials);
         let mut spent = NOTHING_SPENT;
         for i in 0..self.kept.len() {
             let (ending, here) = self.search_one(i, engine, scene, allowance, meter)?;
@@ -450,9 +446,7 @@ impl Keeper {
         ensures counts { CountsAny meter.old meter.new (E.calls engine.old) (E.calls engine.new) }
         ensures same_longest { E.longest engine.new ≡ E.longest engine.old }
     {
-        let _ = engine.calls();
-        let _evaluations = meter.evaluations;
-        let _trials = meter.trials;
+        let (_calls, _evaluations, _trials) = (engine.calls(), meter.evaluations, meter.trials);
         let part = &self.kept[i];
         match part.answer {
             Answer::Unknown => {

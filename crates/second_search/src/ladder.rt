@@ -54,9 +54,7 @@ pub fn climb<E: LineEngine>(
         × Counts evaluations 0 meter.old meter.new (E.calls engine.old) (E.calls engine.new) }
     ensures same_longest { E.longest engine.new ≡ E.longest engine.old }
 {
-    let _ = engine.calls();
-    let _evaluations = meter.evaluations;
-    let _trials = meter.trials;
+    let (_calls, _evaluations, _trials) = (engine.calls(), meter.evaluations, meter.trials);
     let mut bound = ladder.first_bound;
     for _ in 0..MOST_ROUNDS {
         let tried = try_both(alloc, engine, scene, ladder, bound, meter)?;
@@ -93,9 +91,7 @@ fn try_both<E: LineEngine>(
     ensures counts { CountsAny meter.old meter.new (E.calls engine.old) (E.calls engine.new) }
     ensures same_longest { E.longest engine.new ≡ E.longest engine.old }
 {
-    let _ = engine.calls();
-    let _evaluations = meter.evaluations;
-    let _trials = meter.trials;
+    let (_calls, _evaluations, _trials) = (engine.calls(), meter.evaluations, meter.trials);
     let way = way_of(ladder, Choice::Look, bound, meter);
     let looked = write(alloc, engine, scene, way, ladder.keeps, meter)?;
     if looked.is_some() {

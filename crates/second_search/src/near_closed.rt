@@ -37,9 +37,7 @@ pub fn find_near_other<E: LineEngine>(
         × Counts evaluations 0 meter.old meter.new (E.calls engine.old) (E.calls engine.new) }
     ensures same_longest { E.longest engine.new ≡ E.longest engine.old }
 {
-    let _ = engine.calls();
-    let _evaluations = meter.evaluations;
-    let _trials = meter.trials;
+    let (_calls, _evaluations, _trials) = (engine.calls(), meter.evaluations, meter.trials);
     let Some(facts) = closed(engine, scene, meter)? else {
         return Ok(None);
     };
@@ -67,9 +65,7 @@ fn closed<E: LineEngine>(
 {
     sound_facts();
     clues_are_of_lines();
-    let _ = engine.calls();
-    let _evaluations = meter.evaluations;
-    let _trials = meter.trials;
+    let (_calls, _evaluations, _trials) = (engine.calls(), meter.evaluations, meter.trials);
     let mut agenda = InOrder::make();
     match settle_afresh(engine, &mut agenda, scene.clues, meter, scene.facts) {
         Ok(facts) => Ok(Some(facts)),

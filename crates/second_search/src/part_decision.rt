@@ -70,9 +70,7 @@ pub fn decide_within<E: LineEngine>(
         (CountsSome meter.old meter.new (E.calls engine.old) (E.calls engine.new)) }
     ensures same_longest { E.longest engine.new ≡ E.longest engine.old }
 {
-    let _ = engine.calls();
-    let _evaluations = meter.evaluations;
-    let _trials = meter.trials;
+    let (_calls, _evaluations, _trials) = (engine.calls(), meter.evaluations, meter.trials);
     let most = Some(bounds.fixed_splits);
     let Searched { ending, splits } = search_part(alloc, engine, scene, cells, most, meter)?;
     match ending {
@@ -110,9 +108,7 @@ fn climb_part<E: LineEngine>(
     ensures same_longest { E.longest engine.new ≡ E.longest engine.old }
 {
     fillings_are_of_facts();
-    let _ = engine.calls();
-    let _evaluations = meter.evaluations;
-    let _trials = meter.trials;
+    let (_calls, _evaluations, _trials) = (engine.calls(), meter.evaluations, meter.trials);
     for size in SIZES.iter() {
         let windows = Windows {
             size: *size,
@@ -144,9 +140,8 @@ fn search_alone<E: LineEngine>(
     clues_are_of_lines();
     only_is_closed();
     closing_keeps_fillings();
-    let _ = (engine.calls(), scene.facts.height());
-    let _evaluations = meter.evaluations;
-    let _trials = meter.trials;
+    let _ = scene.facts.height();
+    let (_calls, _evaluations, _trials) = (engine.calls(), meter.evaluations, meter.trials);
     let mut facts = scene.facts.copy()?;
     leave_alone(&mut facts, scene.picture, cells);
     let part = Scene {

@@ -39,9 +39,8 @@ pub(crate) fn search_part<E: LineEngine>(
 {
     clues_are_of_lines();
     only_is_closed();
-    let _ = (engine.calls(), scene.facts.height());
-    let _evaluations = meter.evaluations;
-    let _trials = meter.trials;
+    let _ = scene.facts.height();
+    let (_calls, _evaluations, _trials) = (engine.calls(), meter.evaluations, meter.trials);
     let lines = lines_through(cells, scene.facts);
     let mut facts = scene.facts.copy()?;
     leave_alone(&mut facts, scene.picture, cells);

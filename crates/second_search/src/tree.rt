@@ -60,9 +60,7 @@ pub(crate) fn write_tree<E: LineEngine>(
 {
     only_is_closed();
     closing_keeps_fillings();
-    let _ = engine.calls();
-    let _evaluations = meter.evaluations;
-    let _trials = meter.trials;
+    let (_calls, _evaluations, _trials) = (engine.calls(), meter.evaluations, meter.trials);
     let due = all_lines(scene.facts);
     let pending = Pending::start(alloc, scene.facts.copy()?);
     let mut growing = Growing {
@@ -121,9 +119,7 @@ impl Growing {
         ensures counts { CountsAny meter.old meter.new (E.calls engine.old) (E.calls engine.new) }
         ensures same_longest { E.longest engine.new ≡ E.longest engine.old }
     {
-        let _ = engine.calls();
-        let _evaluations = meter.evaluations;
-        let _trials = meter.trials;
+        let (_calls, _evaluations, _trials) = (engine.calls(), meter.evaluations, meter.trials);
         let mut facts = self.pending.at_hand().copy()?;
         let outcome = close_written(
             engine,

@@ -54,9 +54,7 @@ pub(crate) fn next_step<E: LineEngine>(
     ensures counts { CountsAny meter.old meter.new (E.calls engine.old) (E.calls engine.new) }
     ensures same_longest { E.longest engine.new ≡ E.longest engine.old }
 {
-    let _ = engine.calls();
-    let _evaluations = meter.evaluations;
-    let _trials = meter.trials;
+    let (_calls, _evaluations, _trials) = (engine.calls(), meter.evaluations, meter.trials);
     let node = node_at(scene, facts, way);
     let here = other_here(alloc, scene, &node)?;
     if let Some(picture) = here {
@@ -185,9 +183,7 @@ fn end_at<E: LineEngine>(
     ensures counts { CountsAny meter.old meter.new (E.calls engine.old) (E.calls engine.new) }
     ensures same_longest { E.longest engine.new ≡ E.longest engine.old }
 {
-    let _ = engine.calls();
-    let _evaluations = meter.evaluations;
-    let _trials = meter.trials;
+    let (_calls, _evaluations, _trials) = (engine.calls(), meter.evaluations, meter.trials);
     match first_unsettled(facts, 0) {
         Some(cell) => Ok(TreeStep::Splits(cell)),
         None => end_settled(alloc, engine, scene, facts, meter),
@@ -212,9 +208,8 @@ fn end_settled<E: LineEngine>(
 {
     clues_are_of_lines();
     books_are_their_clues();
-    let _ = (facts.height(), engine.calls());
-    let _evaluations = meter.evaluations;
-    let _trials = meter.trials;
+    let _ = facts.height();
+    let (_calls, _evaluations, _trials) = (engine.calls(), meter.evaluations, meter.trials);
     let picture = shown_picture(alloc, facts)?;
     if scene.clues.has_clues(&picture) {
         return Ok(compared(picture, scene.picture));
