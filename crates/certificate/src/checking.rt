@@ -11,7 +11,7 @@ ghost use Rattle.certificate.specs.Tree.{IsProof};
 ghost use Rattle.certificate.specs.Walk.{GivesBase};
 
 use crate::places::cell_in;
-use crate::walk::walk;
+use crate::walk::{Claim, walk};
 use cert_text::{CellNumber, Cert, CertFault};
 use clues::ClueBook;
 use line_settle::{Facts, LineEngine};
@@ -59,15 +59,11 @@ fn first_fault<E: LineEngine>(
     let book = ClueBook::of(alloc, picture)?;
     set_givens(picture, &mut facts, cert.givens())?;
     let first = FIRST_LINES + cert.givens_len();
-    walk(
-        alloc,
-        engine,
+    let claim = Claim {
         picture,
-        &book,
-        &mut facts,
-        cert.lines(),
-        first,
-    )
+        clues: &book,
+    };
+    walk(alloc, engine, &claim, &mut facts, cert.lines(), first)
 }
 
 #[tactic(auto, using(crate::proofs::Exactness::answering))]

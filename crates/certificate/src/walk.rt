@@ -15,51 +15,56 @@ use line_settle::{Facts, LineEngine};
 use picture::Picture;
 use std::alloc::Global;
 
+// What a certificate is checked against: a picture, and its clues.
+#[derive(Clone, Copy, Drop)]
+pub(crate) struct Claim<'a> {
+    pub picture: &'a Picture,
+    pub clues: &'a ClueBook,
+}
+
 // Takes a `line`: the branch goes on with what it forces.
 fn take_forced<E: LineEngine>(
     engine: &mut E,
-    picture: &Picture,
-    book: &ClueBook,
+    claim: &Claim,
     facts: &mut Facts,
     notes: &mut Vec<Note>,
     at: LineNumber,
     number: usize,
 ) -> Result<bool, CertFault>
-    requires can { CanCheck picture.now book.now (E.longest engine.old) }
-    requires walk { IsWalk picture.now facts.old (reverse notes.old.items) }
-    ensures takes { Takes picture.now facts.old (reverse notes.old.items) (line.Line at) number
-        result facts.new (reverse notes.new.items) }
+    requires can { CanCheck claim.now.picture.now claim.now.clues.now (E.longest engine.old) }
+    requires walk { IsWalk claim.now.picture.now facts.old (reverse notes.old.items) }
+    ensures takes { Takes claim.now.picture.now facts.old (reverse notes.old.items) (line.Line at)
+        number result facts.new (reverse notes.new.items) }
     ensures same_longest { E.longest engine.new ≡ E.longest engine.old }
     ensures calls { E.calls engine.old ≤ E.calls engine.new }
 {
-    let Some(line) = line_at(picture, at) else {
+    let Some(line) = line_at(claim.picture, at) else {
         return Err(CertFault::Place(number));
     };
-    force(engine, facts, notes, book.clue(line), line)?;
+    force(engine, facts, notes, claim.clues.clue(line), line)?;
     Ok(true)
 }
 
 // Takes a `dead`: the branch ends.
 fn take_dead<E: LineEngine>(
     engine: &mut E,
-    picture: &Picture,
-    book: &ClueBook,
+    claim: &Claim,
     facts: &mut Facts,
     notes: &mut Vec<Note>,
     at: LineNumber,
     number: usize,
 ) -> Result<bool, CertFault>
-    requires can { CanCheck picture.now book.now (E.longest engine.old) }
-    requires walk { IsWalk picture.now facts.old (reverse notes.old.items) }
-    ensures takes { Takes picture.now facts.old (reverse notes.old.items) (line.Dead at) number
-        result facts.new (reverse notes.new.items) }
+    requires can { CanCheck claim.now.picture.now claim.now.clues.now (E.longest engine.old) }
+    requires walk { IsWalk claim.now.picture.now facts.old (reverse notes.old.items) }
+    ensures takes { Takes claim.now.picture.now facts.old (reverse notes.old.items) (line.Dead at)
+        number result facts.new (reverse notes.new.items) }
     ensures same_longest { E.longest engine.new ≡ E.longest engine.old }
     ensures calls { E.calls engine.old ≤ E.calls engine.new }
 {
-    let Some(line) = line_at(picture, at) else {
+    let Some(line) = line_at(claim.picture, at) else {
         return Err(CertFault::Place(number));
     };
-    if !is_dead(engine, facts, book.clue(line), line) {
+    if !is_dead(engine, facts, claim.clues.clue(line), line) {
         return Err(CertFault::NotDead(number));
     }
     let going = end_branch(facts, notes)?;
@@ -106,25 +111,24 @@ fn take_done(
 // Takes a line with its number, and says whether a branch is at hand behind it.
 pub(crate) fn take_line<E: LineEngine>(
     engine: &mut E,
-    picture: &Picture,
-    book: &ClueBook,
+    claim: &Claim,
     facts: &mut Facts,
     notes: &mut Vec<Note>,
     line: CertLine,
     number: usize,
 ) -> Result<bool, CertFault>
-    requires can { CanCheck picture.now book.now (E.longest engine.old) }
-    requires walk { IsWalk picture.now facts.old (reverse notes.old.items) }
-    ensures takes { Takes picture.now facts.old (reverse notes.old.items) line number result
-        facts.new (reverse notes.new.items) }
+    requires can { CanCheck claim.now.picture.now claim.now.clues.now (E.longest engine.old) }
+    requires walk { IsWalk claim.now.picture.now facts.old (reverse notes.old.items) }
+    ensures takes { Takes claim.now.picture.now facts.old (reverse notes.old.items) line number
+        result facts.new (reverse notes.new.items) }
     ensures same_longest { E.longest engine.new ≡ E.longest engine.old }
     ensures calls { E.calls engine.old ≤ E.calls engine.new }
 {
     match line {
-        CertLine::Line(at) => take_forced(engine, picture, book, facts, notes, at, number),
-        CertLine::Split(cell) => take_split(picture, facts, notes, cell, number),
-        CertLine::Dead(at) => take_dead(engine, picture, book, facts, notes, at, number),
-        CertLine::Done => take_done(picture, facts, notes, number),
+        CertLine::Line(at) => take_forced(engine, claim, facts, notes, at, number),
+        CertLine::Split(cell) => take_split(claim.picture, facts, notes, cell, number),
+        CertLine::Dead(at) => take_dead(engine, claim, facts, notes, at, number),
+        CertLine::Done => take_done(claim.picture, facts, notes, number),
     }
 }
 
@@ -132,16 +136,16 @@ pub(crate) fn take_line<E: LineEngine>(
 pub(crate) fn walk<E: LineEngine>(
     alloc: Global,
     engine: &mut E,
-    picture: &Picture,
-    book: &ClueBook,
+    claim: &Claim,
     facts: &mut Facts,
     lines: &[CertLine],
     first: usize,
 ) -> Result<(), CertFault>
-    requires can { CanCheck picture.now book.now (E.longest engine.old) }
-    requires walk { IsWalk picture.now facts.old [] }
+    requires can { CanCheck claim.now.picture.now claim.now.clues.now (E.longest engine.old) }
+    requires walk { IsWalk claim.now.picture.now facts.old [] }
     requires few { first + length lines.now < 2 ^ 64 }
-    ensures first { AnswersFirst (FirstFault picture.now (facts.old ∷ []) first lines.now) result }
+    ensures first { AnswersFirst
+        (FirstFault claim.now.picture.now (facts.old ∷ []) first lines.now) result }
     ensures same_longest { E.longest engine.new ≡ E.longest engine.old }
 {
     let mut notes = Vec::new(alloc);
@@ -150,7 +154,7 @@ pub(crate) fn walk<E: LineEngine>(
         if !going {
             return Err(CertFault::Trailing(first + i));
         }
-        going = take_line(engine, picture, book, facts, &mut notes, *line, first + i)?;
+        going = take_line(engine, claim, facts, &mut notes, *line, first + i)?;
     }
     if going {
         return Err(CertFault::Ended(first + lines.len()));

@@ -27,6 +27,15 @@ pub struct Audit {
     pub book: Book,
 }
 
+/// A change of a picture, and the audit of the picture before it. All four are only lent.
+#[derive(Clone, Copy, Drop)]
+pub struct Revision<'a> {
+    pub audit: &'a Audit,
+    pub old: &'a Picture,
+    pub new: &'a Picture,
+    pub change: &'a Change,
+}
+
 /// Audits a picture anew: counts its clues, and closes the book without a step over a base that leaves its colours.
 pub fn audit_anew<E: LineEngine, A: Agenda>(
     alloc: Global,
@@ -49,9 +58,8 @@ pub fn audit_anew<E: LineEngine, A: Agenda>(
 {
     clues_are_of_lines();
     closing_keeps_fillings();
-    let _ = (picture.height(), engine.calls());
-    let _evaluations = meter.evaluations;
-    let _trials = meter.trials;
+    let _ = picture.height();
+    let (_calls, _evaluations, _trials) = (engine.calls(), meter.evaluations, meter.trials);
     let clues = ClueBook::of(alloc, picture)?;
     let book = Book::start(alloc, base)?;
     let dirty = all_lines(book.facts());
@@ -66,23 +74,23 @@ pub fn audit_again<E: LineEngine, A: Agenda>(
     alloc: Global,
     engine: &mut E,
     agenda: &mut A,
-    before: &Audit,
-    old: &Picture,
-    new: &Picture,
-    change: &Change,
+    revision: &Revision,
     base: Facts,
     meter: &mut Meter,
 ) -> Result<Audit, CloseFault>
-    requires audited { IsAudit old.now before.now.book.base before.now.clues before.now.book }
-    requires change { IsChangeOf change.now old.now new.now }
-    requires base { IsBaseOf new.now base }
-    requires wide { width_of new.now ≤ E.longest engine.old }
-    requires tall { length new.now ≤ E.longest engine.old }
-    ensures audit { IfOk result (λ audit. IsAudit new.now base audit.clues audit.book) }
-    ensures fresh { (facts : List (List ℕ)) → IsLeast (clues_of new.now) base facts
+    requires audited { IsAudit revision.now.old.now revision.now.audit.now.book.base
+        revision.now.audit.now.clues revision.now.audit.now.book }
+    requires change { IsChangeOf revision.now.change.now revision.now.old.now
+        revision.now.new.now }
+    requires base { IsBaseOf revision.now.new.now base }
+    requires wide { width_of revision.now.new.now ≤ E.longest engine.old }
+    requires tall { length revision.now.new.now ≤ E.longest engine.old }
+    ensures audit { IfOk result
+        (λ audit. IsAudit revision.now.new.now base audit.clues audit.book) }
+    ensures fresh { (facts : List (List ℕ)) → IsLeast (clues_of revision.now.new.now) base facts
         → IfOk result (λ audit. audit.book.facts ≡ facts) }
-    ensures goes_on { IfOk result
-        (λ audit. GoesOn change.now.moves before.now.clues audit.clues before.now.book audit.book
+    ensures goes_on { IfOk result (λ audit. GoesOn revision.now.change.now.moves
+        revision.now.audit.now.clues audit.clues revision.now.audit.now.book audit.book
         meter.old meter.new (E.calls engine.old) (E.calls engine.new)) }
     ensures counts { (evaluations : ℕ)
         × Counts evaluations 0 meter.old meter.new (E.calls engine.old) (E.calls engine.new) }
@@ -93,10 +101,11 @@ pub fn audit_again<E: LineEngine, A: Agenda>(
     untouched_clues_stand();
     closing_keeps_fillings();
     least_is_unique();
-    let _ = (new.height(), engine.calls());
-    let _evaluations = meter.evaluations;
-    let _trials = meter.trials;
-    let clues = before.clues.refresh(new, change)?;
+    let before = revision.audit;
+    let change = revision.change;
+    let _ = revision.new.height();
+    let (_calls, _evaluations, _trials) = (engine.calls(), meter.evaluations, meter.trials);
+    let clues = before.clues.refresh(revision.new, change)?;
     let Kept { book, dirty } = keep(alloc, &before.book, &before.clues, &clues, change, base)?;
     let _ = book.facts();
     let book = close(engine, agenda, book, &clues, &dirty, meter)?;

@@ -5,4 +5,4 @@
 mod audit;
 pub mod laws;
 
-pub use audit::{Audit, audit_again, audit_anew};
+pub use audit::{Audit, Revision, audit_again, audit_anew};

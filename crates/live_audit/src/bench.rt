@@ -14,16 +14,16 @@ ghost use Rattle.live_audit.specs.Stroke.{Edits, Redoes, Undoes};
 ghost use Rattle.live_audit.specs.Verdict.{Tells, Decides, IsRulingOn, IsVerdictOn, AnswersAs, judged_as};
 
 use crate::certifying::certify_ordered;
-use crate::making::{answers_first, answers_next, audit_first, audit_next, rule};
+use crate::making::{Turn, answers_first, answers_next, audit_first, audit_next, rule};
 use crate::verdict::{Ruling, Verdict};
 use crate::why::Why;
-use crate::work::Work;
+use crate::work::{NOTHING_DONE, Work};
 use certificate::Cert;
 use clues::ClueBook;
 use edits::{Edit, EditFault, MAX_DEPTH, Prepared, Studio};
 use justify::Book;
 use kept_audit::Audit;
-use line_settle::{Facts, LineEngine, Meter};
+use line_settle::{Facts, LineEngine};
 use picture::{Document, MAX_SIDE};
 use propagate::Agenda;
 use second_search::Keeper;
@@ -32,11 +32,6 @@ use std::marker::Model;
 
 /// The largest number of splits that can be allowed.
 pub const MAX_ALLOWANCE: u32 = 99_999;
-
-const NOTHING_DONE: Meter = Meter {
-    evaluations: 0,
-    trials: 0,
-};
 
 /// A document with its history, and all that follows from its picture: the clues, the book of reasons, the settled map and
 /// the verdict. They are true of the present picture after every call; a refused call changes nothing. Only where memory was
@@ -159,14 +154,17 @@ impl<E: LineEngine + Drop, A: Agenda + Drop> Bench<E, A> {
         ensures audited { IsAudited self.new }
     {
         let mut edit = NOTHING_DONE;
+        let turn = Turn {
+            audit: &self.audit,
+            old: self.studio.document(),
+            new: prepared.document(),
+            change: prepared.change(),
+        };
         let audit = audit_next(
             self.alloc,
             &mut self.engine,
             &mut self.agenda,
-            &self.audit,
-            self.studio.document(),
-            prepared.document(),
-            prepared.change(),
+            &turn,
             &mut edit,
         )?;
         let keeper = answers_next(
@@ -210,26 +208,20 @@ impl<E: LineEngine + Drop, A: Agenda + Drop> Bench<E, A> {
         ensures calls { self.old.calls ≤ self.new.calls }
         ensures audited { IsAudited self.new }
     {
-        let mut search = NOTHING_DONE;
-        let mut parts = 0;
-        let mut splits = 0;
-        let ruling = rule(
+        let ruled = rule(
             &mut self.keeper,
             &mut self.engine,
             self.studio.document(),
             &self.audit,
             self.allowance,
-            &mut search,
-            &mut parts,
-            &mut splits,
         )?;
         self.work = Work {
             edit: self.work.edit,
-            search,
-            parts,
-            splits,
+            search: ruled.search,
+            parts: ruled.parts,
+            splits: ruled.splits,
         };
-        Ok(ruling)
+        Ok(ruled.ruling)
     }
 
     // What a ruling is answered as.
@@ -290,20 +282,14 @@ impl<E: LineEngine + Drop, A: Agenda + Drop> Bench<E, A> {
         ensures audited { IsAudited self.new }
     {
         let _ = self.engine.calls();
-        let mut search = NOTHING_DONE;
-        let mut parts = 0;
-        let mut splits = 0;
-        let ruling = rule(
+        let ruled = rule(
             &mut self.keeper,
             &mut self.engine,
             self.studio.document(),
             &self.audit,
             None,
-            &mut search,
-            &mut parts,
-            &mut splits,
         )?;
-        Ok(ruling)
+        Ok(ruled.ruling)
     }
 
     // Makes the certificate of the present document.

@@ -7,15 +7,16 @@ ghost use Rattle.second_search.specs.Parts.{IsScene};
 ghost use Rattle.clues.specs.Change.{IsChangeOf};
 ghost use Rattle.kept_audit.specs.Audit.{GoesOn, IsAnew};
 ghost use Rattle.edits.specs.Design.{design_of};
-ghost use Rattle.live_audit.specs.Bench.{AreAnswersOf, AreGivenCells, IsAuditOf, IsBaseFor};
+ghost use Rattle.live_audit.specs.Bench.{AreAnswersOf, AreGivenCells, IsAuditOf, IsBaseFor, nothing_done};
 ghost use Rattle.live_audit.specs.Verdict.{IsRulingOn, judged_as};
 
-use crate::verdict::{Ruling, ruling_of};
+use crate::verdict::{Ruled, ruling_of};
+use crate::work::NOTHING_DONE;
 use clues::Change;
 use clues::laws::clues_are_of_lines;
 use edits::laws::marks_are_givens;
 use kept_audit::laws::bases_leave_pictures;
-use kept_audit::{Audit, audit_again, audit_anew};
+use kept_audit::{Audit, Revision, audit_again, audit_anew};
 use line_settle::{Facts, LineEngine, Meter};
 use picture::laws::same_cells_are_equal;
 use picture::{Document, MAX_SIDE};
@@ -60,40 +61,46 @@ pub(crate) fn audit_first<E: LineEngine, A: Agenda>(
     Ok(audit)
 }
 
-/// Audits a document from the audit of the one before, and the change between the two. That audit stays.
+/// A step of the history: the document before it with its audit, the document after it, and the change of its picture. All four
+/// are only lent.
+#[derive(Clone, Copy, Drop)]
+pub(crate) struct Turn<'a> {
+    pub audit: &'a Audit,
+    pub old: &'a Document,
+    pub new: &'a Document,
+    pub change: &'a Change,
+}
+
+/// Audits the document behind a step from the audit of the one before it. That audit stays.
 pub(crate) fn audit_next<E: LineEngine, A: Agenda>(
     alloc: Global,
     engine: &mut E,
     agenda: &mut A,
-    before: &Audit,
-    old: &Document,
-    new: &Document,
-    change: &Change,
+    turn: &Turn,
     meter: &mut Meter,
 ) -> Result<Audit, AllocError>
-    requires audited { IsAuditOf (design_of old.now) before.now.clues before.now.book }
-    requires change { IsChangeOf change.now old.now.picture new.now.picture }
+    requires audited { IsAuditOf (design_of turn.now.old.now) turn.now.audit.now.clues
+        turn.now.audit.now.book }
+    requires change { IsChangeOf turn.now.change.now turn.now.old.now.picture
+        turn.now.new.now.picture }
     requires long { MAX_SIDE ≤ E.longest engine.old }
-    ensures audited { IfOk result (λ audit. IsAuditOf (design_of new.now) audit.clues audit.book) }
-    ensures goes_on { IfOk result
-        (λ audit. GoesOn change.now.moves before.now.clues audit.clues before.now.book audit.book
+    ensures audited { IfOk result
+        (λ audit. IsAuditOf (design_of turn.now.new.now) audit.clues audit.book) }
+    ensures goes_on { IfOk result (λ audit. GoesOn turn.now.change.now.moves
+        turn.now.audit.now.clues audit.clues turn.now.audit.now.book audit.book
         meter.old meter.new (E.calls engine.old) (E.calls engine.new)) }
     ensures calls { E.calls engine.old ≤ E.calls engine.new }
     ensures same_longest { E.longest engine.new ≡ E.longest engine.old }
 {
-    let base = base_of(alloc, new)?;
-    let _ = (new.picture.height(), engine.calls());
-    let Ok(audit) = audit_again(
-        alloc,
-        engine,
-        agenda,
-        before,
-        &old.picture,
-        &new.picture,
-        change,
-        base,
-        meter,
-    ) else {
+    let base = base_of(alloc, turn.new)?;
+    let _ = (turn.new.picture.height(), engine.calls());
+    let revision = Revision {
+        audit: turn.audit,
+        old: &turn.old.picture,
+        new: &turn.new.picture,
+        change: turn.change,
+    };
+    let Ok(audit) = audit_again(alloc, engine, agenda, &revision, base, meter) else {
         return Err(AllocError);
     };
     let _ = audit.book.facts();
@@ -162,25 +169,23 @@ pub(crate) fn answers_next(
     Ok(keeper)
 }
 
-/// Judges a document by the parts of its map, and keeps what the searches that ended found.
+/// Judges a document by the parts of its map, keeps what the searches that ended found, and tells what they took.
 pub(crate) fn rule<E: LineEngine>(
     keeper: &mut Keeper,
     engine: &mut E,
     document: &Document,
     audit: &Audit,
     allowance: Option<u32>,
-    search: &mut Meter,
-    parts: &mut u32,
-    splits: &mut u32,
-) -> Result<Ruling, AllocError>
+) -> Result<Ruled, AllocError>
     requires audited { IsAuditOf (design_of document.now) audit.now.clues audit.now.book }
     requires answers { AreAnswersOf (design_of document.now) audit.now.clues audit.now.book.facts
         keeper.old }
     requires long { MAX_SIDE ≤ E.longest engine.old }
-    ensures judges { IfOk result (λ ruling. Done parts.old parts.new splits.old splits.new
-        search.old search.new (E.calls engine.old) (E.calls engine.new)
-        (Judges audit.now.clues audit.now.book.facts document.now.picture allowance keeper.old keeper.new (judged_as ruling))) }
-    ensures ruling { IfOk result (IsRulingOn (design_of document.now) allowance keeper.new) }
+    ensures judges { IfOk result (λ ruled. Done 0 ruled.parts 0 ruled.splits
+        nothing_done ruled.search (E.calls engine.old) (E.calls engine.new)
+        (Judges audit.now.clues audit.now.book.facts document.now.picture allowance keeper.old keeper.new (judged_as ruled.ruling))) }
+    ensures ruling { IfOk result
+        (λ ruled. IsRulingOn (design_of document.now) allowance keeper.new ruled.ruling) }
     ensures answers { AreAnswersOf (design_of document.now) audit.now.clues audit.now.book.facts
         keeper.new }
     ensures refused { OnErr result (keeper.new ≡ keeper.old) }
@@ -192,6 +197,22 @@ pub(crate) fn rule<E: LineEngine>(
     allowances_break_off();
     let _ = (document.picture.height(), engine.calls());
     let scene = scene_of(document, audit);
-    let judged = keeper.judge(engine, &scene, allowance, search, parts, splits)?;
-    Ok(ruling_of(&judged, allowance))
+    let mut search = NOTHING_DONE;
+    let mut parts = 0;
+    let mut splits = 0;
+    let judged = keeper.judge(
+        engine,
+        &scene,
+        allowance,
+        &mut search,
+        &mut parts,
+        &mut splits,
+    )?;
+    let ruling = ruling_of(&judged, allowance);
+    Ok(Ruled {
+        ruling,
+        search,
+        parts,
+        splits,
+    })
 }

@@ -12,3 +12,9 @@ pub struct Work {
     pub parts: u32,
     pub splits: u32,
 }
+
+/// The counts where nothing was evaluated yet.
+pub(crate) const NOTHING_DONE: Meter = Meter {
+    evaluations: 0,
+    trials: 0,
+};

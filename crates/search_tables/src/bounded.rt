@@ -35,16 +35,9 @@ pub fn decide<E: LineEngine>(
     let mut meter = NOTHING_DONE;
     for i in 0..parts.len() {
         tally.searched = tally.searched.saturating_add(1);
-        let ending = decide_within(
-            alloc,
-            engine,
-            scene,
-            parts.cells(i),
-            bounds,
-            &mut meter,
-            &mut tally.splits,
-        )?;
-        match ending {
+        let searched = decide_within(alloc, engine, scene, parts.cells(i), bounds, &mut meter)?;
+        tally.splits = tally.splits.saturating_add(searched.splits);
+        match searched.ending {
             Ending::Nothing => {}
             Ending::Found(picture) => {
                 tally.said = Said::Other(picture);

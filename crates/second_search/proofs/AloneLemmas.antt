@@ -23,7 +23,7 @@ use Rattle.fixpoint.specs.Closing.{AreClosable}
 use Rattle.fixpoint.specs.Filling.{only}
 use Rattle.fixpoint.specs.Laws.{OnlyIsClosed}
 use Rattle.fixpoint.specs.LineNames.{AreLinesOf}
-use Rattle.second_search.specs.declared.counting.Ending.{Ending}
+use Rattle.second_search.specs.declared.counting.Searched.{Searched}
 use Rattle.second_search.specs.Parts.{IsChained, IsOpenCell, IsPart, begins, goes_on, is_in, picked, picked_cell, picked_row}
 use Rattle.second_search.specs.Searching.{EndsAs, KeepsOutside, NamesLinesOf, alone, raised}
 use Rattle.second_search.specs.Through.{LeavesAlone, NamesBoth, PutsBoth, PutsRow, PutsThrough, across, down}
@@ -161,10 +161,10 @@ outside_alone cells picture facts first new is shape e left =
     let P : List (List ℕ) → Type 0 = λ x. LeavesAlone cells picture x new (length x) in
     keeps_outside cells picture facts new (length facts) is shape refl (subst P e left)
 
-pub searched_alone : OnlyIsClosed → (clues : Clues) (cells : List ℕ) (picture facts first new : List (List ℕ)) (allowance : Option ℕ) (start count : ℕ) (ending : Result Ending AllocError) → IsPicture picture → SameShape picture facts → first ≡ facts → LeavesAlone cells picture first new (length first) → IfOk ending (λ found. (n : ℕ) × ((count ≡ raised start n) × EndsAs clues picture new allowance found n)) → IfOk ending (λ found. (n : ℕ) × ((count ≡ raised start n) × EndsAs clues picture (alone cells facts picture) allowance found n))
-searched_alone law clues cells picture facts first new allowance start count ending is shape e left h =
+pub searched_alone : OnlyIsClosed → (clues : Clues) (cells : List ℕ) (picture facts first new : List (List ℕ)) (allowance : Option ℕ) (searched : Result Searched AllocError) → IsPicture picture → SameShape picture facts → first ≡ facts → LeavesAlone cells picture first new (length first) → IfOk searched (λ s. (n : ℕ) × ((s.splits ≡ raised 0 n) × EndsAs clues picture new allowance s.ending n)) → IfOk searched (λ s. (n : ℕ) × ((s.splits ≡ raised 0 n) × EndsAs clues picture (alone cells facts picture) allowance s.ending n))
+searched_alone law clues cells picture facts first new allowance searched is shape e left h =
     let P : List (List ℕ) → Type 0 = λ x. LeavesAlone cells picture x new (length x) in
-    let Q : List (List ℕ) → Type 0 = λ x. IfOk ending (λ found. (n : ℕ) × ((count ≡ raised start n) × EndsAs clues picture x allowance found n)) in
+    let Q : List (List ℕ) → Type 0 = λ x. IfOk searched (λ s. (n : ℕ) × ((s.splits ≡ raised 0 n) × EndsAs clues picture x allowance s.ending n)) in
     subst Q (alone_is law cells picture facts new (length facts) is shape refl (subst P e left)) h
 
 -- ---- the lines through some cells

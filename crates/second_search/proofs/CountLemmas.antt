@@ -4,7 +4,8 @@ use Rattle.picture.specs.Rows.{cell_at}
 use Rattle.clues.specs.ClueBook.{Clues}
 use Rattle.line_settle.specs.declared.meter.Meter.{Meter}
 use Rattle.line_settle.specs.Counting.{Counts}
-use Rattle.line_settle.specs.Laws.{CountsAdd, LeastIsUnique}
+use Rattle.line_settle.specs.FitLaws.{counting_adds}
+use Rattle.line_settle.specs.Laws.{LeastIsUnique}
 use Rattle.split_choice.specs.declared.cell.Cell.{Cell}
 use Rattle.second_search.specs.declared.coming.Coming.{Coming}
 use Rattle.second_search.specs.declared.coming.Coming.TheVariants.{Dies, Ends, Splits}
@@ -144,10 +145,6 @@ raised_again start before after n a b = omega arith
 pub raised_none : (count : ℕ) → count < 2 ^ 32 → count ≡ raised count 0
 raised_none count l = omega arith
 
-pub spending_rises : (old new : Option ℕ) (count more : ℕ) (spent : Bool) → count < 2 ^ 32 → Spends old new count more spent → count ≤ more
-spending_rises old new count more true l h = let e = h.1 in omega arith
-spending_rises old new count more false l h = let e = h.1.1 in omega arith
-
 -- ---- while facts wait
 
 -- what waits ends as the first facts do, but for the splits that were made and counted
@@ -250,14 +247,14 @@ splits_lighter clues known s t u left rest count more h e =
 pub counts_none : (meter : Meter) (calls : ℕ) → meter.evaluations < 2 ^ 64 → meter.trials < 2 ^ 64 → calls < 2 ^ 64 → (evaluations : ℕ) × Counts evaluations 0 meter meter calls calls
 counts_none meter calls a b c = (0, record { evaluations = omega arith; trials = omega arith; calls = omega arith })
 
-pub counts_more : CountsAdd → (start between end : Meter) (p q r : ℕ) → (evaluations : ℕ) × Counts evaluations 0 start between p q → (evaluations : ℕ) × Counts evaluations 0 between end q r → (evaluations : ℕ) × Counts evaluations 0 start end p r
-counts_more add start between end p q r a b = (a.0 + b.0, add a.0 0 b.0 0 start between end p q r a.1 b.1)
+pub counts_more : (start between end : Meter) (p q r : ℕ) → (evaluations : ℕ) × Counts evaluations 0 start between p q → (evaluations : ℕ) × Counts evaluations 0 between end q r → (evaluations : ℕ) × Counts evaluations 0 start end p r
+counts_more start between end p q r a b = (a.0 + b.0, counting_adds a.0 0 b.0 0 start between end p q r a.1 b.1)
 
 -- with one evaluation at least behind the others there is one
-pub counts_some : CountsAdd → (start between end : Meter) (p q r : ℕ) → (evaluations : ℕ) × Counts evaluations 0 start between p q → CountsSome between end q r → CountsSome start end p r
-counts_some add start between end p q r a b =
+pub counts_some : (start between end : Meter) (p q r : ℕ) → (evaluations : ℕ) × Counts evaluations 0 start between p q → CountsSome between end q r → CountsSome start end p r
+counts_some start between end p q r a b =
     let m = b.1.0 in
-    (a.0 + b.0, (omega arith, add a.0 0 b.0 0 start between end p q r a.1 b.1.1))
+    (a.0 + b.0, (omega arith, counting_adds a.0 0 b.0 0 start between end p q r a.1 b.1.1))
 
 -- ---- one look
 

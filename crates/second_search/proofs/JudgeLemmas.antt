@@ -4,17 +4,21 @@ use Rattle.std.proofs.lemmas.Bool.{cases_eq}
 use Rattle.std.proofs.lemmas.List.{get_or-set_other, get_or-set_same, length-set}
 use Rattle.clues.specs.ClueBook.{Clues}
 use Rattle.line_settle.specs.declared.meter.Meter.{Meter}
-use Rattle.line_settle.specs.Laws.{CountsAdd}
+use Rattle.line_settle.specs.FitLaws.{counting_adds}
 use Rattle.second_search.specs.declared.counting.Ending.{Ending}
 use Rattle.second_search.specs.declared.counting.Ending.TheVariants as ending
 use Rattle.second_search.specs.declared.keeper.Answer.{Answer}
 use Rattle.second_search.specs.declared.keeper.Answer.TheVariants.{Filling, Nothing, Unknown}
 use Rattle.second_search.specs.declared.keeper.KeptPart.{KeptPart}
+use Rattle.second_search.specs.declared.keeper.Spent.{Spent}
 use Rattle.second_search.specs.Searching.{raised}
-use Rattle.second_search.specs.Judging.{Changes, Done, EndsBy, EndsPart, Passes, StopsAt, answer_at, cells_at, kept_at}
+use Rattle.second_search.specs.Judging.{AddsUp, Changes, Done, DoneBy, EndsBy, EndsPart, Passes, StopsAt, answer_at, cells_at, kept_at}
 
 raised_both : (start before after m n : ℕ) → before ≡ raised start m → after ≡ raised before n → after ≡ raised start (m + n)
 raised_both start before after m n a b = omega arith
+
+raised_from : (start made after n : ℕ) → made ≡ raised 0 n → after ≡ raised start made → after ≡ raised start n
+raised_from start made after n a b = omega arith
 
 no_work : (p t e f : ℕ) → (p ≡ 0 → e ≡ 0) → (t ≡ 0 → f ≡ 0) → p + t ≡ 0 → e + f ≡ 0
 no_work p t e f a b z =
@@ -22,8 +26,8 @@ no_work p t e f a b z =
     let y = b (omega arith) in
     omega arith
 
-pub done_none : (searched splits : ℕ) (meter : Meter) (calls : ℕ) (Is : ℕ → ℕ → Type 0) → searched < 2 ^ 32 → splits < 2 ^ 32 → meter.evaluations < 2 ^ 64 → meter.trials < 2 ^ 64 → calls < 2 ^ 64 → Is 0 0 → Done searched searched splits splits meter meter calls calls Is
-done_none searched splits meter calls Is a b c d e is = record {
+pub done_none : (meter : Meter) (calls : ℕ) (Is : ℕ → ℕ → Type 0) → meter.evaluations < 2 ^ 64 → meter.trials < 2 ^ 64 → calls < 2 ^ 64 → Is 0 0 → Done 0 0 0 0 meter meter calls calls Is
+done_none meter calls Is c d e is = record {
   searched = 0;
   splits = 0;
   evaluations = 0;
@@ -48,18 +52,37 @@ done_as s t a b start end p q One Is d turn = record {
   at_least = d.at_least;
 }
 
-pub done_both : CountsAdd → (s t u a b c : ℕ) (start between end : Meter) (p q r : ℕ) (One Other Is : ℕ → ℕ → Type 0) → Done s t a b start between p q One → Done t u b c between end q r Other → ((m n x y : ℕ) → One m n → Other x y → Is (m + x) (n + y)) → Done s u a c start end p r Is
-done_both add s t u a b c start between end p q r One Other Is d f join = record {
+pub done_both : (s t u a b c : ℕ) (start between end : Meter) (p q r : ℕ) (One Other Is : ℕ → ℕ → Type 0) → Done s t a b start between p q One → Done t u b c between end q r Other → ((m n x y : ℕ) → One m n → Other x y → Is (m + x) (n + y)) → Done s u a c start end p r Is
+done_both s t u a b c start between end p q r One Other Is d f join = record {
   searched = d.searched + f.searched;
   splits = d.splits + f.splits;
   evaluations = d.evaluations + f.evaluations;
   is = join d.searched d.splits f.searched f.splits d.is f.is;
   searched_is = raised_both s t u d.searched f.searched d.searched_is f.searched_is;
   splits_is = raised_both a b c d.splits f.splits d.splits_is f.splits_is;
-  counts = add d.evaluations 0 f.evaluations 0 start between end p q r d.counts f.counts;
+  counts = counting_adds d.evaluations 0 f.evaluations 0 start between end p q r d.counts f.counts;
   none = no_work d.searched f.searched d.evaluations f.evaluations d.none f.none;
   at_least = (let one = d.at_least in let other = f.at_least in omega arith);
 }
+
+-- what was done is added to counts from before
+pub done_added : (s t a b : ℕ) (spent : Spent) (start end : Meter) (p q : ℕ) (Is : ℕ → ℕ → Type 0) → DoneBy spent start end p q Is → t ≡ raised s spent.searched → b ≡ raised a spent.splits → Done s t a b start end p q Is
+done_added s t a b spent start end p q Is d x y = record {
+  searched = d.searched;
+  splits = d.splits;
+  evaluations = d.evaluations;
+  is = d.is;
+  searched_is = raised_from s spent.searched t d.searched d.searched_is x;
+  splits_is = raised_from a spent.splits b d.splits d.splits_is y;
+  counts = d.counts;
+  none = d.none;
+  at_least = d.at_least;
+}
+
+-- what is done first and what is done then, counted together
+pub done_then : (before here after : Spent) (start between end : Meter) (p q r : ℕ) (One Other Is : ℕ → ℕ → Type 0) → DoneBy before start between p q One → DoneBy here between end q r Other → AddsUp before here after → ((m n x y : ℕ) → One m n → Other x y → Is (m + x) (n + y)) → DoneBy after start end p r Is
+done_then before here after start between end p q r One Other Is d f up join =
+    done_both 0 before.searched after.searched 0 before.splits after.splits start between end p q r One Other Is d (done_added before.searched after.searched before.splits after.splits here between end q r Other f up.searched up.splits) join
 
 module _ (clues : Clues) (facts picture : List (List ℕ)) (allowance : Option ℕ) (kept : List KeptPart) where
   pub passes_more : (i : ℕ) (m n x y : ℕ) → Passes clues facts picture allowance kept i m n → EndsPart clues facts picture allowance (kept_at kept i) ending.Nothing x y → Passes clues facts picture allowance kept (suc i) (m + x) (n + y)

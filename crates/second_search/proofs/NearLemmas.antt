@@ -19,8 +19,8 @@ use Rattle.second_search.proofs.AloneLemmas.{alone_is, lines_more}
 use Rattle.second_search.proofs.EndLemmas.{one_found}
 
 -- a window stays one when an open cell of the part is put in with its lines
-pub more_open : (facts : List (List ℕ)) (part : List ℕ) (old : Window) (cells : List ℕ) (lines : Lines) (row col : ℕ) → row < length facts → col < width_of facts → HasCell part row col → IsWindow facts part old → PutsCell old.cells cells row col → PutsBoth row col old.lines lines → IsWindow facts part (record { cells = cells; lines = lines })
-more_open facts part old cells lines row col h l has is puts both = record {
+pub more_open : (facts : List (List ℕ)) (part : List ℕ) (old : Window) (cells : List ℕ) (lines : Lines) (splits row col : ℕ) → row < length facts → col < width_of facts → HasCell part row col → IsWindow facts part old → PutsCell old.cells cells row col → PutsBoth row col old.lines lines → IsWindow facts part (record { cells = cells; lines = lines; splits = splits })
+more_open facts part old cells lines splits row col h l has is puts both = record {
   among = λ r c m. elim ((puts r c).0 m) [
     | inl before ↦ is.among r c before
     | inr e ↦
@@ -45,16 +45,16 @@ more_open facts part old cells lines row col h l has is puts both = record {
   ];
 }
 
-pub no_window : (facts : List (List ℕ)) (part cells : List ℕ) (lines : Lines) → ((r c : ℕ) → HasCell cells r c → ⊥) → ((line : LineId) → HasName lines line → ⊥) → IsWindow facts part (record { cells = cells; lines = lines })
-no_window facts part cells lines none nameless = record {
+pub no_window : (facts : List (List ℕ)) (part cells : List ℕ) (lines : Lines) (splits : ℕ) → ((r c : ℕ) → HasCell cells r c → ⊥) → ((line : LineId) → HasName lines line → ⊥) → IsWindow facts part (record { cells = cells; lines = lines; splits = splits })
+no_window facts part cells lines splits none nameless = record {
   among = λ r c m. absurd (none r c m);
   inside = λ r c m. absurd (none r c m);
   lines = λ line h. absurd (nameless line h);
   through = λ r c m. absurd (none r c m);
 }
 
-pub found_inside : CluesAreOfLines → BooksAreTheirClues → ClosingKeepsFillings → OnlyIsClosed → FillingsAreOfFacts → (clues : Clues) (givens : List ℕ) (facts picture : List (List ℕ)) → IsScene clues givens facts picture → (cells : List ℕ) (first new : List (List ℕ)) → first ≡ facts → LeavesAlone cells picture first new (length first) → (most : Option ℕ) (start count : ℕ) (ending : Ending) (other : List (List ℕ)) → ending ≡ Found other → (part : List ℕ) → ((r c : ℕ) → HasCell cells r c → HasCell part r c) → (n : ℕ) × ((count ≡ raised start n) × EndsAs clues picture new most ending n) → IsOtherFilling clues givens picture part other
-found_inside law books closing own fillings clues givens facts picture scene cells first new e left most start count ending other f part among h =
+pub found_inside : CluesAreOfLines → BooksAreTheirClues → ClosingKeepsFillings → OnlyIsClosed → FillingsAreOfFacts → (clues : Clues) (givens : List ℕ) (facts picture : List (List ℕ)) → IsScene clues givens facts picture → (cells : List ℕ) (first new : List (List ℕ)) → first ≡ facts → LeavesAlone cells picture first new (length first) → (most : Option ℕ) (count : ℕ) (ending : Ending) (other : List (List ℕ)) → ending ≡ Found other → (part : List ℕ) → ((r c : ℕ) → HasCell cells r c → HasCell part r c) → (n : ℕ) × ((count ≡ raised 0 n) × EndsAs clues picture new most ending n) → IsOtherFilling clues givens picture part other
+found_inside law books closing own fillings clues givens facts picture scene cells first new e left most count ending other f part among h =
     let P : List (List ℕ) → Type 0 = λ x. LeavesAlone cells picture x new (length x) in
     let same = alone_is own cells picture facts new (length facts) scene.is_picture scene.sound.same_shape refl (subst P e left) in
     let Q : Ending → Type 0 = λ x. EndsAs clues picture new most x h.0 in

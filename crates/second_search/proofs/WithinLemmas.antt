@@ -5,8 +5,8 @@ use Rattle.clues.specs.ClueBook.{Clues}
 use Rattle.clues.specs.Laws.{BooksAreTheirClues, CluesAreOfLines}
 use Rattle.line_settle.specs.declared.meter.Meter.{Meter}
 use Rattle.line_settle.specs.Counting.{Counts}
+use Rattle.line_settle.specs.FitLaws.{counting_adds}
 use Rattle.line_settle.specs.FactSets.{SameShape}
-use Rattle.line_settle.specs.Laws.{CountsAdd}
 use Rattle.fixpoint.specs.Laws.{ClosingKeepsFillings, OnlyIsClosed}
 use Rattle.second_search.specs.declared.counting.Ending.{Ending}
 use Rattle.second_search.specs.declared.counting.Ending.TheVariants as ending
@@ -48,10 +48,10 @@ within_past clues known facts allowance found other start count e f t h =
     let Q : Option ℕ → Type 0 = λ a. EndsWithin clues known facts a other h.0 in
     (h.0, (h.1.0, subst Q (sym e) (inr (subst P f h.1.1, t))))
 
-pub counts_some_more : CountsAdd → (start between end : Meter) (p q r : ℕ) → CountsSome start between p q → (evaluations : ℕ) × Counts evaluations 0 between end q r → CountsSome start end p r
-counts_some_more add start between end p q r a b =
+pub counts_some_more : (start between end : Meter) (p q r : ℕ) → CountsSome start between p q → (evaluations : ℕ) × Counts evaluations 0 between end q r → CountsSome start end p r
+counts_some_more start between end p q r a b =
     let some = a.1.0 in
-    (a.0 + b.0, ((let m : 0 < a.0 + b.0 = omega arith in m), add a.0 0 b.0 0 start between end p q r a.1.1 b.1))
+    (a.0 + b.0, ((let m : 0 < a.0 + b.0 = omega arith in m), counting_adds a.0 0 b.0 0 start between end p q r a.1.1 b.1))
 
 -- ---- what the ladder says of a part
 

@@ -14,6 +14,7 @@ use Rattle.second_search.specs.declared.keeper.Verdict.TheVariants.{Unique, Othe
 use Rattle.second_search.specs.declared.keeper.Judged.{Judged}
 use Rattle.second_search.specs.declared.keeper.Judged.TheVariants as judged
 use Rattle.second_search.specs.declared.keeper.KeptPart.{KeptPart}
+use Rattle.second_search.specs.declared.keeper.Spent.{Spent}
 use Rattle.second_search.specs.declared.keeper.Stop.{Stop}
 use Rattle.second_search.specs.declared.keeper.Stop.TheVariants.{Through, Found, BrokenOff}
 use Rattle.second_search.specs.Parts.{AreParts, IsOtherFilling}
@@ -111,6 +112,15 @@ pub record Done (searched_before searched_after splits_before splits_after : ℕ
   pub counts : Counts evaluations 0 meter_before meter_after calls_before calls_after
   pub none : searched ≡ 0 → evaluations ≡ 0
   pub at_least : searched ≤ evaluations
+
+-- the counts of both, each staying at the largest 32-bit number
+pub record AddsUp (one more both : Spent) : Type 0 where
+  pub searched : both.searched ≡ raised one.searched more.searched
+  pub splits : both.splits ≡ raised one.splits more.splits
+
+-- something was done by so many searches and splits, counted from nothing
+abbrev pub DoneBy : Spent → Meter → Meter → ℕ → ℕ → (ℕ → ℕ → Type 0) → Type 0
+DoneBy spent meter_before meter_after calls_before calls_after Is = Done 0 spent.searched 0 spent.splits meter_before meter_after calls_before calls_after Is
 
 -- ---- what is known then
 

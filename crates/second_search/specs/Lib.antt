@@ -1,5 +1,6 @@
 pub mod Other
 pub mod Parts
+pub mod Scene
 pub mod Growing
 pub mod Branching
 pub mod Weighing

@@ -117,6 +117,10 @@ NamesLinesOf cells lines = (row col : ℕ) → HasCell cells row col → HasName
 abbrev pub raised : ℕ → ℕ → ℕ
 raised count n = min (count + n) (2 ^ 32 - 1)
 
+-- with some evaluations, if any, each of which the meter counts and is a call of the engine
+abbrev pub CountsAny : Meter → Meter → ℕ → ℕ → Type 0
+CountsAny old new before after = (evaluations : ℕ) × Counts evaluations 0 old new before after
+
 -- with at least one evaluation, which the meter counts and which is a call of the engine
 abbrev pub CountsSome : Meter → Meter → ℕ → ℕ → Type 0
 CountsSome old new before after = (evaluations : ℕ) × ((0 < evaluations) × Counts evaluations 0 old new before after)

@@ -1,13 +1,12 @@
 //! What facts come to when they are closed, exactly: a dead line, a picture, or a first open cell.
 
-ghost use Rattle.std.specs.Prelude.{◌≡◌, ◌<◌, ℕ, IfOk, OnOk};
+ghost use Rattle.std.specs.Prelude.{◌≡◌, ◌<◌, IfOk, OnOk};
 ghost use Rattle.picture.specs.LineSet.{name_count};
-ghost use Rattle.line_settle.specs.Counting.{Counts};
 ghost use Rattle.line_settle.specs.FactSets.{IsFacts};
 ghost use Rattle.fixpoint.specs.Closing.{AreClosable, EachFits, QuietOutside};
 ghost use Rattle.fixpoint.specs.LineNames.{AreLinesOf};
 ghost use Rattle.second_search.specs.Looking.{AreRowsSettled, Shows};
-ghost use Rattle.second_search.specs.Searching.{Comes, ComesClosed, CountsSome};
+ghost use Rattle.second_search.specs.Searching.{Comes, ComesClosed, CountsAny, CountsSome};
 
 use crate::looking::{first_unsettled, shown_picture};
 use clues::ClueBook;
@@ -26,37 +25,39 @@ pub(crate) enum Coming {
     Splits(Facts, Cell),
 }
 
-// Closes facts and looks at what they leave. A line is named, and each line that is not named has to be quiet; each row above
-// one has to be settled.
+// What is due at facts: the lines that may still exclude something, and the row above which each cell is settled.
+#[derive(Drop)]
+pub(crate) struct Due {
+    pub lines: LineSet,
+    pub top: u8,
+}
+
+// Closes facts and looks at what they leave. A line is due, and each line that is not has to be quiet.
 pub(crate) fn come_to<E: LineEngine>(
     alloc: Global,
     engine: &mut E,
     book: &ClueBook,
     facts: &Facts,
-    lines: &LineSet,
-    top: u8,
+    due: &Due,
     meter: &mut Meter,
 ) -> Result<Coming, AllocError>
     requires closable { AreClosable book.now (E.longest engine.old) facts.now }
-    requires lines { AreLinesOf facts.now lines.now }
-    requires quiet { QuietOutside book.now facts.now lines.now }
-    requires some { 0 < name_count lines.now }
-    requires above { AreRowsSettled facts.now top }
+    requires lines { AreLinesOf facts.now due.now.lines }
+    requires quiet { QuietOutside book.now facts.now due.now.lines }
+    requires some { 0 < name_count due.now.lines }
+    requires above { AreRowsSettled facts.now due.now.top }
     ensures comes { IfOk result (Comes book.now facts.now) }
-    ensures counts { (evaluations : ℕ)
-        × Counts evaluations 0 meter.old meter.new (E.calls engine.old) (E.calls engine.new) }
+    ensures counts { CountsAny meter.old meter.new (E.calls engine.old) (E.calls engine.new) }
     ensures evaluates { OnOk result
         (CountsSome meter.old meter.new (E.calls engine.old) (E.calls engine.new)) }
     ensures same_longest { E.longest engine.new ≡ E.longest engine.old }
 {
-    let _ = engine.calls();
-    let _evaluations = meter.evaluations;
-    let _trials = meter.trials;
+    let (_calls, _evaluations, _trials) = (engine.calls(), meter.evaluations, meter.trials);
     let mut settled = facts.copy()?;
     let mut agenda = InOrder::make();
-    match close_facts(engine, &mut agenda, &mut settled, book, lines, meter) {
+    match close_facts(engine, &mut agenda, &mut settled, book, &due.lines, meter) {
         Outcome::Dead => Ok(Coming::Dies),
-        Outcome::Narrowed => split_or_end(alloc, settled, top),
+        Outcome::Narrowed => split_or_end(alloc, settled, due.top),
     }
 }
 

@@ -1,19 +1,18 @@
 //! The search in a fixed order, which counts its splits and may be broken off.
 
-ghost use Rattle.std.specs.Prelude.{◌≡◌, ◌<◌, ◌≤◌, ℕ, IfOk, OnOk};
+ghost use Rattle.std.specs.Prelude.{◌≡◌, ◌<◌, ℕ, IfOk, OnOk};
 ghost use Rattle.picture.specs.LineSet.{name_count};
-ghost use Rattle.line_settle.specs.Counting.{Counts};
 ghost use Rattle.fixpoint.specs.Closing.{AreClosable, QuietOutside};
 ghost use Rattle.fixpoint.specs.LineNames.{AreLinesOf};
 ghost use Rattle.second_search.specs.Looking.{AreRowsSettled};
-ghost use Rattle.second_search.specs.Searching.{CountsSome, EndsAs, raised};
+ghost use Rattle.second_search.specs.Searching.{CountsAny, CountsSome, EndsAs, raised};
 ghost use Rattle.second_search.specs.Stepping.{Compares, Spends, Steps};
 
 use crate::cell_lines::lines_at;
-use crate::coming::{Coming, come_to};
+use crate::coming::{Coming, Due, come_to};
 use crate::pending::Pending;
 use clues::ClueBook;
-use line_settle::laws::{counts_add, least_is_unique};
+use line_settle::laws::least_is_unique;
 use line_settle::{Facts, LineEngine, Meter};
 use picture::{LineSet, Picture};
 use std::alloc::{AllocError, Global};
@@ -27,6 +26,22 @@ pub enum Ending {
     BrokenOff,
 }
 
+/// What a search came to: how it ended, and how often it split, which stays at the largest number.
+#[derive(Drop)]
+pub struct Searched {
+    pub ending: Ending,
+    pub splits: u32,
+}
+
+// Where a search starts: facts, the lines that may still exclude something there, and how many splits it may make, if not any
+// number.
+#[derive(Drop)]
+pub(crate) struct Start {
+    pub facts: Facts,
+    pub lines: LineSet,
+    pub allowance: Option<u32>,
+}
+
 // What one look at the facts at hand led to.
 #[derive(Drop)]
 pub(crate) enum Step {
@@ -36,108 +51,124 @@ pub(crate) enum Step {
     Halted,
 }
 
+// A search under way: the branches that wait, what is due at the one at hand, how many splits are left, if there is an allowance,
+// and how many were made.
+#[derive(Drop)]
+pub(crate) struct Counted {
+    pub pending: Pending,
+    pub due: Due,
+    pub left: Option<u32>,
+    pub splits: u32,
+}
+
 // Searches facts for another picture than a known one. A line is named, and each line that is not has to be quiet; after a
 // split the two lines of the split cell alone need not be, since closed facts were split, and the rows above that cell are
-// settled. Of the splits at most `allowance` are made, where there is one.
+// settled. Of the splits at most so many are made as are allowed, where there is an allowance.
 pub(crate) fn search_counted<E: LineEngine>(
     alloc: Global,
     engine: &mut E,
     book: &ClueBook,
     known: &Picture,
-    lines: LineSet,
-    facts: Facts,
-    allowance: Option<u32>,
+    start: Start,
     meter: &mut Meter,
-    splits: &mut u32,
-) -> Result<Ending, AllocError>
-    requires closable { AreClosable book.now (E.longest engine.old) facts }
-    requires lines { AreLinesOf facts lines }
-    requires quiet { QuietOutside book.now facts lines }
-    requires some { 0 < name_count lines }
-    ensures ends { IfOk result (λ ending. (n : ℕ) × ((splits.new ≡ raised splits.old n)
-        × EndsAs book.now known.now facts allowance ending n)) }
-    ensures counts { (evaluations : ℕ)
-        × Counts evaluations 0 meter.old meter.new (E.calls engine.old) (E.calls engine.new) }
+) -> Result<Searched, AllocError>
+    requires closable { AreClosable book.now (E.longest engine.old) start.facts }
+    requires lines { AreLinesOf start.facts start.lines }
+    requires quiet { QuietOutside book.now start.facts start.lines }
+    requires some { 0 < name_count start.lines }
+    ensures ends { IfOk result (λ searched. (n : ℕ) × ((searched.splits ≡ raised 0 n)
+        × EndsAs book.now known.now start.facts start.allowance searched.ending n)) }
+    ensures counts { CountsAny meter.old meter.new (E.calls engine.old) (E.calls engine.new) }
     ensures evaluates { OnOk result
         (CountsSome meter.old meter.new (E.calls engine.old) (E.calls engine.new)) }
-    ensures rises { splits.old ≤ splits.new }
     ensures same_longest { E.longest engine.new ≡ E.longest engine.old }
 {
-    counts_add();
     least_is_unique();
-    let _ = (known.height(), engine.calls(), *splits);
-    let _evaluations = meter.evaluations;
-    let _trials = meter.trials;
-    let mut pending = Pending::start(alloc, facts);
-    let mut left = allowance;
-    let mut dirty = lines;
-    let mut top = 0;
+    let _ = known.height();
+    let (_calls, _evaluations, _trials) = (engine.calls(), meter.evaluations, meter.trials);
+    let Start {
+        facts,
+        lines,
+        allowance,
+    } = start;
+    let pending = Pending::start(alloc, facts);
+    let mut search = Counted {
+        pending,
+        due: Due { lines, top: 0 },
+        left: allowance,
+        splits: 0,
+    };
     loop {
-        match look_once(
-            alloc,
-            engine,
-            book,
-            known,
-            &dirty,
-            top,
-            &mut pending,
-            &mut left,
-            meter,
-            splits,
-        )? {
-            Step::Other(picture) => return Ok(Ending::Found(picture)),
-            Step::Halted => return Ok(Ending::BrokenOff),
+        let step = search.look_once(alloc, engine, book, known, meter)?;
+        match step {
+            Step::Other(picture) => return Ok(Searched {
+                ending: Ending::Found(picture),
+                splits: search.splits,
+            }),
+            Step::Halted => return Ok(Searched {
+                ending: Ending::BrokenOff,
+                splits: search.splits,
+            }),
             Step::Passed => {}
             Step::Split => {}
         }
-        match pending.advance()? {
+        let next = search.pending.advance()?;
+        match next {
             Some(cell) => {
-                dirty = lines_at(pending.at_hand(), cell);
-                top = cell.row;
+                search.due = Due {
+                    lines: lines_at(search.pending.at_hand(), cell),
+                    top: cell.row,
+                };
             }
-            None => return Ok(Ending::Nothing),
+            None => return Ok(Searched {
+                ending: Ending::Nothing,
+                splits: search.splits,
+            }),
         }
     }
 }
 
-// Looks at the facts at hand once, and splits them where a split is still allowed.
-fn look_once<E: LineEngine>(
-    alloc: Global,
-    engine: &mut E,
-    book: &ClueBook,
-    known: &Picture,
-    lines: &LineSet,
-    top: u8,
-    pending: &mut Pending,
-    left: &mut Option<u32>,
-    meter: &mut Meter,
-    splits: &mut u32,
-) -> Result<Step, AllocError>
-    requires closable { AreClosable book.now (E.longest engine.old) pending.old.at_hand }
-    requires lines { AreLinesOf pending.old.at_hand lines.now }
-    requires quiet { QuietOutside book.now pending.old.at_hand lines.now }
-    requires some { 0 < name_count lines.now }
-    requires above { AreRowsSettled pending.old.at_hand top }
-    ensures steps { IfOk result
-        (Steps book.now known.now pending.old pending.new left.old left.new splits.old splits.new) }
-    ensures counts { (evaluations : ℕ)
-        × Counts evaluations 0 meter.old meter.new (E.calls engine.old) (E.calls engine.new) }
-    ensures evaluates { OnOk result
-        (CountsSome meter.old meter.new (E.calls engine.old) (E.calls engine.new)) }
-    ensures rises { splits.old ≤ splits.new }
-    ensures same_longest { E.longest engine.new ≡ E.longest engine.old }
-{
-    let _splits = *splits;
-    match come_to(alloc, engine, book, pending.at_hand(), lines, top, meter)? {
-        Coming::Dies => Ok(Step::Passed),
-        Coming::Ends(picture) => Ok(compare(picture, known)),
-        Coming::Splits(settled, cell) => {
-            if !spend(left, splits) {
-                return Ok(Step::Halted);
+impl Counted {
+    // Looks at the facts at hand once, and splits them where a split is still allowed.
+    fn look_once<E: LineEngine>(
+        &mut self,
+        alloc: Global,
+        engine: &mut E,
+        book: &ClueBook,
+        known: &Picture,
+        meter: &mut Meter,
+    ) -> Result<Step, AllocError>
+        requires closable { AreClosable book.now (E.longest engine.old) self.old.pending.at_hand }
+        requires lines { AreLinesOf self.old.pending.at_hand self.old.due.lines }
+        requires quiet { QuietOutside book.now self.old.pending.at_hand self.old.due.lines }
+        requires some { 0 < name_count self.old.due.lines }
+        requires above { AreRowsSettled self.old.pending.at_hand self.old.due.top }
+        ensures steps { IfOk result (Steps book.now known.now self.old.pending self.new.pending
+            self.old.left self.new.left self.old.splits self.new.splits) }
+        ensures counts { CountsAny meter.old meter.new (E.calls engine.old) (E.calls engine.new) }
+        ensures evaluates { OnOk result
+            (CountsSome meter.old meter.new (E.calls engine.old) (E.calls engine.new)) }
+        ensures same_longest { E.longest engine.new ≡ E.longest engine.old }
+    {
+        let coming = come_to(
+            alloc,
+            engine,
+            book,
+            self.pending.at_hand(),
+            &self.due,
+            meter,
+        )?;
+        match coming {
+            Coming::Dies => Ok(Step::Passed),
+            Coming::Ends(picture) => Ok(compare(picture, known)),
+            Coming::Splits(settled, cell) => {
+                if !spend(&mut self.left, &mut self.splits) {
+                    return Ok(Step::Halted);
+                }
+                self.pending.narrow(&settled, self.due.top)?;
+                self.pending.split(cell)?;
+                Ok(Step::Split)
             }
-            pending.narrow(&settled, top)?;
-            pending.split(cell)?;
-            Ok(Step::Split)
         }
     }
 }

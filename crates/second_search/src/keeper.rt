@@ -7,10 +7,12 @@ ghost use Rattle.second_search.specs.Parts.{AreParts, IsPart, IsScene};
 ghost use Rattle.second_search.specs.Answering.{IsAnswer};
 ghost use Rattle.second_search.specs.Carrying.{AreSameLines, Carries, IsCarried, KnowsNothing};
 ghost use Rattle.second_search.specs.Judging.{
+  AddsUp,
   AnswersAs,
   AreTrue,
   Changes,
   Done,
+  DoneBy,
   EndsPart,
   Fills,
   FirstFilling,
@@ -28,17 +30,17 @@ ghost use Rattle.second_search.specs.Judging.{
   kept_at,
   parts_of,
 };
+ghost use Rattle.second_search.specs.Searching.{CountsAny};
+ghost use Rattle.second_search.specs.Scene.{CanSearch};
 
 use crate::carrying::{answer_for, are_named, first_cell};
-use crate::counting::Ending;
+use crate::counting::{Ending, Searched};
 use crate::laws::{fillings_are_of_facts, fillings_stay, parts_decide};
 use crate::part_decision::decide_part;
 use crate::parts::Parts;
 use crate::same_lines::same_lines;
 use crate::scene::Scene;
 use clues::laws::{books_are_their_clues, clues_are_of_lines};
-use fixpoint::laws::{closing_keeps_fillings, only_is_closed};
-use line_settle::laws::counts_add;
 use line_settle::{Facts, LineEngine, Meter};
 use picture::laws::same_cells_are_equal;
 use picture::{CellSet, LineSet, MAX_SIDE, Picture};
@@ -99,6 +101,30 @@ pub(crate) enum Stop {
     Through,
     Found(usize, Picture),
     BrokenOff(usize),
+}
+
+// How many parts were searched, and how often they split. Both stay at the largest number.
+#[derive(Clone, Copy)]
+pub(crate) struct Spent {
+    pub searched: u32,
+    pub splits: u32,
+}
+
+const NOTHING_SPENT: Spent = Spent {
+    searched: 0,
+    splits: 0,
+};
+
+impl Spent {
+    // The counts of both.
+    fn plus(self, more: Spent) -> Spent
+        ensures { AddsUp self more result }
+    {
+        Spent {
+            searched: self.searched.saturating_add(more.searched),
+            splits: self.splits.saturating_add(more.splits),
+        }
+    }
 }
 
 impl Keeper {
@@ -280,7 +306,9 @@ impl Keeper {
         ensures rises { (searched.old ≤ searched.new) × (splits.old ≤ splits.new) }
         ensures same_longest { E.longest engine.new ≡ E.longest engine.old }
     {
-        let verdict = self.decide(engine, scene, allowance, meter, searched, splits)?;
+        let (verdict, spent) = self.decide(engine, scene, allowance, meter)?;
+        *searched = searched.saturating_add(spent.searched);
+        *splits = splits.saturating_add(spent.splits);
         Ok(self.judged(verdict))
     }
 
@@ -299,36 +327,29 @@ impl Keeper {
         }
     }
 
-    // Judges a picture by its parts, and keeps what the searches that ended found.
+    // Judges a picture by its parts, keeps what the searches that ended found, and tells what they took.
     fn decide<E: LineEngine>(
         &mut self,
         engine: &mut E,
         scene: &Scene,
         allowance: Option<u32>,
         meter: &mut Meter,
-        searched: &mut u32,
-        splits: &mut u32,
-    ) -> Result<Verdict, AllocError>
-        requires scene { IsScene scene.now.clues.now scene.now.givens.now scene.now.facts.now
-            scene.now.picture.now }
+    ) -> Result<(Verdict, Spent), AllocError>
+        requires can { CanSearch scene.now (E.longest engine.old) }
         requires parts { AreParts scene.now.facts.now (parts_of self.old) }
         requires true_answers { AreTrue scene.now.clues.now scene.now.givens.now
             scene.now.picture.now self.old }
-        requires tall { length scene.now.clues.now.rows ≤ E.longest engine.old }
-        requires wide { length scene.now.clues.now.columns ≤ E.longest engine.old }
-        ensures judges { IfOk result (λ verdict. Done searched.old searched.new splits.old
-            splits.new meter.old meter.new (E.calls engine.old) (E.calls engine.new)
-            (Judges scene.now.clues.now scene.now.facts.now scene.now.picture.now allowance self.old self.new verdict)) }
+        ensures judges { IfOk result (λ decided. DoneBy decided.1 meter.old meter.new
+            (E.calls engine.old) (E.calls engine.new) (Judges scene.now.clues.now
+            scene.now.facts.now scene.now.picture.now allowance self.old self.new decided.0)) }
         ensures refused { OnErr result (self.new ≡ self.old) }
         ensures parts { AreParts scene.now.facts.now (parts_of self.new) }
         ensures true_answers { AreTrue scene.now.clues.now scene.now.givens.now
             scene.now.picture.now self.new }
-        ensures shown { IfOk result (IsShown self.new) }
-        ensures verdict { IfOk result
-            (IsVerdict scene.now.clues.now scene.now.givens.now scene.now.picture.now) }
-        ensures counts { (evaluations : ℕ)
-            × Counts evaluations 0 meter.old meter.new (E.calls engine.old) (E.calls engine.new) }
-        ensures rises { (searched.old ≤ searched.new) × (splits.old ≤ splits.new) }
+        ensures shown { IfOk result (λ decided. IsShown self.new decided.0) }
+        ensures verdict { IfOk result (λ decided. IsVerdict scene.now.clues.now
+            scene.now.givens.now scene.now.picture.now decided.0) }
+        ensures counts { CountsAny meter.old meter.new (E.calls engine.old) (E.calls engine.new) }
         ensures same_longest { E.longest engine.new ≡ E.longest engine.old }
     {
         clues_are_of_lines();
@@ -337,14 +358,13 @@ impl Keeper {
         only_is_closed();
         fillings_are_of_facts();
         parts_decide();
-        let _ = (engine.calls(), *splits, *searched);
-        let _evaluations = meter.evaluations;
-        let _trials = meter.trials;
+        let (_calls, _evaluations, _trials) = (engine.calls(), meter.evaluations, meter.trials);
         match self.kept_filling() {
-            Some(_) => Ok(Verdict::Other),
+            Some(_) => Ok((Verdict::Other, NOTHING_SPENT)),
             None => {
-                let stop = self.search_parts(engine, scene, allowance, meter, searched, splits)?;
-                Ok(self.note(stop))
+                let (stop, spent) = self.search_parts(engine, scene, allowance, meter)?;
+                let verdict = self.note(stop);
+                Ok((verdict, spent))
             }
         }
     }
@@ -383,38 +403,31 @@ impl Keeper {
         scene: &Scene,
         allowance: Option<u32>,
         meter: &mut Meter,
-        searched: &mut u32,
-        splits: &mut u32,
-    ) -> Result<Stop, AllocError>
-        requires scene { IsScene scene.now.clues.now scene.now.givens.now scene.now.facts.now
-            scene.now.picture.now }
+    ) -> Result<(Stop, Spent), AllocError>
+        requires can { CanSearch scene.now (E.longest engine.old) }
         requires parts { (i : ℕ) → i < length self.now
             → IsPart scene.now.facts.now (cells_at self.now i) }
-        requires tall { length scene.now.clues.now.rows ≤ E.longest engine.old }
-        requires wide { length scene.now.clues.now.columns ≤ E.longest engine.old }
-        ensures stops { IfOk result (λ stop. Done searched.old searched.new splits.old splits.new
-            meter.old meter.new (E.calls engine.old) (E.calls engine.new)
-            (Stops scene.now.clues.now scene.now.facts.now scene.now.picture.now allowance self.now stop)) }
-        ensures counts { (evaluations : ℕ)
-            × Counts evaluations 0 meter.old meter.new (E.calls engine.old) (E.calls engine.new) }
-        ensures rises { (searched.old ≤ searched.new) × (splits.old ≤ splits.new) }
+        ensures stops { IfOk result (λ gone. DoneBy gone.1 meter.old meter.new
+            (E.calls engine.old) (E.calls engine.new) (Stops scene.now.clues.now
+            scene.now.facts.now scene.now.picture.now allowance self.now gone.0)) }
+        ensures counts { CountsAny meter.old meter.new (E.calls engine.old) (E.calls engine.new) }
         ensures same_longest { E.longest engine.new ≡ E.longest engine.old }
     {
-        counts_add();
-        let _ = (engine.calls(), *splits, *searched);
-        let _evaluations = meter.evaluations;
-        let _trials = meter.trials;
+        let (_calls, _evaluations, _trials) = (engine.calls(), meter.evaluations, meter.trials);
+        let mut spent = NOTHING_SPENT;
         for i in 0..self.kept.len() {
-            match self.search_one(i, engine, scene, allowance, meter, searched, splits)? {
+            let (ending, here) = self.search_one(i, engine, scene, allowance, meter)?;
+            spent = spent.plus(here);
+            match ending {
                 Ending::Nothing => {}
-                Ending::Found(picture) => return Ok(Stop::Found(i, picture)),
-                Ending::BrokenOff => return Ok(Stop::BrokenOff(i)),
+                Ending::Found(picture) => return Ok((Stop::Found(i, picture), spent)),
+                Ending::BrokenOff => return Ok((Stop::BrokenOff(i), spent)),
             }
         }
-        Ok(Stop::Through)
+        Ok((Stop::Through, spent))
     }
 
-    // Searches a part, unless something is known of it already.
+    // Searches a part, unless something is known of it already, and tells what that took.
     fn search_one<E: LineEngine>(
         &self,
         i: usize,
@@ -422,42 +435,33 @@ impl Keeper {
         scene: &Scene,
         allowance: Option<u32>,
         meter: &mut Meter,
-        searched: &mut u32,
-        splits: &mut u32,
-    ) -> Result<Ending, AllocError>
+    ) -> Result<(Ending, Spent), AllocError>
         requires place { i < length self.now }
-        requires scene { IsScene scene.now.clues.now scene.now.givens.now scene.now.facts.now
-            scene.now.picture.now }
+        requires can { CanSearch scene.now (E.longest engine.old) }
         requires part { IsPart scene.now.facts.now (cells_at self.now i) }
-        requires tall { length scene.now.clues.now.rows ≤ E.longest engine.old }
-        requires wide { length scene.now.clues.now.columns ≤ E.longest engine.old }
-        ensures ends { IfOk result (λ ending. Done searched.old searched.new splits.old splits.new
-            meter.old meter.new (E.calls engine.old) (E.calls engine.new)
-            (EndsPart scene.now.clues.now scene.now.facts.now scene.now.picture.now allowance (kept_at self.now i) ending)) }
-        ensures counts { (evaluations : ℕ)
-            × Counts evaluations 0 meter.old meter.new (E.calls engine.old) (E.calls engine.new) }
-        ensures rises { (searched.old ≤ searched.new) × (splits.old ≤ splits.new) }
+        ensures ends { IfOk result (λ ended. DoneBy ended.1 meter.old meter.new
+            (E.calls engine.old) (E.calls engine.new) (EndsPart scene.now.clues.now
+            scene.now.facts.now scene.now.picture.now allowance (kept_at self.now i) ended.0)) }
+        ensures counts { CountsAny meter.old meter.new (E.calls engine.old) (E.calls engine.new) }
         ensures same_longest { E.longest engine.new ≡ E.longest engine.old }
     {
-        let _ = (engine.calls(), *splits, *searched);
-        let _evaluations = meter.evaluations;
-        let _trials = meter.trials;
+        let (_calls, _evaluations, _trials) = (engine.calls(), meter.evaluations, meter.trials);
         let part = &self.kept[i];
         match part.answer {
             Answer::Unknown => {
-                *searched = searched.saturating_add(1);
-                decide_part(
-                    *self.kept.allocator(),
-                    engine,
-                    scene,
-                    &part.cells,
-                    allowance,
-                    meter,
-                    splits,
-                )
+                let alloc = *self.kept.allocator();
+                let searched = decide_part(alloc, engine, scene, &part.cells, allowance, meter)?;
+                let Searched { ending, splits } = searched;
+                Ok((
+                    ending,
+                    Spent {
+                        searched: 1,
+                        splits,
+                    },
+                ))
             }
-            Answer::Nothing => Ok(Ending::Nothing),
-            Answer::Filling(_) => Ok(Ending::Nothing),
+            Answer::Nothing => Ok((Ending::Nothing, NOTHING_SPENT)),
+            Answer::Filling(_) => Ok((Ending::Nothing, NOTHING_SPENT)),
         }
     }
 

@@ -4,12 +4,12 @@ ghost use Rattle.std.specs.Prelude.{◌≡◌, ℕ, None, IfOk, IfSome, IsNone};
 ghost use Rattle.line_settle.specs.Counting.{Counts};
 ghost use Rattle.fixpoint.specs.Closing.{AreClosable};
 ghost use Rattle.second_search.specs.Trees.{AreNone, Decides};
+ghost use Rattle.second_search.specs.Searching.{CountsAny};
 
 use crate::scene::Scene;
 use crate::tree::{Written, write_tree};
 use crate::tree_lines::Lines;
 use crate::tree_step::Way;
-use line_settle::laws::counts_add;
 use line_settle::{LineEngine, Meter};
 use picture::Picture;
 use split_choice::Choice;
@@ -54,10 +54,7 @@ pub fn climb<E: LineEngine>(
         × Counts evaluations 0 meter.old meter.new (E.calls engine.old) (E.calls engine.new) }
     ensures same_longest { E.longest engine.new ≡ E.longest engine.old }
 {
-    counts_add();
-    let _ = engine.calls();
-    let _evaluations = meter.evaluations;
-    let _trials = meter.trials;
+    let (_calls, _evaluations, _trials) = (engine.calls(), meter.evaluations, meter.trials);
     let mut bound = ladder.first_bound;
     for _ in 0..MOST_ROUNDS {
         let tried = try_both(alloc, engine, scene, ladder, bound, meter)?;
@@ -91,14 +88,10 @@ fn try_both<E: LineEngine>(
     requires { AreClosable scene.now.clues.now (E.longest engine.old) scene.now.facts.now }
     ensures decides { IfOk result (λ found. IfSome found (Decides scene.now.clues.now
         scene.now.picture.now scene.now.facts.now ladder.keeps)) }
-    ensures counts { (evaluations : ℕ)
-        × Counts evaluations 0 meter.old meter.new (E.calls engine.old) (E.calls engine.new) }
+    ensures counts { CountsAny meter.old meter.new (E.calls engine.old) (E.calls engine.new) }
     ensures same_longest { E.longest engine.new ≡ E.longest engine.old }
 {
-    counts_add();
-    let _ = engine.calls();
-    let _evaluations = meter.evaluations;
-    let _trials = meter.trials;
+    let (_calls, _evaluations, _trials) = (engine.calls(), meter.evaluations, meter.trials);
     let way = way_of(ladder, Choice::Look, bound, meter);
     let looked = write(alloc, engine, scene, way, ladder.keeps, meter)?;
     if looked.is_some() {
@@ -131,8 +124,7 @@ fn write<E: LineEngine>(
     ensures decides { IfOk result (λ found. IfSome found (Decides scene.now.clues.now
         scene.now.picture.now scene.now.facts.now keeps)) }
     ensures broken_off { IfOk result (λ found. IsNone found → way.until ≡ None → ⊥) }
-    ensures counts { (evaluations : ℕ)
-        × Counts evaluations 0 meter.old meter.new (E.calls engine.old) (E.calls engine.new) }
+    ensures counts { CountsAny meter.old meter.new (E.calls engine.old) (E.calls engine.new) }
     ensures same_longest { E.longest engine.new ≡ E.longest engine.old }
 {
     let written = write_tree(alloc, engine, scene, no_lines(alloc, keeps), way, meter)?;

@@ -27,7 +27,7 @@ mod tree_lines;
 mod tree_step;
 
 pub use bounds::{BOUNDS, Bounds};
-pub use counting::Ending;
+pub use counting::{Ending, Searched};
 pub use finding::{find_first, find_other};
 pub use keeper::{Answer, Judged, Keeper, KeptPart, Verdict};
 pub use ladder::{Decided, Ladder, MOST_CELLS, climb};

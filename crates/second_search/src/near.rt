@@ -1,21 +1,20 @@
 //! Near pictures: other ones that differ from the known picture inside of one window of a part.
 
-ghost use Rattle.std.specs.Prelude.{◌≡◌, ◌≤◌, ◌<◌, ℕ, length, IfOk, IfSome};
+ghost use Rattle.std.specs.Prelude.{◌≡◌, ◌<◌, IfOk, IfSome};
 ghost use Rattle.picture.specs.CellSet.{HasCell};
 ghost use Rattle.clues.specs.Solution.{IsOther};
-ghost use Rattle.line_settle.specs.Counting.{Counts};
 ghost use Rattle.second_search.specs.Near.{IsWindow};
-ghost use Rattle.second_search.specs.Parts.{IsOtherFilling, IsScene};
+ghost use Rattle.second_search.specs.Parts.{IsOtherFilling};
+ghost use Rattle.second_search.specs.Searching.{CountsAny};
+ghost use Rattle.second_search.specs.Scene.{CanSearch};
 
 use crate::cell_lines::put_both;
-use crate::counting::{Ending, search_counted};
+use crate::counting::{Ending, Start, search_counted};
 use crate::laws::fillings_are_of_facts;
 use crate::part_search::{leave_alone, lines_through};
 use crate::parts::Parts;
 use crate::scene::Scene;
 use clues::laws::{books_are_their_clues, clues_are_of_lines};
-use fixpoint::laws::{closing_keeps_fillings, only_is_closed};
-use line_settle::laws::counts_add;
 use line_settle::{Facts, LineEngine, Meter};
 use picture::{Axis, CellSet, LineId, LineSet, MAX_SIDE, Picture};
 use std::alloc::{AllocError, Global};
@@ -33,19 +32,12 @@ pub(crate) struct Windows {
     pub splits: u32,
 }
 
-// The open cells of a window, and the lines through them.
+// The open cells of a window, the lines through them, and how many splits a search in it may make.
 #[derive(Drop)]
 pub(crate) struct Window {
     pub cells: CellSet,
     pub lines: LineSet,
-}
-
-// Some rows of a part, all its columns, and what its windows are.
-#[derive(Clone, Copy, Drop)]
-struct Band<'a> {
-    rows: &'a [u8],
-    columns: &'a [u8],
-    windows: Windows,
+    pub splits: u32,
 }
 
 // Looks for another picture that differs in one window of a part alone, by one size after the other. There may be others where the
@@ -57,61 +49,24 @@ pub(crate) fn find_in_parts<E: LineEngine>(
     splits: u32,
     meter: &mut Meter,
 ) -> Result<Option<Picture>, AllocError>
-    requires scene { IsScene scene.now.clues.now scene.now.givens.now scene.now.facts.now
-        scene.now.picture.now }
-    requires tall { length scene.now.clues.now.rows ≤ E.longest engine.old }
-    requires wide { length scene.now.clues.now.columns ≤ E.longest engine.old }
+    requires { CanSearch scene.now (E.longest engine.old) }
     ensures other { IfOk result (λ found. IfSome found
         (IsOther scene.now.clues.now (HasCell scene.now.givens.now) scene.now.picture.now)) }
-    ensures counts { (evaluations : ℕ)
-        × Counts evaluations 0 meter.old meter.new (E.calls engine.old) (E.calls engine.new) }
+    ensures counts { CountsAny meter.old meter.new (E.calls engine.old) (E.calls engine.new) }
     ensures same_longest { E.longest engine.new ≡ E.longest engine.old }
 {
-    counts_add();
-    let _ = engine.calls();
-    let _evaluations = meter.evaluations;
-    let _trials = meter.trials;
+    let (_calls, _evaluations, _trials) = (engine.calls(), meter.evaluations, meter.trials);
     let parts = Parts::of(alloc, scene.facts)?;
     for size in SIZES.iter() {
         let windows = Windows {
             size: *size,
             splits,
         };
-        let found = find_in_each(alloc, engine, scene, &parts, windows, meter)?;
-        if found.is_some() {
-            return Ok(found);
-        }
-    }
-    Ok(None)
-}
-
-// The same in windows of one size.
-fn find_in_each<E: LineEngine>(
-    alloc: Global,
-    engine: &mut E,
-    scene: &Scene,
-    parts: &Parts,
-    windows: Windows,
-    meter: &mut Meter,
-) -> Result<Option<Picture>, AllocError>
-    requires scene { IsScene scene.now.clues.now scene.now.givens.now scene.now.facts.now
-        scene.now.picture.now }
-    requires tall { length scene.now.clues.now.rows ≤ E.longest engine.old }
-    requires wide { length scene.now.clues.now.columns ≤ E.longest engine.old }
-    ensures other { IfOk result (λ found. IfSome found
-        (IsOther scene.now.clues.now (HasCell scene.now.givens.now) scene.now.picture.now)) }
-    ensures counts { (evaluations : ℕ)
-        × Counts evaluations 0 meter.old meter.new (E.calls engine.old) (E.calls engine.new) }
-    ensures same_longest { E.longest engine.new ≡ E.longest engine.old }
-{
-    counts_add();
-    let _ = engine.calls();
-    let _evaluations = meter.evaluations;
-    let _trials = meter.trials;
-    for i in 0..parts.len() {
-        let found = find_near(alloc, engine, scene, parts.cells(i), windows, meter)?;
-        if let Some(picture) = found {
-            return Ok(Some(picture));
+        for i in 0..parts.len() {
+            let found = find_near(alloc, engine, scene, parts.cells(i), windows, meter)?;
+            if let Some(picture) = found {
+                return Ok(Some(picture));
+            }
         }
     }
     Ok(None)
@@ -127,96 +82,47 @@ pub(crate) fn find_near<E: LineEngine>(
     windows: Windows,
     meter: &mut Meter,
 ) -> Result<Option<Picture>, AllocError>
-    requires scene { IsScene scene.now.clues.now scene.now.givens.now scene.now.facts.now
-        scene.now.picture.now }
-    requires tall { length scene.now.clues.now.rows ≤ E.longest engine.old }
-    requires wide { length scene.now.clues.now.columns ≤ E.longest engine.old }
+    requires { CanSearch scene.now (E.longest engine.old) }
     ensures other { IfOk result (λ found. IfSome found
         (IsOtherFilling scene.now.clues.now scene.now.givens.now scene.now.picture.now cells.now)) }
-    ensures counts { (evaluations : ℕ)
-        × Counts evaluations 0 meter.old meter.new (E.calls engine.old) (E.calls engine.new) }
+    ensures counts { CountsAny meter.old meter.new (E.calls engine.old) (E.calls engine.new) }
     ensures same_longest { E.longest engine.new ≡ E.longest engine.old }
 {
-    counts_add();
-    let _ = engine.calls();
-    let _evaluations = meter.evaluations;
-    let _trials = meter.trials;
+    let (_calls, _evaluations, _trials) = (engine.calls(), meter.evaluations, meter.trials);
     let lines = lines_through(cells, scene.facts);
     let rows = places_along(alloc, &lines, Axis::Across)?;
     let columns = places_along(alloc, &lines, Axis::Down)?;
-    for at in 0..windows_along(&rows, windows.size) {
-        let band = Band {
-            rows: window_along(&rows, at, windows.size),
-            columns: &columns,
-            windows,
-        };
-        let found = find_in_band(alloc, engine, scene, cells, band, meter)?;
-        if found.is_some() {
-            return Ok(found);
+    for i in 0..windows_along(&rows, windows.size) {
+        let down = window_along(&rows, i, windows.size);
+        for j in 0..windows_along(&columns, windows.size) {
+            let across = window_along(&columns, j, windows.size);
+            let window = window_of(scene.facts, cells, down, across, windows.splits);
+            let found = find_inside(alloc, engine, scene, cells, window, meter)?;
+            if found.is_some() {
+                return Ok(found);
+            }
         }
     }
     Ok(None)
 }
 
-// The same in the windows of some rows.
-fn find_in_band<E: LineEngine>(
-    alloc: Global,
-    engine: &mut E,
-    scene: &Scene,
-    cells: &CellSet,
-    band: Band<'_>,
-    meter: &mut Meter,
-) -> Result<Option<Picture>, AllocError>
-    requires scene { IsScene scene.now.clues.now scene.now.givens.now scene.now.facts.now
-        scene.now.picture.now }
-    requires tall { length scene.now.clues.now.rows ≤ E.longest engine.old }
-    requires wide { length scene.now.clues.now.columns ≤ E.longest engine.old }
-    ensures other { IfOk result (λ found. IfSome found
-        (IsOtherFilling scene.now.clues.now scene.now.givens.now scene.now.picture.now cells.now)) }
-    ensures counts { (evaluations : ℕ)
-        × Counts evaluations 0 meter.old meter.new (E.calls engine.old) (E.calls engine.new) }
-    ensures same_longest { E.longest engine.new ≡ E.longest engine.old }
-{
-    counts_add();
-    let _ = engine.calls();
-    let _evaluations = meter.evaluations;
-    let _trials = meter.trials;
-    for at in 0..windows_along(band.columns, band.windows.size) {
-        let columns = window_along(band.columns, at, band.windows.size);
-        let window = window_of(scene.facts, cells, band.rows, columns);
-        let splits = band.windows.splits;
-        let found = find_inside(alloc, engine, scene, cells, window, splits, meter)?;
-        if found.is_some() {
-            return Ok(found);
-        }
-    }
-    Ok(None)
-}
-
-// Looks for another picture that differs in the cells of a window alone, by so many splits at most.
+// Looks for another picture that differs in the cells of a window alone, by so many splits at most as it may make.
 fn find_inside<E: LineEngine>(
     alloc: Global,
     engine: &mut E,
     scene: &Scene,
     cells: &CellSet,
     window: Window,
-    splits: u32,
     meter: &mut Meter,
 ) -> Result<Option<Picture>, AllocError>
-    requires scene { IsScene scene.now.clues.now scene.now.givens.now scene.now.facts.now
-        scene.now.picture.now }
+    requires can { CanSearch scene.now (E.longest engine.old) }
     requires window { IsWindow scene.now.facts.now cells.now window }
-    requires tall { length scene.now.clues.now.rows ≤ E.longest engine.old }
-    requires wide { length scene.now.clues.now.columns ≤ E.longest engine.old }
     ensures other { IfOk result (λ found. IfSome found
         (IsOtherFilling scene.now.clues.now scene.now.givens.now scene.now.picture.now cells.now)) }
-    ensures counts { (evaluations : ℕ)
-        × Counts evaluations 0 meter.old meter.new (E.calls engine.old) (E.calls engine.new) }
+    ensures counts { CountsAny meter.old meter.new (E.calls engine.old) (E.calls engine.new) }
     ensures same_longest { E.longest engine.new ≡ E.longest engine.old }
 {
-    let _ = engine.calls();
-    let _evaluations = meter.evaluations;
-    let _trials = meter.trials;
+    let (_calls, _evaluations, _trials) = (engine.calls(), meter.evaluations, meter.trials);
     if window.lines.len() < FEWEST {
         return Ok(None);
     }
@@ -228,31 +134,27 @@ fn find_inside<E: LineEngine>(
     let _ = scene.facts.height();
     let mut facts = scene.facts.copy()?;
     leave_alone(&mut facts, scene.picture, &window.cells);
-    let mut made = 0;
-    match search_counted(
-        alloc,
-        engine,
-        scene.clues,
-        scene.picture,
-        window.lines,
+    let start = Start {
         facts,
-        Some(splits),
-        meter,
-        &mut made,
-    )? {
+        lines: window.lines,
+        allowance: Some(window.splits),
+    };
+    let searched = search_counted(alloc, engine, scene.clues, scene.picture, start, meter)?;
+    match searched.ending {
         Ending::Found(picture) => Ok(Some(picture)),
         Ending::Nothing => Ok(None),
         Ending::BrokenOff => Ok(None),
     }
 }
 
-// The open cells of a part in some rows and columns, and the lines through them.
-fn window_of(facts: &Facts, cells: &CellSet, rows: &[u8], columns: &[u8]) -> Window
+// The open cells of a part in some rows and columns, with the lines through them, and how many splits a search there may make.
+fn window_of(facts: &Facts, cells: &CellSet, rows: &[u8], columns: &[u8], splits: u32) -> Window
     ensures { IsWindow facts.now cells.now result }
 {
     let mut window = Window {
         cells: CellSet::empty(),
         lines: LineSet::empty(),
+        splits,
     };
     for row in rows {
         open_row(facts, cells, *row, columns, &mut window);

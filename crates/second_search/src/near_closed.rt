@@ -5,13 +5,13 @@ ghost use Rattle.picture.specs.CellSet.{HasCell};
 ghost use Rattle.clues.specs.Solution.{IsOther};
 ghost use Rattle.line_settle.specs.Counting.{Counts};
 ghost use Rattle.second_search.specs.Parts.{IsScene};
+ghost use Rattle.second_search.specs.Searching.{CountsAny};
+ghost use Rattle.second_search.specs.Scene.{CanSearch};
 
 use crate::laws::sound_facts;
 use crate::near::find_in_parts;
 use crate::scene::Scene;
 use clues::laws::clues_are_of_lines;
-use fixpoint::{CloseFault, settle_afresh};
-use line_settle::laws::counts_add;
 use line_settle::{Facts, LineEngine, Meter};
 use picture::Picture;
 use std::alloc::{AllocError, Global};
@@ -37,10 +37,7 @@ pub fn find_near_other<E: LineEngine>(
         × Counts evaluations 0 meter.old meter.new (E.calls engine.old) (E.calls engine.new) }
     ensures same_longest { E.longest engine.new ≡ E.longest engine.old }
 {
-    counts_add();
-    let _ = engine.calls();
-    let _evaluations = meter.evaluations;
-    let _trials = meter.trials;
+    let (_calls, _evaluations, _trials) = (engine.calls(), meter.evaluations, meter.trials);
     let Some(facts) = closed(engine, scene, meter)? else {
         return Ok(None);
     };
@@ -60,21 +57,15 @@ fn closed<E: LineEngine>(
     scene: &Scene,
     meter: &mut Meter,
 ) -> Result<Option<Facts>, AllocError>
-    requires scene { IsScene scene.now.clues.now scene.now.givens.now scene.now.facts.now
-        scene.now.picture.now }
-    requires tall { length scene.now.clues.now.rows ≤ E.longest engine.old }
-    requires wide { length scene.now.clues.now.columns ≤ E.longest engine.old }
+    requires { CanSearch scene.now (E.longest engine.old) }
     ensures scene { IfOk result (λ found. IfSome found (λ facts.
         IsScene scene.now.clues.now scene.now.givens.now facts scene.now.picture.now)) }
-    ensures counts { (evaluations : ℕ)
-        × Counts evaluations 0 meter.old meter.new (E.calls engine.old) (E.calls engine.new) }
+    ensures counts { CountsAny meter.old meter.new (E.calls engine.old) (E.calls engine.new) }
     ensures same_longest { E.longest engine.new ≡ E.longest engine.old }
 {
     sound_facts();
     clues_are_of_lines();
-    let _ = engine.calls();
-    let _evaluations = meter.evaluations;
-    let _trials = meter.trials;
+    let (_calls, _evaluations, _trials) = (engine.calls(), meter.evaluations, meter.trials);
     let mut agenda = InOrder::make();
     match settle_afresh(engine, &mut agenda, scene.clues, meter, scene.facts) {
         Ok(facts) => Ok(Some(facts)),

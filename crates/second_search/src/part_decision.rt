@@ -1,21 +1,20 @@
 //! A part decided: by the search of the fixed order, and where that takes long and no allowance is set, by the ladder inside the
 //! part.
 
-ghost use Rattle.std.specs.Prelude.{◌≡◌, ◌≤◌, ℕ, length, IfOk, IfSome, OnOk};
+ghost use Rattle.std.specs.Prelude.{◌≡◌, ◌≤◌, ℕ, length, IfOk, OnOk};
 ghost use Rattle.line_settle.specs.Counting.{Counts};
-ghost use Rattle.second_search.specs.Parts.{IsOtherFilling, IsPart, IsScene};
-ghost use Rattle.second_search.specs.Searching.{CountsSome, EndsPast, EndsTrue, EndsWithin, alone, raised};
+ghost use Rattle.second_search.specs.Parts.{IsPart, IsScene};
+ghost use Rattle.second_search.specs.Searching.{CountsAny, CountsSome, EndsPast, EndsTrue, EndsWithin, alone, raised};
+ghost use Rattle.second_search.specs.Scene.{CanSearch};
 
 use crate::bounds::{BOUNDS, Bounds};
-use crate::counting::Ending;
+use crate::counting::{Ending, Searched};
 use crate::ladder::{Decided, Ladder, MOST_CELLS, climb};
 use crate::laws::fillings_are_of_facts;
 use crate::near::{SIZES, Windows, find_near};
 use crate::part_search::{leave_alone, search_part};
 use crate::scene::Scene;
 use clues::laws::clues_are_of_lines;
-use fixpoint::laws::{closing_keeps_fillings, only_is_closed};
-use line_settle::laws::counts_add;
 use line_settle::{LineEngine, Meter};
 use picture::{CellSet, Picture};
 use std::alloc::{AllocError, Global};
@@ -28,25 +27,20 @@ pub(crate) fn decide_part<E: LineEngine>(
     cells: &CellSet,
     allowance: Option<u32>,
     meter: &mut Meter,
-    splits: &mut u32,
-) -> Result<Ending, AllocError>
-    requires scene { IsScene scene.now.clues.now scene.now.givens.now scene.now.facts.now
-        scene.now.picture.now }
+) -> Result<Searched, AllocError>
+    requires can { CanSearch scene.now (E.longest engine.old) }
     requires part { IsPart scene.now.facts.now cells.now }
-    requires tall { length scene.now.clues.now.rows ≤ E.longest engine.old }
-    requires wide { length scene.now.clues.now.columns ≤ E.longest engine.old }
-    ensures ends { IfOk result (λ ending. (n : ℕ) × ((splits.new ≡ raised splits.old n)
-        × EndsWithin scene.now.clues.now scene.now.picture.now (alone cells.now scene.now.facts.now scene.now.picture.now) allowance ending n)) }
-    ensures counts { (evaluations : ℕ)
-        × Counts evaluations 0 meter.old meter.new (E.calls engine.old) (E.calls engine.new) }
+    ensures ends { IfOk result (λ searched. (n : ℕ) × ((searched.splits ≡ raised 0 n)
+        × EndsWithin scene.now.clues.now scene.now.picture.now
+        (alone cells.now scene.now.facts.now scene.now.picture.now) allowance searched.ending n)) }
+    ensures counts { CountsAny meter.old meter.new (E.calls engine.old) (E.calls engine.new) }
     ensures evaluates { OnOk result
         (CountsSome meter.old meter.new (E.calls engine.old) (E.calls engine.new)) }
-    ensures rises { splits.old ≤ splits.new }
     ensures same_longest { E.longest engine.new ≡ E.longest engine.old }
 {
     match allowance {
-        Some(most) => search_part(alloc, engine, scene, cells, Some(most), meter, splits),
-        None => decide_within(alloc, engine, scene, cells, BOUNDS, meter, splits),
+        Some(most) => search_part(alloc, engine, scene, cells, Some(most), meter),
+        None => decide_within(alloc, engine, scene, cells, BOUNDS, meter),
     }
 }
 
@@ -59,34 +53,40 @@ pub fn decide_within<E: LineEngine>(
     cells: &CellSet,
     bounds: Bounds,
     meter: &mut Meter,
-    splits: &mut u32,
-) -> Result<Ending, AllocError>
+) -> Result<Searched, AllocError>
     requires scene { IsScene scene.now.clues.now scene.now.givens.now scene.now.facts.now
         scene.now.picture.now }
     requires part { IsPart scene.now.facts.now cells.now }
     requires tall { length scene.now.clues.now.rows ≤ E.longest engine.old }
     requires wide { length scene.now.clues.now.columns ≤ E.longest engine.old }
-    ensures ends { IfOk result (λ ending. (n : ℕ) × ((splits.new ≡ raised splits.old n)
-        × EndsPast scene.now.clues.now scene.now.picture.now (alone cells.now scene.now.facts.now scene.now.picture.now) bounds.fixed_splits ending n)) }
+    ensures ends { IfOk result (λ searched. (n : ℕ) × ((searched.splits ≡ raised 0 n)
+        × EndsPast scene.now.clues.now scene.now.picture.now
+        (alone cells.now scene.now.facts.now scene.now.picture.now) bounds.fixed_splits
+        searched.ending n)) }
     ensures counts { (evaluations : ℕ)
         × Counts evaluations 0 meter.old meter.new (E.calls engine.old) (E.calls engine.new) }
     ensures evaluates { OnOk result
         (CountsSome meter.old meter.new (E.calls engine.old) (E.calls engine.new)) }
-    ensures rises { splits.old ≤ splits.new }
     ensures same_longest { E.longest engine.new ≡ E.longest engine.old }
 {
-    counts_add();
-    let _ = (engine.calls(), *splits);
-    let _evaluations = meter.evaluations;
-    let _trials = meter.trials;
+    let (_calls, _evaluations, _trials) = (engine.calls(), meter.evaluations, meter.trials);
     let most = Some(bounds.fixed_splits);
-    let ending = search_part(alloc, engine, scene, cells, most, meter, splits)?;
+    let Searched { ending, splits } = search_part(alloc, engine, scene, cells, most, meter)?;
     match ending {
-        Ending::Nothing => Ok(Ending::Nothing),
-        Ending::Found(picture) => Ok(Ending::Found(picture)),
+        Ending::Nothing => Ok(Searched {
+            ending: Ending::Nothing,
+            splits,
+        }),
+        Ending::Found(picture) => Ok(Searched {
+            ending: Ending::Found(picture),
+            splits,
+        }),
         Ending::BrokenOff => {
             let climbed = climb_part(alloc, engine, scene, cells, bounds, meter)?;
-            Ok(climbed)
+            Ok(Searched {
+                ending: climbed,
+                splits,
+            })
         }
     }
 }
@@ -100,21 +100,14 @@ fn climb_part<E: LineEngine>(
     bounds: Bounds,
     meter: &mut Meter,
 ) -> Result<Ending, AllocError>
-    requires scene { IsScene scene.now.clues.now scene.now.givens.now scene.now.facts.now
-        scene.now.picture.now }
-    requires tall { length scene.now.clues.now.rows ≤ E.longest engine.old }
-    requires wide { length scene.now.clues.now.columns ≤ E.longest engine.old }
+    requires { CanSearch scene.now (E.longest engine.old) }
     ensures ends { IfOk result (EndsTrue scene.now.clues.now scene.now.picture.now
         (alone cells.now scene.now.facts.now scene.now.picture.now)) }
-    ensures counts { (evaluations : ℕ)
-        × Counts evaluations 0 meter.old meter.new (E.calls engine.old) (E.calls engine.new) }
+    ensures counts { CountsAny meter.old meter.new (E.calls engine.old) (E.calls engine.new) }
     ensures same_longest { E.longest engine.new ≡ E.longest engine.old }
 {
-    counts_add();
     fillings_are_of_facts();
-    let _ = engine.calls();
-    let _evaluations = meter.evaluations;
-    let _trials = meter.trials;
+    let (_calls, _evaluations, _trials) = (engine.calls(), meter.evaluations, meter.trials);
     for size in SIZES.iter() {
         let windows = Windows {
             size: *size,
@@ -137,22 +130,17 @@ fn search_alone<E: LineEngine>(
     bounds: Bounds,
     meter: &mut Meter,
 ) -> Result<Ending, AllocError>
-    requires scene { IsScene scene.now.clues.now scene.now.givens.now scene.now.facts.now
-        scene.now.picture.now }
-    requires tall { length scene.now.clues.now.rows ≤ E.longest engine.old }
-    requires wide { length scene.now.clues.now.columns ≤ E.longest engine.old }
+    requires { CanSearch scene.now (E.longest engine.old) }
     ensures ends { IfOk result (EndsTrue scene.now.clues.now scene.now.picture.now
         (alone cells.now scene.now.facts.now scene.now.picture.now)) }
-    ensures counts { (evaluations : ℕ)
-        × Counts evaluations 0 meter.old meter.new (E.calls engine.old) (E.calls engine.new) }
+    ensures counts { CountsAny meter.old meter.new (E.calls engine.old) (E.calls engine.new) }
     ensures same_longest { E.longest engine.new ≡ E.longest engine.old }
 {
     clues_are_of_lines();
     only_is_closed();
     closing_keeps_fillings();
-    let _ = (engine.calls(), scene.facts.height());
-    let _evaluations = meter.evaluations;
-    let _trials = meter.trials;
+    let _ = scene.facts.height();
+    let (_calls, _evaluations, _trials) = (engine.calls(), meter.evaluations, meter.trials);
     let mut facts = scene.facts.copy()?;
     leave_alone(&mut facts, scene.picture, cells);
     let part = Scene {

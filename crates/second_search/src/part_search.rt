@@ -1,16 +1,16 @@
 //! The search of one part: the facts on it, with the picture's colours alone left elsewhere.
 
-ghost use Rattle.std.specs.Prelude.{◌≡◌, ◌≤◌, ◌<◌, ℕ, length, IfOk, OnOk};
+ghost use Rattle.std.specs.Prelude.{◌≡◌, ◌<◌, ℕ, length, IfOk, OnOk};
 ghost use Rattle.picture.specs.Rows.{width_of};
-ghost use Rattle.line_settle.specs.Counting.{Counts};
 ghost use Rattle.line_settle.specs.FactSets.{SameShape};
 ghost use Rattle.fixpoint.specs.LineNames.{AreLinesOf};
-ghost use Rattle.second_search.specs.Parts.{IsPart, IsScene};
-ghost use Rattle.second_search.specs.Searching.{CountsSome, EndsAs, alone, raised};
+ghost use Rattle.second_search.specs.Parts.{IsPart};
+ghost use Rattle.second_search.specs.Searching.{CountsAny, CountsSome, EndsAs, alone, raised};
 ghost use Rattle.second_search.specs.Through.{LeavesAlone, LeavesRowAlone, PutsRow, PutsThrough};
+ghost use Rattle.second_search.specs.Scene.{CanSearch};
 
 use crate::cell_lines::put_both;
-use crate::counting::{Ending, search_counted};
+use crate::counting::{Searched, Start, search_counted};
 use crate::scene::Scene;
 use clues::laws::clues_are_of_lines;
 use fixpoint::laws::only_is_closed;
@@ -26,41 +26,30 @@ pub(crate) fn search_part<E: LineEngine>(
     cells: &CellSet,
     allowance: Option<u32>,
     meter: &mut Meter,
-    splits: &mut u32,
-) -> Result<Ending, AllocError>
-    requires scene { IsScene scene.now.clues.now scene.now.givens.now scene.now.facts.now
-        scene.now.picture.now }
+) -> Result<Searched, AllocError>
+    requires can { CanSearch scene.now (E.longest engine.old) }
     requires part { IsPart scene.now.facts.now cells.now }
-    requires tall { length scene.now.clues.now.rows ≤ E.longest engine.old }
-    requires wide { length scene.now.clues.now.columns ≤ E.longest engine.old }
-    ensures ends { IfOk result (λ ending. (n : ℕ) × ((splits.new ≡ raised splits.old n)
-        × EndsAs scene.now.clues.now scene.now.picture.now (alone cells.now scene.now.facts.now scene.now.picture.now) allowance ending n)) }
-    ensures counts { (evaluations : ℕ)
-        × Counts evaluations 0 meter.old meter.new (E.calls engine.old) (E.calls engine.new) }
+    ensures ends { IfOk result (λ searched. (n : ℕ) × ((searched.splits ≡ raised 0 n)
+        × EndsAs scene.now.clues.now scene.now.picture.now
+        (alone cells.now scene.now.facts.now scene.now.picture.now) allowance searched.ending n)) }
+    ensures counts { CountsAny meter.old meter.new (E.calls engine.old) (E.calls engine.new) }
     ensures evaluates { OnOk result
         (CountsSome meter.old meter.new (E.calls engine.old) (E.calls engine.new)) }
-    ensures rises { splits.old ≤ splits.new }
     ensures same_longest { E.longest engine.new ≡ E.longest engine.old }
 {
     clues_are_of_lines();
     only_is_closed();
-    let _ = (engine.calls(), *splits, scene.facts.height());
-    let _evaluations = meter.evaluations;
-    let _trials = meter.trials;
+    let _ = scene.facts.height();
+    let (_calls, _evaluations, _trials) = (engine.calls(), meter.evaluations, meter.trials);
     let lines = lines_through(cells, scene.facts);
     let mut facts = scene.facts.copy()?;
     leave_alone(&mut facts, scene.picture, cells);
-    search_counted(
-        alloc,
-        engine,
-        scene.clues,
-        scene.picture,
-        lines,
+    let start = Start {
         facts,
+        lines,
         allowance,
-        meter,
-        splits,
-    )
+    };
+    search_counted(alloc, engine, scene.clues, scene.picture, start, meter)
 }
 
 // The names of the lines that go through some cells.

@@ -1,10 +1,10 @@
 //! The search that writes a tree, whose lines may be kept or dropped. Each line is lawful where it is written; which cell is split is
 //! free.
 
-ghost use Rattle.std.specs.Prelude.{◌≡◌, ℕ, None, IfOk, IsTrue};
-ghost use Rattle.line_settle.specs.Counting.{Counts};
+ghost use Rattle.std.specs.Prelude.{◌≡◌, None, IfOk, IsTrue};
 ghost use Rattle.fixpoint.specs.Closing.{AreClosable};
 ghost use Rattle.second_search.specs.Trees.{Advances, Turns, Writes};
+ghost use Rattle.second_search.specs.Searching.{CountsAny};
 
 use crate::cell_lines::put_both;
 use crate::pending::Pending;
@@ -13,9 +13,6 @@ use crate::tree_closing::close_written;
 use crate::tree_lines::{Lines, cell_number};
 use crate::tree_step::{TreeStep, Way, next_step};
 use cert_text::CertLine;
-use fixpoint::all_lines;
-use fixpoint::laws::{closing_keeps_fillings, only_is_closed};
-use line_settle::laws::counts_add;
 use line_settle::{LineEngine, Meter, Outcome};
 use picture::{LineSet, MAX_SIDE, Picture};
 use split_choice::Cell;
@@ -56,16 +53,12 @@ pub(crate) fn write_tree<E: LineEngine>(
     requires { AreClosable scene.now.clues.now (E.longest engine.old) scene.now.facts.now }
     ensures writes { IfOk result
         (Writes scene.now.clues.now scene.now.picture.now scene.now.facts.now lines way.until) }
-    ensures counts { (evaluations : ℕ)
-        × Counts evaluations 0 meter.old meter.new (E.calls engine.old) (E.calls engine.new) }
+    ensures counts { CountsAny meter.old meter.new (E.calls engine.old) (E.calls engine.new) }
     ensures same_longest { E.longest engine.new ≡ E.longest engine.old }
 {
-    counts_add();
     only_is_closed();
     closing_keeps_fillings();
-    let _ = engine.calls();
-    let _evaluations = meter.evaluations;
-    let _trials = meter.trials;
+    let (_calls, _evaluations, _trials) = (engine.calls(), meter.evaluations, meter.trials);
     let due = all_lines(scene.facts);
     let pending = Pending::start(alloc, scene.facts.copy()?);
     let mut growing = Growing {
@@ -121,14 +114,10 @@ impl Growing {
         requires { AreClosable scene.now.clues.now (E.longest engine.old) self.old.pending.at_hand }
         ensures turns { IfOk result
             (Turns scene.now.clues.now scene.now.picture.now self.old self.new) }
-        ensures counts { (evaluations : ℕ)
-            × Counts evaluations 0 meter.old meter.new (E.calls engine.old) (E.calls engine.new) }
+        ensures counts { CountsAny meter.old meter.new (E.calls engine.old) (E.calls engine.new) }
         ensures same_longest { E.longest engine.new ≡ E.longest engine.old }
     {
-        counts_add();
-        let _ = engine.calls();
-        let _evaluations = meter.evaluations;
-        let _trials = meter.trials;
+        let (_calls, _evaluations, _trials) = (engine.calls(), meter.evaluations, meter.trials);
         let mut facts = self.pending.at_hand().copy()?;
         let outcome = close_written(
             engine,
@@ -159,8 +148,7 @@ impl Growing {
         requires { AreClosable scene.now.clues.now (E.longest engine.old) self.old.pending.at_hand }
         ensures turns { IfOk result
             (Turns scene.now.clues.now scene.now.picture.now self.old self.new) }
-        ensures counts { (evaluations : ℕ)
-            × Counts evaluations 0 meter.old meter.new (E.calls engine.old) (E.calls engine.new) }
+        ensures counts { CountsAny meter.old meter.new (E.calls engine.old) (E.calls engine.new) }
         ensures same_longest { E.longest engine.new ≡ E.longest engine.old }
     {
         let facts = self.pending.at_hand();

@@ -1,15 +1,14 @@
 //! Dead lines of a branch whose picture does not have the clues.
 
-ghost use Rattle.std.specs.Prelude.{◌≡◌, ◌↔◌, ℕ, IfOk, IsTrue, MatchOption};
+ghost use Rattle.std.specs.Prelude.{◌≡◌, ◌↔◌, IfOk, IsTrue, MatchOption};
 ghost use Rattle.picture.specs.Rows.{HasLine, line_of};
 ghost use Rattle.clues.specs.ClueBook.{clue_at};
-ghost use Rattle.line_settle.specs.Counting.{Counts};
 ghost use Rattle.line_settle.specs.Fitting.{CanFit};
 ghost use Rattle.fixpoint.specs.Closing.{AreClosable, EachFits};
 ghost use Rattle.second_search.specs.Trees.{EachFitsAlong, IsDeadLine};
+ghost use Rattle.second_search.specs.Searching.{CountsAny};
 
 use clues::ClueBook;
-use line_settle::laws::counts_add;
 use line_settle::{Facts, LineEngine, Meter, Outcome, force};
 use picture::{Axis, LineId};
 use std::alloc::AllocError;
@@ -25,14 +24,10 @@ pub(crate) fn dead_line<E: LineEngine>(
     requires { AreClosable clues.now (E.longest engine.old) facts.now }
     ensures dead { IfOk result (λ found.
         MatchOption found (EachFits clues.now facts.now) (IsDeadLine clues.now facts.now)) }
-    ensures counts { (evaluations : ℕ)
-        × Counts evaluations 0 meter.old meter.new (E.calls engine.old) (E.calls engine.new) }
+    ensures counts { CountsAny meter.old meter.new (E.calls engine.old) (E.calls engine.new) }
     ensures same_longest { E.longest engine.new ≡ E.longest engine.old }
 {
-    counts_add();
-    let _ = engine.calls();
-    let _evaluations = meter.evaluations;
-    let _trials = meter.trials;
+    let (_calls, _evaluations, _trials) = (engine.calls(), meter.evaluations, meter.trials);
     if let Some(line) = dead_along(engine, clues, facts, Axis::Across, meter)? {
         return Ok(Some(line));
     }
@@ -50,14 +45,10 @@ fn dead_along<E: LineEngine>(
     requires { AreClosable clues.now (E.longest engine.old) facts.now }
     ensures dead { IfOk result (λ found. MatchOption found (EachFitsAlong clues.now facts.now axis)
         (IsDeadLine clues.now facts.now)) }
-    ensures counts { (evaluations : ℕ)
-        × Counts evaluations 0 meter.old meter.new (E.calls engine.old) (E.calls engine.new) }
+    ensures counts { CountsAny meter.old meter.new (E.calls engine.old) (E.calls engine.new) }
     ensures same_longest { E.longest engine.new ≡ E.longest engine.old }
 {
-    counts_add();
-    let _ = engine.calls();
-    let _evaluations = meter.evaluations;
-    let _trials = meter.trials;
+    let (_calls, _evaluations, _trials) = (engine.calls(), meter.evaluations, meter.trials);
     let count = match axis {
         Axis::Across => facts.height(),
         Axis::Down => facts.width(),
@@ -83,13 +74,11 @@ fn some_fits<E: LineEngine>(
     requires line { HasLine facts.now line }
     ensures fits { IfOk result (λ fits.
         IsTrue fits ↔ CanFit (clue_at clues.now line) (line_of facts.now line)) }
-    ensures counts { (evaluations : ℕ)
-        × Counts evaluations 0 meter.old meter.new (E.calls engine.old) (E.calls engine.new) }
+    ensures counts { CountsAny meter.old meter.new (E.calls engine.old) (E.calls engine.new) }
     ensures same_longest { E.longest engine.new ≡ E.longest engine.old }
 {
-    let _ = (facts.height(), engine.calls());
-    let _evaluations = meter.evaluations;
-    let _trials = meter.trials;
+    let _ = facts.height();
+    let (_calls, _evaluations, _trials) = (engine.calls(), meter.evaluations, meter.trials);
     let mut trial = facts.copy()?;
     match force(
         engine,

@@ -3,12 +3,12 @@
 ghost use Rattle.std.specs.Prelude.{◌≡◌, ◌<◌, ◌↔◌, ℕ, length, IfOk, IfSome, IsTrue, MatchOption};
 ghost use Rattle.picture.specs.Picture.{IsPicture};
 ghost use Rattle.picture.specs.Rows.{cell_at, width_of};
-ghost use Rattle.line_settle.specs.Counting.{Counts};
 ghost use Rattle.line_settle.specs.FactSets.{Leaves, SameShape};
 ghost use Rattle.fixpoint.specs.Closing.{AreClosable};
 ghost use Rattle.fixpoint.specs.Filling.{LeavesPicture};
 ghost use Rattle.second_search.specs.Looking.{AreSettled};
 ghost use Rattle.second_search.specs.Trees.{Continues, IsComparedTo, IsOtherIn};
+ghost use Rattle.second_search.specs.Searching.{CountsAny};
 
 use crate::looking::{first_unsettled, shown_picture};
 use crate::scene::Scene;
@@ -16,7 +16,6 @@ use crate::tree_dead::dead_line;
 use crate::tree_lines::line_number;
 use cert_text::CertLine;
 use clues::laws::{books_are_their_clues, clues_are_of_lines};
-use line_settle::laws::counts_add;
 use line_settle::{Facts, LineEngine, Meter};
 use picture::Picture;
 use split_choice::{Cell, Choice, Chosen, Node, Plan, Puzzle, choose, filled, fills_all, leaves};
@@ -52,14 +51,10 @@ pub(crate) fn next_step<E: LineEngine>(
     requires { AreClosable scene.now.clues.now (E.longest engine.old) facts.now }
     ensures continues { IfOk result
         (Continues scene.now.clues.now scene.now.picture.now facts.now) }
-    ensures counts { (evaluations : ℕ)
-        × Counts evaluations 0 meter.old meter.new (E.calls engine.old) (E.calls engine.new) }
+    ensures counts { CountsAny meter.old meter.new (E.calls engine.old) (E.calls engine.new) }
     ensures same_longest { E.longest engine.new ≡ E.longest engine.old }
 {
-    counts_add();
-    let _ = engine.calls();
-    let _evaluations = meter.evaluations;
-    let _trials = meter.trials;
+    let (_calls, _evaluations, _trials) = (engine.calls(), meter.evaluations, meter.trials);
     let node = node_at(scene, facts, way);
     let here = other_here(alloc, scene, &node)?;
     if let Some(picture) = here {
@@ -185,13 +180,10 @@ fn end_at<E: LineEngine>(
     requires { AreClosable scene.now.clues.now (E.longest engine.old) facts.now }
     ensures continues { IfOk result
         (Continues scene.now.clues.now scene.now.picture.now facts.now) }
-    ensures counts { (evaluations : ℕ)
-        × Counts evaluations 0 meter.old meter.new (E.calls engine.old) (E.calls engine.new) }
+    ensures counts { CountsAny meter.old meter.new (E.calls engine.old) (E.calls engine.new) }
     ensures same_longest { E.longest engine.new ≡ E.longest engine.old }
 {
-    let _ = engine.calls();
-    let _evaluations = meter.evaluations;
-    let _trials = meter.trials;
+    let (_calls, _evaluations, _trials) = (engine.calls(), meter.evaluations, meter.trials);
     match first_unsettled(facts, 0) {
         Some(cell) => Ok(TreeStep::Splits(cell)),
         None => end_settled(alloc, engine, scene, facts, meter),
@@ -211,15 +203,13 @@ fn end_settled<E: LineEngine>(
     requires settled { AreSettled facts.now }
     ensures continues { IfOk result
         (Continues scene.now.clues.now scene.now.picture.now facts.now) }
-    ensures counts { (evaluations : ℕ)
-        × Counts evaluations 0 meter.old meter.new (E.calls engine.old) (E.calls engine.new) }
+    ensures counts { CountsAny meter.old meter.new (E.calls engine.old) (E.calls engine.new) }
     ensures same_longest { E.longest engine.new ≡ E.longest engine.old }
 {
     clues_are_of_lines();
     books_are_their_clues();
-    let _ = (facts.height(), engine.calls());
-    let _evaluations = meter.evaluations;
-    let _trials = meter.trials;
+    let _ = facts.height();
+    let (_calls, _evaluations, _trials) = (engine.calls(), meter.evaluations, meter.trials);
     let picture = shown_picture(alloc, facts)?;
     if scene.clues.has_clues(&picture) {
         return Ok(compared(picture, scene.picture));

@@ -15,7 +15,7 @@ returns-in_err-going-clause-first g c =
 pub loop-i-preserved : goal.loop-i-preserved
 loop-i-preserved g c = record {
   walk = c.in_ok-going.ensures.takes.0;
-  can = subst (CanCheck c.args.picture.now c.args.book.now) (sym c.in_ok-going.ensures.same_longest) c.loop-i.invariant.can;
+  can = subst (CanCheck c.args.claim.now.picture.now c.args.claim.now.clues.now) (sym c.in_ok-going.ensures.same_longest) c.loop-i.invariant.can;
   same_longest = c.in_ok-going.ensures.same_longest ∙ c.loop-i.invariant.same_longest;
   so_far = taken_first _ _ _ _ _ _ c.loop-i.going c.in_ok-going.going c.args.first c.loop-i.i c.args.lines.now _ _ c.loop-i.invariant.so_far (omega arith) c.if-not-going.false refl c.in_ok-going.ensures.takes;
 }

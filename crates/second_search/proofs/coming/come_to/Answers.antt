@@ -4,7 +4,7 @@ use Rattle.second_search.proofs.LookLemmas.{rows_stay}
 use Rattle.second_search.proofs.coming.come_to.Goals as goal
 
 pub split_or_end-requires : goal.split_or_end-requires
-split_or_end-requires g c = rows_stay c.args.book.now c.args.facts.now c.in_ok-settled.settled c.close_facts.new.facts _ c.args.top c.in_ok-settled.ensures c.in-Narrowed.ensures.closes refl c.requires.above
+split_or_end-requires g c = rows_stay c.args.book.now c.args.facts.now c.in_ok-settled.settled c.close_facts.new.facts _ c.args.due.now.top c.in_ok-settled.ensures c.in-Narrowed.ensures.closes refl c.requires.above
 
 pub returns-in-Narrowed-clause-comes : goal.returns-in-Narrowed-clause-comes
 returns-in-Narrowed-clause-comes g c = comes_closed c.args.book.now c.args.facts.now c.in_ok-settled.settled c.close_facts.new.facts _ c.split_or_end.result c.in_ok-settled.ensures c.in-Narrowed.ensures.closes refl c.split_or_end.ensures

@@ -10,122 +10,122 @@ use Rattle.second_search.proofs.AloneLemmas.{name_counts}
 use Rattle.second_search.proofs.counting.search_counted.Goals as goal
 use Rattle.second_search.proofs.counting.search_counted.Goals.{in-Passed, in-Split}
 
-pub loop-pending-init : goal.loop-pending-init
-loop-pending-init g c = record {
-  counting = counting_starts c.args.book.now c.args.known.now c.args.facts c.args.allowance c.args.splits.now c.start-pending.result (omega arith) c.start-pending.ensures;
-  ready = (ready_first c.args.book.now c.args.facts c.args.lines c.start-pending.result c.start-pending.ensures c.requires.lines c.requires.quiet).0;
+pub loop-search-init : goal.loop-search-init
+loop-search-init g c = record {
+  counting = counting_starts c.args.book.now c.args.known.now c.args.start.facts c.args.start.allowance 0 c.start-pending.result (omega arith) c.start-pending.ensures;
+  ready = (ready_first c.args.book.now c.args.start.facts c.args.start.lines c.start-pending.result c.start-pending.ensures c.requires.lines c.requires.quiet).0;
   some = c.requires.some;
-  behind = (ready_first c.args.book.now c.args.facts c.args.lines c.start-pending.result c.start-pending.ensures c.requires.lines c.requires.quiet).1;
+  behind = (ready_first c.args.book.now c.args.start.facts c.args.start.lines c.start-pending.result c.start-pending.ensures c.requires.lines c.requires.quiet).1;
   counts = counts_none c.args.meter.now (g.E.LineEngine.calls c.args.engine.now) (omega arith) (omega arith) (omega arith);
   same_longest = refl;
 }
 
 pub look_once-requires-clause-closable : goal.look_once-requires-clause-closable
 look_once-requires-clause-closable g c =
-    let i = c.loop-pending.invariant in
-    can_close_like c.args.book.now _ _ c.args.facts c.loop-pending.pending.at_hand i.ready.same_shape i.same_longest c.requires.closable
+    let i = c.loop-search.invariant in
+    can_close_like c.args.book.now _ _ c.args.start.facts c.loop-search.search.pending.at_hand i.ready.same_shape i.same_longest c.requires.closable
 
-pub returns-in_err-picture-clause-counts : goal.returns-in_err-picture-clause-counts
-returns-in_err-picture-clause-counts g c = counts_more c.counts_add.ensures _ _ _ _ _ _ c.loop-pending.invariant.counts c.look_once.ensures.counts
+pub returns-in_err-step-clause-counts : goal.returns-in_err-step-clause-counts
+returns-in_err-step-clause-counts g c = counts_more _ _ _ _ _ _ c.loop-search.invariant.counts c.look_once.ensures.counts
 
 pub returns-in-Other-clause-counts : goal.returns-in-Other-clause-counts
-returns-in-Other-clause-counts g c = counts_more c.counts_add.ensures _ _ _ _ _ _ c.loop-pending.invariant.counts c.look_once.ensures.counts
+returns-in-Other-clause-counts g c = counts_more _ _ _ _ _ _ c.loop-search.invariant.counts c.look_once.ensures.counts
 
 pub returns-in-Halted-clause-counts : goal.returns-in-Halted-clause-counts
-returns-in-Halted-clause-counts g c = counts_more c.counts_add.ensures _ _ _ _ _ _ c.loop-pending.invariant.counts c.look_once.ensures.counts
+returns-in-Halted-clause-counts g c = counts_more _ _ _ _ _ _ c.loop-search.invariant.counts c.look_once.ensures.counts
 
-pub returns-in_err-cell-clause-counts : goal.returns-in_err-cell-clause-counts
-returns-in_err-cell-clause-counts g c = counts_more c.counts_add.ensures _ _ _ _ _ _ c.loop-pending.invariant.counts c.look_once.ensures.counts
+pub returns-in_err-next-clause-counts : goal.returns-in_err-next-clause-counts
+returns-in_err-next-clause-counts g c = counts_more _ _ _ _ _ _ c.loop-search.invariant.counts c.look_once.ensures.counts
 
 pub returns-in-None-clause-counts : goal.returns-in-None-clause-counts
-returns-in-None-clause-counts g c = counts_more c.counts_add.ensures _ _ _ _ _ _ c.loop-pending.invariant.counts c.look_once.ensures.counts
+returns-in-None-clause-counts g c = counts_more _ _ _ _ _ _ c.loop-search.invariant.counts c.look_once.ensures.counts
 
 pub returns-in-Other-clause-evaluates : goal.returns-in-Other-clause-evaluates
-returns-in-Other-clause-evaluates g c = counts_some c.counts_add.ensures _ _ _ _ _ _ c.loop-pending.invariant.counts c.in_ok-picture.ensures.evaluates
+returns-in-Other-clause-evaluates g c = counts_some _ _ _ _ _ _ c.loop-search.invariant.counts c.in_ok-step.ensures.evaluates
 
 pub returns-in-Halted-clause-evaluates : goal.returns-in-Halted-clause-evaluates
-returns-in-Halted-clause-evaluates g c = counts_some c.counts_add.ensures _ _ _ _ _ _ c.loop-pending.invariant.counts c.in_ok-picture.ensures.evaluates
+returns-in-Halted-clause-evaluates g c = counts_some _ _ _ _ _ _ c.loop-search.invariant.counts c.in_ok-step.ensures.evaluates
 
 pub returns-in-None-clause-evaluates : goal.returns-in-None-clause-evaluates
-returns-in-None-clause-evaluates g c = counts_some c.counts_add.ensures _ _ _ _ _ _ c.loop-pending.invariant.counts c.in_ok-picture.ensures.evaluates
+returns-in-None-clause-evaluates g c = counts_some _ _ _ _ _ _ c.loop-search.invariant.counts c.in_ok-step.ensures.evaluates
 
 pub returns-in-Other-clause-ends : goal.returns-in-Other-clause-ends
 returns-in-Other-clause-ends g c =
-    let s = c.loop-pending.pending in
-    let t = c.look_once.new.pending in
-    counted_other c.args.book.now c.args.known.now c.args.facts c.in-Other.picture c.args.allowance c.args.splits.now s t c.loop-pending.left c.look_once.new.left c.loop-pending.splits c.look_once.new.splits c.loop-pending.invariant.counting (steps_as _ _ s t _ _ _ _ _ _ c.in-Other.is c.in_ok-picture.ensures.steps)
+    let s = c.loop-search.search.pending in
+    let t = c.look_once.new.self.pending in
+    counted_other c.args.book.now c.args.known.now c.args.start.facts c.in-Other.picture c.args.start.allowance 0 s t c.loop-search.search.left c.look_once.new.self.left c.loop-search.search.splits c.look_once.new.self.splits c.loop-search.invariant.counting (steps_as _ _ s t _ _ _ _ _ _ c.in-Other.is c.in_ok-step.ensures.steps)
 
 pub returns-in-Halted-clause-ends : goal.returns-in-Halted-clause-ends
 returns-in-Halted-clause-ends g c =
-    let s = c.loop-pending.pending in
-    let t = c.look_once.new.pending in
-    counted_halted c.least_is_unique.ensures c.args.book.now c.args.known.now c.args.facts c.args.allowance c.args.splits.now s t c.loop-pending.left c.look_once.new.left c.loop-pending.splits c.look_once.new.splits c.loop-pending.invariant.counting (steps_as _ _ s t _ _ _ _ _ _ c.in-Halted.is c.in_ok-picture.ensures.steps)
+    let s = c.loop-search.search.pending in
+    let t = c.look_once.new.self.pending in
+    counted_halted c.least_is_unique.ensures c.args.book.now c.args.known.now c.args.start.facts c.args.start.allowance 0 s t c.loop-search.search.left c.look_once.new.self.left c.loop-search.search.splits c.look_once.new.self.splits c.loop-search.invariant.counting (steps_as _ _ s t _ _ _ _ _ _ c.in-Halted.is c.in_ok-step.ensures.steps)
 
 pub returns-in-None-clause-ends : goal.returns-in-None-clause-ends
 returns-in-None-clause-ends g c =
-    let s = c.loop-pending.pending in
-    let t = c.look_once.new.pending in
+    let s = c.loop-search.search.pending in
+    let t = c.look_once.new.self.pending in
     let unique = c.least_is_unique.ensures in
-    let i = c.loop-pending.invariant.counting in
-    let counting : Counting c.args.book.now c.args.known.now c.args.facts c.args.allowance c.args.splits.now t.behind c.look_once.new.left c.look_once.new.splits = elim c.match-branch-2.branch [
-      | in-Passed w ↦ counting_passes unique _ _ _ _ _ s t _ _ _ _ i (steps_as _ _ s t _ _ _ _ _ _ w.in-Passed.is c.in_ok-picture.ensures.steps)
-      | in-Split w ↦ counting_splits unique _ _ _ _ _ s t _ _ _ _ i (steps_as _ _ s t _ _ _ _ _ _ w.in-Split.is c.in_ok-picture.ensures.steps)
+    let i = c.loop-search.invariant.counting in
+    let counting : Counting c.args.book.now c.args.known.now c.args.start.facts c.args.start.allowance 0 t.behind c.look_once.new.self.left c.look_once.new.self.splits = elim c.match-branch-2.branch [
+      | in-Passed w ↦ counting_passes unique _ _ _ _ _ s t _ _ _ _ i (steps_as _ _ s t _ _ _ _ _ _ w.in-Passed.is c.in_ok-step.ensures.steps)
+      | in-Split w ↦ counting_splits unique _ _ _ _ _ s t _ _ _ _ i (steps_as _ _ s t _ _ _ _ _ _ w.in-Split.is c.in_ok-step.ensures.steps)
     ] in
     let P : Option Cell → Type 0 = GoesOn t c.advance.new.self in
-    counted_nothing _ _ _ _ _ _ _ _ counting (subst P c.in-None.is c.in_ok-cell.ensures)
+    counted_nothing _ _ _ _ _ _ _ _ counting (subst P c.in-None.is c.in_ok-next.ensures)
 
 pub lines_at-dirty-requires-clause-in_rows : goal.lines_at-dirty-requires-clause-in_rows
 lines_at-dirty-requires-clause-in_rows g c =
-    let s = c.loop-pending.pending in
-    let t = c.look_once.new.pending in
+    let s = c.loop-search.search.pending in
+    let t = c.look_once.new.self.pending in
     let u = c.advance.new.self in
     let book = c.args.book.now in
-    let first = c.args.facts in
+    let first = c.args.start.facts in
     let quiet : EachQuiet book first t.behind t.cells = elim c.match-branch-2.branch [
-      | in-Passed w ↦ quiet_passes book c.args.known.now first s t _ _ _ _ c.loop-pending.invariant.behind (steps_as _ _ s t _ _ _ _ _ _ w.in-Passed.is c.in_ok-picture.ensures.steps)
-      | in-Split w ↦ quiet_splits book c.args.known.now first s t _ _ _ _ c.loop-pending.invariant.ready.same_shape c.loop-pending.invariant.behind (steps_as _ _ s t _ _ _ _ _ _ w.in-Split.is c.in_ok-picture.ensures.steps)
+      | in-Passed w ↦ quiet_passes book c.args.known.now first s t _ _ _ _ c.loop-search.invariant.behind (steps_as _ _ s t _ _ _ _ _ _ w.in-Passed.is c.in_ok-step.ensures.steps)
+      | in-Split w ↦ quiet_splits book c.args.known.now first s t _ _ _ _ c.loop-search.invariant.ready.same_shape c.loop-search.invariant.behind (steps_as _ _ s t _ _ _ _ _ _ w.in-Split.is c.in_ok-step.ensures.steps)
     ] in
     let P : Option Cell → Type 0 = GoesOn t u in
-    let next = quiet_at book first t u c.in-Some.cell quiet (subst P c.in-Some.is c.in_ok-cell.ensures) in
+    let next = quiet_at book first t u c.in-Some.cell quiet (subst P c.in-Some.is c.in_ok-next.ensures) in
     let Q : List (List ℕ) → Type 0 = λ x. c.in-Some.cell.row < length x in
     subst Q (sym c.at_hand.ensures) next.0.1.in_rows
 
 pub lines_at-dirty-requires-clause-in_columns : goal.lines_at-dirty-requires-clause-in_columns
 lines_at-dirty-requires-clause-in_columns g c =
-    let s = c.loop-pending.pending in
-    let t = c.look_once.new.pending in
+    let s = c.loop-search.search.pending in
+    let t = c.look_once.new.self.pending in
     let u = c.advance.new.self in
     let book = c.args.book.now in
-    let first = c.args.facts in
+    let first = c.args.start.facts in
     let quiet : EachQuiet book first t.behind t.cells = elim c.match-branch-2.branch [
-      | in-Passed w ↦ quiet_passes book c.args.known.now first s t _ _ _ _ c.loop-pending.invariant.behind (steps_as _ _ s t _ _ _ _ _ _ w.in-Passed.is c.in_ok-picture.ensures.steps)
-      | in-Split w ↦ quiet_splits book c.args.known.now first s t _ _ _ _ c.loop-pending.invariant.ready.same_shape c.loop-pending.invariant.behind (steps_as _ _ s t _ _ _ _ _ _ w.in-Split.is c.in_ok-picture.ensures.steps)
+      | in-Passed w ↦ quiet_passes book c.args.known.now first s t _ _ _ _ c.loop-search.invariant.behind (steps_as _ _ s t _ _ _ _ _ _ w.in-Passed.is c.in_ok-step.ensures.steps)
+      | in-Split w ↦ quiet_splits book c.args.known.now first s t _ _ _ _ c.loop-search.invariant.ready.same_shape c.loop-search.invariant.behind (steps_as _ _ s t _ _ _ _ _ _ w.in-Split.is c.in_ok-step.ensures.steps)
     ] in
     let P : Option Cell → Type 0 = GoesOn t u in
-    let next = quiet_at book first t u c.in-Some.cell quiet (subst P c.in-Some.is c.in_ok-cell.ensures) in
+    let next = quiet_at book first t u c.in-Some.cell quiet (subst P c.in-Some.is c.in_ok-next.ensures) in
     let Q : List (List ℕ) → Type 0 = λ x. c.in-Some.cell.col < width_of x in
     subst Q (sym c.at_hand.ensures) next.0.1.in_columns
 
-pub loop-pending-preserved : goal.loop-pending-preserved
-loop-pending-preserved g c =
-    let s = c.loop-pending.pending in
-    let t = c.look_once.new.pending in
+pub loop-search-preserved : goal.loop-search-preserved
+loop-search-preserved g c =
+    let s = c.loop-search.search.pending in
+    let t = c.look_once.new.self.pending in
     let u = c.advance.new.self in
     let cell = c.in-Some.cell in
     let book = c.args.book.now in
-    let first = c.args.facts in
+    let first = c.args.start.facts in
     let unique = c.least_is_unique.ensures in
-    let i = c.loop-pending.invariant.counting in
-    let counting : Counting book c.args.known.now first c.args.allowance c.args.splits.now t.behind c.look_once.new.left c.look_once.new.splits = elim c.match-branch-2.branch [
-      | in-Passed w ↦ counting_passes unique _ _ _ _ _ s t _ _ _ _ i (steps_as _ _ s t _ _ _ _ _ _ w.in-Passed.is c.in_ok-picture.ensures.steps)
-      | in-Split w ↦ counting_splits unique _ _ _ _ _ s t _ _ _ _ i (steps_as _ _ s t _ _ _ _ _ _ w.in-Split.is c.in_ok-picture.ensures.steps)
+    let i = c.loop-search.invariant.counting in
+    let counting : Counting book c.args.known.now first c.args.start.allowance 0 t.behind c.look_once.new.self.left c.look_once.new.self.splits = elim c.match-branch-2.branch [
+      | in-Passed w ↦ counting_passes unique _ _ _ _ _ s t _ _ _ _ i (steps_as _ _ s t _ _ _ _ _ _ w.in-Passed.is c.in_ok-step.ensures.steps)
+      | in-Split w ↦ counting_splits unique _ _ _ _ _ s t _ _ _ _ i (steps_as _ _ s t _ _ _ _ _ _ w.in-Split.is c.in_ok-step.ensures.steps)
     ] in
     let quiet : EachQuiet book first t.behind t.cells = elim c.match-branch-2.branch [
-      | in-Passed w ↦ quiet_passes book c.args.known.now first s t _ _ _ _ c.loop-pending.invariant.behind (steps_as _ _ s t _ _ _ _ _ _ w.in-Passed.is c.in_ok-picture.ensures.steps)
-      | in-Split w ↦ quiet_splits book c.args.known.now first s t _ _ _ _ c.loop-pending.invariant.ready.same_shape c.loop-pending.invariant.behind (steps_as _ _ s t _ _ _ _ _ _ w.in-Split.is c.in_ok-picture.ensures.steps)
+      | in-Passed w ↦ quiet_passes book c.args.known.now first s t _ _ _ _ c.loop-search.invariant.behind (steps_as _ _ s t _ _ _ _ _ _ w.in-Passed.is c.in_ok-step.ensures.steps)
+      | in-Split w ↦ quiet_splits book c.args.known.now first s t _ _ _ _ c.loop-search.invariant.ready.same_shape c.loop-search.invariant.behind (steps_as _ _ s t _ _ _ _ _ _ w.in-Split.is c.in_ok-step.ensures.steps)
     ] in
     let P : Option Cell → Type 0 = GoesOn t u in
-    let on : GoesOn t u (Some cell) = subst P c.in-Some.is c.in_ok-cell.ensures in
+    let on : GoesOn t u (Some cell) = subst P c.in-Some.is c.in_ok-next.ensures in
     let next = quiet_at book first t u cell quiet on in
     let Q : List (List ℕ) → Type 0 = λ x. AreLinesOf x c.lines_at-dirty.result in
     record {
@@ -133,48 +133,18 @@ loop-pending-preserved g c =
       ready = ready_at book first u.at_hand cell c.lines_at-dirty.result next.0.0 next.0.1 (subst Q c.at_hand.ensures c.lines_at-dirty.ensures.lines) c.lines_at-dirty.ensures.both;
       some = name_counts c.lines_at-dirty.result (across cell.row) c.lines_at-dirty.ensures.both.0;
       behind = next.1;
-      counts = counts_more c.counts_add.ensures _ _ _ _ _ _ c.loop-pending.invariant.counts c.look_once.ensures.counts;
-      same_longest = c.look_once.ensures.same_longest ∙ c.loop-pending.invariant.same_longest;
+      counts = counts_more _ _ _ _ _ _ c.loop-search.invariant.counts c.look_once.ensures.counts;
+      same_longest = c.look_once.ensures.same_longest ∙ c.loop-search.invariant.same_longest;
     }
 
-pub loop-pending-smaller : goal.loop-pending-smaller
-loop-pending-smaller g c =
-    let s = c.loop-pending.pending in
-    let t = c.look_once.new.pending in
+pub loop-search-smaller : goal.loop-search-smaller
+loop-search-smaller g c =
+    let s = c.loop-search.search.pending in
+    let t = c.look_once.new.self.pending in
     let u = c.advance.new.self in
     let P : Option Cell → Type 0 = GoesOn t u in
-    let on : GoesOn t u (Some c.in-Some.cell) = subst P c.in-Some.is c.in_ok-cell.ensures in
+    let on : GoesOn t u (Some c.in-Some.cell) = subst P c.in-Some.is c.in_ok-next.ensures in
     elim c.match-branch-2.branch [
-      | in-Passed w ↦ passes_lighter c.args.book.now c.args.known.now s t u _ _ _ _ (steps_as _ _ s t _ _ _ _ _ _ w.in-Passed.is c.in_ok-picture.ensures.steps) on.0
-      | in-Split w ↦ splits_lighter c.args.book.now c.args.known.now s t u _ _ _ _ (steps_as _ _ s t _ _ _ _ _ _ w.in-Split.is c.in_ok-picture.ensures.steps) on.0
+      | in-Passed w ↦ passes_lighter c.args.book.now c.args.known.now s t u _ _ _ _ (steps_as _ _ s t _ _ _ _ _ _ w.in-Passed.is c.in_ok-step.ensures.steps) on.0
+      | in-Split w ↦ splits_lighter c.args.book.now c.args.known.now s t u _ _ _ _ (steps_as _ _ s t _ _ _ _ _ _ w.in-Split.is c.in_ok-step.ensures.steps) on.0
     ]
-
-pub returns-in_err-picture-clause-rises : goal.returns-in_err-picture-clause-rises
-returns-in_err-picture-clause-rises g c =
-    let before = c.loop-pending.invariant.counting.counted in
-    let here = c.look_once.ensures.rises in
-    omega arith
-
-pub returns-in-Other-clause-rises : goal.returns-in-Other-clause-rises
-returns-in-Other-clause-rises g c =
-    let before = c.loop-pending.invariant.counting.counted in
-    let here = c.look_once.ensures.rises in
-    omega arith
-
-pub returns-in-Halted-clause-rises : goal.returns-in-Halted-clause-rises
-returns-in-Halted-clause-rises g c =
-    let before = c.loop-pending.invariant.counting.counted in
-    let here = c.look_once.ensures.rises in
-    omega arith
-
-pub returns-in_err-cell-clause-rises : goal.returns-in_err-cell-clause-rises
-returns-in_err-cell-clause-rises g c =
-    let before = c.loop-pending.invariant.counting.counted in
-    let here = c.look_once.ensures.rises in
-    omega arith
-
-pub returns-in-None-clause-rises : goal.returns-in-None-clause-rises
-returns-in-None-clause-rises g c =
-    let before = c.loop-pending.invariant.counting.counted in
-    let here = c.look_once.ensures.rises in
-    omega arith

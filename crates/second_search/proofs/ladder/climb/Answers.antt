@@ -3,19 +3,19 @@ use Rattle.second_search.proofs.CountLemmas.{counts_more}
 use Rattle.second_search.proofs.ladder.climb.Goals as goal
 
 pub returns-in_err-tried-clause-counts : goal.returns-in_err-tried-clause-counts
-returns-in_err-tried-clause-counts g c = counts_more c.counts_add.ensures _ _ _ _ _ _ c.loop.invariant.counts c.try_both.ensures.counts
+returns-in_err-tried-clause-counts g c = counts_more _ _ _ _ _ _ c.loop.invariant.counts c.try_both.ensures.counts
 
 pub returns-in-Some-clause-counts : goal.returns-in-Some-clause-counts
-returns-in-Some-clause-counts g c = counts_more c.counts_add.ensures _ _ _ _ _ _ c.loop.invariant.counts c.try_both.ensures.counts
+returns-in-Some-clause-counts g c = counts_more _ _ _ _ _ _ c.loop.invariant.counts c.try_both.ensures.counts
 
 pub loop-preserved : goal.loop-preserved
 loop-preserved g c = record {
-  counts = counts_more c.counts_add.ensures _ _ _ _ _ _ c.loop.invariant.counts c.try_both.ensures.counts;
+  counts = counts_more _ _ _ _ _ _ c.loop.invariant.counts c.try_both.ensures.counts;
   same_longest = c.try_both.ensures.same_longest ∙ c.loop.invariant.same_longest;
 }
 
 pub returns-in_err-last-clause-counts : goal.returns-in_err-last-clause-counts
-returns-in_err-last-clause-counts g c = counts_more c.counts_add.ensures _ _ _ _ _ _ c.loop.invariant.counts c.write.ensures.counts
+returns-in_err-last-clause-counts g c = counts_more _ _ _ _ _ _ c.loop.invariant.counts c.write.ensures.counts
 
 pub returns-clause-counts : goal.returns-clause-counts
-returns-clause-counts g c = counts_more c.counts_add.ensures _ _ _ _ _ _ c.loop.invariant.counts c.write.ensures.counts
+returns-clause-counts g c = counts_more _ _ _ _ _ _ c.loop.invariant.counts c.write.ensures.counts

@@ -1,15 +1,19 @@
-use Rattle.std.proofs.Common.{◌∙◌}
+use Rattle.std.proofs.Common.{◌∙◌, subst, sym}
+use Rattle.second_search.specs.Scene.{CanSearch}
 use Rattle.second_search.proofs.CountLemmas.{counts_more}
 use Rattle.second_search.proofs.near.find_in_parts.Goals as goal
 
 pub returns-in_err-found-clause-counts : goal.returns-in_err-found-clause-counts
-returns-in_err-found-clause-counts g c = counts_more c.counts_add.ensures _ _ _ _ _ _ c.loop-size.invariant.counts c.find_in_each.ensures.counts
+returns-in_err-found-clause-counts g c = counts_more _ _ _ _ _ _ c.loop-i.invariant.counts c.find_near.ensures.counts
 
-pub returns-then-is_some-clause-counts : goal.returns-then-is_some-clause-counts
-returns-then-is_some-clause-counts g c = counts_more c.counts_add.ensures _ _ _ _ _ _ c.loop-size.invariant.counts c.find_in_each.ensures.counts
+pub returns-in-Some-clause-counts : goal.returns-in-Some-clause-counts
+returns-in-Some-clause-counts g c = counts_more _ _ _ _ _ _ c.loop-i.invariant.counts c.find_near.ensures.counts
 
-pub loop-size-preserved : goal.loop-size-preserved
-loop-size-preserved g c = record {
-  counts = counts_more c.counts_add.ensures _ _ _ _ _ _ c.loop-size.invariant.counts c.find_in_each.ensures.counts;
-  same_longest = c.find_in_each.ensures.same_longest ∙ c.loop-size.invariant.same_longest;
+pub loop-i-preserved : goal.loop-i-preserved
+loop-i-preserved g c = record {
+  counts = counts_more _ _ _ _ _ _ c.loop-i.invariant.counts c.find_near.ensures.counts;
+  same_longest = c.find_near.ensures.same_longest ∙ c.loop-i.invariant.same_longest;
 }
+
+pub find_near-requires : goal.find_near-requires
+find_near-requires g c = subst (CanSearch c.args.scene.now) (sym c.loop-i.invariant.same_longest) c.requires

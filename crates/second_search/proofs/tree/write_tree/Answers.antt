@@ -32,7 +32,7 @@ loop-growing-preserved g c =
     let Q : Bool → Type 0 = λ b. Advances c.turn.new.self c.advance.new.self b in
     record {
       said = goes_said s.clues.now s.picture.now s.facts.now c.args.lines c.loop-growing.growing c.turn.new.self c.advance.new.self c.loop-growing.invariant.said (subst P c.in-Goes.is c.in_ok-turn.ensures.turns) (subst Q c.if-not-goes.false c.in_ok-goes.ensures);
-      counts = counts_more c.counts_add.ensures _ _ _ _ _ _ c.loop-growing.invariant.counts c.turn.ensures.counts;
+      counts = counts_more _ _ _ _ _ _ c.loop-growing.invariant.counts c.turn.ensures.counts;
       same_longest = c.turn.ensures.same_longest ∙ c.loop-growing.invariant.same_longest;
     }
 
@@ -44,19 +44,19 @@ loop-growing-smaller g c =
     said_lighter s.clues.now s.picture.now c.loop-growing.growing c.turn.new.self c.advance.new.self (subst P c.in-Goes.is c.in_ok-turn.ensures.turns) (subst Q c.if-not-goes.false c.in_ok-goes.ensures)
 
 pub returns-in_err-turn-clause-counts : goal.returns-in_err-turn-clause-counts
-returns-in_err-turn-clause-counts g c = counts_more c.counts_add.ensures _ _ _ _ _ _ c.loop-growing.invariant.counts c.turn.ensures.counts
+returns-in_err-turn-clause-counts g c = counts_more _ _ _ _ _ _ c.loop-growing.invariant.counts c.turn.ensures.counts
 
 pub returns-in-Found-clause-counts : goal.returns-in-Found-clause-counts
-returns-in-Found-clause-counts g c = counts_more c.counts_add.ensures _ _ _ _ _ _ c.loop-growing.invariant.counts c.turn.ensures.counts
+returns-in-Found-clause-counts g c = counts_more _ _ _ _ _ _ c.loop-growing.invariant.counts c.turn.ensures.counts
 
 pub returns-in_err-goes-clause-counts : goal.returns-in_err-goes-clause-counts
-returns-in_err-goes-clause-counts g c = counts_more c.counts_add.ensures _ _ _ _ _ _ c.loop-growing.invariant.counts c.turn.ensures.counts
+returns-in_err-goes-clause-counts g c = counts_more _ _ _ _ _ _ c.loop-growing.invariant.counts c.turn.ensures.counts
 
 pub returns-then-not-goes-clause-counts : goal.returns-then-not-goes-clause-counts
-returns-then-not-goes-clause-counts g c = counts_more c.counts_add.ensures _ _ _ _ _ _ c.loop-growing.invariant.counts c.turn.ensures.counts
+returns-then-not-goes-clause-counts g c = counts_more _ _ _ _ _ _ c.loop-growing.invariant.counts c.turn.ensures.counts
 
 pub returns-then-is_over-clause-counts : goal.returns-then-is_over-clause-counts
-returns-then-is_over-clause-counts g c = counts_more c.counts_add.ensures _ _ _ _ _ _ c.loop-growing.invariant.counts c.turn.ensures.counts
+returns-then-is_over-clause-counts g c = counts_more _ _ _ _ _ _ c.loop-growing.invariant.counts c.turn.ensures.counts
 
 pub loop-growing-init : goal.loop-growing-init
 loop-growing-init g c =

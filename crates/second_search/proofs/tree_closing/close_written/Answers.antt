@@ -16,7 +16,7 @@ loop-init g c = record {
 }
 
 pub returns-in_err-forced-clause-counts : goal.returns-in_err-forced-clause-counts
-returns-in_err-forced-clause-counts g c = counts_more c.counts_add.ensures _ _ _ _ _ _ c.loop.invariant.counts c.take_line.ensures.counts
+returns-in_err-forced-clause-counts g c = counts_more _ _ _ _ _ _ c.loop.invariant.counts c.take_line.ensures.counts
 
 pub returns-in-Dead-clause-settles : goal.returns-in-Dead-clause-settles
 returns-in-Dead-clause-settles g c =
@@ -25,7 +25,7 @@ returns-in-Dead-clause-settles g c =
     settles_on clues c.args.facts.now c.loop.facts c.take_line.new.facts c.args.lines.now c.loop.lines c.take_line.new.lines Dead c.loop.invariant.settles (subst P c.in-Dead.is c.in_ok-forced.ensures.settles)
 
 pub returns-in-Dead-clause-counts : goal.returns-in-Dead-clause-counts
-returns-in-Dead-clause-counts g c = counts_more c.counts_add.ensures _ _ _ _ _ _ c.loop.invariant.counts c.take_line.ensures.counts
+returns-in-Dead-clause-counts g c = counts_more _ _ _ _ _ _ c.loop.invariant.counts c.take_line.ensures.counts
 
 pub loop-preserved : goal.loop-preserved
 loop-preserved g c =
@@ -35,6 +35,6 @@ loop-preserved g c =
     record {
       settles = settles_on clues c.args.facts.now c.loop.facts c.take_line.new.facts c.args.lines.now c.loop.lines c.take_line.new.lines Narrowed c.loop.invariant.settles here;
       closable = can_close_like clues (g.E.LineEngine.longest c.loop.engine) (g.E.LineEngine.longest c.take_line.new.engine) c.loop.facts c.take_line.new.facts here.0.same_shape c.take_line.ensures.same_longest c.loop.invariant.closable;
-      counts = counts_more c.counts_add.ensures _ _ _ _ _ _ c.loop.invariant.counts c.take_line.ensures.counts;
+      counts = counts_more _ _ _ _ _ _ c.loop.invariant.counts c.take_line.ensures.counts;
       same_longest = c.take_line.ensures.same_longest ∙ c.loop.invariant.same_longest;
     }

@@ -10,22 +10,22 @@ pub search_parts-requires-clause-parts : goal.search_parts-requires-clause-parts
 search_parts-requires-clause-parts g c = each_is_part c.args.scene.now.facts.now c.args.self.now c.requires.parts
 
 pub returns-in-Some-clause-judges : goal.returns-in-Some-clause-judges
-returns-in-Some-clause-judges g c = done_none _ _ _ _ _ (omega arith) (omega arith) (omega arith) (omega arith) (omega arith) (inl (record { at = c.in-Some.field-0; is = c.in-Some.ensures.1; same = refl; searched_none = refl; splits_none = refl }))
+returns-in-Some-clause-judges g c = done_none _ _ _ (omega arith) (omega arith) (omega arith) (inl (record { at = c.in-Some.field-0; is = c.in-Some.ensures.1; same = refl; searched_none = refl; splits_none = refl }))
 
 pub returns-in_ok-stop-in-None-clause-judges : goal.returns-in_ok-stop-in-None-clause-judges
 returns-in_ok-stop-in-None-clause-judges g c =
     let s = c.args.scene.now in
     let old = c.args.self.now in
     let new = c.note.new.self in
-    let turn = judges_as s.clues.now s.facts.now s.picture.now c.args.allowance old new c.in_ok-stop-in-None.stop c.note.result in
-    done_as _ _ _ _ _ _ _ _ (Stops s.clues.now s.facts.now s.picture.now c.args.allowance old c.in_ok-stop-in-None.stop) (Judges s.clues.now s.facts.now s.picture.now c.args.allowance old new c.note.result) c.in_ok-stop-in-None.ensures.stops (λ m n h. turn m n c.in-None.ensures h c.note.ensures)
+    let turn = judges_as s.clues.now s.facts.now s.picture.now c.args.allowance old new c.in_ok-stop-in-None.field-0.0 c.note.result in
+    done_as _ _ _ _ _ _ _ _ (Stops s.clues.now s.facts.now s.picture.now c.args.allowance old c.in_ok-stop-in-None.field-0.0) (Judges s.clues.now s.facts.now s.picture.now c.args.allowance old new c.note.result) c.in_ok-stop-in-None.ensures.stops (λ m n h. turn m n c.in-None.ensures h c.note.ensures)
 
 pub returns-in_ok-stop-in-None-clause-parts : goal.returns-in_ok-stop-in-None-clause-parts
 returns-in_ok-stop-in-None-clause-parts g c =
     let s = c.args.scene.now in
     let old = c.args.self.now in
     let new = c.note.new.self in
-    let turn = judges_as s.clues.now s.facts.now s.picture.now c.args.allowance old new c.in_ok-stop-in-None.stop c.note.result in
+    let turn = judges_as s.clues.now s.facts.now s.picture.now c.args.allowance old new c.in_ok-stop-in-None.field-0.0 c.note.result in
     let d = c.in_ok-stop-in-None.ensures.stops in
     let j = turn d.searched d.splits c.in-None.ensures d.is c.note.ensures in
     let P : List (List ℕ) → Type 0 = λ parts. AreParts s.facts.now parts in
@@ -36,17 +36,17 @@ returns-in_ok-stop-in-None-clause-true_answers g c =
     let s = c.args.scene.now in
     let old = c.args.self.now in
     let new = c.note.new.self in
-    let turn = judges_as s.clues.now s.facts.now s.picture.now c.args.allowance old new c.in_ok-stop-in-None.stop c.note.result in
+    let turn = judges_as s.clues.now s.facts.now s.picture.now c.args.allowance old new c.in_ok-stop-in-None.field-0.0 c.note.result in
     let d = c.in_ok-stop-in-None.ensures.stops in
     let j = turn d.searched d.splits c.in-None.ensures d.is c.note.ensures in
-    judged_true c.clues_are_of_lines.ensures c.books_are_their_clues.ensures c.closing_keeps_fillings.ensures c.only_is_closed.ensures c.fillings_are_of_facts.ensures c.parts_decide.ensures s.clues.now s.givens.now s.facts.now s.picture.now c.requires.scene c.args.allowance old new c.note.result d.searched d.splits c.requires.true_answers j
+    judged_true c.clues_are_of_lines.ensures c.books_are_their_clues.ensures c.closing_keeps_fillings.ensures c.only_is_closed.ensures c.fillings_are_of_facts.ensures c.parts_decide.ensures s.clues.now s.givens.now s.facts.now s.picture.now c.requires.can.is_scene c.args.allowance old new c.note.result d.searched d.splits c.requires.true_answers j
 
 pub returns-in_ok-stop-in-None-clause-shown : goal.returns-in_ok-stop-in-None-clause-shown
 returns-in_ok-stop-in-None-clause-shown g c =
     let s = c.args.scene.now in
     let old = c.args.self.now in
     let new = c.note.new.self in
-    let turn = judges_as s.clues.now s.facts.now s.picture.now c.args.allowance old new c.in_ok-stop-in-None.stop c.note.result in
+    let turn = judges_as s.clues.now s.facts.now s.picture.now c.args.allowance old new c.in_ok-stop-in-None.field-0.0 c.note.result in
     let d = c.in_ok-stop-in-None.ensures.stops in
     let j = turn d.searched d.splits c.in-None.ensures d.is c.note.ensures in
     is_shown s.clues.now s.facts.now s.picture.now c.args.allowance old new c.note.result d.searched d.splits j
@@ -56,7 +56,7 @@ returns-in_ok-stop-in-None-clause-verdict g c =
     let s = c.args.scene.now in
     let old = c.args.self.now in
     let new = c.note.new.self in
-    let turn = judges_as s.clues.now s.facts.now s.picture.now c.args.allowance old new c.in_ok-stop-in-None.stop c.note.result in
+    let turn = judges_as s.clues.now s.facts.now s.picture.now c.args.allowance old new c.in_ok-stop-in-None.field-0.0 c.note.result in
     let d = c.in_ok-stop-in-None.ensures.stops in
     let j = turn d.searched d.splits c.in-None.ensures d.is c.note.ensures in
-    verdict_true c.clues_are_of_lines.ensures c.books_are_their_clues.ensures c.closing_keeps_fillings.ensures c.only_is_closed.ensures c.fillings_are_of_facts.ensures c.parts_decide.ensures s.clues.now s.givens.now s.facts.now s.picture.now c.requires.scene c.args.allowance old new c.note.result d.searched d.splits c.requires.parts c.requires.true_answers j
+    verdict_true c.clues_are_of_lines.ensures c.books_are_their_clues.ensures c.closing_keeps_fillings.ensures c.only_is_closed.ensures c.fillings_are_of_facts.ensures c.parts_decide.ensures s.clues.now s.givens.now s.facts.now s.picture.now c.requires.can.is_scene c.args.allowance old new c.note.result d.searched d.splits c.requires.parts c.requires.true_answers j

@@ -8,10 +8,10 @@ pub returns-in-Nothing-clause-ends : goal.returns-in-Nothing-clause-ends
 returns-in-Nothing-clause-ends g c =
     let scene = c.args.scene.now in
     let same : answer_at c.args.self.now c.args.i ≡ Nothing = answer_is c.self.inside.kept.items c.args.self.now c.args.i c.index-part.result.now Nothing c.self.view_is c.requires.place c.index-part.ensures c.in-Nothing.is in
-    done_none _ _ _ _ _ (omega arith) (omega arith) (omega arith) (omega arith) (omega arith) (known_nothing scene.clues.now scene.facts.now scene.picture.now c.args.allowance (kept_at c.args.self.now c.args.i) same)
+    done_none _ _ _ (omega arith) (omega arith) (omega arith) (known_nothing scene.clues.now scene.facts.now scene.picture.now c.args.allowance (kept_at c.args.self.now c.args.i) same)
 
 pub returns-in-Filling-clause-ends : goal.returns-in-Filling-clause-ends
 returns-in-Filling-clause-ends g c =
     let scene = c.args.scene.now in
     let same : answer_at c.args.self.now c.args.i ≡ Filling c.in-Filling.field-0 = answer_is c.self.inside.kept.items c.args.self.now c.args.i c.index-part.result.now (Filling c.in-Filling.field-0) c.self.view_is c.requires.place c.index-part.ensures c.in-Filling.is in
-    done_none _ _ _ _ _ (omega arith) (omega arith) (omega arith) (omega arith) (omega arith) (known_filling scene.clues.now scene.facts.now scene.picture.now c.in-Filling.field-0 c.args.allowance (kept_at c.args.self.now c.args.i) same)
+    done_none _ _ _ (omega arith) (omega arith) (omega arith) (known_filling scene.clues.now scene.facts.now scene.picture.now c.in-Filling.field-0 c.args.allowance (kept_at c.args.self.now c.args.i) same)

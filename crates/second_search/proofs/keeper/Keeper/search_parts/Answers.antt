@@ -1,25 +1,26 @@
-use Rattle.std.proofs.Common.{◌≡◌, ◌∙◌, ◌<◌, ◌+◌, ℕ, suc, ap, arith, length, subst}
+use Rattle.std.proofs.Common.{ℕ, ◌+◌, ◌<◌, ◌∙◌, ◌≡◌, ap, arith, length, subst, suc, sym}
 use Rattle.second_search.specs.declared.counting.Ending.{Ending}
 use Rattle.second_search.specs.declared.counting.Ending.TheVariants as ending
-use Rattle.second_search.specs.Judging.{Done, EndsPart, Passes, StopsAt, kept_at}
+use Rattle.second_search.specs.Judging.{DoneBy, EndsPart, Passes, StopsAt, kept_at}
+use Rattle.second_search.specs.Scene.{CanSearch}
 use Rattle.second_search.proofs.CountLemmas.{counts_more}
-use Rattle.second_search.proofs.JudgeLemmas.{done_both, passes_more, stops_here}
+use Rattle.second_search.proofs.JudgeLemmas.{done_then, passes_more, stops_here}
 use Rattle.second_search.proofs.keeper.Keeper.search_parts.Goals as goal
 
-pub returns-in_err-search_one-clause-counts : goal.returns-in_err-search_one-clause-counts
-returns-in_err-search_one-clause-counts g c =
+pub returns-in_err-ending-clause-counts : goal.returns-in_err-ending-clause-counts
+returns-in_err-ending-clause-counts g c =
     let i = c.loop-i.invariant in
-    counts_more c.counts_add.ensures _ _ _ _ _ _ (i.done.evaluations, i.done.counts) c.search_one.ensures.counts
+    counts_more _ _ _ _ _ _ (i.done.evaluations, i.done.counts) c.search_one.ensures.counts
 
 pub returns-in-Found-clause-counts : goal.returns-in-Found-clause-counts
 returns-in-Found-clause-counts g c =
     let i = c.loop-i.invariant in
-    counts_more c.counts_add.ensures _ _ _ _ _ _ (i.done.evaluations, i.done.counts) c.search_one.ensures.counts
+    counts_more _ _ _ _ _ _ (i.done.evaluations, i.done.counts) c.search_one.ensures.counts
 
 pub returns-in-BrokenOff-clause-counts : goal.returns-in-BrokenOff-clause-counts
 returns-in-BrokenOff-clause-counts g c =
     let i = c.loop-i.invariant in
-    counts_more c.counts_add.ensures _ _ _ _ _ _ (i.done.evaluations, i.done.counts) c.search_one.ensures.counts
+    counts_more _ _ _ _ _ _ (i.done.evaluations, i.done.counts) c.search_one.ensures.counts
 
 pub returns-in-Found-clause-stops : goal.returns-in-Found-clause-stops
 returns-in-Found-clause-stops g c =
@@ -30,9 +31,9 @@ returns-in-Found-clause-stops g c =
     let inside : n < length kept = omega (arith, same) in
     let before = Passes s.clues.now s.facts.now s.picture.now c.args.allowance kept n in
     let here = EndsPart s.clues.now s.facts.now s.picture.now c.args.allowance (kept_at kept n) in
-    let P : Ending → Type 0 = λ x. Done c.loop-i.searched c.search_one.new.searched c.loop-i.splits c.search_one.new.splits c.loop-i.meter c.search_one.new.meter (g.E.LineEngine.calls c.loop-i.engine) (g.E.LineEngine.calls c.search_one.new.engine) (here x) in
+    let P : Ending → Type 0 = λ x. DoneBy c.in_ok-ending.field-0.1 c.loop-i.meter c.search_one.new.meter (g.E.LineEngine.calls c.loop-i.engine) (g.E.LineEngine.calls c.search_one.new.engine) (here x) in
     let found = ending.Found c.in-Found.picture in
-    done_both c.counts_add.ensures _ _ _ _ _ _ _ _ _ _ _ _ before (here found) (StopsAt s.clues.now s.facts.now s.picture.now c.args.allowance kept n found) c.loop-i.invariant.done (subst P c.in-Found.is c.in_ok-search_one.ensures.ends) (λ m k x y. stops_here s.clues.now s.facts.now s.picture.now c.args.allowance kept n found m k x y inside)
+    done_then _ _ _ _ _ _ _ _ _ before (here found) (StopsAt s.clues.now s.facts.now s.picture.now c.args.allowance kept n found) c.loop-i.invariant.done (subst P c.in-Found.is c.in_ok-ending.ensures.ends) c.plus.ensures (λ m k x y. stops_here s.clues.now s.facts.now s.picture.now c.args.allowance kept n found m k x y inside)
 
 pub returns-in-BrokenOff-clause-stops : goal.returns-in-BrokenOff-clause-stops
 returns-in-BrokenOff-clause-stops g c =
@@ -43,8 +44,8 @@ returns-in-BrokenOff-clause-stops g c =
     let inside : n < length kept = omega (arith, same) in
     let before = Passes s.clues.now s.facts.now s.picture.now c.args.allowance kept n in
     let here = EndsPart s.clues.now s.facts.now s.picture.now c.args.allowance (kept_at kept n) in
-    let P : Ending → Type 0 = λ x. Done c.loop-i.searched c.search_one.new.searched c.loop-i.splits c.search_one.new.splits c.loop-i.meter c.search_one.new.meter (g.E.LineEngine.calls c.loop-i.engine) (g.E.LineEngine.calls c.search_one.new.engine) (here x) in
-    done_both c.counts_add.ensures _ _ _ _ _ _ _ _ _ _ _ _ before (here ending.BrokenOff) (StopsAt s.clues.now s.facts.now s.picture.now c.args.allowance kept n ending.BrokenOff) c.loop-i.invariant.done (subst P c.in-BrokenOff.is c.in_ok-search_one.ensures.ends) (λ m k x y. stops_here s.clues.now s.facts.now s.picture.now c.args.allowance kept n ending.BrokenOff m k x y inside)
+    let P : Ending → Type 0 = λ x. DoneBy c.in_ok-ending.field-0.1 c.loop-i.meter c.search_one.new.meter (g.E.LineEngine.calls c.loop-i.engine) (g.E.LineEngine.calls c.search_one.new.engine) (here x) in
+    done_then _ _ _ _ _ _ _ _ _ before (here ending.BrokenOff) (StopsAt s.clues.now s.facts.now s.picture.now c.args.allowance kept n ending.BrokenOff) c.loop-i.invariant.done (subst P c.in-BrokenOff.is c.in_ok-ending.ensures.ends) c.plus.ensures (λ m k x y. stops_here s.clues.now s.facts.now s.picture.now c.args.allowance kept n ending.BrokenOff m k x y inside)
 
 pub loop-i-preserved : goal.loop-i-preserved
 loop-i-preserved g c =
@@ -53,40 +54,13 @@ loop-i-preserved g c =
     let n = c.loop-i.i in
     let before = Passes s.clues.now s.facts.now s.picture.now c.args.allowance kept n in
     let here = EndsPart s.clues.now s.facts.now s.picture.now c.args.allowance (kept_at kept n) in
-    let P : Ending → Type 0 = λ x. Done c.loop-i.searched c.search_one.new.searched c.loop-i.splits c.search_one.new.splits c.loop-i.meter c.search_one.new.meter (g.E.LineEngine.calls c.loop-i.engine) (g.E.LineEngine.calls c.search_one.new.engine) (here x) in
-    let Q : ℕ → Type 0 = λ k. Done c.args.searched.now c.search_one.new.searched c.args.splits.now c.search_one.new.splits c.args.meter.now c.search_one.new.meter (g.E.LineEngine.calls c.args.engine.now) (g.E.LineEngine.calls c.search_one.new.engine) (Passes s.clues.now s.facts.now s.picture.now c.args.allowance kept k) in
+    let P : Ending → Type 0 = λ x. DoneBy c.in_ok-ending.field-0.1 c.loop-i.meter c.search_one.new.meter (g.E.LineEngine.calls c.loop-i.engine) (g.E.LineEngine.calls c.search_one.new.engine) (here x) in
+    let Q : ℕ → Type 0 = λ k. DoneBy c.plus.result c.args.meter.now c.search_one.new.meter (g.E.LineEngine.calls c.args.engine.now) (g.E.LineEngine.calls c.search_one.new.engine) (Passes s.clues.now s.facts.now s.picture.now c.args.allowance kept k) in
     let next : suc n ≡ n + 1 = omega arith in
     record {
-      done = subst Q next (done_both c.counts_add.ensures _ _ _ _ _ _ _ _ _ _ _ _ before (here ending.Nothing) (Passes s.clues.now s.facts.now s.picture.now c.args.allowance kept (suc n)) c.loop-i.invariant.done (subst P c.in-Nothing.is c.in_ok-search_one.ensures.ends) (λ m k x y. passes_more s.clues.now s.facts.now s.picture.now c.args.allowance kept n m k x y));
+      done = subst Q next (done_then _ _ _ _ _ _ _ _ _ before (here ending.Nothing) (Passes s.clues.now s.facts.now s.picture.now c.args.allowance kept (suc n)) c.loop-i.invariant.done (subst P c.in-Nothing.is c.in_ok-ending.ensures.ends) c.plus.ensures (λ m k x y. passes_more s.clues.now s.facts.now s.picture.now c.args.allowance kept n m k x y));
       same_longest = c.search_one.ensures.same_longest ∙ c.loop-i.invariant.same_longest;
     }
 
-pub returns-in_err-search_one-clause-rises : goal.returns-in_err-search_one-clause-rises
-returns-in_err-search_one-clause-rises g c =
-    let done = c.loop-i.invariant.done in
-    let searched = done.searched_is in
-    let splits = done.splits_is in
-    let here = c.search_one.ensures.rises in
-    let more = here.0 in
-    let split = here.1 in
-    (omega arith, omega arith)
-
-pub returns-in-Found-clause-rises : goal.returns-in-Found-clause-rises
-returns-in-Found-clause-rises g c =
-    let done = c.loop-i.invariant.done in
-    let searched = done.searched_is in
-    let splits = done.splits_is in
-    let here = c.search_one.ensures.rises in
-    let more = here.0 in
-    let split = here.1 in
-    (omega arith, omega arith)
-
-pub returns-in-BrokenOff-clause-rises : goal.returns-in-BrokenOff-clause-rises
-returns-in-BrokenOff-clause-rises g c =
-    let done = c.loop-i.invariant.done in
-    let searched = done.searched_is in
-    let splits = done.splits_is in
-    let here = c.search_one.ensures.rises in
-    let more = here.0 in
-    let split = here.1 in
-    (omega arith, omega arith)
+pub search_one-requires-clause-can : goal.search_one-requires-clause-can
+search_one-requires-clause-can g c = subst (CanSearch c.args.scene.now) (sym c.loop-i.invariant.same_longest) c.requires.can

@@ -33,4 +33,4 @@ returns-clause-turns g c =
     if_ok c.go_on.result (Turns s.clues.now s.picture.now _ c.go_on.new.self) (Turns s.clues.now s.picture.now c.args.self.now c.go_on.new.self) (turn_on s.clues.now s.picture.now c.in_ok-facts.facts c.close_written.new.facts c.args.self.now _ c.go_on.new.self (c.in_ok-facts.ensures ∙ c.at_hand.ensures) here c.in_ok-narrow-in-Narrowed.ensures) c.go_on.ensures.turns
 
 pub returns-clause-counts : goal.returns-clause-counts
-returns-clause-counts g c = counts_more c.counts_add.ensures _ _ _ _ _ _ c.close_written.ensures.counts c.go_on.ensures.counts
+returns-clause-counts g c = counts_more _ _ _ _ _ _ c.close_written.ensures.counts c.go_on.ensures.counts

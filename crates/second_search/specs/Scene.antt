@@ -1,0 +1,10 @@
+-- Scenes that can be searched.
+use Rattle.std.specs.Prelude.{ℕ, ◌≤◌, length}
+use Rattle.second_search.specs.declared.scene.Scene.{Scene}
+use Rattle.second_search.specs.Parts.{IsScene}
+
+-- a scene that a search for another picture may start from, and no line of it is longer than an engine takes
+pub record CanSearch (scene : Scene) (longest : ℕ) : Type 0 where
+  pub is_scene : IsScene scene.clues.now scene.givens.now scene.facts.now scene.picture.now
+  pub tall : length scene.clues.now.rows ≤ longest
+  pub wide : length scene.clues.now.columns ≤ longest
