@@ -41,6 +41,7 @@ use crate::parts::Parts;
 use crate::same_lines::same_lines;
 use crate::scene::Scene;
 use clues::laws::{books_are_their_clues, clues_are_of_lines};
+use fixpoint::laws::{closing_keeps_fillings, only_is_closed};
 use line_settle::{Facts, LineEngine, Meter};
 use picture::laws::same_cells_are_equal;
 use picture::{CellSet, LineSet, MAX_SIDE, Picture};

@@ -9,12 +9,13 @@ ghost use Rattle.second_search.specs.Searching.{CountsAny};
 ghost use Rattle.second_search.specs.Scene.{CanSearch};
 
 use crate::cell_lines::put_both;
-use crate::counting::{Ending, Start, search_counted};
+use crate::counting::{Ending, Searched, Start, search_counted};
 use crate::laws::fillings_are_of_facts;
 use crate::part_search::{leave_alone, lines_through};
 use crate::parts::Parts;
 use crate::scene::Scene;
 use clues::laws::{books_are_their_clues, clues_are_of_lines};
+use fixpoint::laws::{closing_keeps_fillings, only_is_closed};
 use line_settle::{Facts, LineEngine, Meter};
 use picture::{Axis, CellSet, LineId, LineSet, MAX_SIDE, Picture};
 use std::alloc::{AllocError, Global};
@@ -140,7 +141,8 @@ fn find_inside<E: LineEngine>(
         allowance: Some(window.splits),
     };
     let searched = search_counted(alloc, engine, scene.clues, scene.picture, start, meter)?;
-    match searched.ending {
+    let Searched { ending, splits: _ } = searched;
+    match ending {
         Ending::Found(picture) => Ok(Some(picture)),
         Ending::Nothing => Ok(None),
         Ending::BrokenOff => Ok(None),

@@ -12,6 +12,7 @@ use crate::laws::sound_facts;
 use crate::near::find_in_parts;
 use crate::scene::Scene;
 use clues::laws::clues_are_of_lines;
+use fixpoint::{CloseFault, settle_afresh};
 use line_settle::{Facts, LineEngine, Meter};
 use picture::Picture;
 use std::alloc::{AllocError, Global};

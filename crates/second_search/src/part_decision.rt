@@ -15,6 +15,7 @@ use crate::near::{SIZES, Windows, find_near};
 use crate::part_search::{leave_alone, search_part};
 use crate::scene::Scene;
 use clues::laws::clues_are_of_lines;
+use fixpoint::laws::{closing_keeps_fillings, only_is_closed};
 use line_settle::{LineEngine, Meter};
 use picture::{CellSet, Picture};
 use std::alloc::{AllocError, Global};

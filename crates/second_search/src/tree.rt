@@ -13,6 +13,8 @@ use crate::tree_closing::close_written;
 use crate::tree_lines::{Lines, cell_number};
 use crate::tree_step::{TreeStep, Way, next_step};
 use cert_text::CertLine;
+use fixpoint::all_lines;
+use fixpoint::laws::{closing_keeps_fillings, only_is_closed};
 use line_settle::{LineEngine, Meter, Outcome};
 use picture::{LineSet, MAX_SIDE, Picture};
 use split_choice::Cell;
