@@ -15,7 +15,8 @@ pub fn document_in(alloc: Global, word: &str) -> Result<Document> {
     let width = rows.split('/').next().context("a row")?.len();
     ensure!(0 < height && height <= 120, "1 to 120 rows");
     ensure!(0 < width && width <= 120, "1 to 120 columns");
-    let blank = blank(alloc, height as u8, width as u8)?;
+    let palette = Palette::start(alloc, 255, triple_of(0))?;
+    let blank = blank(alloc, palette, height as u8, width as u8)?;
     let mut studio = Studio::start(alloc, blank, 1)?;
     add_colours(alloc, &mut studio, rows, more)?;
     for (row, letters) in rows.split('/').enumerate() {
@@ -25,12 +26,11 @@ pub fn document_in(alloc: Global, word: &str) -> Result<Document> {
     Ok(studio.document().copy()?)
 }
 
-// A blank picture, with the background alone in its palette.
-fn blank(alloc: Global, height: u8, width: u8) -> Result<Document>
+// A blank picture with a palette.
+fn blank(alloc: Global, palette: Palette, height: u8, width: u8) -> Result<Document, AllocError>
     requires height { (0 < height) × (height ≤ 120) }
     requires width { (0 < width) × (width ≤ 120) }
 {
-    let palette = Palette::start(alloc, 255, triple_of(0))?;
     let _ = palette.len();
     let picture = Picture::blank(alloc, height, width)?;
     Ok(Document {

@@ -112,8 +112,13 @@ fn colour_in(word: &str) -> Result<u8> {
 // The triple of three samples.
 fn triple_in(r: &str, g: &str, b: &str) -> Result<Rgb> {
     Ok(Rgb {
-        r: r.parse().context("a sample")?,
-        g: g.parse().context("a sample")?,
-        b: b.parse().context("a sample")?,
+        r: sample_in(r)?,
+        g: sample_in(g)?,
+        b: sample_in(b)?,
     })
+}
+
+// One sample.
+fn sample_in(word: &str) -> Result<u16> {
+    word.parse().context("a sample")
 }
