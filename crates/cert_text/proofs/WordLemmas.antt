@@ -77,15 +77,6 @@ pub ruleset first_lines = (lines_more, lines_none, lines_last, lines_empty)
 
 -- ---- three words
 
-pub one_word : (line : List ℕ) → words_of line ≡ line ∷ [] → None ≡ three_of (words_of line)
-one_word line e = sym (ap three_of e)
-
-pub two_words : (line word behind : List ℕ) → words_of line ≡ word ∷ words_of behind → words_of behind ≡ behind ∷ [] → None ≡ three_of (words_of line)
-two_words line word behind e f = sym (ap three_of (e ∙ ap (λ (ws : List (List ℕ)). word ∷ ws) f))
-
-pub three_words : (line word behind first second : List ℕ) → words_of line ≡ word ∷ words_of behind → words_of behind ≡ first ∷ words_of second → words_of second ≡ second ∷ [] → Some (word, first, second) ≡ three_of (words_of line)
-three_words line word behind first second e f g = sym (ap three_of (e ∙ (ap (λ (ws : List (List ℕ)). word ∷ ws) f ∙ ap (λ (ws : List (List ℕ)). word ∷ first ∷ ws) g)))
-
 four_words : (word first second : List ℕ) (words : List (List ℕ)) → 0 < length words → three_of (word ∷ first ∷ second ∷ words) ≡ None
 four_words word first second [] some = absurd (omega (arith, some))
 four_words word first second (next ∷ words) some = refl

@@ -4,7 +4,7 @@ ghost use Rattle.std.specs.Prelude.{◌≡◌};
 ghost use Rattle.cert_text.specs.Faults.{name_of, place_of};
 ghost use Rattle.cert_text.specs.declared.fault.CertFault.TheVariants.{Memory};
 
-use std::alloc::{AllocError, AllocFailed};
+use std::alloc::AllocError;
 use thiserror::Error;
 
 /// What is wrong with a certificate: the first fault from the top, with the number of its line, counted from 1.
@@ -41,31 +41,30 @@ impl CertFault {
     pub fn name(&self) -> &'static str
         ensures { result.now ≡ name_of self.now }
     {
-        match self {
-            CertFault::NotCert(_) => "NotCert",
-            CertFault::BadLine(_) => "BadLine",
-            CertFault::Place(_) => "Place",
-            CertFault::NotDead(_) => "NotDead",
-            CertFault::NotDone(_) => "NotDone",
-            CertFault::Ended(_) => "Ended",
-            CertFault::Trailing(_) => "Trailing",
-            CertFault::Memory => "Memory",
-        }
+        self.told().0
     }
 
     /// The number of the line in fault, counted from 1.
     pub fn place(&self) -> Option<usize>
         ensures { result ≡ place_of self.now }
     {
-        match self {
-            CertFault::NotCert(line)
-            | CertFault::BadLine(line)
-            | CertFault::Place(line)
-            | CertFault::NotDead(line)
-            | CertFault::NotDone(line)
-            | CertFault::Ended(line)
-            | CertFault::Trailing(line) => Some(*line),
-            CertFault::Memory => None,
+        self.told().1
+    }
+
+    // The name, and the place.
+    fn told(&self) -> (&'static str, Option<usize>)
+        ensures name { result.0.now ≡ name_of self.now }
+        ensures place { result.1 ≡ place_of self.now }
+    {
+        match *self {
+            CertFault::NotCert(line) => ("NotCert", Some(line)),
+            CertFault::BadLine(line) => ("BadLine", Some(line)),
+            CertFault::Place(line) => ("Place", Some(line)),
+            CertFault::NotDead(line) => ("NotDead", Some(line)),
+            CertFault::NotDone(line) => ("NotDone", Some(line)),
+            CertFault::Ended(line) => ("Ended", Some(line)),
+            CertFault::Trailing(line) => ("Trailing", Some(line)),
+            CertFault::Memory => ("Memory", None),
         }
     }
 }
@@ -74,14 +73,6 @@ impl From<AllocError> for CertFault {
     ghost from_gives = { λ _ e. e ≡ Memory };
 
     fn from(_e: AllocError) -> CertFault {
-        CertFault::Memory
-    }
-}
-
-impl<T: Drop> From<AllocFailed<T>> for CertFault {
-    ghost from_gives = { λ _ e. e ≡ Memory };
-
-    fn from(_e: AllocFailed<T>) -> CertFault {
         CertFault::Memory
     }
 }

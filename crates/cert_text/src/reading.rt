@@ -113,7 +113,7 @@ fn read_givens(alloc: Global, text: &[u8]) -> Result<(Vec<CellNumber>, &[u8]), C
         if place < least {
             return Err(CertFault::BadLine(number));
         }
-        givens.push(cell)?;
+        givens.push(cell).map_err(|_| CertFault::Memory)?;
         least = place + 1;
         number += 1;
         rest = behind;
@@ -136,7 +136,7 @@ fn read_lines(alloc: Global, text: &[u8], first: usize) -> Result<Vec<CertLine>,
         let Some(read) = line_in(line) else {
             return Err(CertFault::BadLine(number));
         };
-        lines.push(read)?;
+        lines.push(read).map_err(|_| CertFault::Memory)?;
         number += 1;
         rest = behind;
     }

@@ -1,6 +1,5 @@
 -- The command line as it is made, and what a parse by it gives.
-use Rattle.std.proofs.Common.{◌≡◌, ◌++◌, true, false, List, [], ◌∷◌, Result, Ok, Err, refl, ap, subst, ◌∙◌}
-use Rattle.std.specs.Prelude.{IfErr, IfOk}
+use Rattle.std.proofs.Common.{◌≡◌, ◌++◌, true, false, List, [], ◌∷◌, Result, Ok, Err, refl, ap, subst, ◌∙◌, IfErr, IfOk}
 use Rattle.clap.specs.Words.{AddsArg, AddsSubcommand, App, FailsBy, HasMatchesOf, Rule, Shape, Text, app_of, fault_of, is_simple, is_simple_and_free, kind_of, rule_of, shape_of, takes, with_subcommand}
 use Rattle.clap.specs.declared.builder.arg.Arg.{Arg}
 use Rattle.clap.specs.declared.builder.command.Command.{Command}

@@ -12,11 +12,15 @@ use Rattle.clap.specs.declared.builder.value_parser.ValueParser.TheVariants as p
 
 -- ---- the values
 
+-- a word that has to be there
+abbrev pub word_rule : Text → Rule
+word_rule name = record (new_rule name) { value_names = 1; required = true }
+
 abbrev pub file_rule : Rule
-file_rule = record (new_rule (codes "file")) { value_names = 1; required = true }
+file_rule = word_rule (codes "file")
 
 abbrev pub cert_rule : Rule
-cert_rule = record (new_rule (codes "cert")) { value_names = 1; required = true }
+cert_rule = word_rule (codes "cert")
 
 abbrev pub format_rule : ValueParser → Rule
 format_rule formats = record (new_rule (codes "format")) {

@@ -3,7 +3,7 @@
 ghost use Rattle.std.specs.Prelude.{◌≡◌, [], false, IfOk};
 ghost use Rattle.clap.specs.Walk.{texts};
 ghost use Rattle.clap.specs.Words.{app_of, rule_of, shape_of};
-ghost use Rattle.command_line.specs.Program.{AreFormats, IsLocal, ParsesAs, background_rule, cert_rule, check_shape, file_rule, file_shape, format_rule, history_rule, opening_shape, program_app, top_shape, work_shape};
+ghost use Rattle.command_line.specs.Program.{AreFormats, IsLocal, ParsesAs, background_rule, check_shape, file_shape, format_rule, history_rule, opening_shape, program_app, top_shape, word_rule, work_shape};
 
 use clap::{Arg, ArgMatches, Command, Error, value_parser};
 use program_options::VERSION;
@@ -78,7 +78,12 @@ fn file_command<'a>(alloc: Global) -> Result<Command<'a>, AllocError>
     Command::new(alloc, "work")
         .about("Opens a picture or a puzzle, and answers each line of standard input")
         .after_help("Example: echo verdict | nonobench work heart.ppm")
-        .arg(opened(alloc))
+        .arg(word(
+            alloc,
+            "file",
+            "FILE",
+            "The picture, as a P3 text, or the puzzle, as a .non text",
+        ))
 }
 
 // The words of the check.
@@ -89,19 +94,20 @@ fn check_command<'a>(alloc: Global) -> Result<Command<'a>, AllocError>
     Command::new(alloc, "check")
         .about("Checks a certificate: whether the picture is the only one with its clues")
         .after_help("Example: nonobench check heart.ppm heart.cert")
-        .arg(picture(alloc))?
-        .arg(cert(alloc))?
+        .arg(word(alloc, "file", "FILE", "The picture, as a P3 text"))?
+        .arg(word(alloc, "cert", "CERT", "Its certificate"))?
         .arg(background(alloc))
 }
 
-fn opened<'a>(alloc: Global) -> Arg<'a>
-    ensures rule { rule_of result ≡ file_rule }
+// A word that has to be there.
+fn word<'a>(alloc: Global, name: &'a str, value: &'a str, help: &'a str) -> Arg<'a>
+    ensures rule { rule_of result ≡ word_rule name.entry.now }
     ensures local { result.global ≡ false }
 {
-    Arg::new(alloc, "file")
-        .value_name("FILE")
+    Arg::new(alloc, name)
+        .value_name(value)
         .required(true)
-        .help("The picture, as a P3 text, or the puzzle, as a .non text")
+        .help(help)
 }
 
 fn format<'a>(alloc: Global) -> Arg<'a>
@@ -126,26 +132,6 @@ fn history<'a>(alloc: Global) -> Arg<'a>
         .value_parser(value_parser!(u16).range(1..=1000))
         .default_value("100")
         .help("How many edits can be undone, 1 to 1000")
-}
-
-fn picture<'a>(alloc: Global) -> Arg<'a>
-    ensures rule { rule_of result ≡ file_rule }
-    ensures local { result.global ≡ false }
-{
-    Arg::new(alloc, "file")
-        .value_name("FILE")
-        .required(true)
-        .help("The picture, as a P3 text")
-}
-
-fn cert<'a>(alloc: Global) -> Arg<'a>
-    ensures rule { rule_of result ≡ cert_rule }
-    ensures local { result.global ≡ false }
-{
-    Arg::new(alloc, "cert")
-        .value_name("CERT")
-        .required(true)
-        .help("Its certificate")
 }
 
 fn background<'a>(alloc: Global) -> Arg<'a>

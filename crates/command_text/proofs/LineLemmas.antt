@@ -232,16 +232,6 @@ drafts_piece had have old now new draft more d t e r = record {
   steps = piece_steps old now new draft more d.steps t r;
 }
 
--- a line whose end came took a step, and so did one that ends with the input
-pub line_steps : (old now new : Lines) (draft more : List ℕ) → steps_left now + length draft ≤ steps_left old → TakesPiece now new draft more true → new.reads ≡ now.reads → steps_left new < steps_left old
-line_steps old now new draft more before t r =
-    let some : length now.inbox ≡ length t.0 + suc (length new.inbox) = ap length t.1.0 ∙ length-append t.0 (10 ∷ new.inbox) in
-    let same : 1048576 - new.reads ≡ 1048576 - now.reads = ap (λ n. 1048576 - n) r in
-    omega (arith, before, some, same)
-
-pub last_steps : (had have : Option (List ℕ)) (old now : Lines) (draft : List ℕ) → Drafts had have old now draft → 0 < length draft → steps_left now < steps_left old
-last_steps had have old now draft d some = omega (arith, d.steps, some)
-
 -- the line ends at a line feed
 pub cuts_line : (had have : Option (List ℕ)) (old now new : Lines) (draft more : List ℕ) → Drafts had have old now draft → TakesPiece now new draft more true → new.ended ≡ now.ended
     → CutsOne had have old new (request_of (strip_carriage_return more))
@@ -275,10 +265,6 @@ at_end had have old now draft d none rest end =
 some_kept : (draft raw : List ℕ) → draft ≡ take 202 raw → 0 < length draft → 0 < length raw
 some_kept draft [] e some = absurd (omega (arith, ap length e, some))
 some_kept draft (b ∷ raw) e some = omega arith
-
-none_kept : (draft raw : List ℕ) → draft ≡ take 202 raw → length draft ≡ 0 → raw ≡ []
-none_kept draft [] e none = refl
-none_kept draft (b ∷ raw) e none = absurd (omega (arith, ap length e, none))
 
 -- the last line ends with the input
 pub cuts_last : (had have : Option (List ℕ)) (old now : Lines) (draft : List ℕ) → Drafts had have old now draft → now.inbox ≡ [] → now.ended ≡ true → 0 < length draft

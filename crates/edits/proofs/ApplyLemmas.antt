@@ -11,7 +11,7 @@ use Rattle.picture.specs.Palette.{Colours}
 use Rattle.picture.specs.Document.{AreColoured}
 use Rattle.picture.specs.Rows.{cell_at, width_of, lines_along, line_inserted, line_deleted, lines_swapped}
 use Rattle.edits.specs.declared.edit.Edit.{Edit}
-use Rattle.edits.specs.declared.edit.Edit.TheVariants.{Paint, Fill, Recolour, InsertLine, DeleteLine, SwapLines, SetColour, Pin, Unpin}
+use Rattle.edits.specs.declared.edit.Edit.TheVariants.{Paint, Fill, Recolour, InsertLine, DeleteLine, SwapLines}
 use Rattle.edits.specs.Design.{Design, design, IsDesign}
 use Rattle.edits.specs.Edit.{colour_after, edited, painted}
 use Rattle.edits.specs.Fault.{lacks_colour}
@@ -19,7 +19,6 @@ use Rattle.edits.specs.Note.{Cell, IsCellIn, cells_kept, changed_cells, repainte
 use Rattle.edits.proofs.CellLemmas.{all_has, changed_from, has_from_map, paints_cells}
 use Rattle.edits.proofs.GridLemmas.{cell_at-grid, cell_at-past_rows, cell_at-past_columns, grid_is_grid, length-grid}
 use Rattle.edits.proofs.FaultLemmas.{IsLawful}
-use Rattle.edits.proofs.RevertLemmas.{not_in}
 use Rattle.edits.proofs.ShiftLemmas.{inserted_below_bound, deleted_below_bound, swapped_below_bound}
 
 -- edits that paint cells and do nothing else
@@ -97,12 +96,3 @@ swap_fits d axis first second is is_lawful =
     let f : first < lines_along axis d.rows = grind (arith, nat_tests, is_lawful.inside) in
     let s : second < lines_along axis d.rows = grind (arith, nat_tests, is_lawful.inside) in
     (f, s, swapped_below_bound axis first second (length d.colours.triples) d.rows is.is_picture f s is.is_palette.has_background is.is_coloured)
-
-pub set_fits : (d : Design) (colour : ℕ) (rgb : Rgb) → IsLawful d (SetColour colour rgb) → colour < length d.colours.triples
-set_fits d colour rgb is_lawful = grind (arith, nat_tests, is_lawful.coloured)
-
-pub pin_fits : (d : Design) (row col : ℕ) → IsLawful d (Pin row col) → (row < length d.rows) × (col < width_of d.rows)
-pin_fits d row col is_lawful = not_in d.rows row col is_lawful.inside
-
-pub unpin_fits : (d : Design) (row col : ℕ) → IsLawful d (Unpin row col) → (row < length d.rows) × (col < width_of d.rows)
-unpin_fits d row col is_lawful = not_in d.rows row col is_lawful.inside

@@ -72,12 +72,6 @@ joined_gap f a (suc b) le none =
           ∙ (append-nil (joined f b) ∙ joined_gap f a b below (λ i low high. none i low (omega arith)))
     ]
 
-pub joined_same : {X : Type 0} (f g : ℕ → List X) (n : ℕ) → ((i : ℕ) → i < n → f i ≡ g i) → joined f n ≡ joined g n
-unfolding joined
-joined_same f g zero same = refl
-joined_same f g (suc n) same =
-    ap (λ xs. xs ++ f n) (joined_same f g n (λ i within. same i (omega arith))) ∙ ap (λ ys. joined g n ++ ys) (same n (omega arith))
-
 -- a cell that is as it is to be, or is still to be changed, once the first of the cells is changed
 still_right : (h w : ℕ) (c : Cell) (cells : List Cell) (old new : List (List ℕ)) (i j : ℕ) → IsGrid h w old → (c.0 < h) × (c.1 < w) × (cell_at new c.0 c.1 ≡ c.2) → (cell_at old i j ≡ cell_at new i j) ⊎ Has (c ∷ cells) (i, j, cell_at new i j) → (cell_at (with_cell old c.0 c.1 c.2) i j ≡ cell_at new i j) ⊎ Has cells (i, j, cell_at new i j)
 still_right h w c cells old new i j is here was =
@@ -233,10 +227,6 @@ pub with_cells_sizes : (rows : List (List ℕ)) (cells : List Cell) → IsPictur
 with_cells_sizes rows cells is inside =
     let grid = with_cells_grid (length rows) (width_of rows) rows cells (picture_is_grid rows is) (All-weaker (IsCellIn rows) (λ (c : Cell). c.0 < length rows) (λ c h. h.0) cells inside) in
     (grid.row_count, grid.row_lengths 0 is.has_row)
-
--- the loops that change cells
-pub with_first : (rows : List (List ℕ)) (cells : List Cell) → rows ≡ with_cells rows (take 0 cells)
-with_first rows cells = refl
 
 pub with_one_more : (rows now : List (List ℕ)) (cells : List Cell) (i : ℕ) (d : Cell) → i < length cells → now ≡ with_cells rows (take i cells) → with_cell now (get_or cells i d).0 (get_or cells i d).1 (get_or cells i d).2 ≡ with_cells rows (take (i + 1) cells)
 with_one_more rows now cells i d within same =

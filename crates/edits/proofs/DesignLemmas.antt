@@ -1,12 +1,10 @@
 -- The marks of a set of givens.
-use Rattle.std.proofs.Common.{◌≡◌, ℕ, ◌^◌, ◌<◌, ◌↔◌, inl, inr, Bool, true, false, cond, eqb, List, length, get_or, refl, sym, ap, ◌∙◌, arith}
-use Rattle.std.specs.Prelude.{bit_and}
+use Rattle.std.proofs.Common.{◌≡◌, ℕ, ◌^◌, ◌<◌, ◌↔◌, inl, inr, Bool, true, false, cond, eqb, List, length, get_or, refl, sym, ap, ◌∙◌, arith, bit_and}
 use Rattle.std.proofs.lemmas.Bool.{cases_lt, cases_eq, eq-eqb, ne_eqb}
 use Rattle.picture.specs.CellSet.{HasCell, PutsCell, TakesOutCell}
-use Rattle.picture.specs.Palette.{IsPalette}
+use Rattle.picture.specs.Palette.{IsPalette, Colours}
 use Rattle.picture.specs.Picture.{IsPicture}
 use Rattle.picture.specs.Document.{AreColoured}
-use Rattle.picture.specs.Palette.{Colours}
 use Rattle.picture.specs.Rows.{cell_at, width_of, with_cell}
 use Rattle.edits.specs.Design.{IsDesign, design, mark_at, marks_of}
 use Rattle.edits.specs.Laws.{MarksAreGivens}

@@ -1,5 +1,5 @@
 -- Grids cell by cell: what a grid made from a function has, and when two grids are the same.
-use Rattle.std.proofs.Common.{◌≡◌, ◌≢◌, ℕ, zero, suc, ◌<◌, ◌≤◌, inl, inr, List, [], length, get_or, set, map, replicate, refl, sym, ap, ◌∙◌, arith}
+use Rattle.std.proofs.Common.{◌≡◌, ◌≢◌, ℕ, ◌<◌, ◌≤◌, inl, inr, List, [], length, get_or, set, map, refl, sym, ap, ◌∙◌, arith}
 use Rattle.std.specs.List.{range_with_len}
 use Rattle.std.proofs.lemmas.Bool.{cases_lt, cases_eq}
 use Rattle.std.proofs.lemmas.List.{ext_get_or, length-set, get_or-set_same, get_or-set_other, get_or_past}
@@ -81,14 +81,3 @@ with_cell_is_grid h w rows i j x is in_rows = record {
         | inr other ↦ ap length (get_or-set_other rows i k (set (get_or rows i []) j x) [] other) ∙ is.row_lengths k within
       ];
 }
-
--- a blank grid
-zeros : (n k : ℕ) → get_or {A = ℕ} (replicate n 0) k 0 ≡ 0
-zeros zero k = refl
-zeros (suc n) zero = refl
-zeros (suc n) (suc k) = zeros n k
-
-pub cell_at-blank : (h w i j : ℕ) → cell_at (replicate h (replicate w 0)) i j ≡ 0
-cell_at-blank zero w i j = refl
-cell_at-blank (suc h) w zero j = zeros w j
-cell_at-blank (suc h) w (suc i) j = cell_at-blank h w i j

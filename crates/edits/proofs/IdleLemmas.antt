@@ -1,7 +1,6 @@
 -- Edits that leave a document as it is.
-use Rattle.std.proofs.Common.{◌≡◌, ◌≢◌, ℕ, ◌+◌, ◌<◌, ◌≤◌, inl, inr, Bool, true, false, if◌then◌else◌, ◌||◌, not, Option, Some, None, is_some, option_map, List, [], ◌∷◌, length, length-append, get_or, set, map, replicate, refl, sym, ap, ◌∙◌, arith}
-use Rattle.std.specs.Bool.{MatchBool, beq}
-use Rattle.std.specs.Prelude.{slice_get, IsTrue, ◌↔◌}
+use Rattle.std.proofs.Common.{◌≡◌, ◌≢◌, ℕ, ◌+◌, ◌<◌, ◌≤◌, inl, inr, Bool, true, false, if◌then◌else◌, ◌||◌, not, Option, Some, None, is_some, option_map, List, [], ◌∷◌, length, get_or, set, map, replicate, refl, sym, ap, ◌∙◌, arith, slice_get, IsTrue, ◌↔◌}
+use Rattle.std.specs.Bool.{MatchBool}
 use Rattle.std.specs.List.{insert, remove, swap, list_any}
 use Rattle.std.proofs.lemmas.Bool.{cases_eq}
 use Rattle.std.proofs.lemmas.List.{ext_get_or, length-map, get_or-map, set-get_or, get_or-set_same}
@@ -9,9 +8,8 @@ use Rattle.std.proofs.lemmas.List.Edits.{length-insert, length-remove, length-sw
 use Rattle.std.proofs.lemmas.Option.{get_or_from_slice_get}
 use Rattle.picture.specs.declared.line_id.Axis.{Axis}
 use Rattle.picture.specs.declared.line_id.Axis.TheVariants.{Across, Down}
-use Rattle.picture.specs.declared.line_id.LineId.{LineId}
 use Rattle.picture.specs.declared.rgb.Rgb.{Rgb}
-use Rattle.picture.specs.Palette.{place_of, rgb_eq, with_colour, with_triple}
+use Rattle.picture.specs.Palette.{place_of, rgb_eq, with_triple}
 use Rattle.picture.specs.Picture.{IsPicture}
 use Rattle.picture.specs.Rows.{cell_at, width_of, with_cell, with_line, without_line, lines_along, lines_swapped}
 use Rattle.edits.specs.declared.edit.Edit.{Edit}
@@ -20,7 +18,7 @@ use Rattle.edits.specs.declared.edit.Edit.TheVariants.{Paint, Fill, Recolour}
 use Rattle.edits.specs.Edit.{edited, painted}
 use Rattle.edits.specs.Fault.{same_design}
 use Rattle.edits.specs.Note.{changed_cells, cells_along, place_on}
-use Rattle.edits.specs.Painting.{AreAlike, AreAlikeAt, SameAt}
+use Rattle.edits.specs.Painting.{AreAlike, SameAt}
 use Rattle.edits.proofs.GridLemmas.{picture_is_grid, cell_at-with_same}
 use Rattle.edits.proofs.CellLemmas.{painted_unchanged, unchanged_painted}
 use Rattle.edits.proofs.LineLemmas.{size_along}
@@ -66,24 +64,6 @@ pub lines_along-deleted : (axis : Axis) (at h w : ℕ) (rows : List (List ℕ)) 
 lines_along-deleted Across at h w rows is some lt = length-remove rows at (omega (arith, is.row_count))
 lines_along-deleted Down at h w rows is some lt =
     ap (λ n. n + 1) (width_of-map (λ row. remove row at) rows (omega (arith, is.row_count))) ∙ length-remove (get_or rows 0 []) at (omega (arith, is.row_lengths 0 some))
-
-pub insert_idle : (d : Design) (line : LineId) (marks : List (List ℕ)) → IsDesign d → line.at ≤ lines_along line.axis d.rows → false ≡ same_design (design d.colours (with_line line.axis line.at d.rows) marks) d
-insert_idle d line marks is le =
-    sym (other_when _ d (λ same.
-    absurd (omega (
-      arith,
-      lines_along-inserted line.axis line.at (length d.rows) (width_of d.rows) d.rows (picture_is_grid d.rows is.is_picture) is.is_picture.has_row (rw (← size_of_lines line.axis d.rows) le),
-      ap (λ (x : Design). lines_along line.axis x.rows) same,
-    ))))
-
-pub delete_idle : (d : Design) (line : LineId) (marks : List (List ℕ)) → IsDesign d → line.at < lines_along line.axis d.rows → false ≡ same_design (design d.colours (without_line line.axis line.at d.rows) marks) d
-delete_idle d line marks is lt =
-    sym (other_when _ d (λ same.
-    absurd (omega (
-      arith,
-      lines_along-deleted line.axis line.at (length d.rows) (width_of d.rows) d.rows (picture_is_grid d.rows is.is_picture) is.is_picture.has_row (rw (← size_of_lines line.axis d.rows) lt),
-      ap (λ (x : Design). lines_along line.axis x.rows) same,
-    ))))
 
 -- lines exchanged
 swap_same : {X : Type 0} (xs : List X) (i j : ℕ) (d : X) → i < length xs → j < length xs → get_or xs i d ≡ get_or xs j d → swap xs i j ≡ xs
@@ -148,11 +128,6 @@ swap_idle d axis first second false is f s other =
       swapped_alike axis first second h w d.marks is.marks_fit is.is_picture.has_row f' s' (ap (λ (x : Design). x.marks) same) k (rw (← long) within),
     ))))
 
--- colours
-pub add_idle : (d : Design) (rgb : Rgb) → false ≡ same_design (design (with_colour d.colours rgb) d.rows d.marks) d
-add_idle d rgb =
-    sym (other_when _ d (λ same. absurd (omega (arith, length-append d.colours.triples (rgb ∷ []), ap (λ (x : Design). length x.colours.triples) same))))
-
 set_idle_by : (d : Design) (k : ℕ) (rgb old : Rgb) (b : Bool) → k < length d.colours.triples → slice_get d.colours.triples k ≡ Some old → MatchBool b (old ≡ rgb) (old ≢ rgb) → b ≡ same_design (design (with_triple d.colours k rgb) d.rows d.marks) d
 set_idle_by d k rgb old true within at same =
     sym (same_when _ d (ap (λ t. design (record { maxval = d.colours.maxval; triples = t }) d.rows d.marks)
@@ -183,15 +158,3 @@ unpin_idle d i j true is in_rows in_columns given = mark_idle d i j 0 false is i
 unpin_idle d i j false is in_rows in_columns given =
     mark_idle d i j 0 true is in_rows in_columns
     (elim (cases_eq (cell_at d.marks i j) 1) [ inl one ↦ absurd (cc (given.1 one)) | inr other ↦ omega (arith, is.are_marks i j) ])
-
--- two lines at a position
-pub alike_at : (d : Design) (axis : Axis) (first second k : ℕ) (a b : Bool) → IsDesign d → cell_at d.rows (place_on axis first k).0 (place_on axis first k).1 ≡ cell_at d.rows (place_on axis second k).0 (place_on axis second k).1 → IsTrue a ↔ (cell_at d.marks (place_on axis first k).0 (place_on axis first k).1 ≡ 1) → IsTrue b ↔ (cell_at d.marks (place_on axis second k).0 (place_on axis second k).1 ≡ 1) → MatchBool (beq a b) (AreAlikeAt axis first second d k) (AreAlikeAt axis first second d k → ⊥)
-alike_at d axis first second k true true is same a b = (same, a.0 refl ∙ sym (b.0 refl))
-alike_at d axis first second k true false is same a b = λ alike. absurd (cc (b.1 (sym alike.1 ∙ a.0 refl)))
-alike_at d axis first second k false true is same a b = λ alike. absurd (cc (a.1 (alike.1 ∙ b.0 refl)))
-alike_at d axis first second k false false is same a b =
-    let p = place_on axis first k in
-    let q = place_on axis second k in
-    let not_p : cell_at d.marks p.0 p.1 ≢ 1 = λ one. absurd (cc (a.1 one)) in
-    let not_q : cell_at d.marks q.0 q.1 ≢ 1 = λ one. absurd (cc (b.1 one)) in
-    (same, omega (arith, not_p, not_q, is.are_marks p.0 p.1, is.are_marks q.0 q.1))

@@ -1,66 +1,26 @@
 -- Documents made from another one's parts.
-use Rattle.std.proofs.Common.{◌≡◌, ℕ, ◌<◌, ◌≤◌, List, length, map, refl, sym, subst, ap, ◌∙◌, arith, Bool, false}
-use Rattle.std.specs.Prelude.{Result, Ok, Err, OnOk, is_err}
+use Rattle.std.proofs.Common.{◌≡◌, ℕ, ◌<◌, ◌≤◌, List, length, map, refl, ap, ◌∙◌, Result, Ok, Err, IfOk}
 use Rattle.std.specs.List.{All}
 use Rattle.picture.specs.declared.picture.TheConstants.{MAX_SIDE}
 use Rattle.picture.specs.declared.line_id.Axis.{Axis}
 use Rattle.picture.specs.declared.line_id.Axis.TheVariants.{Across, Down}
 use Rattle.picture.specs.Palette.{Colours}
 use Rattle.picture.specs.Picture.{IsPicture}
-use Rattle.picture.specs.Document.{AreColoured, AreInside}
+use Rattle.picture.specs.Document.{AreInside}
 use Rattle.picture.specs.Rows.{width_of, lines_along, with_line, without_line, lines_swapped}
-use Rattle.clues.specs.declared.places.Places.{Places}
 use Rattle.clues.specs.declared.places.Places.TheVariants.{Inserted, Deleted, Swapped}
-use Rattle.clues.specs.Change.{Moves, lines_before, moved_along, still}
-use Rattle.edits.specs.Design.{Design, design, marks_of}
+use Rattle.clues.specs.Change.{Moves, moved_along}
+use Rattle.picture.specs.declared.document.Document.{Document}
+use Rattle.edits.specs.Design.{Design, design, design_of, marks_of}
 use Rattle.edits.specs.Moving.{AreMoved}
 use Rattle.edits.specs.Note.{Cell, IsCellIn, as_mark, with_cells}
 use Rattle.edits.proofs.CellLemmas.{with_cells_sizes}
 use Rattle.edits.proofs.DesignLemmas.{assembled}
-use Rattle.edits.proofs.ShiftLemmas.{inserted_sizes, deleted_sizes, swapped_sizes, inserted_marks, deleted_marks, swapped_marks}
-
-still_lines : (axis : Axis) (rows : List (List ℕ)) (height width : ℕ) → height ≡ length rows → width ≡ width_of rows → lines_before axis (still height width) ≡ lines_along axis rows
-still_lines Across rows height width h w = h
-still_lines Down rows height width h w = w
+use Rattle.edits.proofs.ShiftLemmas.{inserted_marks, deleted_marks, swapped_marks}
 
 pub some_lines : (axis : Axis) (rows : List (List ℕ)) → IsPicture rows → (0 < lines_along axis rows) × (lines_along axis rows ≤ MAX_SIDE)
 some_lines Across rows is = (is.has_row, is.rows_fit)
 some_lines Down rows is = (is.has_column, is.columns_fit)
-
-pub inserted_more : (axis : Axis) (at height width : ℕ) (rows now : List (List ℕ)) → IsPicture rows → at ≤ lines_along axis rows → now ≡ with_line axis at rows → height ≡ length now → width ≡ width_of now → 1 < lines_before axis (still height width)
-inserted_more axis at height width rows now is le same h w =
-    omega (arith, still_lines axis now height width h w, ap (lines_along axis) same, (inserted_sizes axis at rows is le).0, (some_lines axis rows is).0)
-
-pub deleted_room : (axis : Axis) (at height width : ℕ) (rows now : List (List ℕ)) → IsPicture rows → at < lines_along axis rows → 1 < lines_along axis rows → now ≡ without_line axis at rows → height ≡ length now → width ≡ width_of now → lines_before axis (still height width) < MAX_SIDE
-deleted_room axis at height width rows now is lt more same h w =
-    omega (arith, still_lines axis now height width h w, ap (lines_along axis) same, (deleted_sizes axis at rows is lt more).0, (some_lines axis rows is).1)
-
--- where lines are exchanged there are as many as before
-pub swapped_lines : (axis : Axis) (first second height width : ℕ) (rows now : List (List ℕ)) → IsPicture rows → first < lines_along axis rows → second < lines_along axis rows → now ≡ lines_swapped axis first second rows → height ≡ length now → width ≡ width_of now → lines_before axis (still height width) ≡ lines_along axis rows
-swapped_lines axis first second height width rows now is f s same h w =
-    still_lines axis now height width h w ∙ (ap (lines_along axis) same ∙ (swapped_sizes axis first second rows is f s).0)
-
--- the sizes that a change leads back from, and what comes of givens that it moved
-pub sizes_before : (axis : Axis) (places : Places) (height width : ℕ) (moves : Moves) → moves ≡ moved_along axis places height width → (height ≡ lines_before Across moves) × (width ≡ lines_before Down moves)
-sizes_before Across places height width moves e = (sym (ap (lines_before Across) e), sym (ap (lines_before Down) e))
-sizes_before Down places height width moves e = (sym (ap (lines_before Across) e), sym (ap (lines_before Down) e))
-
-pub moved_inside : (givens new : List ℕ) (moves : Moves) (height width : ℕ) (now : List (List ℕ)) → height ≡ length now → width ≡ width_of now → AreMoved givens new moves height width → AreInside new now
-moved_inside givens new moves height width now h w moved i j has =
-    let is = moved.0 i j has in
-    (subst (λ (n : ℕ). i < n) h is.0, subst (λ (n : ℕ). j < n) w is.1)
-
-pub coloured_as : (rows now : List (List ℕ)) (p p' : Colours) → now ≡ rows → p' ≡ p → AreColoured rows p → AreColoured now p'
-coloured_as rows now p p' same palette are = rw (same, palette) are
-
--- the new line is one of the lines, and the place of a deleted one is still there
-pub inserted_lines : (axis : Axis) (at height width : ℕ) (rows now : List (List ℕ)) → IsPicture rows → at ≤ lines_along axis rows → now ≡ with_line axis at rows → height ≡ length now → width ≡ width_of now → at < lines_before axis (still height width)
-inserted_lines axis at height width rows now is le same h w =
-    omega (arith, still_lines axis now height width h w, ap (lines_along axis) same, (inserted_sizes axis at rows is le).0)
-
-pub deleted_lines : (axis : Axis) (at height width : ℕ) (rows now : List (List ℕ)) → IsPicture rows → at < lines_along axis rows → 1 < lines_along axis rows → now ≡ without_line axis at rows → height ≡ length now → width ≡ width_of now → at ≤ lines_before axis (still height width)
-deleted_lines axis at height width rows now is lt more same h w =
-    omega (arith, still_lines axis now height width h w, ap (lines_along axis) same, (deleted_sizes axis at rows is lt more).0)
 
 pub inserted_document : (axis : Axis) (at height width : ℕ) (rows now : List (List ℕ)) (givens new : List ℕ) (moves : Moves) (p p' : Colours) → IsPicture rows → at ≤ lines_along axis rows → p' ≡ p → now ≡ with_line axis at rows → height ≡ length now → width ≡ width_of now → moves ≡ moved_along axis (Deleted at) height width → AreMoved givens new moves height width → design p' now (marks_of (length now) (width_of now) new) ≡ design p (with_line axis at rows) (with_line axis at (marks_of (length rows) (width_of rows) givens))
 inserted_document axis at height width rows now givens new moves p p' is le palette same h w leads moved =
@@ -95,7 +55,7 @@ restored_document rows now cells places old new p d is inside blank same put =
     ∙ (ap (λ m. design p (with_cells rows cells) m) put
     ∙ ap (λ (x : Design). design x.colours (with_cells x.rows cells) (with_cells x.marks (map as_mark places))) blank)
 
--- what holds where there is no error
-pub taken : {X E : Type 0} (r : Result X E) (P : Type 0) (is : Bool) → is ≡ is_err r → is ≡ false → OnOk r P → P
-taken (Ok x) P is e none holds = holds
-taken (Err x) P is e none holds = absurd (cc (e, none))
+-- the document that a picture with moved lines comes to
+pub moved_to : {E : Type 0} (r : Result Document E) (p : Colours) (now : List (List ℕ)) (givens : List ℕ) (moves : Moves) (d : Design) → ((new : List ℕ) → AreMoved givens new moves (length now) (width_of now) → design p now (marks_of (length now) (width_of now) new) ≡ d) → IfOk r (λ x. x.palette ≡ p) → IfOk r (λ x. x.picture ≡ now) → IfOk r (λ x. AreMoved givens x.givens moves (length now) (width_of now)) → IfOk r (λ x. design_of x ≡ d)
+moved_to (Ok x) p now givens moves d gives palette picture moved = rw (palette, picture) (gives x.givens moved)
+moved_to (Err e) p now givens moves d gives palette picture moved = tt

@@ -1,7 +1,6 @@
 -- Grids whose lines have moved: each cell comes from its old place.
-use Rattle.std.proofs.Common.{◌≡◌, ◌≢◌, ℕ, zero, suc, ◌+◌, ◌-◌, ◌<◌, ◌≤◌, inl, inr, eqb, Option, Some, None, option_map, List, [], length, get_or, map, replicate, refl, sym, ap, ◌∙◌, arith}
+use Rattle.std.proofs.Common.{◌≡◌, ◌≢◌, ℕ, zero, suc, ◌+◌, ◌-◌, ◌<◌, ◌≤◌, inl, inr, eqb, Option, Some, None, option_map, List, [], length, get_or, map, replicate, refl, sym, ap, ◌∙◌, arith, bit_and, ◌^◌}
 use Rattle.std.specs.List.{insert, remove, swap}
-use Rattle.std.specs.Prelude.{bit_and, ◌^◌}
 use Rattle.std.proofs.lemmas.Bool.{cases_lt, cases_eq, cases_order}
 use Rattle.std.proofs.lemmas.Bool.Decides.{nat_tests}
 use Rattle.std.proofs.lemmas.List.{length-map, length-replicate, get_or-map}

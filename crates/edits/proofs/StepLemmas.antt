@@ -1,18 +1,15 @@
 -- What an entry asks of the parts that make the document before its edit.
-use Rattle.std.proofs.Common.{◌≡◌, ℕ, ◌<◌, ◌≤◌, [], ◌∷◌, length, length-append, sym, ap, subst, ◌∙◌, arith}
-use Rattle.std.specs.Prelude.{Result, Ok, Err, IfOk}
+use Rattle.std.proofs.Common.{◌≡◌, ℕ, ◌<◌, ◌≤◌, length, sym, ap, subst, ◌∙◌, arith, Result, Ok, Err, IfOk}
 use Rattle.std.specs.List.{All}
-use Rattle.std.proofs.lemmas.List.{length-set}
 use Rattle.picture.specs.declared.picture.TheConstants.{MAX_SIDE}
 use Rattle.picture.specs.declared.document.Document.{Document}
 use Rattle.std.specs.declared.alloc.AllocError.{AllocError}
 use Rattle.picture.specs.declared.line_id.Axis.{Axis}
 use Rattle.picture.specs.declared.line_id.LineId.{LineId}
-use Rattle.picture.specs.declared.rgb.Rgb.{Rgb}
 use Rattle.picture.specs.Document.{AreColoured}
 use Rattle.picture.specs.Rows.{width_of, lines_along, line_inserted, line_deleted, lines_swapped}
 use Rattle.edits.specs.declared.edit.Edit.{Edit}
-use Rattle.edits.specs.declared.edit.Edit.TheVariants.{InsertLine, DeleteLine, SwapLines, AddColour, SetColour, Pin, Unpin}
+use Rattle.edits.specs.declared.edit.Edit.TheVariants.{InsertLine, DeleteLine, SwapLines}
 use Rattle.edits.specs.Design.{Design, design_of, IsDesign, IsGrid}
 use Rattle.edits.specs.Edit.{edited, painted}
 use Rattle.edits.specs.Note.{IsCellIn, IsPlaceIn, IsStep, Note, cells_of_line, changed_cells, givens_of_line, reverted}
@@ -20,9 +17,9 @@ use Rattle.edits.proofs.CellLemmas.{all_has, changed_from}
 use Rattle.edits.proofs.GridLemmas.{length-grid, picture_is_grid, width_of-grid}
 use Rattle.edits.proofs.LineLemmas.{cell_of_line, given_of_line, line_back_is_grid, size_along}
 use Rattle.edits.proofs.FaultLemmas.{IsLawful}
-use Rattle.edits.proofs.ApplyLemmas.{Paints, insert_fits, delete_fits, swap_fits, set_fits}
+use Rattle.edits.proofs.ApplyLemmas.{Paints, insert_fits, delete_fits, swap_fits}
 use Rattle.edits.proofs.PartLemmas.{some_lines}
-use Rattle.edits.proofs.RevertLemmas.{reverted-edited, not_in, size_of_lines}
+use Rattle.edits.proofs.RevertLemmas.{reverted-edited, size_of_lines}
 use Rattle.edits.proofs.ShiftLemmas.{inserted_sizes, deleted_sizes, swapped_sizes}
 
 pub step_reverts : (b : Design) (n : Note) (d : Design) → IsStep b n d → reverted d n ≡ b
@@ -93,20 +90,3 @@ module _ (b d : Design) (is : IsDesign b) where
       let sizes = swapped_sizes axis first second b.rows is.is_picture fits.0 fits.1 in
       let rows : lines_along axis (lines_swapped axis first second b.rows) ≡ lines_along axis d.rows = ap (λ (x : Design). lines_along axis x.rows) gives in
       (omega (arith, sizes.0, rows, fits.0), omega (arith, sizes.0, rows, fits.1))
-
-  pub pop_fits : (rgb : Rgb) → edited b (AddColour rgb) ≡ d → 1 < length d.colours.triples
-  pop_fits rgb gives = omega (arith, ap (λ (x : Design). length x.colours.triples) gives, length-append b.colours.triples (rgb ∷ []), is.is_palette.has_background)
-
-  pub reset_fits : (colour : ℕ) (rgb : Rgb) → IsLawful b (SetColour colour rgb) → edited b (SetColour colour rgb) ≡ d → colour < length d.colours.triples
-  reset_fits colour rgb is_lawful gives =
-      omega (arith, ap (λ (x : Design). length x.colours.triples) gives, length-set b.colours.triples colour rgb, set_fits b colour rgb is_lawful)
-
-  pub repin_fits : (row col : ℕ) → IsLawful b (Pin row col) → edited b (Pin row col) ≡ d → (row < length d.rows) × (col < width_of d.rows)
-  repin_fits row col is_lawful gives =
-      let inside = not_in b.rows row col is_lawful.inside in
-      (omega (arith, inside.0, ap (λ (x : Design). length x.rows) gives), omega (arith, inside.1, ap (λ (x : Design). width_of x.rows) gives))
-
-  pub reunpin_fits : (row col : ℕ) → IsLawful b (Unpin row col) → edited b (Unpin row col) ≡ d → (row < length d.rows) × (col < width_of d.rows)
-  reunpin_fits row col is_lawful gives =
-      let inside = not_in b.rows row col is_lawful.inside in
-      (omega (arith, inside.0, ap (λ (x : Design). length x.rows) gives), omega (arith, inside.1, ap (λ (x : Design). width_of x.rows) gives))

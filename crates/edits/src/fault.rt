@@ -4,7 +4,7 @@ ghost use Rattle.std.specs.Prelude.{◌≡◌};
 ghost use Rattle.edits.specs.declared.fault.EditFault.TheVariants.{Memory};
 ghost use Rattle.edits.specs.Fault.{fault_name};
 
-use std::alloc::{AllocError, AllocFailed};
+use std::alloc::AllocError;
 use thiserror::Error;
 
 /// Why an edit, an undo or a redo is refused. The first of these that holds is answered, and want of memory only
@@ -75,14 +75,6 @@ impl From<AllocError> for EditFault {
     ghost from_gives = { λ _ e. e ≡ Memory };
 
     fn from(_refused: AllocError) -> EditFault {
-        EditFault::Memory
-    }
-}
-
-impl<T: Drop> From<AllocFailed<T>> for EditFault {
-    ghost from_gives = { λ _ e. e ≡ Memory };
-
-    fn from(_refused: AllocFailed<T>) -> EditFault {
         EditFault::Memory
     }
 }

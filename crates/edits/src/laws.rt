@@ -2,6 +2,7 @@
 
 ghost use Rattle.edits.specs.Laws.{MarksAreGivens};
 
+#[tactic(auto, using(crate::proofs::DesignLemmas::all_marked))]
 /// Where a document's givens lie in its picture, as they do in each document, exactly the givens are marked.
 pub fn marks_are_givens()
     ensures { MarksAreGivens }

@@ -5,14 +5,16 @@ ghost use Rattle.std.specs.List.{All};
 ghost use Rattle.picture.specs.Document.{AreColoured};
 ghost use Rattle.picture.specs.Palette.{with_colour, with_triple, without_last};
 ghost use Rattle.picture.specs.Rows.{line_deleted, line_inserted, lines_along, lines_swapped, width_of, with_cell};
+ghost use Rattle.clues.specs.Change.{lines_before};
 ghost use Rattle.edits.specs.Design.{design, design_of};
+ghost use Rattle.edits.specs.Moving.{AreMoved};
 ghost use Rattle.edits.specs.Note.{IsCellIn, IsPlaceIn, as_mark, repainted, with_cells, with_old};
 
 use crate::cells::{paint_cells, put_cells, put_givens};
 use crate::edit::Edit;
 use crate::moving::moved_givens;
 use clues::Change;
-use picture::{Axis, Document, LineId, MAX_SIDE, Rgb};
+use picture::{Axis, Document, LineId, MAX_SIDE, Picture, Rgb};
 use std::alloc::AllocError;
 
 /// The document with the cells of a list painted.
@@ -27,15 +29,10 @@ pub(crate) fn painted(
     ensures { IfOk result (λ d. design_of d
         ≡ design document.now.palette (with_cells document.now.picture (map (repainted edit.now) cells.now)) (design_of document.now).marks) }
 {
-    let palette = document.palette.copy()?;
-    let mut picture = document.picture.copy()?;
-    paint_cells(&mut picture, edit, cells);
     let _ = document.picture.height();
-    Ok(Document {
-        palette,
-        picture,
-        givens: document.givens,
-    })
+    let mut after = document.copy()?;
+    paint_cells(&mut after.picture, edit, cells);
+    Ok(after)
 }
 
 /// The document with the cells of a list given back.
@@ -49,14 +46,29 @@ pub(crate) fn with_cells(
     ensures { IfOk result (λ d. design_of d
         ≡ design document.now.palette (with_cells document.now.picture cells.now) (design_of document.now).marks) }
 {
-    let palette = document.palette.copy()?;
-    let mut picture = document.picture.copy()?;
-    put_cells(&mut picture, cells);
     let _ = document.picture.height();
+    let mut after = document.copy()?;
+    put_cells(&mut after.picture, cells);
+    Ok(after)
+}
+
+// The document with a picture whose lines have moved. The change leads back from it to the document's own.
+fn moved(document: &Document, picture: Picture, back: &Change) -> Result<Document, AllocError>
+    requires rows { length picture ≡ lines_before Axis.Across back.now.moves }
+    requires columns { width_of picture ≡ lines_before Axis.Down back.now.moves }
+    requires coloured { AreColoured picture document.now.palette }
+    ensures palette { IfOk result (λ d. d.palette ≡ document.now.palette) }
+    ensures picture { IfOk result (λ d. d.picture ≡ picture) }
+    ensures givens { IfOk result (λ d. AreMoved document.now.givens d.givens back.now.moves
+        (length picture) (width_of picture)) }
+{
+    let palette = document.palette.copy()?;
+    let (height, width) = (picture.height(), picture.width());
+    let givens = moved_givens(&document.givens, back, height, width);
     Ok(Document {
         palette,
         picture,
-        givens: document.givens,
+        givens,
     })
 }
 
@@ -68,18 +80,11 @@ pub(crate) fn inserted(document: &Document, line: LineId) -> Result<Document, Al
     ensures { IfOk result (λ d. design_of d
         ≡ design document.now.palette (line_inserted document.now.picture line) (line_inserted (design_of document.now).marks line)) }
 {
-    let palette = document.palette.copy()?;
-    let mut picture = document.picture.copy()?;
     let _ = document.picture.height();
+    let mut picture = document.picture.copy()?;
     picture.insert_line(line)?;
-    let (height, width) = (picture.height(), picture.width());
-    let back = Change::delete(height, width, line);
-    let givens = moved_givens(&document.givens, &back, height, width);
-    Ok(Document {
-        palette,
-        picture,
-        givens,
-    })
+    let back = Change::delete(picture.height(), picture.width(), line);
+    moved(document, picture, &back)
 }
 
 /// The document with a line deleted.
@@ -90,18 +95,11 @@ pub(crate) fn deleted(document: &Document, line: LineId) -> Result<Document, All
     ensures { IfOk result (λ d. design_of d
         ≡ design document.now.palette (line_deleted document.now.picture line) (line_deleted (design_of document.now).marks line)) }
 {
-    let palette = document.palette.copy()?;
-    let mut picture = document.picture.copy()?;
     let _ = document.picture.height();
+    let mut picture = document.picture.copy()?;
     picture.delete_line(line);
-    let (height, width) = (picture.height(), picture.width());
-    let back = Change::insert(height, width, line);
-    let givens = moved_givens(&document.givens, &back, height, width);
-    Ok(Document {
-        palette,
-        picture,
-        givens,
-    })
+    let back = Change::insert(picture.height(), picture.width(), line);
+    moved(document, picture, &back)
 }
 
 /// The document with two lines exchanged.
@@ -118,18 +116,11 @@ pub(crate) fn swapped(
     ensures { IfOk result (λ d. design_of d
         ≡ design document.now.palette (lines_swapped axis first second document.now.picture) (lines_swapped axis first second (design_of document.now).marks)) }
 {
-    let palette = document.palette.copy()?;
-    let mut picture = document.picture.copy()?;
     let _ = document.picture.height();
+    let mut picture = document.picture.copy()?;
     picture.swap_lines(axis, first, second);
-    let (height, width) = (picture.height(), picture.width());
-    let back = Change::swap(height, width, axis, first, second);
-    let givens = moved_givens(&document.givens, &back, height, width);
-    Ok(Document {
-        palette,
-        picture,
-        givens,
-    })
+    let back = Change::swap(picture.height(), picture.width(), axis, first, second);
+    moved(document, picture, &back)
 }
 
 /// The document with a cell that is a given.
@@ -139,16 +130,10 @@ pub(crate) fn pinned(document: &Document, row: u8, col: u8) -> Result<Document, 
     ensures { IfOk result (λ d. design_of d
         ≡ design document.now.palette document.now.picture (with_cell (design_of document.now).marks row col 1)) }
 {
-    let palette = document.palette.copy()?;
-    let picture = document.picture.copy()?;
-    let _ = picture.height();
-    let mut givens = document.givens;
-    givens.put(row, col);
-    Ok(Document {
-        palette,
-        picture,
-        givens,
-    })
+    let mut after = document.copy()?;
+    let _ = after.picture.height();
+    after.givens.put(row, col);
+    Ok(after)
 }
 
 /// The document with a cell that is no given.
@@ -158,16 +143,10 @@ pub(crate) fn unpinned(document: &Document, row: u8, col: u8) -> Result<Document
     ensures { IfOk result (λ d. design_of d
         ≡ design document.now.palette document.now.picture (with_cell (design_of document.now).marks row col 0)) }
 {
-    let palette = document.palette.copy()?;
-    let picture = document.picture.copy()?;
-    let _ = picture.height();
-    let mut givens = document.givens;
-    givens.take_out(row, col);
-    Ok(Document {
-        palette,
-        picture,
-        givens,
-    })
+    let mut after = document.copy()?;
+    let _ = after.picture.height();
+    after.givens.take_out(row, col);
+    Ok(after)
 }
 
 /// The document with one colour more.
@@ -175,17 +154,12 @@ pub(crate) fn added(document: &Document, rgb: Rgb) -> Result<Document, AllocErro
     ensures { IfOk result (λ d. design_of d
         ≡ design (with_colour document.now.palette rgb) document.now.picture (design_of document.now).marks) }
 {
-    let mut palette = document.palette.copy()?;
-    let picture = document.picture.copy()?;
+    let mut after = document.copy()?;
     // The edit was lawful, so only memory can be wanting.
-    if palette.add(rgb).is_err() {
+    if after.palette.add(rgb).is_err() {
         return Err(AllocError);
     }
-    Ok(Document {
-        palette,
-        picture,
-        givens: document.givens,
-    })
+    Ok(after)
 }
 
 /// The document with another colour at a number.
@@ -194,17 +168,12 @@ pub(crate) fn recoloured(document: &Document, colour: u8, rgb: Rgb) -> Result<Do
     ensures { IfOk result (λ d. design_of d
         ≡ design (with_triple document.now.palette colour rgb) document.now.picture (design_of document.now).marks) }
 {
-    let mut palette = document.palette.copy()?;
-    let picture = document.picture.copy()?;
+    let mut after = document.copy()?;
     // The edit was lawful, so only memory can be wanting.
-    if palette.set(colour, rgb).is_err() {
+    if after.palette.set(colour, rgb).is_err() {
         return Err(AllocError);
     }
-    Ok(Document {
-        palette,
-        picture,
-        givens: document.givens,
-    })
+    Ok(after)
 }
 
 /// The document without its last colour, which no cell has.
@@ -214,14 +183,9 @@ pub(crate) fn without_last(document: &Document) -> Result<Document, AllocError>
     ensures { IfOk result (λ d. design_of d
         ≡ design (without_last document.now.palette) document.now.picture (design_of document.now).marks) }
 {
-    let mut palette = document.palette.copy()?;
-    let picture = document.picture.copy()?;
-    palette.pop_last();
-    Ok(Document {
-        palette,
-        picture,
-        givens: document.givens,
-    })
+    let mut after = document.copy()?;
+    after.palette.pop_last();
+    Ok(after)
 }
 
 /// The document with a number's old colour.

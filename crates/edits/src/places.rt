@@ -32,8 +32,5 @@ pub(crate) fn line_length(picture: &Picture, axis: Axis) -> u8
     ensures value { result ≡ cells_along axis picture.now }
     ensures fits { result ≤ MAX_SIDE }
 {
-    match axis {
-        Axis::Across => picture.width(),
-        Axis::Down => picture.height(),
-    }
+    line_count(picture, axis.crossing())
 }

@@ -17,33 +17,26 @@ impl Edit {
         ensures { result ≡ edit_fault (design_of document.now) self.now }
     {
         if is_outside(&document.picture, self) {
-            return Some(EditFault::Place);
+            Some(EditFault::Place)
+        } else if lacks_colour(&document.palette, self) {
+            Some(EditFault::Colour)
+        } else if has_no_room(&document.picture, self) {
+            Some(EditFault::TooLarge)
+        } else if deletes_last(&document.picture, self) {
+            Some(EditFault::LastLine)
+        } else if is_over(&document.palette, self) {
+            Some(EditFault::SampleOver)
+        } else if is_full(&document.palette, self) {
+            Some(EditFault::PaletteFull)
+        } else if is_there(&document.palette, self) {
+            Some(EditFault::DuplicateColour)
+        } else if sets_background(self) {
+            Some(EditFault::Background)
+        } else if changes_nothing(document, self) {
+            Some(EditFault::NoChange)
+        } else {
+            None
         }
-        if lacks_colour(&document.palette, self) {
-            return Some(EditFault::Colour);
-        }
-        if has_no_room(&document.picture, self) {
-            return Some(EditFault::TooLarge);
-        }
-        if deletes_last(&document.picture, self) {
-            return Some(EditFault::LastLine);
-        }
-        if is_over(&document.palette, self) {
-            return Some(EditFault::SampleOver);
-        }
-        if is_full(&document.palette, self) {
-            return Some(EditFault::PaletteFull);
-        }
-        if is_there(&document.palette, self) {
-            return Some(EditFault::DuplicateColour);
-        }
-        if sets_background(self) {
-            return Some(EditFault::Background);
-        }
-        if changes_nothing(document, self) {
-            return Some(EditFault::NoChange);
-        }
-        None
     }
 }
 

@@ -1,6 +1,5 @@
 -- Clues as they are written, read again.
-use Rattle.std.proofs.Common.{◌≡◌, ℕ, zero, suc, ◌+◌, ◌^◌, ◌<◌, ◌≤◌, Bool, true, false, cond, eqb, leb, List, [], ◌∷◌, ◌++◌, length, get_or, map, sum, Option, Some, Result, Ok, Err, refl, sym, ap, subst, ◌∙◌, arith}
-use Rattle.std.specs.Prelude.{◌&&◌, ◌||◌, decimal}
+use Rattle.std.proofs.Common.{◌≡◌, ℕ, zero, suc, ◌+◌, ◌^◌, ◌<◌, ◌≤◌, Bool, true, false, cond, eqb, leb, List, [], ◌∷◌, ◌++◌, length, map, sum, Option, Some, Result, Ok, Err, refl, sym, ap, subst, ◌∙◌, arith, ◌&&◌, ◌||◌, decimal}
 use Rattle.std.specs.Char.{is_ascii_digit}
 use Rattle.std.specs.Str.{all_ascii_digits}
 use Rattle.std.specs.List.{slice_split, All}
@@ -218,7 +217,3 @@ writable cells two = let room = clue_room cells two in record { black = clue_bla
     by_blocks : (blocks : List Block) → room_of blocks ≤ length cells + 1 → cells_needed (lens_of blocks) ≤ length cells
     by_blocks [] h = omega arith
     by_blocks (b ∷ blocks) h = omega (arith, h, length-map (b ∷ blocks) (λ (o : Block). o.len))
-
-pub two_colour_cells : (cells : List ℕ) → ((i : ℕ) → i < length cells → get_or cells i 0 ≤ 1) → IsTwoColour cells
-two_colour_cells [] low = tt
-two_colour_cells (x ∷ cells) low = (low 0 (omega arith), two_colour_cells cells (λ i lt. low (suc i) (omega (arith, lt))))

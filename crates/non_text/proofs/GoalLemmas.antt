@@ -1,6 +1,5 @@
 -- The digits of a goal, and the cells that they stand for.
-use Rattle.std.proofs.Common.{◌≡◌, ◌≢◌, ℕ, zero, suc, ◌-◌, ◌*◌, ◌<◌, Bool, true, false, cond, eqb, List, [], ◌∷◌, length, get_or, take, drop, map, Some, None, Ok, Err, refl, sym, ap, ◌∙◌, arith, inl, inr}
-use Rattle.std.specs.Prelude.{◌&&◌}
+use Rattle.std.proofs.Common.{◌≡◌, ◌≢◌, ℕ, zero, suc, ◌-◌, ◌*◌, ◌<◌, Bool, true, false, cond, eqb, List, [], ◌∷◌, length, get_or, take, drop, map, Some, None, Ok, Err, refl, sym, ap, ◌∙◌, arith, inl, inr, ◌&&◌}
 use Rattle.std.specs.Option.{ok_or, option_and_then}
 use Rattle.std.specs.List.{slice_split, onto_first, list_all, join_with_byte}
 use Rattle.std.proofs.lemmas.Bool.{eq-eqb, eqb-true, ne_eqb, or_cases}

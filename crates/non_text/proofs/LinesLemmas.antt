@@ -1,10 +1,9 @@
 -- The pieces of a text and its lines.
-use Rattle.std.proofs.Common.{◌≡◌, ℕ, ◌+◌, ◌-◌, ◌<◌, ◌≤◌, Bool, true, false, cond, not, eqb, List, [], ◌∷◌, length, take, drop, Some, None, refl, sym, ap, ◌∙◌, arith}
+use Rattle.std.proofs.Common.{◌≡◌, ℕ, ◌+◌, ◌-◌, ◌<◌, ◌≤◌, Bool, true, false, cond, not, eqb, List, [], ◌∷◌, length, take, drop, Some, None, refl, sym, ap, ◌∙◌, arith, filter}
 use Rattle.std.specs.List.{slice_split, onto_first, position, position_or_len}
 use Rattle.std.proofs.lemmas.Option.{cond_some}
 use Rattle.std.proofs.lemmas.Bool.{ltb-true, ltb-false}
 use Rattle.std.proofs.lemmas.List.{take_rest}
-use Rattle.std.specs.Prelude.{filter}
 use Rattle.std.specs.Str.Lines.{strip_carriage_return}
 use Rattle.non_text.specs.Bytes.{is_empty}
 use Rattle.non_text.specs.Lines.{lines_of_pieces, all_lines, is_comment, lines_of, keyword_of, section_of, has_keyword, at_keyword}

@@ -1,6 +1,5 @@
 -- The lines of a section, and the clues that they give.
-use Rattle.std.proofs.Common.{◌≡◌, ℕ, zero, suc, ◌+◌, ◌-◌, ◌<◌, ◌≤◌, Bool, true, false, cond, not, eqb, leb, List, [], ◌∷◌, ◌++◌, length, take, drop, Option, Some, None, ◌⊎◌, Result, Ok, Err, refl, sym, ap, ◌∙◌, arith, inl, inr}
-use Rattle.std.specs.Prelude.{◌&&◌, ◌||◌, filter}
+use Rattle.std.proofs.Common.{◌≡◌, ℕ, zero, suc, ◌+◌, ◌-◌, ◌<◌, ◌≤◌, Bool, true, false, cond, not, eqb, leb, List, [], ◌∷◌, ◌++◌, length, take, drop, Option, Some, None, ◌⊎◌, Result, Ok, Err, refl, sym, ap, ◌∙◌, arith, inl, inr, ◌&&◌, ◌||◌, filter}
 use Rattle.std.specs.List.{list_any}
 use Rattle.std.proofs.lemmas.List.{append_assoc, append-nil, drop_all, length-take-le}
 use Rattle.std.proofs.lemmas.Bool.{lt-leb, le-leb, cases_lt, eqb-true, leb-true}

@@ -53,7 +53,7 @@ fn numbers(alloc: Global, line: &[u8]) -> Result<SmallVec<u8, 8>, NonFault>
         let Some(number) = number(trim(place)) else {
             return Err(NonFault::BadClue);
         };
-        numbers.push(number)?;
+        numbers.push(number).map_err(|_| NonFault::Memory)?;
         rest = behind;
     }
     Ok(numbers)

@@ -6,7 +6,7 @@ ghost use Rattle.non_text.specs.declared.fault.NonFault.TheVariants as reading;
 ghost use Rattle.non_text.specs.declared.fault.NonWriteFault.TheVariants as writing;
 
 use picture::WriteFault;
-use std::alloc::{AllocError, AllocFailed};
+use std::alloc::AllocError;
 use thiserror::Error;
 
 /// Why a text is no puzzle. The first fault in the order of reading is answered.
@@ -64,14 +64,6 @@ impl From<AllocError> for NonFault {
     ghost from_gives = { λ _ e. e ≡ reading.Memory };
 
     fn from(_refused: AllocError) -> NonFault {
-        NonFault::Memory
-    }
-}
-
-impl<T: Drop> From<AllocFailed<T>> for NonFault {
-    ghost from_gives = { λ _ e. e ≡ reading.Memory };
-
-    fn from(_refused: AllocFailed<T>) -> NonFault {
         NonFault::Memory
     }
 }

@@ -55,7 +55,9 @@ fn clues(
         let Some((line, behind)) = next_kept(rest, leaves_blanks) else {
             return Ok(clues);
         };
-        clues.push(clue_in(alloc, line, cells)?)?;
+        clues
+            .push(clue_in(alloc, line, cells)?)
+            .map_err(|_| NonFault::Memory)?;
         rest = behind;
     }
     Ok(clues)

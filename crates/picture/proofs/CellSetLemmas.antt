@@ -1,6 +1,5 @@
 -- A cell put into a set of cells or taken out, and how many cells there are.
-use Rattle.std.proofs.Common.{◌≡◌, ℕ, ◌+◌, ◌*◌, ◌%◌, ◌^◌, ◌<◌, ◌≤◌, List, length, get_or, set, replicate, refl, sym, ap, ◌∙◌, subst, inl, inr, arith}
-use Rattle.std.specs.Prelude.{IsBitSet, ◌↔◌, count_ones, bit_and, bit_or}
+use Rattle.std.proofs.Common.{◌≡◌, ℕ, ◌+◌, ◌*◌, ◌%◌, ◌^◌, ◌<◌, ◌≤◌, List, length, get_or, set, replicate, refl, sym, ap, ◌∙◌, subst, inl, inr, arith, IsBitSet, ◌↔◌, count_ones, bit_and, bit_or}
 use Rattle.std.specs.Int.{w128, bit_not}
 use Rattle.std.proofs.lemmas.Bool.{cases_lt, cases_eq}
 use Rattle.std.proofs.lemmas.List.{get_or-set_same, get_or-set_other, get_or_past, get_or-replicate, length-replicate, length-set, set-get_or}
@@ -9,7 +8,7 @@ use Rattle.std.proofs.lemmas.Nat.{ones-le}
 use Rattle.picture.specs.declared.picture.TheConstants.{MAX_SIDE}
 use Rattle.picture.specs.CellSet.{IsCellSet, HasCell, PutsCell, TakesOutCell, cell_count}
 use Rattle.picture.specs.BitLaws.{same_bits, bits_more, bits_fewer}
-use Rattle.picture.proofs.BitLemmas.{cleared, raised, raised_small, cleared_small}
+use Rattle.picture.proofs.BitLemmas.{cleared, raised, raised_small}
 
 module _ (masks : List ℕ) (row col : ℕ) (is : IsCellSet masks) (lt : row < length masks) (inside : col < MAX_SIDE) where
   -- one cell taken out of the set
@@ -50,9 +49,6 @@ module _ (masks : List ℕ) (row col : ℕ) (is : IsCellSet masks) (lt : row < l
 
   pub stays_put : IsCellSet (set masks row (bit_or (get_or masks row 0) (1 * 2 ^ col % 2 ^ 128)))
   stays_put = stays _ (raised_small (get_or masks row 0) col (is.within row) inside)
-
-  pub stays_less : IsCellSet (set masks row (bit_and (get_or masks row 0) (bit_not w128 (1 * 2 ^ col % 2 ^ 128))))
-  stays_less = stays _ (cleared_small (get_or masks row 0) col (is.within row))
 
   -- a set that has the cell keeps its table, and any other has one cell more
   pub known_put : HasCell masks row col → set masks row (bit_or (get_or masks row 0) (1 * 2 ^ col % 2 ^ 128)) ≡ masks

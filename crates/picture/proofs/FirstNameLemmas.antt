@@ -1,6 +1,5 @@
 -- The first bit that is set in a mask from a place on.
-use Rattle.std.proofs.Common.{◌≡◌, ℕ, ◌+◌, ◌-◌, ◌/◌, ◌%◌, ◌^◌, ◌<◌, ◌≤◌, sym, ap, ◌∙◌, arith}
-use Rattle.std.specs.Prelude.{IsBitSet}
+use Rattle.std.proofs.Common.{◌≡◌, ℕ, ◌+◌, ◌-◌, ◌/◌, ◌%◌, ◌^◌, ◌<◌, ◌≤◌, sym, ap, ◌∙◌, arith, IsBitSet}
 use Rattle.std.specs.Int.{bit_at, trailing_zeros, w128}
 use Rattle.std.proofs.lemmas.Nat.{shr-shr, shr_le}
 use Rattle.std.proofs.lemmas.Nat.Bits.{bit_at-trailing_zeros, bit_at-zero}

@@ -1,11 +1,8 @@
 -- Rows that lie in one flat list.
-use Rattle.std.proofs.Common.{◌≡◌, ℕ, zero, suc, ◌+◌, ◌*◌, ◌-◌, ◌<◌, ◌≤◌, List, [], ◌∷◌, ◌++◌, length, get_or, take, drop, map, replicate, arith, refl, ap, ◌∙◌, sym, subst}
-use Rattle.std.proofs.Common.{inl, inr}
+use Rattle.std.proofs.Common.{◌≡◌, ℕ, zero, suc, ◌+◌, ◌*◌, ◌-◌, ◌<◌, ◌≤◌, List, [], ◌∷◌, ◌++◌, length, get_or, take, drop, map, replicate, arith, refl, ap, ◌∙◌, sym, subst, inl, inr, Bool, eqb, IsTrue}
 use Rattle.std.proofs.lemmas.List.{get_or_past, length-drop, take-append-drop, take-replicate, drop-replicate, length-map, get_or-map, ext_get_or}
 use Rattle.std.proofs.lemmas.Bool.{cases_lt}
 use Rattle.std.specs.Cmp.Lexicographic.{pointwise}
-use Rattle.std.specs.Prelude.{IsTrue}
-use Rattle.std.proofs.Common.{Bool, eqb}
 use Rattle.std.proofs.lemmas.Slice.Eq.{slice_eq-Decides}
 use Rattle.std.proofs.lemmas.Bool.Decides.{Decides-eqb}
 use Rattle.picture.specs.declared.line_id.Axis.TheVariants.{Across, Down}

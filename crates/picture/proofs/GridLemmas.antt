@@ -335,14 +335,3 @@ module _ (height width : ℕ) (old : List ℕ) (is : AreCells height width old) 
       ap (λ xs. swap xs (n * width + i) (n * width + j)) (so_far ∙ edited_here f n rows lt)
       ∙ swap-within (joined f n rows) row (concat (drop (n + 1) rows)) (n * width) i j front (omega arith) (omega arith)
       ∙ sym (edited_more f n rows lt)
-
-  pub place_of_exchange : (i j k n : ℕ) (cells : List ℕ) → i < width → j < width → k < width → n < height → cells ≡ edited (with_exchange i j) n (rows_of height width old) → n * width + k < length cells
-  place_of_exchange i j k n cells in_i in_j in_k turn so_far =
-      let f = with_exchange i j in
-      let lt : n < length rows = omega (arith, tall, turn) in
-      let row = get_or rows n [] in
-      let wide : length row ≡ width = (every_at (IsRow width) rows n [] lt all).wide in
-      let front = length-joined width width f n rows (swaps_cells width i j in_i in_j) all (omega arith) in
-      let long : length cells ≡ length (joined f n rows) + (length row + length (concat (drop (n + 1) rows))) =
-      ap length (so_far ∙ edited_here f n rows lt) ∙ length-append (joined f n rows) (row ++ concat (drop (n + 1) rows)) ∙ ap (λ k. length (joined f n rows) + k) (length-append row (concat (drop (n + 1) rows))) in
-      omega arith

@@ -1,8 +1,7 @@
 -- The cells of a line, one by one and at both ends.
-use Rattle.std.proofs.Common.{◌≡◌, ℕ, zero, suc, ◌+◌, ◌*◌, ◌-◌, ◌<◌, List, [], ◌∷◌, ◌++◌, length, get_or, arith, refl, ap, ◌∙◌, subst}
+use Rattle.std.proofs.Common.{◌≡◌, ℕ, zero, suc, ◌+◌, ◌*◌, ◌-◌, ◌<◌, List, [], ◌∷◌, ◌++◌, length, get_or, arith, refl, ap, ◌∙◌, inl, inr}
 use Rattle.std.proofs.lemmas.List.{get_or_past}
 use Rattle.std.proofs.lemmas.Bool.{cases_lt}
-use Rattle.std.proofs.Common.{inl, inr}
 use Rattle.picture.specs.Line.{spaced, IsLine, IsSpaced}
 
 pub length-spaced : (cells : List ℕ) (start step count : ℕ) → length (spaced cells start step count) ≡ count
@@ -29,28 +28,6 @@ spaced_is_line cells start step count some is = record {
     | inr le ↦ rw (get_or_past (spaced cells start step count) i 0 (omega (arith, length-spaced cells start step count))) (omega arith)
   ];
 }
-
--- without its first cell
-pub spaced_next : (cells : List ℕ) (start step count : ℕ) → 0 < count → IsSpaced cells start step count → IsSpaced cells (start + step) step (count - 1)
-spaced_next cells start step zero some is = absurd (omega (arith, some))
-spaced_next cells start step (suc count) some is = let less : suc count - 1 ≡ count = omega arith in rw less (record {
-  inside = λ i lt. subst (λ k. k < length cells) (omega arith) (is.inside (suc i) (omega (arith, lt)));
-  near = omega (arith, is.near);
-  short = omega (arith, is.short);
-  narrow = is.narrow;
-  colours = is.colours;
-})
-
--- without its last cell
-pub spaced_less : (cells : List ℕ) (start step count : ℕ) → IsSpaced cells start step count → IsSpaced cells start step (count - 1)
-spaced_less cells start step zero is = is
-spaced_less cells start step (suc count) is = let less : suc count - 1 ≡ count = omega arith in rw less (record {
-  inside = λ i lt. is.inside i (omega (arith, lt));
-  near = omega (arith, is.near);
-  short = omega (arith, is.short);
-  narrow = is.narrow;
-  colours = is.colours;
-})
 
 pub spaced_first : (cells : List ℕ) (start step count : ℕ) → 0 < count → spaced cells start step count ≡ get_or cells start 0 ∷ spaced cells (start + step) step (count - 1)
 spaced_first cells start step zero some = absurd (omega (arith, some))

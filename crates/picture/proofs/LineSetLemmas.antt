@@ -1,6 +1,5 @@
 -- A name put into a set of names or taken out, and the table of the set.
-use Rattle.std.proofs.Common.{◌≡◌, ℕ, ◌*◌, ◌%◌, ◌^◌, ◌<◌, refl, sym, ap, ◌∙◌, inl, inr}
-use Rattle.std.specs.Prelude.{IsBitSet, ◌⊎◌, ◌↔◌, bit_and, bit_or}
+use Rattle.std.proofs.Common.{◌≡◌, ℕ, ◌*◌, ◌%◌, ◌^◌, ◌<◌, refl, sym, ap, ◌∙◌, inl, inr, IsBitSet, ◌⊎◌, ◌↔◌, bit_and, bit_or}
 use Rattle.std.specs.Int.{w128, bit_not}
 use Rattle.picture.specs.declared.picture.TheConstants.{MAX_SIDE}
 use Rattle.picture.specs.declared.line_id.Axis.{Axis}

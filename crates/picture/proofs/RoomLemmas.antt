@@ -1,6 +1,5 @@
 -- A palette has room for a colour that comes, as all of its own do, from another palette.
-use Rattle.std.proofs.Common.{◌≡◌, ℕ, ◌<◌, Bool, true, false, List, [], ◌∷◌, ◌++◌, length, Option, Some, None, refl, sym, subst, ap, ◌∙◌, inl, inr, arith}
-use Rattle.std.specs.Prelude.{◌⊎◌, slice_get}
+use Rattle.std.proofs.Common.{◌≡◌, ℕ, ◌<◌, true, false, List, [], ◌∷◌, ◌++◌, length, Option, Some, None, refl, sym, subst, ap, ◌∙◌, inl, inr, arith, ◌⊎◌, slice_get}
 use Rattle.std.specs.List.{list_any, AllByRecursion}
 use Rattle.std.specs.Cmp.{IsEquivalence}
 use Rattle.std.proofs.lemmas.Bool.{cases_Bool}
@@ -10,9 +9,9 @@ use Rattle.std.proofs.lemmas.Map.Keys.{IsDistinct-push, any_passes_from_place}
 use Rattle.picture.specs.declared.rgb.Rgb.{Rgb}
 use Rattle.picture.specs.declared.palette.PaletteFault.{PaletteFault}
 use Rattle.picture.specs.declared.palette.PaletteFault.TheVariants.{Memory}
-use Rattle.picture.specs.Palette.{Colours, rgb_eq, fits, first_of, triple_at, place_of, add_fault, only_background, stands_elsewhere, IsPalette, AreAmong, HasPlaceFor}
+use Rattle.picture.specs.Palette.{Colours, rgb_eq, fits, first_of, triple_at, place_of, add_fault, stands_elsewhere, IsPalette, AreAmong, HasPlaceFor}
 use Rattle.picture.specs.Document.{with_seen}
-use Rattle.picture.proofs.PaletteLemmas.{same_rgb, rgb_eq-sym, not_full, at_each, at_no_other}
+use Rattle.picture.proofs.PaletteLemmas.{same_rgb, rgb_eq-sym, not_full, at_no_other}
 use Rattle.picture.proofs.OrderLemmas.{same, absent}
 use Rattle.picture.proofs.GridLemmas.{every_append}
 
@@ -71,24 +70,11 @@ among_more now new all rgb among is step = record {
   ]);
 }
 
-pub background_among : (colours : Colours) → IsPalette colours → AreAmong (only_background colours.maxval (first_of colours.triples)) colours
-background_among colours palette = record { maxval = refl; each = (first_there colours.triples palette.has_background, tt) }
-  where
-    first_there : (triples : List Rgb) → 0 < length triples → list_any (rgb_eq (first_of triples)) triples ≡ true
-    first_there [] some = absurd (omega (arith, some))
-    first_there (t ∷ triples) some = rw (same t) refl
-
 -- ---- the colour that stands at a number
 
 module _ (colours : Colours) (k : ℕ) (rgb : Rgb) (palette : IsPalette colours) (lt : k < length colours.triples) (own : triple_at colours.triples k ≡ rgb) where
   pub own_nowhere : stands_elsewhere colours.triples k rgb ≡ false
   own_nowhere = at_no_other rgb (first_of colours.triples) colours.triples k lt palette.distinct (subst (λ t. rgb_eq t rgb ≡ true) (sym own) (same rgb))
-
-  pub own_fits : fits colours.maxval rgb ≡ true
-  own_fits = subst (λ t. fits colours.maxval t ≡ true) own (at_each (λ t. fits colours.maxval t ≡ true) colours.triples k (first_of colours.triples) lt palette.samples_fit)
-
-  pub own_same : (eq : Bool) → eq ≡ rgb_eq (triple_at colours.triples k) rgb → eq ≡ true
-  own_same eq is = is ∙ subst (λ t. rgb_eq t rgb ≡ true) (sym own) (same rgb)
 
 -- where no fault stands against a colour, the one that is answered is want of memory
 pub only_memory : (fault : Option PaletteFault) (e : PaletteFault) → fault ≡ None → (fault ≡ Some e) ⊎ ((fault ≡ None) × (e ≡ Memory)) → e ≡ Memory

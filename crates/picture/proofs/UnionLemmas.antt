@@ -1,6 +1,5 @@
 -- The names of two sets together, and how many they are.
-use Rattle.std.proofs.Common.{ℕ, inl, inr, arith}
-use Rattle.std.specs.Prelude.{IsBitSet, ◌⊎◌, ◌↔◌, bit_or}
+use Rattle.std.proofs.Common.{ℕ, inl, inr, arith, IsBitSet, ◌⊎◌, ◌↔◌, bit_or}
 use Rattle.std.proofs.lemmas.Nat.{or_lt}
 use Rattle.std.proofs.lemmas.Nat.Bits.{bit_at_or, bit_at-lt}
 use Rattle.picture.specs.declared.picture.TheConstants.{MAX_SIDE}

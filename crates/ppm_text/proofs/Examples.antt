@@ -1,6 +1,5 @@
 -- The definitions at short texts.
-use Rattle.std.proofs.Common.{◌≡◌, [], ◌∷◌, None, Ok, Err, refl}
-use Rattle.std.specs.Prelude.{codes}
+use Rattle.std.proofs.Common.{◌≡◌, [], ◌∷◌, None, Ok, Err, refl, codes}
 use Rattle.ppm_text.specs.declared.fault.PpmFault.TheVariants.{NotP3, Truncated, TooLarge, SampleOver, TrailingToken}
 use Rattle.ppm_text.specs.Numerals.{numeral_at}
 use Rattle.ppm_text.specs.Samples.{side_at, sample_at, triple_at}

@@ -3,27 +3,21 @@ use Rattle.std.specs.Prelude.{ℕ, List, codes, Option, Some, None}
 use Rattle.ppm_text.specs.declared.fault.PpmFault.{PpmFault}
 use Rattle.ppm_text.specs.declared.fault.PpmFault.TheVariants.{NotP3, BadNumber, Truncated, BadMaxval, EmptySize, TooLarge, SampleOver, TooManyColours, TrailingToken, Memory}
 
-abbrev pub name_of : PpmFault → List ℕ
-name_of (NotP3 at) = codes "NotP3"
-name_of (BadNumber at) = codes "BadNumber"
-name_of (Truncated at) = codes "Truncated"
-name_of (BadMaxval at) = codes "BadMaxval"
-name_of (EmptySize at) = codes "EmptySize"
-name_of (TooLarge at) = codes "TooLarge"
-name_of (SampleOver at) = codes "SampleOver"
-name_of (TooManyColours at) = codes "TooManyColours"
-name_of (TrailingToken at) = codes "TrailingToken"
-name_of Memory = codes "Memory"
+-- the name, and the byte at which the fault was met, where it has one
+abbrev pub told_of : PpmFault → List ℕ × Option ℕ
+told_of (NotP3 at) = (codes "NotP3", Some at)
+told_of (BadNumber at) = (codes "BadNumber", Some at)
+told_of (Truncated at) = (codes "Truncated", Some at)
+told_of (BadMaxval at) = (codes "BadMaxval", Some at)
+told_of (EmptySize at) = (codes "EmptySize", Some at)
+told_of (TooLarge at) = (codes "TooLarge", Some at)
+told_of (SampleOver at) = (codes "SampleOver", Some at)
+told_of (TooManyColours at) = (codes "TooManyColours", Some at)
+told_of (TrailingToken at) = (codes "TrailingToken", Some at)
+told_of Memory = (codes "Memory", None)
 
--- the byte at which the fault was met, where it has one
+abbrev pub name_of : PpmFault → List ℕ
+name_of fault = (told_of fault).0
+
 abbrev pub place_of : PpmFault → Option ℕ
-place_of (NotP3 at) = Some at
-place_of (BadNumber at) = Some at
-place_of (Truncated at) = Some at
-place_of (BadMaxval at) = Some at
-place_of (EmptySize at) = Some at
-place_of (TooLarge at) = Some at
-place_of (SampleOver at) = Some at
-place_of (TooManyColours at) = Some at
-place_of (TrailingToken at) = Some at
-place_of Memory = None
+place_of fault = (told_of fault).1

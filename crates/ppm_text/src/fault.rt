@@ -4,7 +4,7 @@ ghost use Rattle.std.specs.Prelude.{◌≡◌};
 ghost use Rattle.ppm_text.specs.Faults.{name_of, place_of};
 ghost use Rattle.ppm_text.specs.declared.fault.PpmFault.TheVariants.{Memory};
 
-use std::alloc::{AllocError, AllocFailed};
+use std::alloc::AllocError;
 use thiserror::Error;
 
 /// What is wrong with a P3 text: the first fault that reading it from the front meets, with the
@@ -48,35 +48,32 @@ impl PpmFault {
     pub fn name(&self) -> &'static str
         ensures { result.now ≡ name_of self.now }
     {
-        match self {
-            PpmFault::NotP3(_) => "NotP3",
-            PpmFault::BadNumber(_) => "BadNumber",
-            PpmFault::Truncated(_) => "Truncated",
-            PpmFault::BadMaxval(_) => "BadMaxval",
-            PpmFault::EmptySize(_) => "EmptySize",
-            PpmFault::TooLarge(_) => "TooLarge",
-            PpmFault::SampleOver(_) => "SampleOver",
-            PpmFault::TooManyColours(_) => "TooManyColours",
-            PpmFault::TrailingToken(_) => "TrailingToken",
-            PpmFault::Memory => "Memory",
-        }
+        self.told().0
     }
 
     /// The number of bytes before the place that the fault names.
     pub fn place(&self) -> Option<usize>
         ensures { result ≡ place_of self.now }
     {
-        match self {
-            PpmFault::NotP3(place)
-            | PpmFault::BadNumber(place)
-            | PpmFault::Truncated(place)
-            | PpmFault::BadMaxval(place)
-            | PpmFault::EmptySize(place)
-            | PpmFault::TooLarge(place)
-            | PpmFault::SampleOver(place)
-            | PpmFault::TooManyColours(place)
-            | PpmFault::TrailingToken(place) => Some(*place),
-            PpmFault::Memory => None,
+        self.told().1
+    }
+
+    // The name, and the place.
+    fn told(&self) -> (&'static str, Option<usize>)
+        ensures name { result.0.now ≡ name_of self.now }
+        ensures place { result.1 ≡ place_of self.now }
+    {
+        match *self {
+            PpmFault::NotP3(place) => ("NotP3", Some(place)),
+            PpmFault::BadNumber(place) => ("BadNumber", Some(place)),
+            PpmFault::Truncated(place) => ("Truncated", Some(place)),
+            PpmFault::BadMaxval(place) => ("BadMaxval", Some(place)),
+            PpmFault::EmptySize(place) => ("EmptySize", Some(place)),
+            PpmFault::TooLarge(place) => ("TooLarge", Some(place)),
+            PpmFault::SampleOver(place) => ("SampleOver", Some(place)),
+            PpmFault::TooManyColours(place) => ("TooManyColours", Some(place)),
+            PpmFault::TrailingToken(place) => ("TrailingToken", Some(place)),
+            PpmFault::Memory => ("Memory", None),
         }
     }
 }
@@ -85,14 +82,6 @@ impl From<AllocError> for PpmFault {
     ghost from_gives = { λ _ e. e ≡ Memory };
 
     fn from(_e: AllocError) -> PpmFault {
-        PpmFault::Memory
-    }
-}
-
-impl<T: Drop> From<AllocFailed<T>> for PpmFault {
-    ghost from_gives = { λ _ e. e ≡ Memory };
-
-    fn from(_e: AllocFailed<T>) -> PpmFault {
         PpmFault::Memory
     }
 }

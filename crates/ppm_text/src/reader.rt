@@ -95,7 +95,7 @@ fn read_cells(
     let mut known = background_alone(palette);
     for _ in 0..count {
         let cell = read_cell(scanner, palette, &mut known)?;
-        cells.push(cell)?;
+        cells.push(cell).map_err(|_| PpmFault::Memory)?;
     }
     Ok(cells)
 }

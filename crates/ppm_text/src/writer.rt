@@ -73,37 +73,27 @@ fn send_row<W: Write>(document: &Document, row: u8, writer: &mut W) -> Result<()
 
 #[tactic(auto, using(crate::proofs::Sending::sizes))]
 // Writes the sizes and the maxval.
-fn send_sizes<W: Write>(
-    width: u8,
-    height: u8,
-    maxval: u16,
-    writer: &mut W,
-) -> Result<(), WriteFault>
+fn send_sizes<W: Write>(document: &Document, writer: &mut W) -> Result<(), WriteFault>
     ensures ok { OnOk result (Appends (W.contents writer.old) (W.contents writer.new)
-        (sizes_text width height maxval)) }
+        (sizes_text (width_of document.now.picture) (length document.now.picture) document.now.palette.maxval)) }
     ensures err { OnErr result (AppendsFront (W.contents writer.old) (W.contents writer.new)
-        (sizes_text width height maxval)) }
+        (sizes_text (width_of document.now.picture) (length document.now.picture) document.now.palette.maxval)) }
 {
-    send_number(u16::from(width), b' ', writer)?;
-    send_number(u16::from(height), b'\n', writer)?;
-    send_number(maxval, b'\n', writer)
+    send_number(u16::from(document.picture.width()), b' ', writer)?;
+    send_number(u16::from(document.picture.height()), b'\n', writer)?;
+    send_number(document.palette.maxval(), b'\n', writer)
 }
 
 #[tactic(auto, using(crate::proofs::Sending::magic_first))]
 // Writes what stands before the cells.
-fn send_header<W: Write>(
-    width: u8,
-    height: u8,
-    maxval: u16,
-    writer: &mut W,
-) -> Result<(), WriteFault>
+fn send_header<W: Write>(document: &Document, writer: &mut W) -> Result<(), WriteFault>
     ensures ok { OnOk result (Appends (W.contents writer.old) (W.contents writer.new)
-        (header_text width height maxval)) }
+        (header_text (width_of document.now.picture) (length document.now.picture) document.now.palette.maxval)) }
     ensures err { OnErr result (AppendsFront (W.contents writer.old) (W.contents writer.new)
-        (header_text width height maxval)) }
+        (header_text (width_of document.now.picture) (length document.now.picture) document.now.palette.maxval)) }
 {
     send(b"P3\n", writer)?;
-    send_sizes(width, height, maxval, writer)
+    send_sizes(document, writer)
 }
 
 #[tactic(auto, using(crate::proofs::Sending::whole))]
@@ -117,22 +107,19 @@ pub fn write_ppm<W: Write>(document: &Document, writer: &mut W) -> Result<(), Wr
     ensures err { OnErr result (AppendsFront (W.contents writer.old) (W.contents writer.new)
         (ppm_text (content_of document.now))) }
 {
-    let width = document.picture.width();
-    let height = document.picture.height();
-    send_header(width, height, document.palette.maxval(), writer)?;
-    send_rows(document, height, writer)
+    send_header(document, writer)?;
+    send_rows(document, writer)
 }
 
 #[tactic(auto, using(crate::proofs::Sending::rows_loop))]
 // Writes all the rows.
-fn send_rows<W: Write>(document: &Document, height: u8, writer: &mut W) -> Result<(), WriteFault>
-    requires { height ≡ length document.now.picture }
+fn send_rows<W: Write>(document: &Document, writer: &mut W) -> Result<(), WriteFault>
     ensures ok { OnOk result (Appends (W.contents writer.old) (W.contents writer.new)
         (rows_text document.now.palette.triples document.now.picture)) }
     ensures err { OnErr result (AppendsFront (W.contents writer.old) (W.contents writer.new)
         (rows_text document.now.palette.triples document.now.picture)) }
 {
-    for row in 0..height {
+    for row in 0..document.picture.height() {
         send_row(document, row, writer)?;
     }
     Ok(())

@@ -18,38 +18,17 @@ use Rattle.program_options.specs.declared.fault.ProgramFault.TheVariants.{Ppm, N
 -- a fault of the P3 text, but want of memory is one fault wherever it comes
 abbrev pub fault_of : PpmFault → ProgramFault
 fault_of ppm.Memory = Memory
-fault_of (ppm.NotP3 at) = Ppm (ppm.NotP3 at)
-fault_of (ppm.BadNumber at) = Ppm (ppm.BadNumber at)
-fault_of (ppm.Truncated at) = Ppm (ppm.Truncated at)
-fault_of (ppm.BadMaxval at) = Ppm (ppm.BadMaxval at)
-fault_of (ppm.EmptySize at) = Ppm (ppm.EmptySize at)
-fault_of (ppm.TooLarge at) = Ppm (ppm.TooLarge at)
-fault_of (ppm.SampleOver at) = Ppm (ppm.SampleOver at)
-fault_of (ppm.TooManyColours at) = Ppm (ppm.TooManyColours at)
-fault_of (ppm.TrailingToken at) = Ppm (ppm.TrailingToken at)
+fault_of fault = Ppm fault
 
 -- a fault of the .non text, in the same way
 abbrev pub non_fault_of : NonFault → ProgramFault
 non_fault_of non.Memory = Memory
-non_fault_of non.MissingSize = Non non.MissingSize
-non_fault_of non.BadSize = Non non.BadSize
-non_fault_of non.Repeated = Non non.Repeated
-non_fault_of non.BadClue = Non non.BadClue
-non_fault_of non.BadCount = Non non.BadCount
-non_fault_of non.ClueTooLong = Non non.ClueTooLong
-non_fault_of non.BadGoal = Non non.BadGoal
-non_fault_of non.GoalDisagrees = Non non.GoalDisagrees
+non_fault_of fault = Non fault
 
 -- a fault of a certificate, in the same way
 abbrev pub cert_fault_of : CertFault → ProgramFault
 cert_fault_of cert.Memory = Memory
-cert_fault_of (cert.NotCert line) = Cert (cert.NotCert line)
-cert_fault_of (cert.BadLine line) = Cert (cert.BadLine line)
-cert_fault_of (cert.Place line) = Cert (cert.Place line)
-cert_fault_of (cert.NotDead line) = Cert (cert.NotDead line)
-cert_fault_of (cert.NotDone line) = Cert (cert.NotDone line)
-cert_fault_of (cert.Ended line) = Cert (cert.Ended line)
-cert_fault_of (cert.Trailing line) = Cert (cert.Trailing line)
+cert_fault_of fault = Cert fault
 
 -- a session that ended before its input did
 abbrev pub session_fault_of : SessionFault → ProgramFault
@@ -75,16 +54,10 @@ fault_text Write = codes "write failed"
 
 -- the status with which the program ends
 abbrev pub status_of : ProgramFault → ℕ
-status_of (Ppm fault) = 1
-status_of (Non fault) = 1
-status_of (Edit fault) = 1
-status_of NoPicture = 1
-status_of (Cert fault) = 1
-status_of Memory = 1
-status_of TooLong = 1
 status_of (Words text) = 2
 status_of NotText = 2
 status_of Background = 2
 status_of BackgroundOfNon = 2
 status_of Read = 3
 status_of Write = 3
+status_of fault = 1

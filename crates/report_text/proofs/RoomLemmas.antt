@@ -1,6 +1,5 @@
 -- How much room numbers take.
-use Rattle.std.proofs.Common.{ℕ, ◌^◌, ◌<◌, ◌≤◌, length, append_assoc, arith}
-use Rattle.std.specs.Prelude.{decimal}
+use Rattle.std.proofs.Common.{ℕ, ◌^◌, ◌<◌, ◌≤◌, length, append_assoc, arith, decimal}
 use Rattle.std.proofs.lemmas.Fmt.{length-decimal-le}
 
 pub twenty_digits : (n : ℕ) → n < 2 ^ 64 → length (decimal n) ≤ 20

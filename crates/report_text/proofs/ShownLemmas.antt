@@ -1,16 +1,13 @@
 -- Texts of grids, row by row and cell by cell, and the colours of a mask.
-use Rattle.std.proofs.Common.{◌≡◌, ℕ, zero, suc, ◌+◌, ◌*◌, ◌^◌, ◌<◌, ◌≤◌, Bool, true, false, cond, not, List, [], ◌∷◌, ◌++◌, length, get_or, take, map, append_assoc, append-nil, refl, sym, ap, ◌∙◌, arith}
-use Rattle.std.specs.Prelude.{count_ones, filter, ◌==◌}
+use Rattle.std.proofs.Common.{◌≡◌, ℕ, zero, suc, ◌+◌, ◌^◌, ◌<◌, Bool, true, false, cond, not, List, [], ◌∷◌, ◌++◌, map, append_assoc, append-nil, refl, sym, ap, ◌∙◌, arith, count_ones, filter, ◌==◌}
 use Rattle.std.specs.Int.{bit_at, trailing_zeros, w16}
-use Rattle.std.specs.List.{flat_map, range_with_len}
-use Rattle.std.proofs.lemmas.Grind.{flat_map-append}
-use Rattle.std.proofs.lemmas.List.{map-append, take_all, take_more}
+use Rattle.std.specs.List.{range_with_len}
+use Rattle.std.proofs.lemmas.List.{map-append}
 use Rattle.std.proofs.lemmas.List.Elements.{filter-append}
-use Rattle.std.proofs.Math.Nat.{suc-mul}
 use Rattle.std.proofs.lemmas.Nat.{ones_le_self}
 use Rattle.std.proofs.lemmas.Nat.Bits.{bit_at-trailing_zeros}
 use Rattle.report_text.specs.ReasonText.{letters_among}
-use Rattle.report_text.specs.Shown.{letter, row_text}
+use Rattle.report_text.specs.Shown.{letter}
 
 -- nothing was pushed yet
 pub none_pushed : (old nothing : List ℕ) → nothing ≡ [] → old ≡ old ++ nothing
@@ -19,44 +16,6 @@ none_pushed old nothing none = sym (ap (λ (text : List ℕ). old ++ text) none 
 -- one piece more
 pub pushed : (old now new front piece all : List ℕ) → now ≡ old ++ front → new ≡ now ++ piece → all ≡ front ++ piece → new ≡ old ++ all
 pushed old now new front piece all so more one = more ∙ ap (λ (text : List ℕ). text ++ piece) so ∙ append_assoc old front piece ∙ ap (λ (text : List ℕ). old ++ text) (sym one)
-
--- as many pieces as there are
-pub all_pushed : (pieces : ℕ → List ℕ) (i count : ℕ) (old now : List ℕ) → i ≡ count → now ≡ old ++ pieces i → now ≡ old ++ pieces count
-all_pushed pieces i count old now is so = so ∙ ap (λ (n : ℕ). old ++ pieces n) is
-
--- one cell more of a row
-pub cell_pushed : (shown : ℕ → ℕ) (row : List ℕ) (i : ℕ) (old now new : List ℕ) (x : ℕ) → i < length row
-    → now ≡ old ++ map shown (take i row) → x ≡ shown (get_or row i 0) → new ≡ now ++ x ∷ [] → new ≡ old ++ map shown (take (i + 1) row)
-cell_pushed shown row i old now new x lt so is more =
-    let front = map shown (take i row) in
-    pushed old now new front (x ∷ []) (map shown (take (i + 1) row)) so more
-    (ap (map shown) (take_more row i 0 lt) ∙ map-append shown (take i row) (get_or row i 0 ∷ []) ∙ ap (λ (y : ℕ). front ++ y ∷ []) (sym is))
-
--- the whole row, and its end
-pub row_ended : (shown : ℕ → ℕ) (row : List ℕ) (i : ℕ) (old now new : List ℕ) → length row ≤ i
-    → now ≡ old ++ map shown (take i row) → new ≡ now ++ 10 ∷ [] → new ≡ old ++ row_text shown row
-row_ended shown row i old now new le so more =
-    pushed old now new (map shown row) (10 ∷ []) (row_text shown row) (so ∙ ap (λ (cells : List ℕ). old ++ map shown cells) (take_all i row le)) more refl
-
--- one more of what is shown piece by piece
-pub each_pushed : {X : Type 0} (shown : X → List ℕ) (xs : List X) (i : ℕ) (default : X) (old now new : List ℕ) → i < length xs
-    → now ≡ old ++ flat_map shown (take i xs) → new ≡ now ++ shown (get_or xs i default) → new ≡ old ++ flat_map shown (take (i + 1) xs)
-each_pushed shown xs i default old now new lt so more =
-    let front = flat_map shown (take i xs) in
-    let piece = shown (get_or xs i default) in
-    pushed old now new front piece (flat_map shown (take (i + 1) xs)) so more
-    (ap (flat_map shown) (take_more xs i default lt) ∙ flat_map-append shown (take i xs) (get_or xs i default ∷ []) ∙ ap (λ (text : List ℕ). front ++ text) (append-nil piece))
-
--- and all of it
-pub each_ended : {X : Type 0} (shown : X → List ℕ) (xs : List X) (i : ℕ) (old now : List ℕ) → length xs ≤ i
-    → now ≡ old ++ flat_map shown (take i xs) → now ≡ old ++ flat_map shown xs
-each_ended shown xs i old now le so = so ∙ ap (λ front. old ++ flat_map shown front) (take_all i xs le)
-
--- the room of one row more
-pub row_room : (i width old now new : ℕ) → now ≤ old + i * width → new ≤ now + width → new ≤ old + (i + 1) * width
-row_room i width old now new so more =
-    let suc_i : i + 1 ≡ suc i = omega arith in
-    rw suc_i (omega (arith, suc-mul i width))
 
 -- one bit is one of the sixteen
 pub lowest_of_one : (mask : ℕ) → mask < 2 ^ 16 → count_ones mask ≡ 1 → trailing_zeros w16 mask < 16

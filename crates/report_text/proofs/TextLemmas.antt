@@ -1,7 +1,7 @@
 -- Clue texts piece by piece, as they are pushed.
-use Rattle.std.proofs.Common.{◌≡◌, ℕ, zero, suc, ◌+◌, ◌-◌, ◌<◌, ◌≤◌, List, [], ◌∷◌, ◌++◌, length, get_or, take, drop, map, refl, sym, ap, ◌∙◌, append_assoc, arith}
+use Rattle.std.proofs.Common.{◌≡◌, ℕ, suc, ◌+◌, ◌-◌, ◌<◌, ◌≤◌, List, [], ◌∷◌, ◌++◌, length, get_or, take, drop, refl, sym, ap, ◌∙◌, append_assoc, arith}
 use Rattle.std.specs.List.{flat_map}
-use Rattle.std.proofs.lemmas.List.{append-nil, take_more, take_all, take_rest, length-take-le}
+use Rattle.std.proofs.lemmas.List.{append-nil, take_more, take_rest, length-take-le}
 use Rattle.clues.specs.declared.block.Block.{Block}
 use Rattle.report_text.specs.ClueText.{behind, block_text, clue_text, line_text, lines_text}
 
@@ -41,6 +41,3 @@ pub lines_text-more : (letter : ℕ) (clues : List (List Block)) (i : ℕ) → i
 lines_text-more letter clues i lt =
     rw (take_more clues i [] lt) (lines_text-push letter 1 (take i clues) (get_or clues i [])
     ∙ ap (λ n. lines_text letter 1 (take i clues) ++ line_text letter n (get_or clues i [])) (omega (arith, length-take-le i clues (omega arith))))
-
-pub lines_text-all : (letter : ℕ) (clues : List (List Block)) (i : ℕ) → length clues ≤ i → lines_text letter 1 (take i clues) ≡ lines_text letter 1 clues
-lines_text-all letter clues i le = ap (lines_text letter 1) (take_all i clues le)

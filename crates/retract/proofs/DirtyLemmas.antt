@@ -1,19 +1,17 @@
 -- What holds on the lines that are not dirty.
-use Rattle.std.proofs.Common.{◌≡◌, ℕ, ◌+◌, ◌<◌, ◌≤◌, ◌⊎◌, inl, inr, List, refl, sym, ap, subst, ◌∙◌, arith}
-use Rattle.std.specs.Prelude.{◌↔◌}
+use Rattle.std.proofs.Common.{◌≡◌, ℕ, ◌+◌, ◌<◌, ◌≤◌, inl, inr, List, sym, ap, subst, ◌∙◌, arith, ◌↔◌}
 use Rattle.std.proofs.lemmas.Bool.{cases_lt}
 use Rattle.picture.specs.declared.line_id.Axis.{Axis}
-use Rattle.picture.specs.declared.line_id.Axis.TheVariants.{Across, Down}
 use Rattle.picture.specs.declared.line_id.LineId.{LineId}
 use Rattle.picture.specs.LineSet.{Lines, HasName, PutsName}
-use Rattle.picture.specs.Rows.{line_of, lines_along, HasLine}
+use Rattle.picture.specs.Rows.{line_of, HasLine}
 use Rattle.clues.specs.Change.{Moves}
 use Rattle.clues.specs.ClueBook.{Clues, clue_at}
 use Rattle.clues.specs.declared.block.Block.{Block}
 use Rattle.line_settle.specs.Fitting.{CanFit}
 use Rattle.line_settle.specs.FactSets.{IsClosed, IsClosedLine}
 use Rattle.line_settle.specs.Outside.{EachFits, EachOutside}
-use Rattle.retract.specs.Dirty.{AreDirty, AreDirtyAlong, IsClean, IsDecided}
+use Rattle.retract.specs.Dirty.{AreDirty, IsClean, IsDecided}
 
 is_clean : (moves : Moves) (old new : Clues) (before after : List (List ℕ)) (dirty : Lines) (line : LineId) → IsDecided moves old new before after dirty line → (HasName dirty line → ⊥) → IsClean moves old new before after line
 is_clean moves old new before after dirty line decided not_named = elim decided [ inl named ↦ absurd (not_named named.0) | inr clean ↦ clean.1 ]
@@ -88,31 +86,3 @@ module _ (axis : Axis) (at : ℕ) (moves : Moves) (old new : Clues) (before afte
       λ was. (puts other).1 (inl ((below.others other off).1 was)),
     );
   }
-
-pub below_all : (axis : Axis) (at : ℕ) (moves : Moves) (old new : Clues) (before after : List (List ℕ)) (first dirty : Lines) → at ≡ lines_along axis after → AreDirtyBelow axis at moves old new before after first dirty → AreDirtyAlong axis moves old new before after dirty
-below_all axis at moves old new before after first dirty all below = record {
-  inside = λ line along named. rw (along, ← all) (below.inside line along named);
-  decided = λ line along has. below.decided line along (rw (along, ← all) at has);
-}
-
--- both axes
-on_either_axis : (axis : Axis) → (axis ≡ Across) ⊎ (axis ≡ Down)
-on_either_axis Across = inl refl
-on_either_axis Down = inr refl
-
-not_down : (line : LineId) → line.axis ≡ Across → line.axis ≡ Down → ⊥
-not_down line across down = absurd (cc (across, down))
-
-pub both_axes : (moves : Moves) (old new : Clues) (before after : List (List ℕ)) (first dirty : Lines) → AreDirtyAlong Across moves old new before after first → AreDirtyAlong Down moves old new before after dirty → ((line : LineId) → (line.axis ≡ Down → ⊥) → HasName dirty line ↔ HasName first line) → AreDirty moves old new before after dirty
-both_axes moves old new before after first dirty across down others = record {
-  inside = λ line named.
-      elim (on_either_axis line.axis) [
-        | inl a ↦ across.inside line a ((others line (not_down line a)).0 named)
-        | inr d ↦ down.inside line d named
-      ];
-  decided = λ line has.
-      elim (on_either_axis line.axis) [
-        | inl a ↦ decided_alike moves old new before after first dirty line (others line (not_down line a)) (across.decided line a has)
-        | inr d ↦ down.decided line d has
-      ];
-}

@@ -11,7 +11,7 @@ use Rattle.clues.specs.Change.{AreMoves, Moves, image_of, lines_after, lines_bef
 use Rattle.picture.specs.Crossing.{crossing}
 use Rattle.clues.specs.ClueBook.{Clues, clue_at}
 use Rattle.clues.specs.Laws.{ImagesAreLines}
-use Rattle.line_settle.specs.FactSets.{IsFacts, SameShape, row_on, col_on}
+use Rattle.line_settle.specs.FactSets.{IsFacts, row_on, col_on}
 use Rattle.justify.specs.declared.step.Step.{Step}
 use Rattle.justify.specs.Premises.{Mentions, Says}
 use Rattle.justify.specs.Steps.{IsForced, IsTrimmed, step_at}
@@ -28,11 +28,6 @@ length-line_along Down at facts is within = length-map facts (λ row. get_or row
 pub old_sizes : (moves : Moves) (old new : Clues) (book : Account) → IsDerivation old book → HaveBooks moves old new → (axis : Axis) → lines_along axis book.base ≡ lines_before axis moves
 old_sizes moves old new book derivation books Across = derivation.rows ∙ books.before Across
 old_sizes moves old new book derivation books Down = derivation.columns ∙ books.before Down
-
--- facts of one shape have as many lines
-pub same_sizes : (base facts : List (List ℕ)) → SameShape base facts → (axis : Axis) → lines_along axis facts ≡ lines_along axis base
-same_sizes base facts same Across = sym same.rows
-same_sizes base facts same Down = sym (same.each 0)
 
 module _ (moves : Moves) (old new : Clues) (book : Account) (base : List (List ℕ)) (kept : List Step) (n : ℕ) (to : LineId) (Known : ℕ → ℕ → ℕ → Type 0) (images : ImagesAreLines) (are : AreMoves moves) (is : IsAccount book) (derivation : IsDerivation old book) (books : HaveBooks moves old new) (base_facts : IsFacts base) (new_sizes : (axis : Axis) → lines_along axis base ≡ lines_after axis moves) (within : n < length book.steps) (stands : Stands moves old new Known (step_at book.steps n) to) where
   abbrev step : Step

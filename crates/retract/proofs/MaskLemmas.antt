@@ -1,6 +1,5 @@
 -- Colours of a mask that are excluded in a cell.
-use Rattle.std.proofs.Common.{◌≡◌, ◌≢◌, ℕ, ◌^◌, ◌<◌, ◌≤◌, List, [], length, get_or, min, bit_and, refl, sym, subst, ◌∙◌, arith, inl, inr}
-use Rattle.std.specs.Prelude.{◌↔◌, IsBitSet}
+use Rattle.std.proofs.Common.{◌≡◌, ◌≢◌, ℕ, ◌^◌, ◌<◌, ◌≤◌, List, [], length, get_or, min, bit_and, refl, sym, subst, ◌∙◌, arith, inl, inr, ◌↔◌, IsBitSet}
 use Rattle.std.specs.Int.{bit_at, trailing_zeros, w16}
 use Rattle.std.proofs.lemmas.Bool.{cases_eq}
 use Rattle.std.proofs.lemmas.List.{get_or-map, length-map}

@@ -1,4 +1,4 @@
-use Rattle.std.proofs.Common.{ℕ, ◌+◌, ◌≤◌, ◌<◌, inr, refl, sym, subst, arith}
+use Rattle.std.proofs.Common.{◌≡◌, ℕ, [], ◌∷◌, ◌++◌, rules, ◌+◌, ◌≤◌, ◌<◌, inr, refl, sym, subst, arith}
 use Rattle.cert_text.specs.Cert.{rank}
 use Rattle.cert_text.specs.Text.{given_lines, lines_of}
 use Rattle.cert_text.proofs.ReadLemmas.{GivensLeft, givens_end, givens_more, givens_stop}
@@ -22,9 +22,10 @@ loop-line-preserved c =
     let rest = lines_of c.in-Some.behind.now in
     let whole = given_lines 2 0 (lines_of c.args.text.now) in
     let behind : c.loop-line.least ≤ rank cell = omega (arith, c.if-place-least.false, c.rank-place.ensures.value) in
+    let pushed : new ≡ front ++ cell ∷ [] = search rules in
     let P : ℕ → Type 0 = λ k. GivensLeft new (n + 1) (k + 1) rest whole in
     record {
-      left = subst P (sym c.rank-place.ensures.value) (givens_more front new cell c.in-Some.line.now n (n + 1) c.loop-line.least (lines_of c.loop-line.rest.now) rest whole c.in-Some.ensures.0 c.in-Some-given_in.ensures.value c.in-Some-given_in.ensures.short behind c.in_ok-push.ensures.items refl c.loop-line.invariant.left);
+      left = subst P (sym c.rank-place.ensures.value) (givens_more front new cell c.in-Some.line.now n (n + 1) c.loop-line.least (lines_of c.loop-line.rest.now) rest whole c.in-Some.ensures.0 c.in-Some-given_in.ensures.value c.in-Some-given_in.ensures.short behind pushed refl c.loop-line.invariant.left);
       room = omega (arith, c.in-Some.ensures.1);
       shorter = omega (arith, c.in-Some.ensures.1);
     }

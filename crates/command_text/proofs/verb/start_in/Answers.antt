@@ -1,5 +1,4 @@
-use Rattle.std.proofs.Common.{rules, refl}
-use Rattle.std.specs.Prelude.{codes}
+use Rattle.std.proofs.Common.{rules, refl, codes}
 use Rattle.std.proofs.lemmas.Slice.Eq.{text_from_reads}
 use Rattle.command_text.proofs.verb.start_in.Goals as goal
 

@@ -8,8 +8,5 @@ set-requires-clause-in_rows c = (fits_now c.args.picture.now c.loop-cell.picture
 pub set-requires-clause-in_columns : goal.set-requires-clause-in_columns
 set-requires-clause-in_columns c = (fits_now c.args.picture.now c.loop-cell.picture c.args.cells.now c.loop-cell.cell-index (0, 0, 0) c.height.ensures.picture c.requires c.loop-cell-test.true c.loop-cell.invariant).1
 
-pub set-requires-clause-in_colours : goal.set-requires-clause-in_colours
-set-requires-clause-in_colours c = (fits_now c.args.picture.now c.loop-cell.picture c.args.cells.now c.loop-cell.cell-index (0, 0, 0) c.height.ensures.picture c.requires c.loop-cell-test.true c.loop-cell.invariant).2
-
 pub loop-cell-preserved : goal.loop-cell-preserved
 loop-cell-preserved c = c.set.ensures ∙ with_one_more c.args.picture.now c.loop-cell.picture c.args.cells.now c.loop-cell.cell-index (0, 0, 0) c.loop-cell-test.true c.loop-cell.invariant

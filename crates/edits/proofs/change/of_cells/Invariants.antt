@@ -1,6 +1,5 @@
 -- the lines of the cells so far are touched
-use Rattle.std.proofs.Common.{◌≡◌, length}
-use Rattle.std.specs.Prelude.{◌↔◌}
+use Rattle.std.proofs.Common.{◌≡◌, length, ◌↔◌}
 use Rattle.picture.specs.declared.line_id.LineId.{LineId}
 use Rattle.picture.specs.Rows.{width_of}
 use Rattle.clues.specs.Change.{IsTouched, still}

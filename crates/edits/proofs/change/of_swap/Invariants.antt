@@ -1,6 +1,5 @@
 -- of the crossing lines so far, those with different cells are touched
-use Rattle.std.proofs.Common.{◌≡◌, length}
-use Rattle.std.specs.Prelude.{◌↔◌}
+use Rattle.std.proofs.Common.{◌≡◌, length, ◌↔◌}
 use Rattle.picture.specs.declared.line_id.LineId.{LineId}
 use Rattle.picture.specs.Rows.{width_of}
 use Rattle.clues.specs.declared.places.Places.TheVariants.{Swapped}

@@ -1,9 +1,9 @@
-use Rattle.std.proofs.Common.{ap, sym, ◌∙◌, arith, ◌<◌, ◌≤◌, length, inl, inr}
+use Rattle.std.proofs.Common.{ap, sym, ◌∙◌, arith, ◌<◌, length, inl, inr}
 use Rattle.std.proofs.lemmas.Bool.Decides.{nat_tests}
 use Rattle.picture.specs.Rows.{lines_along}
 use Rattle.edits.specs.Design.{design_of}
 use Rattle.edits.specs.Fault.{same_design}
-use Rattle.edits.proofs.IdleLemmas.{edited_paint, edited_fill, edited_recolour, paint_idle, insert_idle, delete_idle, swap_idle, add_idle, set_idle, pin_idle, unpin_idle}
+use Rattle.edits.proofs.IdleLemmas.{edited_paint, edited_fill, edited_recolour, paint_idle, swap_idle, set_idle, pin_idle, unpin_idle}
 use Rattle.edits.proofs.RevertLemmas.{not_in}
 use Rattle.edits.proofs.idle.changes_nothing.Goals as goal
 
@@ -41,20 +41,3 @@ pub returns-in-Unpin : goal.returns-in-Unpin
 returns-in-Unpin c =
     let inside = not_in c.args.document.now.picture c.in-Unpin.row c.in-Unpin.col (rw c.in-Unpin.is at c.requires.inside) in
     rw c.in-Unpin.is (unpin_idle (design_of c.args.document.now) c.in-Unpin.row c.in-Unpin.col c.is_given-in-Unpin.result c.know.ensures inside.0 inside.1 c.is_given-in-Unpin.ensures)
-
-pub returns-in-InsertLine : goal.returns-in-InsertLine
-returns-in-InsertLine c =
-    let d = design_of c.args.document.now in
-    elim c.in-InsertLine.is [
-      | inl i ↦
-          let inside = rw i.1 at c.requires.inside in
-          let le : i.0.at ≤ lines_along i.0.axis c.args.document.now.picture = grind (arith, nat_tests, inside) in
-          rw i.1 (insert_idle d i.0 _ c.know.ensures le)
-      | inr o ↦ elim o [
-        | inl x ↦
-            let inside = rw x.1 at c.requires.inside in
-            let lt : x.0.at < lines_along x.0.axis c.args.document.now.picture = grind (arith, nat_tests, inside) in
-            rw x.1 (delete_idle d x.0 _ c.know.ensures lt)
-        | inr a ↦ rw a.1 (add_idle d a.0)
-      ]
-    ]

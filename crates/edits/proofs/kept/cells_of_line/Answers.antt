@@ -1,9 +1,6 @@
 use Rattle.std.proofs.Common.{◌∙◌, ap, arith, ℕ, [], ◌∷◌, ◌++◌}
-use Rattle.edits.proofs.KeptLemmas.{no_cells_yet, one_cell_more, all_cells}
+use Rattle.edits.proofs.KeptLemmas.{one_cell_more, all_cells}
 use Rattle.edits.proofs.kept.cells_of_line.Goals as goal
-
-pub loop-position-init : goal.loop-position-init
-loop-position-init c = c.new-cells.ensures.items ∙ no_cells_yet c.args.picture.now c.args.line
 
 pub loop-position-preserved : goal.loop-position-preserved
 loop-position-preserved c =

@@ -1,14 +1,10 @@
-use Rattle.std.proofs.Common.{◌∙◌, ap, arith, ℕ}
+use Rattle.std.proofs.Common.{◌∙◌, ap, arith, ℕ, length, Vec, Global}
 use Rattle.edits.specs.Design.{marks_of}
 use Rattle.picture.specs.Rows.{width_of}
-use Rattle.std.proofs.Common.{length, Vec, Global}
 use Rattle.edits.proofs.DesignLemmas.{marks_small}
-use Rattle.edits.proofs.KeptLemmas.{no_givens_yet, one_given_more, no_given_here, all_givens, marks_along}
+use Rattle.edits.proofs.KeptLemmas.{one_given_more, no_given_here, all_givens, marks_along}
 use Rattle.edits.proofs.kept.givens_of_line.Goals as goal
 use Rattle.edits.proofs.kept.givens_of_line.Goals.{then-is_given+in_ok-push, else-is_given}
-
-pub loop-position-init : goal.loop-position-init
-loop-position-init c = c.new-givens.ensures.items ∙ no_givens_yet _ c.args.line
 
 pub loop-position-preserved : goal.loop-position-preserved
 loop-position-preserved c =

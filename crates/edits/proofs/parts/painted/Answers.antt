@@ -3,14 +3,18 @@ use Rattle.edits.specs.Note.{repainted, with_cells}
 use Rattle.edits.proofs.PartLemmas.{changed_inside, changed_document}
 use Rattle.edits.proofs.parts.painted.Goals as goal
 
-pub invariant_of-result : goal.invariant_of-result
-invariant_of-result c =
-    let same : c.paint_cells.new.picture ≡ with_cells c.args.document.now.picture (map (repainted c.args.edit.now) c.args.cells.now) = c.paint_cells.ensures ∙ ap (λ (r : List (List ℕ)). with_cells r (map (repainted c.args.edit.now) c.args.cells.now)) c.in_ok-picture.ensures in
-    let palette : c.in_ok-palette.palette ≡ c.args.document.now.palette = c.in_ok-palette.ensures in
+pub invariant_of-after : goal.invariant_of-after
+invariant_of-after c =
+    let d = c.args.document.now in
+    let e = c.in_ok-after.ensures in
+    let same : c.paint_cells.new.picture ≡ with_cells d.picture (map (repainted c.args.edit.now) c.args.cells.now) = c.paint_cells.ensures ∙ ap (λ (r : List (List ℕ)). with_cells r (map (repainted c.args.edit.now) c.args.cells.now)) e.picture in
     record {
-      coloured = rw (same, palette) c.requires.coloured;
-      inside = changed_inside c.args.document.now.picture c.paint_cells.new.picture (map (repainted c.args.edit.now) c.args.cells.now) c.args.document.now.givens c.height.ensures.picture c.requires.cells same c.args.document.now.inside;
+      coloured = rw (same, e.palette) c.requires.coloured;
+      inside = rw e.givens (changed_inside d.picture c.paint_cells.new.picture (map (repainted c.args.edit.now) c.args.cells.now) d.givens c.height.ensures.picture c.requires.cells same d.inside);
     }
 
 pub returns : goal.returns
-returns c = changed_document c.args.document.now.picture c.paint_cells.new.picture (map (repainted c.args.edit.now) c.args.cells.now) c.args.document.now.givens c.args.document.now.palette c.in_ok-palette.palette c.height.ensures.picture c.requires.cells c.in_ok-palette.ensures (c.paint_cells.ensures ∙ ap (λ (r : List (List ℕ)). with_cells r (map (repainted c.args.edit.now) c.args.cells.now)) c.in_ok-picture.ensures)
+returns c =
+    let d = c.args.document.now in
+    let e = c.in_ok-after.ensures in
+    rw e.givens (changed_document d.picture c.paint_cells.new.picture (map (repainted c.args.edit.now) c.args.cells.now) d.givens d.palette c.in_ok-after.after.palette c.height.ensures.picture c.requires.cells e.palette (c.paint_cells.ensures ∙ ap (λ (r : List (List ℕ)). with_cells r (map (repainted c.args.edit.now) c.args.cells.now)) e.picture))

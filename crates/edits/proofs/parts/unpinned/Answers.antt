@@ -1,7 +1,13 @@
+use Rattle.std.proofs.Common.{List, ℕ, ap, ◌∙◌, length}
+use Rattle.picture.specs.Rows.{width_of, with_cell}
+use Rattle.edits.specs.Design.{marks_of}
 use Rattle.edits.proofs.DesignLemmas.{assembled, unpinned_marks}
 use Rattle.edits.proofs.parts.unpinned.Goals as goal
 
 pub returns : goal.returns
 returns c =
-    assembled c.args.document.now.palette c.in_ok-palette.palette c.args.document.now.picture c.in_ok-picture.picture c.take_out.new.self _ c.in_ok-palette.ensures c.in_ok-picture.ensures
-    (unpinned_marks _ _ c.args.document.now.givens c.take_out.new.self c.args.row c.args.col c.requires.in_rows c.requires.in_columns c.take_out.ensures.members)
+    let rows = c.args.document.now.picture in
+    let e = c.in_ok-after.ensures in
+    assembled c.args.document.now.palette c.in_ok-after.after.palette rows c.in_ok-after.after.picture c.take_out.new.self _ e.palette e.picture
+    (unpinned_marks _ _ c.in_ok-after.after.givens c.take_out.new.self c.args.row c.args.col c.requires.in_rows c.requires.in_columns c.take_out.ensures.members
+    ∙ ap (λ (g : List ℕ). with_cell (marks_of (length rows) (width_of rows) g) c.args.row c.args.col 0) e.givens)

@@ -1,5 +1,4 @@
-use Rattle.std.proofs.Common.{List, ℕ, min, sym, ◌∙◌, ap, inr}
-use Rattle.std.specs.Prelude.{option_map}
+use Rattle.std.proofs.Common.{List, ℕ, min, sym, ◌∙◌, ap, inr, option_map}
 use Rattle.non_text.specs.Bytes.{number_of}
 use Rattle.non_text.proofs.ClueLineLemmas.{left_to_read, left_bad}
 use Rattle.non_text.proofs.clue_line.numbers.Goals as goal

@@ -1,5 +1,4 @@
-use Rattle.std.proofs.Common.{sym, ◌∙◌, arith}
-use Rattle.std.specs.Prelude.{codes}
+use Rattle.std.proofs.Common.{sym, ◌∙◌, arith, codes}
 use Rattle.non_text.specs.Lines.{lines_of}
 use Rattle.non_text.proofs.SectionLemmas.{clues_count}
 use Rattle.non_text.proofs.PuzzleLemmas.{size_limits}

@@ -4,14 +4,6 @@ use Rattle.picture.proofs.OrderLemmas.{triples_more, seen_more, numbered_more}
 use Rattle.picture.proofs.RoomLemmas.{there, among_more}
 use Rattle.picture.proofs.picture.numbers_for.Goals as goal
 
-pub number_for-requires : goal.number_for-requires
-number_for-requires c = record {
-  all = c.args.colours.now;
-  palette = c.rgb.ensures.palette;
-  among = c.loop-cell.invariant.among;
-  there = there c.args.colours.now.triples _ c.rgb.result c.rgb.ensures.stands;
-}
-
 pub loop-cell-preserved : goal.loop-cell-preserved
 loop-cell-preserved c =
     let triples = c.args.colours.now.triples in

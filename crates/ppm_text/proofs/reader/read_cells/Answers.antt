@@ -1,4 +1,4 @@
-use Rattle.std.proofs.Common.{◌∙◌}
+use Rattle.std.proofs.Common.{◌≡◌, [], ◌∷◌, ◌++◌, ◌∙◌, rules}
 use Rattle.std.proofs.lemmas.Result.{err_from_is_err_and}
 use Rattle.ppm_text.specs.Ppm.{cells_at}
 use Rattle.ppm_text.proofs.Cells.{cells_go_on, cells_stop, cells_end}
@@ -13,8 +13,10 @@ pub returns-clause-read : goal.returns-clause-read
 returns-clause-read c = cells_end c.loop.cells.items c.loop.scanner.end c.args.count c.loop.counter c.loop.palette c.loop.scanner.tokens (cells_at c.args.scanner.now.end c.args.count c.args.palette.now c.args.scanner.now.tokens) c.loop-test.false c.loop.invariant.read
 
 pub loop-preserved : goal.loop-preserved
-loop-preserved c = record {
-  read = rw (c.in_ok-push.ensures.items, c.in_ok-cell.ensures.end) (cells_go_on c.loop.cells.items c.loop.scanner.end c.args.count c.loop.counter c.loop.palette c.loop.scanner.tokens c.in_ok-cell.cell c.read_cell.new.palette c.read_cell.new.scanner.tokens (cells_at c.args.scanner.now.end c.args.count c.args.palette.now c.args.scanner.now.tokens) c.loop-test.true c.in_ok-cell.ensures.read c.loop.invariant.read);
-  known = c.in_ok-cell.ensures.known;
-  end = c.in_ok-cell.ensures.end ∙ c.loop.invariant.end;
-}
+loop-preserved c =
+    let pushed : c.push.new.self.items ≡ c.loop.cells.items ++ c.in_ok-cell.cell ∷ [] = search rules in
+    record {
+      read = rw (pushed, c.in_ok-cell.ensures.end) (cells_go_on c.loop.cells.items c.loop.scanner.end c.args.count c.loop.counter c.loop.palette c.loop.scanner.tokens c.in_ok-cell.cell c.read_cell.new.palette c.read_cell.new.scanner.tokens (cells_at c.args.scanner.now.end c.args.count c.args.palette.now c.args.scanner.now.tokens) c.loop-test.true c.in_ok-cell.ensures.read c.loop.invariant.read);
+      known = c.in_ok-cell.ensures.known;
+      end = c.in_ok-cell.ensures.end ∙ c.loop.invariant.end;
+    }

@@ -1,9 +1,9 @@
-use Rattle.std.proofs.Common.{[], ◌+◌, ◌++◌, ◌∙◌, List, ap, arith, get_or, take, ℕ}
+use Rattle.std.proofs.Common.{[], ◌+◌, ◌++◌, ◌∙◌, List, ap, arith, get_or, take}
 use Rattle.clues.specs.declared.block.Block.{Block}
 use Rattle.clues.specs.ClueBook.{clues_along}
 use Rattle.report_text.specs.ClueText.{letter_of, line_text, lines_text}
 use Rattle.report_text.proofs.ShownLemmas.{none_pushed, pushed}
-use Rattle.report_text.proofs.TextLemmas.{lines_text-all, lines_text-more, lines_text-nil}
+use Rattle.report_text.proofs.TextLemmas.{lines_text-more, lines_text-nil}
 use Rattle.report_text.proofs.clue_text.push_lines.Goals as goal
 
 pub loop-at-init : goal.loop-at-init
@@ -22,8 +22,3 @@ loop-at-preserved c =
     ∙ ap (λ (clue : List Block). text ++ line_text letter (at + 1) clue) (c.blocks-in-loop-at.ensures.blocks ∙ c.clue.ensures.value) in
     pushed c.args.text.now.items text c.push_line.new.text.items (lines_text letter 1 (take at clues)) (line_text letter (at + 1) (get_or clues at [])) (lines_text letter 1 (take (at + 1) clues))
     c.loop-at.invariant line (lines_text-more letter clues at (omega arith))
-
-pub returns : goal.returns
-returns c =
-    let clues = clues_along c.args.axis c.args.book.now in
-    c.loop-at.invariant ∙ ap (λ (text : List ℕ). c.args.text.now.items ++ text) (lines_text-all (letter_of c.args.axis) clues c.loop-at.at (omega arith))

@@ -1,8 +1,8 @@
-use Rattle.std.proofs.Common.{[], ◌∷◌, ◌+◌, ◌++◌, ◌∙◌, List, Vec, Global, ap, arith, sym, ℕ}
+use Rattle.std.proofs.Common.{[], ◌∷◌, ◌+◌, ◌++◌, ◌∙◌, List, Vec, Global, ap, sym, ℕ}
 use Rattle.std.specs.List.{range_with_len}
 use Rattle.report_text.specs.ReasonText.{letters_among}
 use Rattle.report_text.specs.Shown.{letter}
-use Rattle.report_text.proofs.ShownLemmas.{all_pushed, letters_none, letters_passed, letters_taken, none_pushed, pushed}
+use Rattle.report_text.proofs.ShownLemmas.{letters_none, letters_passed, letters_taken, none_pushed, pushed}
 use Rattle.report_text.proofs.reason_text.push_left.Goals as goal
 use Rattle.report_text.proofs.reason_text.push_left.Goals.{then-not-has_colour+in_ok-push, else-not-has_colour}
 
@@ -25,7 +25,3 @@ loop-colour-preserved c =
       | else-not-has_colour w ↦
           ap items w.text-is ∙ c.loop-colour.invariant ∙ ap (λ (text : List ℕ). old ++ text) (sym (letters_passed excluded k (sym c.has_colour.ensures ∙ w.if-not-has_colour.false)))
     ]
-
-pub returns : goal.returns
-returns c =
-    all_pushed (λ k. letters_among c.args.excluded (range_with_len 0 k)) c.loop-colour.colour 16 c.args.text.now.items c.loop-colour.text.items (omega arith) c.loop-colour.invariant

@@ -1,9 +1,8 @@
-use Rattle.std.proofs.Common.{◌+◌, ◌++◌, ◌∙◌, List, Vec, Global, ap, arith, sym, ℕ}
-use Rattle.picture.specs.Rows.{width_of}
+use Rattle.std.proofs.Common.{◌+◌, ◌++◌, ◌∙◌, List, Vec, Global, ap, sym, ℕ}
 use Rattle.edits.specs.Design.{design_of}
 use Rattle.report_text.specs.Report.{given_line, row_givens}
 use Rattle.report_text.proofs.ReportLemmas.{row_more, row_none, row_same}
-use Rattle.report_text.proofs.ShownLemmas.{all_pushed, none_pushed, pushed}
+use Rattle.report_text.proofs.ShownLemmas.{none_pushed, pushed}
 use Rattle.report_text.proofs.report.push_row_givens.Goals as goal
 use Rattle.report_text.proofs.report.push_row_givens.Goals.{then-is_given+in_ok-push_given, else-is_given}
 
@@ -27,8 +26,3 @@ loop-col-preserved c =
       | else-is_given w ↦
           ap items w.text-is ∙ c.loop-col.invariant ∙ ap (λ (text : List ℕ). old ++ text) (sym (row_same d i j (sym c.is_given.ensures ∙ w.if-is_given.false)))
     ]
-
-pub returns : goal.returns
-returns c =
-    let d = design_of c.args.document.now in
-    all_pushed (row_givens d c.args.row) c.loop-col.col (width_of d.rows) c.args.text.now.items c.loop-col.text.items (omega arith) c.loop-col.invariant

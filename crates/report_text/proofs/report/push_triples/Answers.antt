@@ -1,8 +1,8 @@
-use Rattle.std.proofs.Common.{ap, arith, sym, ◌+◌, ◌++◌, ◌∙◌, List, ℕ, length}
+use Rattle.std.proofs.Common.{ap, sym, ◌+◌, ◌++◌, ◌∙◌}
 use Rattle.picture.specs.declared.rgb.Rgb.{Rgb}
 use Rattle.report_text.specs.Report.{colour_line, colour_lines}
 use Rattle.report_text.proofs.ReportLemmas.{colours_more, colours_none}
-use Rattle.report_text.proofs.ShownLemmas.{all_pushed, none_pushed, pushed}
+use Rattle.report_text.proofs.ShownLemmas.{none_pushed, pushed}
 use Rattle.report_text.proofs.report.push_triples.Goals as goal
 
 pub loop-number-init : goal.loop-number-init
@@ -16,8 +16,3 @@ loop-number-preserved c =
     let rgb = ap (λ (t : Rgb). front ++ colour_line n t) (sym c.rgb.ensures.value) in
     pushed c.args.text.now.items c.loop-number.text.items c.push_colour.new.text.items front (colour_line n c.rgb.result) (colour_lines triples (n + 1))
     c.loop-number.invariant c.in_ok-push_colour.ensures (colours_more triples n ∙ rgb)
-
-pub returns : goal.returns
-returns c =
-    let triples = c.args.palette.now.triples in
-    all_pushed (colour_lines triples) c.loop-number.number (length triples) c.args.text.now.items c.loop-number.text.items (omega arith) c.loop-number.invariant

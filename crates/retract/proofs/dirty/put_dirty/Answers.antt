@@ -1,8 +1,8 @@
 -- One line more is decided.
-use Rattle.std.proofs.Common.{refl, sym, ◌∙◌, arith}
+use Rattle.std.proofs.Common.{refl, sym, ◌∙◌}
 use Rattle.std.proofs.lemmas.Bool.{false≢true}
 use Rattle.picture.specs.declared.line_id.LineId.{LineId}
-use Rattle.retract.proofs.DirtyLemmas.{below_all, below_clean, below_dirty}
+use Rattle.retract.proofs.DirtyLemmas.{below_clean, below_dirty}
 use Rattle.retract.proofs.dirty.put_dirty.Goals as goal
 use Rattle.retract.proofs.dirty.put_dirty.Goals.{then-not-is_clean, else-not-is_clean}
 
@@ -19,8 +19,3 @@ loop-at-preserved c =
           (below_clean c.args.axis c.loop-at.at c.args.sides.now.change.now.moves c.args.sides.now.old.now c.args.sides.now.new.now c.args.sides.now.before.now c.args.sides.now.after.now c.args.dirty.now c.loop-at.dirty line refl refl c.loop-at.invariant
           (c.is_clean.ensures.0 w.if-not-is_clean.false))
     ]
-
-pub returns-clause-along : goal.returns-clause-along
-returns-clause-along c =
-    below_all c.args.axis c.loop-at.at c.args.sides.now.change.now.moves c.args.sides.now.old.now c.args.sides.now.new.now c.args.sides.now.before.now c.args.sides.now.after.now c.args.dirty.now c.loop-at.dirty
-    (omega (arith, c.line_count-at-end.ensures.value, c.requires.books.after c.args.axis, c.requires.facts.new_sizes c.args.axis)) c.loop-at.invariant

@@ -1,10 +1,9 @@
-use Rattle.std.proofs.Common.{◌≡◌, ap, subst, ◌∙◌, map, List}
-use Rattle.std.specs.Prelude.{IfOk}
+use Rattle.std.proofs.Common.{◌≡◌, ap, subst, ◌∙◌, map, List, IfOk}
 use Rattle.edits.specs.Design.{Design, design, design_of}
 use Rattle.edits.specs.Note.{Cell, Note, repainted, with_cells}
 use Rattle.edits.proofs.CellLemmas.{paints_cells}
 use Rattle.edits.proofs.FaultLemmas.{lawful}
-use Rattle.edits.proofs.ApplyLemmas.{paints, painted_coloured, cells_fit, painted_gives, insert_fits, delete_fits, swap_fits, set_fits, pin_fits, unpin_fits}
+use Rattle.edits.proofs.ApplyLemmas.{paints, painted_coloured, cells_fit, painted_gives, insert_fits, delete_fits, swap_fits}
 use Rattle.edits.proofs.entry.Entry.apply.Goals as goal
 
 pub painted-requires-clause-cells : goal.painted-requires-clause-cells
@@ -38,19 +37,6 @@ swapped-requires c =
     let fits = swap_fits d c.in-SwapLines.axis c.in-SwapLines.first c.in-SwapLines.second c.know.ensures (lawful d _ (rw c.in-SwapLines.is at c.requires.lawful)) in
     record { first_in = fits.0; second_in = fits.1; coloured = fits.2 }
 
-pub recoloured-requires : goal.recoloured-requires
-recoloured-requires c = set_fits (design_of c.args.document.now) c.in-SetColour.colour c.in-SetColour.rgb (lawful (design_of c.args.document.now) _ (rw c.in-SetColour.is at c.requires.lawful))
-
-pub pinned-requires : goal.pinned-requires
-pinned-requires c =
-    let fits = pin_fits (design_of c.args.document.now) c.in-Pin.row c.in-Pin.col (lawful (design_of c.args.document.now) _ (rw c.in-Pin.is at c.requires.lawful)) in
-    record { in_rows = fits.0; in_columns = fits.1 }
-
-pub unpinned-requires : goal.unpinned-requires
-unpinned-requires c =
-    let fits = unpin_fits (design_of c.args.document.now) c.in-Unpin.row c.in-Unpin.col (lawful (design_of c.args.document.now) _ (rw c.in-Unpin.is at c.requires.lawful)) in
-    record { in_rows = fits.0; in_columns = fits.1 }
-
 pub returns-in-Paint : goal.returns-in-Paint
 returns-in-Paint c =
     let d = design_of c.args.document.now in
@@ -59,24 +45,3 @@ returns-in-Paint c =
     let same = c.deref.ensures.value ∙ ap (λ (n : Note). n.cells) c.requires.kept ∙ p.kept c.args.document.now.picture in
     let gives = ap (λ (cells : List Cell). design d.colours (with_cells d.rows (map (repainted e) cells)) d.marks) same ∙ painted_gives d e c.know.ensures (lawful d e c.requires.lawful) p in
     subst (λ (x : Design). IfOk c.painted.result (λ y. design_of y ≡ x)) gives c.painted.ensures
-
-pub returns-in-InsertLine : goal.returns-in-InsertLine
-returns-in-InsertLine c = rw c.in-InsertLine.is c.inserted.ensures
-
-pub returns-in-DeleteLine : goal.returns-in-DeleteLine
-returns-in-DeleteLine c = rw c.in-DeleteLine.is c.deleted.ensures
-
-pub returns-in-SwapLines : goal.returns-in-SwapLines
-returns-in-SwapLines c = rw c.in-SwapLines.is c.swapped.ensures
-
-pub returns-in-AddColour : goal.returns-in-AddColour
-returns-in-AddColour c = rw c.in-AddColour.is c.added.ensures
-
-pub returns-in-SetColour : goal.returns-in-SetColour
-returns-in-SetColour c = rw c.in-SetColour.is c.recoloured.ensures
-
-pub returns-in-Pin : goal.returns-in-Pin
-returns-in-Pin c = rw c.in-Pin.is c.pinned.ensures
-
-pub returns-in-Unpin : goal.returns-in-Unpin
-returns-in-Unpin c = rw c.in-Unpin.is c.unpinned.ensures

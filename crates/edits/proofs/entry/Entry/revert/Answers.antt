@@ -1,13 +1,12 @@
 use Rattle.std.proofs.Common.{◌≡◌, ℕ, ap, sym, refl, subst, ◌∙◌, map, List, length}
 use Rattle.picture.specs.Document.{AreColoured}
-use Rattle.picture.specs.Palette.{without_last}
 use Rattle.picture.specs.Rows.{with_cell, line_inserted, line_deleted, lines_swapped}
 use Rattle.edits.specs.Design.{Design, design, design_of}
 use Rattle.edits.specs.Note.{Cell, Note, as_mark, cells_of_line, givens_of_line, note_of, with_cells, with_old}
 use Rattle.edits.proofs.FaultLemmas.{lawful}
 use Rattle.edits.proofs.ApplyLemmas.{paints}
 use Rattle.edits.proofs.ShiftLemmas.{inserted_below_bound}
-use Rattle.edits.proofs.StepLemmas.{step_coloured, gives_before, repaint_fits, reinsert_fits, redelete_fits, line_cells_fit, line_givens_fit, reswap_fits, pop_fits, reset_fits, repin_fits, reunpin_fits}
+use Rattle.edits.proofs.StepLemmas.{step_coloured, gives_before, repaint_fits, reinsert_fits, redelete_fits, line_cells_fit, line_givens_fit, reswap_fits}
 use Rattle.edits.proofs.entry.Entry.revert.Goals as goal
 
 pub with_cells-requires-clause-cells : goal.with_cells-requires-clause-cells
@@ -56,29 +55,6 @@ swapped-requires c =
     let fits = reswap_fits c.requires.0 d c.requires.1.is_design c.in-SwapLines.axis c.in-SwapLines.first c.in-SwapLines.second (lawful c.requires.0 _ (rw c.in-SwapLines.is at c.requires.1.lawful)) (rw c.in-SwapLines.is at c.requires.1.gives) in
     record { first_in = fits.0; second_in = fits.1; coloured = rw c.in-SwapLines.is at (step_coloured c.requires.0 (note_of c.args.self.now) d c.requires.1) }
 
-pub without_last-requires : goal.without_last-requires
-without_last-requires c =
-    let d = design_of c.args.document.now in
-    record {
-      more = pop_fits c.requires.0 d c.requires.1.is_design c.in-AddColour.rgb (rw c.in-AddColour.is at c.requires.1.gives);
-      coloured = rw c.in-AddColour.is at (step_coloured c.requires.0 (note_of c.args.self.now) d c.requires.1);
-    }
-
-pub with_old-requires : goal.with_old-requires
-with_old-requires c =
-    let d = design_of c.args.document.now in
-    reset_fits c.requires.0 d c.requires.1.is_design c.in-SetColour.colour c.in-SetColour.rgb (lawful c.requires.0 _ (rw c.in-SetColour.is at c.requires.1.lawful)) (rw c.in-SetColour.is at c.requires.1.gives)
-
-pub unpinned-requires : goal.unpinned-requires
-unpinned-requires c =
-    let fits = repin_fits c.requires.0 (design_of c.args.document.now) c.requires.1.is_design c.in-Pin.row c.in-Pin.col (lawful c.requires.0 _ (rw c.in-Pin.is at c.requires.1.lawful)) (rw c.in-Pin.is at c.requires.1.gives) in
-    record { in_rows = fits.0; in_columns = fits.1 }
-
-pub pinned-requires : goal.pinned-requires
-pinned-requires c =
-    let fits = reunpin_fits c.requires.0 (design_of c.args.document.now) c.requires.1.is_design c.in-Unpin.row c.in-Unpin.col (lawful c.requires.0 _ (rw c.in-Unpin.is at c.requires.1.lawful)) (rw c.in-Unpin.is at c.requires.1.gives) in
-    record { in_rows = fits.0; in_columns = fits.1 }
-
 pub returns-in-Paint : goal.returns-in-Paint
 returns-in-Paint c =
     let d = design_of c.args.document.now in
@@ -97,11 +73,6 @@ returns-in-SwapLines c =
     let d = design_of c.args.document.now in
     let axis = c.in-SwapLines.axis in
     gives_before c.swapped.result (design d.colours (lines_swapped axis c.in-SwapLines.first c.in-SwapLines.second d.rows) (lines_swapped axis c.in-SwapLines.first c.in-SwapLines.second d.marks)) d (note_of c.args.self.now) (rw c.in-SwapLines.is refl) c.swapped.ensures
-
-pub returns-in-AddColour : goal.returns-in-AddColour
-returns-in-AddColour c =
-    let d = design_of c.args.document.now in
-    gives_before c.without_last.result (design (without_last d.colours) d.rows d.marks) d (note_of c.args.self.now) (rw c.in-AddColour.is refl) c.without_last.ensures
 
 pub returns-in-SetColour : goal.returns-in-SetColour
 returns-in-SetColour c =

@@ -1,5 +1,4 @@
-use Rattle.std.proofs.Common.{ap, ◌∙◌}
-use Rattle.std.specs.Prelude.{option_map}
+use Rattle.std.proofs.Common.{ap, ◌∙◌, option_map}
 use Rattle.edits.specs.Design.{design_of}
 use Rattle.edits.specs.History.{History, Turn, last_turn}
 use Rattle.edits.specs.Note.{note_for, note_of}

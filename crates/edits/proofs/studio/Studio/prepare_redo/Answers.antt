@@ -1,5 +1,4 @@
-use Rattle.std.proofs.Common.{◌≡◌, Some, None, ap, sym, subst, ◌∙◌, rules}
-use Rattle.std.specs.Prelude.{slice_get}
+use Rattle.std.proofs.Common.{◌≡◌, Some, None, ap, sym, subst, ◌∙◌, rules, slice_get}
 use Rattle.edits.specs.Design.{Design, design_of}
 use Rattle.edits.specs.Edit.{edited}
 use Rattle.edits.specs.History.{Plan, IsPlanFor, ByRedo, redo_fault}
@@ -37,14 +36,8 @@ returns-clause-ready c =
     (subst (λ (q : Plan). IsPlanFor (history_from d c.self.inside.past c.self.inside.future) q) (plan_is p ByRedo (edited d c.in-Some.entry.now.edit) c.in_ok-redo_of.ensures.advances c.in_ok-redo_of.ensures.gives)
     (redo_plan d c.self.inside.past c.self.inside.future c.in-Some.entry.now first c.self.invariant p.change))
 
-pub returns-clause-next : goal.returns-clause-next
-returns-clause-next c = rw (c.in_ok-redo_of.ensures.advances)
-
 pub returns-clause-change : goal.returns-clause-change
 returns-clause-change c =
     let d : Design = design_of c.self.inside.document in
     let first : slice_get c.self.inside.future.items 0 ≡ Some c.in-Some.entry.now = sym c.in-Some.ensures in
     rw (← c.self.view_is, first_turn_is d c.self.inside.future.items c.in-Some.entry.now first) c.in_ok-redo_of.ensures.change
-
-pub returns-clause-exact : goal.returns-clause-exact
-returns-clause-exact c = rw (← c.self.view_is) c.in_ok-redo_of.ensures.change.exact

@@ -1,7 +1,7 @@
 use Rattle.std.proofs.Common.{refl}
 use Rattle.picture.specs.CellSet.{no_cells}
 use Rattle.picture.proofs.CellSetLemmas.{empty_is}
-use Rattle.picture.proofs.CellSetLaws.{members, none_counted}
+use Rattle.picture.proofs.CellSetLaws.{members}
 use Rattle.picture.proofs.cell_set.CellSet.empty.Goals as goal
 
 pub returns-clause-value : goal.returns-clause-value
@@ -14,10 +14,6 @@ returns-clause-set c = empty_is
 pub returns-clause-none : goal.returns-clause-none
 unfolding no_cells
 returns-clause-none c = members.empty
-
-pub returns-clause-count : goal.returns-clause-count
-unfolding no_cells
-returns-clause-count c = none_counted
 
 pub invariant_of-result : goal.invariant_of-result
 invariant_of-result c = empty_is

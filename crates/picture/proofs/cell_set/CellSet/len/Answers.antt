@@ -1,5 +1,4 @@
-use Rattle.std.proofs.Common.{arith}
-use Rattle.std.specs.Prelude.{count_ones}
+use Rattle.std.proofs.Common.{arith, count_ones}
 use Rattle.std.proofs.lemmas.List.Sums.{sum_by_more}
 use Rattle.picture.proofs.CellSetLemmas.{few_ones}
 use Rattle.picture.proofs.cell_set.CellSet.len.Goals as goal
