@@ -1,21 +1,18 @@
 -- The cells in which the masks of a line have colours, gathered one after another.
-use Rattle.std.proofs.Common.{◌≡◌, ℕ, ◌+◌, ◌<◌, ◌≤◌, ◌^◌, List, length, take, refl, sym, ap, ◌∙◌, subst, arith, inl, inr, get_or, set, get_or-set_same, get_or-set_other, Bool, true, false, length-take}
+use Rattle.std.proofs.Common.{◌≡◌, ℕ, ◌+◌, ◌-◌, ◌/◌, ◌%◌, ◌<◌, ◌≤◌, ◌↔◌, ◌^◌, List, length, take, sym, ap, ◌∙◌, subst, arith, inl, inr, get_or, set, get_or-set_same, get_or-set_other, Bool, false, cond, not, eqb, eq-eqb, ne_eqb, map, replicate, w16, length-take}
 use Rattle.std.specs.Prelude.{IsBitSet}
-use Rattle.std.specs.Int.{from_bool}
+use Rattle.std.specs.Int.{bit_at}
+use Rattle.std.specs.Simd.Lanes.{zip2, chunk, top, mask_l}
 use Rattle.std.proofs.lemmas.Bool.{cases_eq, cases_lt}
-use Rattle.std.proofs.lemmas.List.{get_or_past, get_or-take}
+use Rattle.std.proofs.lemmas.List.{get_or_past, get_or-take, get_or-map, length-map}
+use Rattle.std.proofs.lemmas.Simd.{length-chunk, get_or-chunk, bitmask_splat, bit_mask_l}
+use Rattle.std.proofs.lemmas.Nat.{pow-add}
+use Rattle.std.proofs.lemmas.Nat.Bits.{bit_at-zero}
+use Rattle.std.proofs.Math.Nat.{div-div-eq-div-mul}
 use Rattle.justify.specs.declared.premise.Premise.{Premise}
+use Rattle.justify.specs.Gathering.{Gathered, AreColoured}
 use Rattle.justify.specs.Premises.{premise, premise_at, Gathers}
 use Rattle.picture.specs.BitLaws.{no_bit}
-
--- the first `count` premises are those of the first n cells
-pub record Gathered (masks : List ℕ) (n : ℕ) (found : List Premise) (count : ℕ) : Type 0 where
-  pub within : count ≤ n
-  pub before : (m : ℕ) → m < count → (premise_at found m).at < n
-  pub colours : (m : ℕ) → m < count → (premise_at found m).colours ≡ get_or masks (premise_at found m).at 0
-  pub some : (m : ℕ) → m < count → 0 < (premise_at found m).colours
-  pub rising : (m p : ℕ) → m < p → p < count → (premise_at found m).at < (premise_at found p).at
-  pub each : (i : ℕ) → i < n → 0 < get_or masks i 0 → (m : ℕ) × (m < count) × ((premise_at found m).at ≡ i)
 
 pub gathered_none : (masks : List ℕ) (found : List Premise) → Gathered masks 0 found 0
 gathered_none masks found = record {
@@ -31,26 +28,7 @@ module _ (masks : List ℕ) (n : ℕ) (found : List Premise) (count : ℕ) (new 
   kept : (m : ℕ) → m < count → premise_at (set found count new) m ≡ premise_at found m
   kept m l = get_or-set_other found count m new (premise 0 0) (omega arith)
 
-  gathered_skip : get_or masks n 0 ≡ 0 → Gathered masks (n + 1) (set found count new) count
-  gathered_skip none = record {
-    within = (let w = g.within in omega arith);
-    before = λ m l. (let P : Premise → Type 0 = λ p. p.at < n + 1 in subst P (sym (kept m l)) (let b = g.before m l in omega arith));
-    colours = λ m l. (let P : Premise → Type 0 = λ p. p.colours ≡ get_or masks p.at 0 in subst P (sym (kept m l)) (g.colours m l));
-    some = λ m l. (let P : Premise → Type 0 = λ p. 0 < p.colours in subst P (sym (kept m l)) (g.some m l));
-    rising = λ m p a b.
-        let l : m < count = omega arith in
-        let P : Premise → Type 0 = λ x. x.at < (premise_at (set found count new) p).at in
-        let Q : Premise → Type 0 = λ x. (premise_at found m).at < x.at in
-        subst P (sym (kept m l)) (subst Q (sym (kept p b)) (g.rising m p a b));
-    each = λ i l s. elim (cases_eq i n) [
-      | inl e ↦ absurd (let z : get_or masks i 0 ≡ 0 = ap (λ j. get_or masks j 0) e ∙ none in omega arith)
-      | inr other ↦
-          let w = g.each i (omega arith) s in
-          (w.0, w.1, ap (λ (p : Premise). p.at) (kept w.0 w.1) ∙ w.2)
-    ];
-  }
-
-  gathered_take : count < length found → new.at ≡ n → new.colours ≡ get_or masks n 0 → 0 < new.colours → Gathered masks (n + 1) (set found count new) (count + 1)
+  pub gathered_take : count < length found → new.at ≡ n → new.colours ≡ get_or masks n 0 → 0 < new.colours → Gathered masks (n + 1) (set found count new) (count + 1)
   gathered_take room at colours some =
       let here : premise_at (set found count new) count ≡ new = get_or-set_same found count new (premise 0 0) room in
       let by : (P : Premise → Type 0) → ((m : ℕ) → m < count → P (premise_at found m)) → P new → (m : ℕ) → m < count + 1 → P (premise_at (set found count new) m) =
@@ -136,15 +114,89 @@ gathered_all masks n found count all room small g =
       );
     }
 
--- one cell more, with its mask, whether it is counted or not
-pub gathered_more : (masks : List ℕ) (n : ℕ) (found : List Premise) (count colours : ℕ) → (counted : Bool) → (colours ≡ 0 → counted ≡ false) → ((colours ≡ 0 → ⊥) → counted ≡ true) → count < length found → colours ≡ get_or masks n 0 → Gathered masks n found count → Gathered masks (n + 1) (set found count (premise n colours)) (count + from_bool counted)
-gathered_more masks n found count colours true f t room e g = elim (cases_eq colours 0) [
-  | inl none ↦ absurd (let x : true ≡ false = f none in cc)
-  | inr some ↦ gathered_take masks n found count (premise n colours) g room refl e (omega arith)
+-- over cells without colours, nothing is gathered
+pub gathered_over : (masks : List ℕ) (n m : ℕ) (found : List Premise) (count : ℕ) → n ≤ m → ((i : ℕ) → n ≤ i → i < m → get_or masks i 0 ≡ 0) → Gathered masks n found count → Gathered masks m found count
+gathered_over masks n m found count more none g = record {
+  within = (let w = g.within in omega arith);
+  before = λ j l. (let b = g.before j l in omega arith);
+  colours = g.colours;
+  some = g.some;
+  rising = g.rising;
+  each = λ i l s. elim (cases_lt i n) [
+    | inl h ↦ g.each i h s
+    | inr past ↦ absurd (let z = none i past l in omega arith)
+  ];
+}
+
+-- ---- cells found by bits
+
+-- the bits of a number shifted down
+bit_down : (s n j : ℕ) → bit_at (n / 2 ^ s) j ≡ bit_at n (s + j)
+bit_down s n j = ap (λ m. m % 2) (div-div-eq-div-mul n (2 ^ s) (2 ^ j) ∙ ap (λ p. n / p) (sym (pow-add 2 s j)))
+
+module _ (masks : List ℕ) (place end bits : ℕ) (are : AreColoured masks place end bits) where
+  -- without bits there are no colours up to the end
+  pub none_coloured : bits ≡ 0 → (i : ℕ) → place ≤ i → i < end → get_or masks i 0 ≡ 0
+  none_coloured none i past l = elim (cases_eq (get_or masks i 0) 0) [
+    | inl e ↦ e
+    | inr other ↦
+        let at : place + (i - place) ≡ i = omega arith in
+        let some : 0 < get_or masks (place + (i - place)) 0 = (let P : ℕ → Type 0 = λ n. 0 < get_or masks n 0 in subst P (sym at) (omega arith)) in
+        let one = (are.each (i - place)).1 (omega arith, some) in
+        let zero_bit : bit_at bits (i - place) ≡ 0 = ap (λ b. bit_at b (i - place)) none ∙ bit_at-zero (i - place) in
+        absurd (omega arith)
+  ]
+
+  -- up to the lowest bit there are no colours
+  pub none_below : (s : ℕ) → ((j : ℕ) → j < s → bit_at bits j ≡ 0) → bit_at bits s ≡ 1 → (i : ℕ) → place ≤ i → i < place + s → get_or masks i 0 ≡ 0
+  none_below s low one i past l = elim (cases_eq (get_or masks i 0) 0) [
+    | inl e ↦ e
+    | inr other ↦
+        let at : place + (i - place) ≡ i = omega arith in
+        let inside = ((are.each s).0 one).0 in
+        let some : 0 < get_or masks (place + (i - place)) 0 = (let P : ℕ → Type 0 = λ n. 0 < get_or masks n 0 in subst P (sym at) (omega arith)) in
+        let is = (are.each (i - place)).1 (omega arith, some) in
+        let isnt = low (i - place) (omega arith) in
+        absurd (omega arith)
+  ]
+
+  -- the bits behind one are those of the cells behind its cell
+  pub coloured_behind : (s : ℕ) → AreColoured masks (place + s + 1) end (bits / 2 ^ s / 2)
+  coloured_behind s = record {
+    each = λ j.
+        let e : bit_at (bits / 2 ^ s / 2) j ≡ bit_at bits (s + (1 + j)) = bit_down 1 (bits / 2 ^ s) j ∙ bit_down s bits (1 + j) in
+        let at : place + (s + (1 + j)) ≡ place + s + 1 + j = omega arith in
+        let P : ℕ → Type 0 = λ n. (bit_at bits (s + (1 + j)) ≡ 1) ↔ ((n < end) × (0 < get_or masks n 0)) in
+        let Q : ℕ → Type 0 = λ b. (b ≡ 1) ↔ ((place + s + 1 + j < end) × (0 < get_or masks (place + s + 1 + j) 0)) in
+        subst Q (sym e) (subst P at (are.each (s + (1 + j))));
+  }
+
+abbrev some : ℕ → Bool
+some mask = not (eqb mask 0)
+
+told_some : (mask bit : ℕ) → bit ≡ cond (some mask) 1 0 → (bit ≡ 1) ↔ (0 < mask)
+told_some mask bit told = elim (cases_eq mask 0) [
+  | inl e ↦ (let z : cond {A = ℕ} (some mask) 1 0 ≡ 0 = ap (λ b. cond (not b) 1 0) (eq-eqb mask 0 e) in ((λ one. absurd (let y : bit ≡ 1 = one in omega arith)), (λ more. absurd (let y : 0 < mask = more in omega arith))))
+  | inr other ↦ (let z : cond {A = ℕ} (some mask) 1 0 ≡ 1 = ap (λ b. cond (not b) 1 0) (ne_eqb mask 0 other) in ((λ one. omega arith), (λ more. told ∙ z)))
 ]
-gathered_more masks n found count colours false f t room e g = elim (cases_eq colours 0) [
-  | inl none ↦
-      let P : ℕ → Type 0 = λ c. Gathered masks (n + 1) (set found count (premise n colours)) c in
-      subst P (let z : count ≡ count + 0 = omega arith in z) (gathered_skip masks n found count (premise n colours) g (sym e ∙ none))
-  | inr some ↦ absurd (let x : false ≡ true = t some in cc)
-]
+
+-- what the comparison of eight masks with none gives
+pub eight_coloured : (masks : List ℕ) (first : ℕ) → first + 8 ≤ length masks → AreColoured masks first (first + 8) (mask_l (map (top 15) (zip2 (λ (a b : ℕ). cond (not (eqb a b)) 65535 0) (chunk first 8 masks) (replicate 8 0))) % 2 ^ 64)
+eight_coloured masks first room =
+    let eight = chunk first 8 masks in
+    let len : length eight ≡ 8 = length-chunk first 8 masks room in
+    let is = bitmask_splat w16 (λ (a b : ℕ). not (eqb a b)) eight 8 0 len (omega arith) in
+    record {
+      each = λ j.
+          let bit : bit_at (mask_l (map (top 15) (zip2 (λ (a b : ℕ). cond (not (eqb a b)) 65535 0) eight (replicate 8 0))) % 2 ^ 64) j ≡ cond (get_or (map some eight) j false) 1 0 = ap (λ m. bit_at m j) is ∙ bit_mask_l (map some eight) j in
+          elim (cases_lt j 8) [
+            | inl l ↦
+                let at : get_or (map some eight) j false ≡ some (get_or masks (first + j) 0) = get_or-map some eight j 0 false (omega arith) ∙ ap some (get_or-chunk first 8 masks j 0 l) in
+                let told = told_some (get_or masks (first + j) 0) _ (bit ∙ ap (λ b. cond b 1 0) at) in
+                ((λ one. (let i : first + j < first + 8 = omega arith in i, told.0 one)), (λ p. told.1 p.1))
+            | inr past ↦
+                let at : get_or (map some eight) j false ≡ false = get_or_past (map some eight) j false (let m = length-map eight some in omega arith) in
+                let told : bit_at (mask_l (map (top 15) (zip2 (λ (a b : ℕ). cond (not (eqb a b)) 65535 0) eight (replicate 8 0))) % 2 ^ 64) j ≡ 0 = bit ∙ ap (λ b. cond b 1 0) at in
+                ((λ one. absurd (let y : 0 ≡ 1 = sym told ∙ one in omega arith)), (λ p. absurd (let q : first + j < first + 8 = p.0 in omega arith)))
+          ];
+    }

@@ -1,5 +1,6 @@
 pub mod Book
 pub mod Forcing
+pub mod Gathering
 pub mod Laws
 pub mod Making
 pub mod Needs

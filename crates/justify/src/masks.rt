@@ -1,16 +1,19 @@
 //! Premises and the masks of a line: bit k of a mask stands for colour k.
 
-ghost use Rattle.std.specs.Prelude.{◌≡◌, ℕ, ◌<◌, ◌≤◌, ◌↔◌, length, slice_index, take, IsTrue, IsBitSet, MatchBool};
+ghost use Rattle.std.specs.Prelude.{◌≡◌, ◌≢◌, ℕ, ◌+◌, ◌/◌, ◌^◌, ◌<◌, ◌≤◌, ◌↔◌, length, slice_index, take, IsTrue, IsBitSet, MatchBool};
 ghost use Rattle.std.specs.List.{All};
+ghost use Rattle.justify.specs.Gathering.{AreColoured, Gathered};
 ghost use Rattle.justify.specs.Premises.{ArePremises, Gathers, HasSaid, IsComplement, KeepsLost, IsMark, LeavesRest, Mentions, Says};
 
 use crate::premise::Premise;
 use picture::MAX_SIDE;
+use std::simd::prelude::*;
 
 // No line has more cells.
 pub(crate) const MOST_CELLS: usize = MAX_SIDE as usize;
 
-// Gathers the cells in which the masks of a line have colours, and says how many there are.
+// Gathers the cells in which the masks of a line have colours, and says how many there are. Eight cells are looked at
+// together, since mostly few have colours.
 pub(crate) fn gather(masks: &[u16], found: &mut [Premise]) -> usize
     requires room { length masks.now ≤ length found.old }
     requires short { length masks.now ≤ MOST_CELLS }
@@ -18,15 +21,71 @@ pub(crate) fn gather(masks: &[u16], found: &mut [Premise]) -> usize
     ensures gathers { Gathers masks.now (take result found.new) }
 {
     let mut count = 0;
-    for place in 0..masks.len() {
+    for chunk in 0..masks.len() / 8 {
+        count = gather_eight(masks, 8 * chunk, found, count);
+    }
+    for place in masks.len() / 8 * 8..masks.len() {
         let colours = masks[place];
-        found[count] = Premise {
-            at: place as u8,
-            colours,
-        };
-        count += usize::from(colours != 0);
+        if colours != 0 {
+            found[count] = Premise {
+                at: place as u8,
+                colours,
+            };
+            count += 1;
+        }
     }
     count
+}
+
+// The same for eight cells, where `before` are gathered in front of them.
+fn gather_eight(masks: &[u16], first: usize, found: &mut [Premise], before: usize) -> usize
+    requires eight { first + 8 ≤ length masks.now }
+    requires room { length masks.now ≤ length found.old }
+    requires short { length masks.now ≤ MOST_CELLS }
+    requires before { Gathered masks.now first found.old before }
+    ensures { Gathered masks.now (first + 8) found.new result }
+{
+    let mut count = before;
+    let mut place = first;
+    let mut rest = coloured(masks, first);
+    'cells: while rest != 0 {
+        let empty = empty_before(masks, place, first + 8, rest);
+        place += empty;
+        found[count] = Premise {
+            at: place as u8,
+            colours: masks[place],
+        };
+        count += 1;
+        place += 1;
+        rest = (rest >> empty) >> 1;
+    }
+    count
+}
+
+#[inline]
+// How many cells from a place on come before the first with colours, where the bits of those that have some are not 0.
+fn empty_before(masks: &[u16], place: usize, end: usize, rest: u64) -> usize
+    requires coloured { AreColoured masks.now place end rest }
+    requires some { rest ≢ 0 }
+    ensures inside { place + result < end }
+    ensures few { result < 64 }
+    ensures none { (i : ℕ) → place ≤ i → i < place + result → slice_index masks.now i ≡ 0 }
+    ensures here { 0 < slice_index masks.now (place + result) }
+    ensures behind { AreColoured masks.now (place + result + 1) end (rest / 2 ^ result / 2) }
+{
+    rest.trailing_zeros() as usize
+}
+
+#[inline]
+// Which of the eight cells from `first` on have colours, as bits.
+fn coloured(masks: &[u16], first: usize) -> u64
+    requires { first + 8 ≤ length masks.now }
+    ensures { AreColoured masks.now first (first + 8) result }
+{
+    let none = u16x8::splat(0);
+    u16x8::from_slice(&masks[first..])
+        .simd_ne(none)
+        .to_bitmask()
 }
 
 // Whether the premise at a place has a colour.

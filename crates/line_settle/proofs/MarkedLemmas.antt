@@ -14,7 +14,7 @@ use Rattle.line_settle.proofs.StateSetLemmas.{allowed_both, both_allowed}
 use Rattle.line_settle.proofs.StepLemmas.{crosses_finish, finish_crosses, step_reaches, reached_by_step}
 use Rattle.line_settle.proofs.TableLemmas.{Keeps, finishes_from, ending_of}
 
-within : (pattern : List ℕ) (q x r : ℕ) → q < length pattern → Step pattern q x r → r < length pattern
+pub within : (pattern : List ℕ) (q x r : ℕ) → q < length pattern → Step pattern q x r → r < length pattern
 within pattern q x r h s = elim s [ inl a ↦ (let l = a.0 in let e = a.2 in omega arith) | inr b ↦ (let e = b.2 in omega arith) ]
 
 -- ---- marked lines as lists

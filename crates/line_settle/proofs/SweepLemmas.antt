@@ -1,8 +1,9 @@
 -- What the sweep over a line keeps from cell to cell.
-use Rattle.std.proofs.Common.{◌≡◌, ◌≢◌, ℕ, zero, suc, ◌+◌, ◌^◌, ◌<◌, ◌≤◌, ◌↔◌, ◌⊎◌, Bool, true, ◌||◌, ◌==◌, not, ne_eqb, List, [], ◌∷◌, bit_and, bit_or, refl, sym, ap, subst, ◌∙◌, arith, inl, inr, eq-eqb, length, get_or, drop, drop-cons, replicate}
+use Rattle.std.proofs.Common.{◌≡◌, ◌≢◌, ℕ, zero, suc, ◌+◌, ◌^◌, ◌<◌, ◌≤◌, ◌↔◌, ◌⊎◌, Bool, true, false, ◌||◌, ◌==◌, not, ne_eqb, List, [], ◌∷◌, bit_and, bit_or, refl, sym, ap, subst, ◌∙◌, arith, inl, inr, eq-eqb, length, get_or, drop, drop-cons, replicate}
 use Rattle.std.specs.List.{All}
 use Rattle.std.proofs.Math.ListN.{set, drop_of_length-le}
 use Rattle.std.proofs.Math.Seq.{drop-length}
+use Rattle.std.specs.Int.Bits.{and_zero_r, or_zero_r}
 use Rattle.std.proofs.lemmas.Bool.{cases_eq, cases_lt, or_cases, or_left, or_right, false≢true, eqb-true, eqb-false, not-true, not_from_false}
 use Rattle.std.proofs.lemmas.List.{length-set, length-replicate, get_or-set_same, get_or-set_other, get_or-drop, drop-set-lt}
 use Rattle.std.proofs.lemmas.List.Elements.{All-get_or}
@@ -10,7 +11,8 @@ use Rattle.clues.specs.declared.block.Block.{Block}
 use Rattle.clues.specs.Clue.{IsClue}
 use Rattle.line_settle.specs.LeavingOut.{ForcesAll, LeavesOut}
 use Rattle.line_settle.specs.Masks.{all_sixteen}
-use Rattle.line_settle.specs.Marking.{finish_marked, finishes_marked, reach_marked, reaches_marked, AreReached, AreBehind, ReachedSets, SweepsOut}
+use Rattle.line_settle.specs.Marking.{finish_marked, finishes_marked, reach_marked, reaches_marked, AreReached, AreBehind, ReachedSets, SweepsOut, unmarked}
+use Rattle.line_settle.specs.Sweeping.{IsUndrawn, SweptTo, SweptMarked}
 use Rattle.line_settle.specs.Positions.{has}
 use Rattle.line_settle.specs.Spelling.{pattern_of, allows, finish_step, finishes, reach_step, reaches}
 use Rattle.line_settle.specs.StateSets.{AreStates, Shares, StateSets, ArePatternSets}
@@ -22,7 +24,7 @@ use Rattle.line_settle.proofs.FittingLemmas.{allows_bit, bit_allows, too_long, h
 use Rattle.line_settle.proofs.PositionLemmas.{has_power, has_one}
 use Rattle.line_settle.proofs.StateSetLemmas.{in_and, and_in, in_or, left_in, right_in, in_none, has_member}
 use Rattle.line_settle.proofs.StepLemmas.{finish_crosses, reached_by_step}
-use Rattle.line_settle.proofs.MarkedLemmas.{IsWider, Meets, SameBefore, unmarked_forces, marked_misses, wider_marked, marked_at, at_marked, same_reached, same_reached_marked}
+use Rattle.line_settle.proofs.MarkedLemmas.{within, marked_line, IsWider, Meets, SameBefore, unmarked_forces, marked_misses, wider_marked, marked_at, at_marked, same_reached, same_reached_marked}
 
 -- ---- sets of states
 
@@ -176,12 +178,6 @@ first_reached w pattern left drawn sets all marked e f are =
     let T : ℕ → Type 0 = λ n. AreStates pattern (reaches_marked pattern left drawn 0) n in
     record { all_are = subst S (sym e) r.all_are; marked_are = subst T (sym f) r.marked_are }
 
-pub end_reached : (w : ℕ) (pattern left drawn : List ℕ) (sets : StateSets) (n marked : ℕ) → n ≡ length left → marked ≡ 0 → ArePatternSets w pattern sets → AreReached pattern (finishes pattern (drop n left)) (finishes_marked pattern (drop n left) (drop n drawn)) (record { all = sets.last; marked = marked })
-end_reached w pattern left drawn sets n marked e f are =
-    let r = at_end w pattern left drawn sets n e are in
-    let T : ℕ → Type 0 = λ k. AreStates pattern (finishes_marked pattern (drop n left) (drop n drawn)) k in
-    record { all_are = r.all_are; marked_are = subst T (sym f) r.marked_are }
-
 -- behind cell i of a line that has the same masks before it, and this mask there
 pub behind_cell : (pattern left new drawn : List ℕ) (i mask : ℕ) (from : ReachedSets) → SameBefore i new left → get_or new i 0 ≡ mask → AreReached pattern (reach_step pattern mask (reaches pattern left i)) (reach_marked pattern mask (bit_and mask (get_or drawn i 0)) (reaches pattern left i) (reaches_marked pattern left drawn i)) from → AreReached pattern (reaches pattern new (suc i)) (reaches_marked pattern new drawn (suc i)) from
 behind_cell pattern left new drawn i mask from same e r =
@@ -309,12 +305,6 @@ swept_out pattern drawn old left i p h small s f = record {
   ];
 }
 
--- what the sweep keeps in front of cell i
-pub record SweptTo (w : ℕ) (sets : StateSets) (drawn plain marked old left : List ℕ) (from : ReachedSets) (i : ℕ) : Type 0 where
-  pub small : (t : ℕ) → get_or left t 0 < 2 ^ 16
-  pub from_is : (pattern : List ℕ) → ArePatternSets w pattern sets → AreReached pattern (reaches pattern left i) (reaches_marked pattern left drawn i) from
-  pub so_far : (pattern : List ℕ) → ArePatternSets w pattern sets → ((j : ℕ) → j < length old → AreBehind pattern old drawn plain marked j) → (finishes_marked pattern old drawn 0 ≡ true → ⊥) → SweepsOut pattern drawn old left i
-
 -- the states behind cell i with these colours there
 abbrev pub Reaches : ℕ → StateSets → List ℕ → List ℕ → ℕ → ℕ → ReachedSets → Type 0
 Reaches w sets drawn left i mask on = (pattern : List ℕ) → ArePatternSets w pattern sets → AreReached pattern (reach_step pattern mask (reaches pattern left i)) (reach_marked pattern mask (bit_and mask (get_or drawn i 0)) (reaches pattern left i) (reaches_marked pattern left drawn i)) on
@@ -331,12 +321,15 @@ step_kept w sets drawn plain marked old left from on next i l e t ons nexts shar
       ((test_marked pattern old left drawn plain marked i on (omega arith) l e (drop_more left old i n s.behind) (tables i (omega arith)) (ons pattern are)).0 shares);
 }
 
+small_set : (left : List ℕ) (i : ℕ) → i < length left → ((t : ℕ) → get_or left t 0 < 2 ^ 16) → (t : ℕ) → get_or (set left i 65535) t 0 < 2 ^ 16
+small_set left i l small j = elim (cases_eq j i) [
+  | inl w ↦ (let P : ℕ → Type 0 = λ n. get_or (set left i 65535) n 0 < 2 ^ 16 in subst P (sym w) (let g = get_or-set_same left i 65535 0 l in omega arith))
+  | inr n ↦ (let g = get_or-set_other left i j 65535 0 n in let k = small j in omega arith)
+]
+
 pub step_out : (w : ℕ) (sets : StateSets) (drawn plain marked old left : List ℕ) (from on : ReachedSets) (i : ℕ) → i < length left → length drawn ≡ length left → SweptTo w sets drawn plain marked old left from i → Reaches w sets drawn left i 65535 on → (Shares on.marked (get_or plain i 0) ⊎ Shares on.all (get_or marked i 0) → ⊥) → SweptTo w sets drawn plain marked old (set left i 65535) on (suc i)
 step_out w sets drawn plain marked old left from on i l e t ons none_shared = record {
-  small = λ j. elim (cases_eq j i) [
-    | inl w ↦ let P : ℕ → Type 0 = λ n. get_or (set left i 65535) n 0 < 2 ^ 16 in subst P (sym w) (let g = get_or-set_same left i 65535 0 l in omega arith)
-    | inr n ↦ let g = get_or-set_other left i j 65535 0 n in let k = t.small j in omega arith
-  ];
+  small = small_set left i l t.small;
   from_is = λ pattern are. behind_cell pattern left (set left i 65535) drawn i 65535 on (same_set left i 65535) (get_or-set_same left i 65535 0 l) (ons pattern are);
   so_far = λ pattern are tables none.
       let s = t.so_far pattern are tables none in
@@ -345,6 +338,170 @@ step_out w sets drawn plain marked old left from on i l e t ons none_shared = re
       swept_out pattern drawn old left i (omega arith) l t.small s
       (λ m. none_shared ((test_marked pattern old left drawn plain marked i on (omega arith) l e (drop_more left old i n s.behind) (tables i (omega arith)) (ons pattern are)).1 m));
 }
+
+-- ---- cells that are not drawn
+
+-- a state from which a cell leads to one of the pattern is one of it
+from_inside : (pattern : List ℕ) (mask : ℕ) (before : ℕ → Bool) (r : ℕ) (h : r < length pattern) (e : reach_step pattern mask before r ≡ true) → (reached_by_step pattern mask before r h e).from < length pattern
+from_inside pattern mask before r h e = elim (reached_by_step pattern mask before r h e).step [
+  | inl a ↦ (let k = a.0 in let l = a.2 in omega arith)
+  | inr b ↦ (let l = b.2 in omega arith)
+]
+
+-- from no states a cell leads nowhere, and to no states it leads from nowhere
+pub nowhere_forward : (pattern : List ℕ) (mask : ℕ) (before : ℕ → Bool) → AreStates pattern before 0 → AreStates pattern (reach_step pattern mask before) 0
+nowhere_forward pattern mask before none = record {
+  each = λ q. (
+    (λ h. absurd (in_none q h)),
+    (λ p. let r = reached_by_step pattern mask before q p.0 p.1 in absurd (in_none r.from ((none.each r.from).1 (from_inside pattern mask before q p.0 p.1, r.was)))),
+  );
+}
+
+pub nowhere_back : (pattern : List ℕ) (mask : ℕ) (behind : ℕ → Bool) → AreStates pattern behind 0 → AreStates pattern (finish_step pattern mask behind) 0
+nowhere_back pattern mask behind none = record {
+  each = λ q. (
+    (λ h. absurd (in_none q h)),
+    (λ p. let c = finish_crosses pattern mask behind q p.1 in absurd (in_none c.1.next ((none.each c.1.next).1 (within pattern q c.0 c.1.next p.0 c.1.step, c.1.reaches_good)))),
+  );
+}
+
+no_colours : (mask d : ℕ) → d ≡ 0 → bit_and mask d ≡ 0
+no_colours mask d e = ap (bit_and mask) e ∙ and_zero_r mask
+
+-- the states below n for which a test holds have a set
+abbrev AreBelow : (ℕ → Bool) → ℕ → ℕ → Type 0
+AreBelow test n set = (q : ℕ) → (has set q ≡ true) ↔ ((q < n) × (test q ≡ true))
+
+one_state : (test : ℕ → Bool) (n few : ℕ) (b : Bool) → test n ≡ b → AreBelow test n few → (more : ℕ) × AreBelow test (suc n) more
+one_state test n few true e is = (
+  bit_or few (2 ^ n),
+  λ q. (
+    (λ h. elim (in_or few (2 ^ n) q h) [
+      | inl x ↦ (let s = (is q).0 x in let k : q < suc n = (let l = s.0 in omega arith) in (k, s.1))
+      | inr x ↦ (let at : q ≡ n = eqb-true _ _ (sym (has_power n q) ∙ x) in let k : q < suc n = omega arith in (k, ap test at ∙ e))
+    ]),
+    (λ p. elim (cases_eq q n) [
+      | inl at ↦ right_in few (2 ^ n) q (has_power n q ∙ eq-eqb q n at)
+      | inr other ↦ left_in few (2 ^ n) q ((is q).1 ((let l : q < suc n = p.0 in omega arith), p.1))
+    ]),
+  ),
+)
+one_state test n few false e is = (
+  few,
+  λ q. (
+    (λ h. (let s = (is q).0 h in let k : q < suc n = (let l = s.0 in omega arith) in (k, s.1))),
+    (λ p. elim (cases_eq q n) [
+      | inl at ↦ absurd (false≢true (sym e ∙ (ap test (sym at) ∙ p.1)))
+      | inr other ↦ (is q).1 ((let l : q < suc n = p.0 in omega arith), p.1)
+    ]),
+  ),
+)
+
+states_below : (test : ℕ → Bool) (n : ℕ) → (set : ℕ) × AreBelow test n set
+states_below test zero = (0, λ q. ((λ h. absurd (in_none q h)), (λ p. absurd (let l : q < 0 = p.0 in omega arith))))
+states_below test (suc n) = let s = states_below test n in one_state test n s.0 (test n) refl s.1
+
+set_for : (pattern : List ℕ) (test : ℕ → Bool) → (set : ℕ) × AreStates pattern test set
+set_for pattern test = let s = states_below test (length pattern) in (s.0, record { each = s.1 })
+
+-- where no line is marked before an undrawn cell, none is behind it; and the same from the end
+pub unmarked_forward : (pattern : List ℕ) (mask d on : ℕ) (all marked : ℕ → Bool) → d ≡ 0 → AreStates pattern marked 0 → AreStates pattern (reach_step pattern mask all) on → AreReached pattern (reach_step pattern mask all) (reach_marked pattern mask (bit_and mask d) all marked) (unmarked on)
+unmarked_forward pattern mask d on all marked e none is = record {
+  all_are = is;
+  marked_are = either_states pattern (reach_step pattern mask marked) (reach_step pattern (bit_and mask d) all) 0 0 (nowhere_forward pattern mask marked none) (none_forward pattern (bit_and mask d) all (no_colours mask d e));
+}
+
+pub unmarked_back : (pattern : List ℕ) (mask d on : ℕ) (all marked : ℕ → Bool) → d ≡ 0 → AreStates pattern marked 0 → AreStates pattern (finish_step pattern mask all) on → AreReached pattern (finish_step pattern mask all) (finish_marked pattern mask (bit_and mask d) all marked) (unmarked on)
+unmarked_back pattern mask d on all marked e none is = record {
+  all_are = is;
+  marked_are = either_states pattern (finish_step pattern mask marked) (finish_step pattern (bit_and mask d) all) 0 0 (nowhere_back pattern mask marked none) (none_back pattern (bit_and mask d) all (no_colours mask d e));
+}
+
+-- one undrawn cell more
+pub undrawn_more : (drawn : List ℕ) (i : ℕ) → get_or drawn i 0 ≡ 0 → IsUndrawn drawn (suc i) → IsUndrawn drawn i
+undrawn_more drawn i here rest = λ j h. elim (cases_eq j i) [
+  | inl e ↦ ap (λ n. get_or drawn n 0) e ∙ here
+  | inr other ↦ rest j (omega arith)
+]
+
+-- the marked lines behind an undrawn cell
+pub marked_forward : (pattern : List ℕ) (mask d on : ℕ) (all marked : ℕ → Bool) → d ≡ 0 → AreStates pattern (reach_step pattern mask marked) on → AreStates pattern (reach_marked pattern mask (bit_and mask d) all marked) on
+marked_forward pattern mask d on all marked e is =
+    let P : ℕ → Type 0 = λ n. AreStates pattern (reach_marked pattern mask (bit_and mask d) all marked) n in
+    subst P (or_zero_r on) (either_states pattern (reach_step pattern mask marked) (reach_step pattern (bit_and mask d) all) on 0 is (none_forward pattern (bit_and mask d) all (no_colours mask d e)))
+
+-- where nothing is drawn no line is marked
+never_marked : (pattern masks drawn : List ℕ) (q : ℕ) → q < length pattern → IsUndrawn drawn 0 → finishes_marked pattern masks drawn q ≡ true → ⊥
+never_marked pattern masks drawn q l none m =
+    let line = marked_line pattern masks drawn q l m in
+    let c = get_or line.line line.place 0 in
+    false≢true (sym (allows_none c) ∙ (ap (λ d. allows d c) (sym (none line.place (omega arith))) ∙ line.is_drawn))
+
+-- the test of a cell before which no line is marked
+pub test_first : (on plain marked : ℕ) → (Shares 0 plain ⊎ Shares on marked) ↔ Shares on marked
+test_first on plain marked = (
+  (λ s. elim s [ inl x ↦ absurd (in_none x.0 x.1) | inr x ↦ x ]),
+  (λ s. inr s),
+)
+
+-- the test of a cell from which on nothing is drawn
+pub test_last : (pattern old left drawn plain marked : List ℕ) (i on : ℕ) → 0 < length pattern → i < length left → length drawn ≡ length left → drop (suc i) left ≡ drop (suc i) old → IsUndrawn drawn i → AreBehind pattern old drawn plain marked i → AreStates pattern (reach_step pattern 65535 (reaches_marked pattern left drawn i)) on → Shares on (get_or plain i 0) ↔ (finishes_marked pattern (set left i 65535) drawn 0 ≡ true)
+test_last pattern old left drawn plain marked i on p l e d none b is =
+    let all = set_for pattern (reach_step pattern 65535 (reaches pattern left i)) in
+    let r : AreReached pattern (reach_step pattern 65535 (reaches pattern left i)) (reach_marked pattern 65535 (bit_and 65535 (get_or drawn i 0)) (reaches pattern left i) (reaches_marked pattern left drawn i)) (record { all = all.0; marked = on }) = record {
+      all_are = all.1;
+      marked_are = marked_forward pattern 65535 (get_or drawn i 0) on (reaches pattern left i) (reaches_marked pattern left drawn i) (none i (omega arith)) is;
+    } in
+    let t = test_marked pattern old left drawn plain marked i (record { all = all.0; marked = on }) p l e d b r in
+    let rest : IsUndrawn (drop (suc i) drawn) 0 = λ j h. get_or-drop (suc i) drawn j 0 ∙ none (suc i + j) (omega arith) in (
+      (λ s. t.0 (inl s)),
+      (λ m. elim (t.1 m) [
+        | inl s ↦ s
+        | inr s ↦ (let x = (b.marked_are.each s.0).0 s.2 in absurd (never_marked pattern (drop (suc i) old) (drop (suc i) drawn) s.0 x.0 rest x.1))
+      ]),
+    )
+
+-- the states of marked lines behind cell i with these colours there
+abbrev pub Marks : ℕ → StateSets → List ℕ → List ℕ → ℕ → ℕ → ℕ → Type 0
+Marks w sets drawn left i mask on = (pattern : List ℕ) → ArePatternSets w pattern sets → AreStates pattern (reach_step pattern mask (reaches_marked pattern left drawn i)) on
+
+-- marked lines behind cell i of a line that has the same masks before it, and this mask there
+marked_behind : (pattern left new drawn : List ℕ) (i mask on : ℕ) → SameBefore i new left → get_or new i 0 ≡ mask → get_or drawn i 0 ≡ 0 → AreStates pattern (reach_step pattern mask (reaches_marked pattern left drawn i)) on → AreStates pattern (reaches_marked pattern new drawn (suc i)) on
+marked_behind pattern left new drawn i mask on same e none is =
+    let all = set_for pattern (reach_step pattern mask (reaches pattern left i)) in
+    let r : AreReached pattern (reach_step pattern mask (reaches pattern left i)) (reach_marked pattern mask (bit_and mask (get_or drawn i 0)) (reaches pattern left i) (reaches_marked pattern left drawn i)) (record { all = all.0; marked = on }) = record { all_are = all.1; marked_are = marked_forward pattern mask (get_or drawn i 0) on (reaches pattern left i) (reaches_marked pattern left drawn i) none is } in
+    (behind_cell pattern left new drawn i mask (record { all = all.0; marked = on }) same e r).marked_are
+
+pub last_kept : (w : ℕ) (sets : StateSets) (drawn plain marked old left : List ℕ) (from on next i : ℕ) → i < length left → length drawn ≡ length left → IsUndrawn drawn i → SweptMarked w sets drawn plain marked old left from i → Marks w sets drawn left i 65535 on → Marks w sets drawn left i (get_or left i 0) next → Shares on (get_or plain i 0) → SweptMarked w sets drawn plain marked old left next (suc i)
+last_kept w sets drawn plain marked old left from on next i l e none t ons nexts shares = record {
+  small = t.small;
+  from_is = λ pattern are. marked_behind pattern left left drawn i (get_or left i 0) next (same_here left i) refl (none i (omega arith)) (nexts pattern are);
+  so_far = λ pattern are tables unmarked_old.
+      let s = t.so_far pattern are tables unmarked_old in
+      let n = s.same_length in
+      let p = are.is_end in
+      swept_kept pattern drawn old left i s
+      ((test_last pattern old left drawn plain marked i on (omega arith) l e (drop_more left old i n s.behind) none (tables i (omega arith)) (ons pattern are)).0 shares);
+}
+
+pub last_out : (w : ℕ) (sets : StateSets) (drawn plain marked old left : List ℕ) (from on i : ℕ) → i < length left → length drawn ≡ length left → IsUndrawn drawn i → SweptMarked w sets drawn plain marked old left from i → Marks w sets drawn left i 65535 on → (Shares on (get_or plain i 0) → ⊥) → SweptMarked w sets drawn plain marked old (set left i 65535) on (suc i)
+last_out w sets drawn plain marked old left from on i l e none t ons none_shared = record {
+  small = small_set left i l t.small;
+  from_is = λ pattern are. marked_behind pattern left (set left i 65535) drawn i 65535 on (same_set left i 65535) (get_or-set_same left i 65535 0 l) (none i (omega arith)) (ons pattern are);
+  so_far = λ pattern are tables unmarked_old.
+      let s = t.so_far pattern are tables unmarked_old in
+      let n = s.same_length in
+      let p = are.is_end in
+      swept_out pattern drawn old left i (omega arith) l t.small s
+      (λ m. none_shared ((test_last pattern old left drawn plain marked i on (omega arith) l e (drop_more left old i n s.behind) none (tables i (omega arith)) (ons pattern are)).1 m));
+}
+
+-- whether two sets share a state, as it is told
+pub share_test : (a b both : ℕ) (none : Bool) → both ≡ bit_and a b → none ≡ (both == 0) → (none ≡ false → Shares a b) × (none ≡ true → Shares a b → ⊥)
+share_test a b both none e f = (
+  (λ no. some_shared a b (let n = eqb-false both 0 (sym f ∙ no) in λ z. n (e ∙ z))),
+  (λ yes s. shared_some a b s (sym e ∙ eqb-true both 0 (sym f ∙ yes))),
+)
 
 -- ---- the whole line
 

@@ -8,6 +8,7 @@ pub mod Laws
 pub mod Laying
 pub mod LeavingOut
 pub mod Marking
+pub mod Sweeping
 pub mod Masks
 pub mod Narrowing
 pub mod Outside

@@ -35,6 +35,10 @@ pub record ReachedSets : Type 0 where
 abbrev pub reached_of : {W : Type 0} → (W → ℕ) → Reached W → ReachedSets
 reached_of bits from = record { all = bits from.all; marked = bits from.marked }
 
+-- states that lines come to, none of them marked
+abbrev pub unmarked : ℕ → ReachedSets
+unmarked all = record { all = all; marked = 0 }
+
 -- the states that lines come to, and those that marked lines come to
 pub record AreReached (pattern : List ℕ) (all marked : ℕ → Bool) (from : ReachedSets) : Type 0 where
   pub all_are : AreStates pattern all from.all

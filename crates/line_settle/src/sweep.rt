@@ -1,13 +1,14 @@
 //! Leaving premises out by one sweep: which cells a line needs to force what it draws.
 
-ghost use Rattle.std.specs.Prelude.{◌≡◌, ℕ, ◌+◌, ◌<◌, ◌≤◌, ◌↔◌, ◌⊎◌, true, List, Bool, IsTrue, length, map, slice_index, bit_and};
+ghost use Rattle.std.specs.Prelude.{◌≡◌, ℕ, ◌+◌, ◌-◌, ◌<◌, ◌≤◌, ◌↔◌, ◌⊎◌, true, List, Bool, IsTrue, length, map, slice_index, bit_and, drop};
 ghost use Rattle.std.specs.List.{All};
 ghost use Rattle.std.specs.Mem.{type_size};
 ghost use Rattle.clues.specs.Clue.{IsClue};
 ghost use Rattle.line_settle.specs.LeavingOut.{ForcesAll, LeavesOut};
 ghost use Rattle.line_settle.specs.Spelling.{pattern_of, finishes, finish_step, reach_step};
 ghost use Rattle.line_settle.specs.StateSets.{AreStates, MovesBy, ArePatternSets, Shares, moves_of, sets_of};
-ghost use Rattle.line_settle.specs.Marking.{finish_marked, finishes_marked, reach_marked, AreReached, AreBehind, SweepsOut, reached_of};
+ghost use Rattle.line_settle.specs.Marking.{finish_marked, finishes_marked, reach_marked, AreReached, AreBehind, SweepsOut, reached_of, unmarked};
+ghost use Rattle.line_settle.specs.Sweeping.{IsUndrawn, SweptTo, SweptMarked, SweptAll};
 ghost use Rattle.line_settle.specs.Masks.{all_sixteen};
 ghost use Rattle.line_settle.specs.Positions.{has};
 
@@ -121,19 +122,114 @@ fn meets_marked<W: Word>(on: Reached<W>, plain: W, marked: W) -> bool
     !on.marked.and(plain).or(on.all.and(marked)).is_none()
 }
 
-/// Notes for each cell the states behind it from which lines, and marked lines, can go to the end.
+/// What is noted of a line from its end: for each cell the states behind it from which lines, and marked lines, can go to
+/// the end, and the place behind the last cell of a drawn colour.
+#[derive(Clone, Copy)]
+pub struct Behind<'a, W> {
+    pub plain: &'a [W],
+    pub marked: &'a [W],
+    pub end: usize,
+}
+
+/// The place behind the last cell of a drawn colour, and the states there from which lines can go to the end.
+#[derive(Clone, Copy)]
+pub struct LastDrawn<W> {
+    pub end: usize,
+    pub later: W,
+}
+
+/// The place of the first cell of a drawn colour, and the states before it that lines come to.
+#[derive(Clone, Copy)]
+pub struct FirstDrawn<W> {
+    pub at: usize,
+    pub all: W,
+}
+
+#[inline]
+// Whether there is a cell in front of a place, and nothing is drawn there.
+fn is_undrawn_before(drawn: &[u16], end: usize) -> bool
+    requires { end ≤ length drawn.now }
+    ensures some { result ≡ true → 0 < end }
+    ensures undrawn { result ≡ true → slice_index drawn.now (end - 1) ≡ 0 }
+{
+    if end == 0 {
+        return false;
+    }
+    drawn[end - 1] == 0
+}
+
+#[inline]
+// Whether a place comes before another, and nothing is drawn there.
+fn is_undrawn_at(drawn: &[u16], place: usize, end: usize) -> bool
+    requires { end ≤ length drawn.now }
+    ensures inside { result ≡ true → place < end }
+    ensures undrawn { result ≡ true → slice_index drawn.now place ≡ 0 }
+{
+    if place >= end {
+        return false;
+    }
+    drawn[place] == 0
+}
+
+// Notes the states behind each cell that comes after the last drawn one. There no line is marked.
+fn note_last<W: Word>(
+    sets: &PatternSets<W>,
+    drawn: &[u16],
+    left: &[u16],
+    plain: &mut [W],
+    marked: &mut [W],
+) -> LastDrawn<W>
+    requires sixteen { length sets.now.next.now ≡ 16 }
+    requires same_length { length drawn.now ≡ length left.now }
+    requires plain_room { length left.now ≤ length plain.old }
+    requires marked_room { length left.now ≤ length marked.old }
+    ensures inside { result.end ≤ length left.now }
+    ensures undrawn { IsUndrawn drawn.now result.end }
+    ensures later { (pattern : List ℕ) → ArePatternSets W.width pattern (sets_of W.bits sets.now)
+        → AreReached
+        pattern
+        (finishes pattern (drop result.end left.now))
+        (finishes_marked pattern (drop result.end left.now) (drop result.end drawn.now))
+        (unmarked (W.bits result.later)) }
+    ensures noted { (pattern : List ℕ) → ArePatternSets W.width pattern (sets_of W.bits sets.now)
+        → (i : ℕ) → result.end ≤ i → i < length left.now
+        → AreBehind
+        pattern
+        left.now
+        drawn.now
+        (map W.bits plain.new)
+        (map W.bits marked.new)
+        i }
+{
+    let mut later = sets.last;
+    let mut cell = sets.open_moves();
+    let mut end = left.len();
+    'cells: while is_undrawn_before(drawn, end) {
+        end -= 1;
+        plain[end] = later;
+        marked[end] = W::low(0);
+        cell = sets.moves_after(left[end], cell);
+        later = cell.moves.back(later);
+    }
+    LastDrawn { end, later }
+}
+
+/// Notes for each cell the states behind it from which lines, and marked lines, can go to the end, and answers the place
+/// behind the last drawn cell.
 fn note_behind<W: Word>(
     sets: &PatternSets<W>,
     drawn: &[u16],
     left: &[u16],
     plain: &mut [W],
     marked: &mut [W],
-)
+) -> usize
     requires sixteen { length sets.now.next.now ≡ 16 }
     requires same_length { length drawn.now ≡ length left.now }
     requires plain_room { length left.now ≤ length plain.old }
     requires marked_room { length left.now ≤ length marked.old }
-    ensures { (pattern : List ℕ) → ArePatternSets W.width pattern (sets_of W.bits sets.now)
+    ensures inside { result ≤ length left.now }
+    ensures undrawn { IsUndrawn drawn.now result }
+    ensures noted { (pattern : List ℕ) → ArePatternSets W.width pattern (sets_of W.bits sets.now)
         → (i : ℕ) → i < length left.now
         → AreBehind
         pattern
@@ -143,46 +239,108 @@ fn note_behind<W: Word>(
         (map W.bits marked.new)
         i }
 {
+    let last = note_last(sets, drawn, left, plain, marked);
     let mut later = Reached {
-        all: sets.last,
+        all: last.later,
         marked: W::low(0),
     };
     let mut cell = sets.open_moves();
-    for i in (0..left.len()).rev() {
+    for i in (0..last.end).rev() {
         plain[i] = later.all;
         marked[i] = later.marked;
         cell = sets.moves_after(left[i], cell);
         later = back(sets, cell.moves, left[i] & drawn[i], later);
     }
+    last.end
 }
 
-// Gives each cell all sixteen colours where no line is marked then, from the first cell on.
-fn sweep<W: Word>(sets: &PatternSets<W>, drawn: &[u16], plain: &[W], marked: &[W], left: &mut [u16])
+// Gives the cells before the first drawn one all sixteen colours where no line is marked then. None is marked before them.
+fn sweep_first<W: Word>(
+    sets: &PatternSets<W>,
+    drawn: &[u16],
+    behind: &Behind<W>,
+    left: &mut [u16],
+) -> FirstDrawn<W>
     requires sixteen { length sets.now.next.now ≡ 16 }
     requires same_length { length drawn.now ≡ length left.old }
-    requires plain_room { length left.old ≤ length plain.now }
-    requires marked_room { length left.old ≤ length marked.now }
-    ensures { (pattern : List ℕ) → ArePatternSets W.width pattern (sets_of W.bits sets.now)
-        → ((i : ℕ) → i < length left.old
-        → AreBehind
-        pattern
-        left.old
+    requires end { behind.now.end ≤ length left.old }
+    requires plain_room { length left.old ≤ length behind.now.plain.now }
+    requires marked_room { length left.old ≤ length behind.now.marked.now }
+    ensures inside { result.at ≤ behind.now.end }
+    ensures swept { SweptTo
+        W.width
+        (sets_of W.bits sets.now)
         drawn.now
-        (map W.bits plain.now)
-        (map W.bits marked.now)
-        i)
-        → (finishes_marked pattern left.old drawn.now 0 ≡ true → ⊥)
-        → SweepsOut pattern drawn.now left.old left.new (length left.old) }
+        (map W.bits behind.now.plain.now)
+        (map W.bits behind.now.marked.now)
+        left.old
+        left.new
+        (unmarked (W.bits result.all))
+        result.at }
+{
+    let full = sets.open_moves();
+    let mut cell = full;
+    let mut all = W::low(1);
+    let mut at = 0;
+    'cells: while is_undrawn_at(drawn, at, behind.end) {
+        let on = full.moves.forward(all);
+        if on.and(behind.marked[at]).is_none() {
+            left[at] = u16::MAX;
+            all = on;
+        } else {
+            cell = sets.moves_after(left[at], cell);
+            all = cell.moves.forward(all);
+        }
+        at += 1;
+    }
+    FirstDrawn { at, all }
+}
+
+// The same for the cells up to the last drawn one, and answers the states behind it that marked lines come to.
+fn sweep_drawn<W: Word>(
+    sets: &PatternSets<W>,
+    drawn: &[u16],
+    behind: &Behind<W>,
+    left: &mut [u16],
+    first: FirstDrawn<W>,
+) -> W
+    requires sixteen { length sets.now.next.now ≡ 16 }
+    requires same_length { length drawn.now ≡ length left.old }
+    requires end { behind.now.end ≤ length left.old }
+    requires inside { first.at ≤ behind.now.end }
+    requires plain_room { length left.old ≤ length behind.now.plain.now }
+    requires marked_room { length left.old ≤ length behind.now.marked.now }
+    ensures { (old : List ℕ)
+        → SweptTo
+        W.width
+        (sets_of W.bits sets.now)
+        drawn.now
+        (map W.bits behind.now.plain.now)
+        (map W.bits behind.now.marked.now)
+        old
+        left.old
+        (unmarked (W.bits first.all))
+        first.at
+        → SweptMarked
+        W.width
+        (sets_of W.bits sets.now)
+        drawn.now
+        (map W.bits behind.now.plain.now)
+        (map W.bits behind.now.marked.now)
+        old
+        left.new
+        (W.bits result)
+        behind.now.end }
 {
     let full = sets.open_moves();
     let mut cell = full;
     let mut from = Reached {
-        all: W::low(1),
+        all: first.all,
         marked: W::low(0),
     };
-    for i in 0..left.len() {
+    for i in first.at..behind.end {
         let on = reach(sets, full.moves, u16::MAX & drawn[i], from);
-        if meets_marked(on, plain[i], marked[i]) {
+        if meets_marked(on, behind.plain[i], behind.marked[i]) {
             cell = sets.moves_after(left[i], cell);
             from = reach(sets, cell.moves, left[i] & drawn[i], from);
         } else {
@@ -190,6 +348,80 @@ fn sweep<W: Word>(sets: &PatternSets<W>, drawn: &[u16], plain: &[W], marked: &[W
             from = on;
         }
     }
+    from.marked
+}
+
+// The same for the cells behind the last drawn one, where only marked lines matter.
+fn sweep_last<W: Word>(
+    sets: &PatternSets<W>,
+    drawn: &[u16],
+    behind: &Behind<W>,
+    left: &mut [u16],
+    before: W,
+)
+    requires sixteen { length sets.now.next.now ≡ 16 }
+    requires same_length { length drawn.now ≡ length left.old }
+    requires end { behind.now.end ≤ length left.old }
+    requires undrawn { IsUndrawn drawn.now behind.now.end }
+    requires plain_room { length left.old ≤ length behind.now.plain.now }
+    requires marked_room { length left.old ≤ length behind.now.marked.now }
+    ensures { (old : List ℕ)
+        → SweptMarked
+        W.width
+        (sets_of W.bits sets.now)
+        drawn.now
+        (map W.bits behind.now.plain.now)
+        (map W.bits behind.now.marked.now)
+        old
+        left.old
+        (W.bits before)
+        behind.now.end
+        → SweptAll
+        W.width
+        (sets_of W.bits sets.now)
+        drawn.now
+        (map W.bits behind.now.plain.now)
+        (map W.bits behind.now.marked.now)
+        old
+        left.new
+        (length left.old) }
+{
+    let full = sets.open_moves();
+    let mut cell = full;
+    let mut marked = before;
+    for place in behind.end..left.len() {
+        let on = full.moves.forward(marked);
+        if on.and(behind.plain[place]).is_none() {
+            left[place] = u16::MAX;
+            marked = on;
+        } else {
+            cell = sets.moves_after(left[place], cell);
+            marked = cell.moves.forward(marked);
+        }
+    }
+}
+
+// Gives each cell all sixteen colours where no line is marked then, from the first cell on.
+fn sweep<W: Word>(sets: &PatternSets<W>, drawn: &[u16], behind: &Behind<W>, left: &mut [u16])
+    requires sixteen { length sets.now.next.now ≡ 16 }
+    requires same_length { length drawn.now ≡ length left.old }
+    requires end { behind.now.end ≤ length left.old }
+    requires undrawn { IsUndrawn drawn.now behind.now.end }
+    requires plain_room { length left.old ≤ length behind.now.plain.now }
+    requires marked_room { length left.old ≤ length behind.now.marked.now }
+    ensures { SweptAll
+        W.width
+        (sets_of W.bits sets.now)
+        drawn.now
+        (map W.bits behind.now.plain.now)
+        (map W.bits behind.now.marked.now)
+        left.old
+        left.new
+        (length left.old) }
+{
+    let first = sweep_first(sets, drawn, behind, left);
+    let marked = sweep_drawn(sets, drawn, behind, left, first);
+    sweep_last(sets, drawn, behind, left, marked);
 }
 
 // Leaves out what a line with room for its blocks can do without, by sets of states in words.
@@ -206,8 +438,13 @@ fn leave_out_by<W: Word>(blocks: &[Block], drawn: &[u16], left: &mut [u16])
     let sets = PatternSets::of(blocks, &mut next);
     let mut plain = [W::low(0); MOST];
     let mut marked = [W::low(0); MOST];
-    note_behind(&sets, drawn, left, &mut plain, &mut marked);
-    sweep(&sets, drawn, &plain, &marked, left);
+    let end = note_behind(&sets, drawn, left, &mut plain, &mut marked);
+    let behind = Behind {
+        plain: &plain,
+        marked: &marked,
+        end,
+    };
+    sweep(&sets, drawn, &behind, left);
 }
 
 // Whether the states of a clue have room in 64 bits, where its blocks have room on a line of so many cells.

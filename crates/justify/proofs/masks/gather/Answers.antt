@@ -1,19 +1,38 @@
-use Rattle.std.proofs.Common.{◌+◌, ◌<◌, ◌^◌, ℕ, ap, not, eqb, eq-eqb, ne_eqb, arith, subst, sym, refl, get_or, set, length}
+use Rattle.std.proofs.Common.{◌≡◌, ◌+◌, ◌*◌, ◌/◌, ◌<◌, ◌^◌, ℕ, List, arith, refl, sym, subst, get_or, set, length}
+use Rattle.justify.specs.declared.premise.Premise.{Premise}
+use Rattle.justify.specs.Gathering.{Gathered}
 use Rattle.justify.specs.Premises.{premise}
-use Rattle.justify.proofs.GatherLemmas.{Gathered, gathered_none, gathered_more, gathered_all}
+use Rattle.justify.proofs.GatherLemmas.{gathered_none, gathered_over, gathered_take, gathered_all}
 use Rattle.justify.proofs.masks.gather.Goals as goal
+use Rattle.justify.proofs.masks.gather.Goals.{then-colours-ne0, else-colours-ne0}
+
+pub loop-chunk-init : goal.loop-chunk-init
+loop-chunk-init c = gathered_none _ _
+
+pub loop-chunk-preserved : goal.loop-chunk-preserved
+loop-chunk-preserved c =
+    let P : ℕ → Type 0 = λ n. Gathered c.args.masks.now n c.gather_eight-count.new.found c.gather_eight-count.result in
+    subst P (omega arith) c.gather_eight-count.ensures
 
 pub loop-place-init : goal.loop-place-init
-loop-place-init c = gathered_none _ _
+loop-place-init c =
+    let P : ℕ → Type 0 = λ n. Gathered c.args.masks.now n c.loop-chunk.found c.loop-chunk.count in
+    subst P (let e : 8 * c.loop-chunk.chunk ≡ length c.args.masks.now / 8 * 8 = (let a = c.loop-chunk.auto in omega arith) in e) c.loop-chunk.invariant
 
 pub loop-place-preserved : goal.loop-place-preserved
 loop-place-preserved c =
-    let s = c.loop-place in
     let masks = c.args.masks.now in
-    let colours = get_or masks s.place 0 in
-    let P : ℕ → Type 0 = λ more. Gathered masks (s.place + 1) (set s.found s.count (premise s.place colours)) (s.count + more) in
-    let room : s.count < length s.found = (let w = s.invariant.within in omega arith) in
-    subst P (sym c.from-count.ensures) (gathered_more masks s.place s.found s.count colours (not (eqb colours 0)) (λ e. ap not (eq-eqb colours 0 e)) (λ n. ap not (ne_eqb colours 0 n)) room refl s.invariant)
+    let s = c.loop-place in
+    let C : List Premise → Type 0 = λ found. Gathered masks (s.place + 1) found c.if-colours-ne0.count in
+    elim c.if-colours-ne0.branch [
+      | then-colours-ne0 w ↦
+          let room : s.count < length s.found = (let v = s.invariant.within in omega arith) in
+          let D : ℕ → Type 0 = λ count. Gathered masks (s.place + 1) (set s.found s.count (premise s.place (get_or masks s.place 0))) count in
+          subst C (sym w.found-is) (subst D (sym w.count-is) (gathered_take masks s.place s.found s.count (premise s.place (get_or masks s.place 0)) s.invariant room refl refl (omega arith)))
+      | else-colours-ne0 w ↦
+          let D : ℕ → Type 0 = λ count. Gathered masks (s.place + 1) s.found count in
+          subst C (sym w.found-is) (subst D (sym w.count-is) (gathered_over masks s.place (s.place + 1) s.found s.count (omega arith) (λ i h l. let e : i ≡ s.place = omega arith in let P : ℕ → Type 0 = λ n. get_or masks n 0 ≡ 0 in subst P (sym e) (omega arith)) s.invariant))
+    ]
 
 pub returns : goal.returns
 returns c =
@@ -23,4 +42,4 @@ returns c =
     let room = c.requires.room in
     let within = s.invariant.within in
     let all = gathered_all masks s.place s.found s.count c.loop-place-test.false (omega arith) small s.invariant in
-    record { within = omega arith; gathers = all }
+    record { within = (let e = s.auto.place-end (omega arith) in omega arith); gathers = all }

@@ -5,4 +5,4 @@ pub returns : goal.returns
 returns g c = λ none.
     let pattern = pattern_of c.args.blocks.now in
     let are = c.of-sets.ensures.sets in
-    c.sweep.ensures pattern are (c.note_behind.ensures pattern are) none
+    c.sweep.ensures pattern are (c.note_behind-end.ensures.noted pattern are) none

@@ -1,16 +1,19 @@
-use Rattle.std.proofs.Common.{◌≡◌, ◌≤◌, ◌<◌, ℕ, List, suc, ◌-◌, refl, sym, subst, arith, length, drop, get_or, map, set}
+use Rattle.std.proofs.Common.{◌≡◌, ◌≤◌, ◌<◌, ℕ, List, suc, ◌-◌, sym, subst, arith, length, drop, get_or, map, set}
 use Rattle.line_settle.specs.Spelling.{finishes}
 use Rattle.line_settle.specs.Marking.{finishes_marked, AreReached, AreBehind, reached_of}
-use Rattle.line_settle.specs.StateSets.{MovesBy, moves_of, sets_of}
+use Rattle.line_settle.specs.StateSets.{MovesBy, moves_of}
 use Rattle.std.proofs.lemmas.List.{length-map, map-set}
-use Rattle.line_settle.proofs.SweepLemmas.{end_reached, before_cell, noted_more}
+use Rattle.line_settle.proofs.SweepLemmas.{before_cell, noted_more}
 use Rattle.line_settle.proofs.sweep.note_behind.Goals as goal
 
 pub loop-i-init : goal.loop-i-init
 loop-i-init g c = record {
-  later_is = λ pattern are. end_reached g.W.Word.width pattern c.args.left.now c.args.drawn.now (sets_of g.W.Word.bits c.args.sets.now) (length c.args.left.now) (g.W.Word.bits c.low.result) refl c.low.ensures are;
+  later_is = λ pattern are.
+      let n = c.note_last-last.result.end in
+      let R : ℕ → Type 0 = λ none. AreReached pattern (finishes pattern (drop n c.args.left.now)) (finishes_marked pattern (drop n c.args.left.now) (drop n c.args.drawn.now)) (record { all = g.W.Word.bits c.note_last-last.result.later; marked = none }) in
+      subst R (sym c.low.ensures) (c.note_last-last.ensures.later pattern are);
   cell_is = c.open_moves-cell.ensures.moves;
-  noted = λ pattern are j h l. absurd (omega arith);
+  noted = λ pattern are j h l. c.note_last-last.ensures.noted pattern are j h l;
 }
 
 pub moves_after-cell-requires-clause-before : goal.moves_after-cell-requires-clause-before
@@ -47,5 +50,5 @@ loop-i-preserved g c =
           subst B (sym (map-set bits c.loop-i.marked i c.loop-i.later.marked)) (subst A (sym (map-set bits c.loop-i.plain i c.loop-i.later.all)) more);
     }
 
-pub returns : goal.returns
-returns g c = λ pattern are i l. c.loop-i.invariant.noted pattern are i (omega arith) l
+pub returns-clause-noted : goal.returns-clause-noted
+returns-clause-noted g c = λ pattern are i l. c.loop-i.invariant.noted pattern are i (omega arith) l

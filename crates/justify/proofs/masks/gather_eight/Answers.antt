@@ -1,0 +1,28 @@
+use Rattle.std.proofs.Common.{◌+◌, ◌<◌, ℕ, arith, refl, get_or, length}
+use Rattle.justify.specs.Premises.{premise}
+use Rattle.justify.proofs.GatherLemmas.{gathered_over, gathered_take, none_coloured}
+use Rattle.justify.proofs.masks.gather_eight.Goals as goal
+
+pub cells-init : goal.cells-init
+cells-init c = record { within = c.requires.before.within; inside = omega arith; gathered = c.requires.before; rest = c.coloured-rest.ensures }
+
+pub cells-preserved : goal.cells-preserved
+cells-preserved c =
+    let masks = c.args.masks.now in
+    let s = c.cells in
+    let at : ℕ = s.place + c.empty_before-empty.result in
+    let told = c.empty_before-empty.ensures in
+    let over = gathered_over masks s.place at s.found s.count (omega arith) told.none s.invariant.gathered in
+    let room : s.count < length s.found = (let w = s.invariant.within in let i = told.inside in omega arith) in
+    record {
+      within = (let w = s.invariant.within in omega arith);
+      inside = (let i = told.inside in omega arith);
+      gathered = gathered_take masks at s.found s.count (premise at (get_or masks at 0)) over room refl refl told.here;
+      rest = told.behind;
+    }
+
+pub returns : goal.returns
+returns c =
+    let masks = c.args.masks.now in
+    let s = c.cells in
+    gathered_over masks s.place (c.args.first + 8) s.found s.count s.invariant.inside (none_coloured masks s.place (c.args.first + 8) s.rest s.invariant.rest (omega arith)) s.invariant.gathered
