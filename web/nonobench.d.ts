@@ -34,6 +34,8 @@ export interface Bench {
 export interface Engine {
   open(file: Input, options?: OpenOptions): Bench;
   check(picture: Input, certificate: Input, options?: { background?: string | null }): Checked;
+  /** The clues of a file, a line each, as the program prints them. */
+  clues(file: Input, options?: OpenOptions): string;
   /** The version of the module, as the program prints it behind its name. */
   readonly version: string;
   /** How many bytes of memory the module has taken. */

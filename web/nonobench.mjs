@@ -6,6 +6,7 @@
 //     bench.say('clues\nverdict\n')                         // what the program `nonobench work` answers
 //     bench.close()
 //     engine.check(picture, certificate)                    // {accepted, status, text}
+//     engine.clues(picture)                                 // what the program `nonobench` prints for it
 //     engine.version                                        // as `nonobench --version` prints it behind the name
 
 const DONE = 0;
@@ -85,6 +86,18 @@ class Engine {
       this.#calls.nonobench_check(this.#cell, file.at, file.size, cert.at, cert.size, word.at, word.size));
     if (status === MEMORY || status === OPTIONS) this.#refuse(status);
     return { accepted: status === DONE, status, text: this.#text() };
+  }
+
+  /** The clues of a file, a line each, as the program prints them. Throws a Fault where the file is refused. */
+  clues(file, options = {}) {
+    const bench = this.open(file, options);
+    try {
+      const text = bench.say('clues\n');
+      if (text.startsWith('refused')) this.#refuse(MEMORY);
+      return text;
+    } finally {
+      bench.close();
+    }
   }
 
   // Answers lines on the bench of a handle.

@@ -100,6 +100,28 @@ test('the longest input and the deepest history are taken, and what they are whe
   }
 });
 
+test('the clues of a picture and a puzzle, and each growth refused in turn', async () => {
+  const engine = await fresh();
+  const clues = 'r 1: 1a\nr 2: 1a\nc 1: 1a\nc 2: 1a\n';
+  assert.equal(engine.clues(DIAGONAL), clues);
+  assert.equal(engine.clues(PUZZLE), clues);
+  assert.equal(engine.clues('P3 2 1 255 1 2 3 4 5 6\n', { background: '4,5,6' }), 'r 1: 1a\nc 1: 1a\nc 2: 0\n');
+  assert.deepEqual(faultOf(() => engine.clues('P4\n')), ['open', 'ppm NotP3 at byte 0']);
+  assert.deepEqual(faultOf(() => engine.clues('width 2\n')), ['open', 'non MissingSize']);
+  let refused = 0, said = null;
+  for (; said === null; refused += 1) {
+    engine.refuse(refused + 1);
+    try {
+      said = engine.clues(DIAGONAL);
+    } catch (fault) {
+      assert.deepEqual([fault.kind, fault.text], ['memory', 'memory'], `${refused}`);
+    }
+    engine.refuse(0);
+  }
+  assert.equal(said, clues);
+  assert.ok(refused > 10, `${refused}`);
+});
+
 test('a bench lives between calls, and several are apart', async () => {
   const engine = await fresh();
   const one = engine.open(DIAGONAL), two = engine.open(DIAGONAL);
@@ -147,6 +169,42 @@ test('lengths past the memory are refused, and the module goes on', async () => 
   const { engine, calls } = await watched();
   for (const size of [2n ** 30n, 2n ** 31n + 1n, 2n ** 32n, 2n ** 63n, 2n ** 64n - 16n, 2n ** 64n - 1n]) assert.equal(calls.malloc(size), 0n, `${size}`);
   assert.ok(engine.memory <= 1073741824);
+  assert.equal(engine.open(DIAGONAL).say('verdict\n'), 'ambiguous\n.a\na.\n');
+});
+
+test('lengths past the memory are refused by each plain call, there is no text, and the module goes on', async () => {
+  const { engine, calls } = await watched();
+  const cell = calls.malloc(16n), file = calls.malloc(64n), end = () => BigInt(engine.memory), version = BigInt(engine.version.length);
+  new Uint8Array(calls.memory.buffer, Number(file), DIAGONAL.length).set(new TextEncoder().encode(DIAGONAL));
+  assert.equal(calls.nonobench_start(cell), 0);
+  const size = BigInt(DIAGONAL.length);
+  const open = (at, length, word = [file, 0n], handle = cell + 8n) => calls.nonobench_open(cell, at, length, 0, ...word, 1, handle);
+  const check = (...pairs) => calls.nonobench_check(cell, ...pairs.flat(), file, 0n);
+  assert.equal(open(file, size), 0);
+  const past = [[file, 2n ** 32n + 1n], [file, 2n ** 64n - 1n], [2n ** 63n, 1n], [2n ** 64n - 1n, 1n]];
+  const refused = [
+    (...at) => open(...at), (...at) => open(file, size, at), (at) => open(file, size, [file, 0n], at - 2n), (...at) => calls.nonobench_say(cell, 1, ...at),
+    (...at) => check(at, [file, size]), (...at) => check([file, size], at), (...at) => calls.nonobench_check(cell, file, size, file, size, ...at),
+    (at) => calls.nonobench_start(at - 6n),
+  ];
+  const places = [() => [end(), 1n], () => [end() + 1n, 0n], () => [end() - 1n, 2n ** 32n], ...past.slice(2).map((place) => () => place)];
+  const isText = () => calls.nonobench_take(cell, file, 0n) > 0n;
+  for (const call of refused) {
+    for (const place of places) {
+      assert.equal(check([file, size], [file, size]), 1);
+      assert.ok(isText());
+      const [at, length] = place();
+      assert.equal(call(at, length), 6, `${call} ${at} ${length}`);
+      assert.equal(isText(), `${call}`.includes('start'));
+    }
+  }
+  for (const [at, length] of [...past, [end(), 1n], [end() - 1n, 2n]]) {
+    assert.equal(check([file, size], [file, size]), 1);
+    assert.equal(calls.nonobench_take(cell, at, length), 29n);
+    assert.equal(calls.nonobench_version(at, length), version);
+    assert.equal(calls.nonobench_say(cell, 1, at, length), 6);
+  }
+  assert.equal(calls.nonobench_say(cell, 1, file, 0n), 0);
   assert.equal(engine.open(DIAGONAL).say('verdict\n'), 'ambiguous\n.a\na.\n');
 });
 
@@ -432,7 +490,7 @@ test('the sessions of the repository come out as they stand there', async () => 
 
 test('the example checks an upload in a thread of its own', () => {
   const env = { ...process.env, WASM: resolve(process.env.WASM ?? join(root, 'web', 'out', 'nonobench.wasm')) };
-  const said = (...files) => spawnSync(process.execPath, ['check_upload.mjs', ...files],
+  const said = (...files) => spawnSync(process.execPath, [...process.execArgv.filter((word) => word.startsWith('--experimental')), 'check_upload.mjs', ...files],
     { cwd: join(root, 'examples'), env, encoding: 'utf8' }).stdout;
   assert.equal(said('diagonal.ppm', 'diagonal.cert'), 'taken: certificate accepted\n');
   assert.equal(said('given.ppm', 'given.cert'), 'taken: certificate accepted, givens 1\n');
