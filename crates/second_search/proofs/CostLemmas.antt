@@ -1,5 +1,5 @@
 -- Facts have a cost: they come to something, and what waits then weighs less.
-use Rattle.std.proofs.Common.{◌≡◌, ℕ, zero, suc, ◌+◌, ◌^◌, ◌<◌, ◌≤◌, ◌⊎◌, ◌==◌, true, Option, None, Some, List, [], ◌∷◌, ◌++◌, length, get_or, map, refl, sym, ap, subst, ◌∙◌, arith, inl, inr, eqb-true}
+use Rattle.std.proofs.Common.{◌≡◌, ℕ, zero, suc, ◌^◌, ◌<◌, ◌⊎◌, ◌==◌, true, Option, None, Some, List, [], ◌∷◌, ◌++◌, length, get_or, map, refl, sym, ap, subst, ◌∙◌, arith, inl, inr, eqb-true}
 use Rattle.std.specs.Prelude.{IsBitSet}
 use Rattle.std.specs.List.{All, filter, range_with_len}
 use Rattle.std.specs.Int.{bit_at, trailing_zeros, w16}
@@ -7,23 +7,18 @@ use Rattle.std.proofs.lemmas.Bool.{cases_eq, cases_lt}
 use Rattle.std.proofs.lemmas.List.{get_or_past, get_or-map, length-map}
 use Rattle.std.proofs.lemmas.List.Elements.{filter_passes}
 use Rattle.std.proofs.Math.Pow.{pow_pos}
-use Rattle.picture.specs.Rows.{width_of, row_at, cell_at, with_cell}
-use Rattle.picture.specs.Picture.{IsPicture}
+use Rattle.picture.specs.Rows.{width_of, row_at, cell_at}
 use Rattle.picture.specs.BitLaws.{bit_below, bit_is_set, fewer_le, power_has}
 use Rattle.clues.specs.ClueBook.{Clues}
 use Rattle.line_settle.specs.Branches.{branches, colours_of, held}
-use Rattle.line_settle.specs.FactSets.{IsFacts, IsLeast, SameShape}
-use Rattle.line_settle.specs.GridLaws.{at_with_cell, off_with_cell, shape_with_cell}
+use Rattle.line_settle.specs.FactSets.{IsFacts, SameShape}
 use Rattle.line_settle.specs.MaskLaws.{lowest_of_power, only_is_power}
 use Rattle.line_settle.specs.Masks.{IsOnly}
-use Rattle.propagate.specs.Closing.{EachFits}
 use Rattle.split_choice.specs.declared.cell.Cell.{Cell}
 use Rattle.second_search.specs.declared.coming.Coming.{Coming}
 use Rattle.second_search.specs.declared.coming.Coming.TheVariants.{Dies, Ends, Splits}
 use Rattle.second_search.specs.Looking.{IsFirstUnsettled, Shows}
-use Rattle.second_search.specs.Parts.{IsBefore}
 use Rattle.second_search.specs.Searching.{Comes, HasCost, Searches, SettlesTo, none_waits, is_dead, is_known, is_other, is_split}
-use Rattle.second_search.proofs.FitLemmas.{both_or_not}
 use Rattle.second_search.proofs.LeastLemmas.{facts_lower, fits_or_dead, least_is_there}
 use Rattle.second_search.proofs.PickLemmas.{find_below, outside_is_0}
 use Rattle.second_search.proofs.TreeLemmas.{ended_lighter, split_lighter, within_lighter}

@@ -1,5 +1,5 @@
 -- A search that counts its splits: what waits ends as the first facts do, but for the splits made so far.
-use Rattle.std.proofs.Common.{◌≡◌, ℕ, suc, ◌+◌, ◌*◌, ◌^◌, ◌<◌, ◌≤◌, ◌⊎◌, Bool, true, false, Option, None, Some, List, [], ◌∷◌, ◌++◌, length, refl, sym, ap, subst, ◌∙◌, arith, inl, inr}
+use Rattle.std.proofs.Common.{◌≡◌, ℕ, suc, ◌+◌, ◌*◌, ◌^◌, ◌<◌, ◌⊎◌, Option, None, Some, List, [], ◌∷◌, ◌++◌, length, refl, sym, ap, subst, ◌∙◌, arith, inl, inr}
 use Rattle.picture.specs.Rows.{cell_at}
 use Rattle.clues.specs.ClueBook.{Clues}
 use Rattle.line_settle.specs.declared.meter.Meter.{Meter}
@@ -15,7 +15,7 @@ use Rattle.second_search.specs.declared.counting.Step.TheVariants as step
 use Rattle.second_search.specs.Branching.{AreSameAbove, Search, search_of}
 use Rattle.second_search.specs.Looking.{AreRowsSettled}
 use Rattle.second_search.specs.Searching.{Allows, Comes, CountsSome, EndsAs, Searches, SplitsPast, none_waits, is_dead, is_known, is_other, is_split, once_more, past_dead, past_known, past_split, raised}
-use Rattle.second_search.specs.Stepping.{Compares, IsOneLess, Spends, Steps}
+use Rattle.second_search.specs.Stepping.{Compares, IsOneLess, Steps}
 use Rattle.second_search.proofs.ComingLemmas.{leads}
 use Rattle.second_search.proofs.LookLemmas.{rows_same}
 use Rattle.second_search.proofs.WeightLemmas.{branches_lighter, load, load_append, load_more, weight, weight_within}

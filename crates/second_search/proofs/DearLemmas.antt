@@ -1,23 +1,21 @@
 -- Where a search is broken off, and what the parts cost that were passed.
-use Rattle.std.proofs.Common.{◌≡◌, ℕ, zero, suc, ◌+◌, ◌^◌, ◌<◌, ◌≤◌, ◌⊎◌, Option, Some, None, List, [], ◌∷◌, ◌++◌, length, refl, sym, ap, subst, ◌∙◌, arith, inl, inr}
+use Rattle.std.proofs.Common.{◌≡◌, ℕ, zero, suc, ◌^◌, ◌<◌, ◌≤◌, Option, Some, None, List, [], ◌∷◌, length, refl, subst, arith, inl, inr}
 use Rattle.std.proofs.lemmas.Bool.{cases_eq, cases_lt}
 use Rattle.std.proofs.Math.Pow.{pow_mono}
-use Rattle.picture.specs.CellSet.{HasCell}
 use Rattle.picture.specs.Picture.{IsPicture}
-use Rattle.picture.specs.Rows.{cell_at, row_at, width_of}
+use Rattle.picture.specs.Rows.{cell_at, row_at}
 use Rattle.clues.specs.ClueBook.{Clues}
 use Rattle.line_settle.specs.FactSets.{IsFacts, SameShape}
 use Rattle.line_settle.specs.GridLaws.{shape_sym, shape_trans}
 use Rattle.propagate.specs.Filling.{only}
 use Rattle.propagate.specs.Laws.{OnlyIsClosed}
-use Rattle.second_search.specs.declared.counting.Ending.{Ending}
 use Rattle.second_search.specs.declared.counting.Ending.TheVariants as ending
 use Rattle.second_search.specs.declared.keeper.Answer.{Answer}
 use Rattle.second_search.specs.declared.keeper.Answer.TheVariants.{Filling, Nothing, Unknown}
 use Rattle.second_search.specs.declared.keeper.KeptPart.{KeptPart}
 use Rattle.second_search.specs.Costs.{CostsAreThere, CostsDecide, IsDear}
-use Rattle.second_search.specs.Judging.{EndsBy, Passes, answer_at, cells_at, kept_at}
-use Rattle.second_search.specs.Parts.{IsScene, picked}
+use Rattle.second_search.specs.Judging.{EndsBy, Passes, answer_at, cells_at}
+use Rattle.second_search.specs.Parts.{IsScene}
 use Rattle.second_search.specs.Searching.{CostsAreUnique, EndsAs, HasCost, Searches, SplitsPast, alone, none_waits, is_dead, is_known, is_other, is_split, once_more, past_dead, past_known, past_split}
 use Rattle.second_search.proofs.AloneLemmas.{in_or_not, own_power}
 use Rattle.second_search.proofs.CostLemmas.{cost_is_there}

@@ -97,10 +97,6 @@ held_some clues facts picture row col h l (k ∷ ks) a s = elim s [
 tested : (p : ℕ → Bool) (k n : ℕ) (b : Bool) → p k ≡ b → filter p (range_with_len k (suc n)) ≡ cond b (k ∷ filter p (range_with_len (k + 1) n)) (filter p (range_with_len (k + 1) n))
 tested p k n b e = ap (λ (t : Bool). cond t (k ∷ filter p (range_with_len (k + 1) n)) (filter p (range_with_len (k + 1) n))) e
 
-among_step : (p : ℕ → Bool) (k n x : ℕ) (b : Bool) → p k ≡ b → Among (filter p (range_with_len (k + 1) n)) x → Among (filter p (range_with_len k (suc n))) x
-among_step p k n x true e r = let P : List ℕ → Type 0 = λ xs. Among xs x in subst P (sym (tested p k n true e)) (inr r)
-among_step p k n x false e r = let P : List ℕ → Type 0 = λ xs. Among xs x in subst P (sym (tested p k n false e)) r
-
 pub among_kept : (p : ℕ → Bool) (k n x : ℕ) → k ≤ x → x < k + n → p x ≡ true → Among (filter p (range_with_len k n)) x
 among_kept p k zero x l m e = absurd (omega arith)
 among_kept p k (suc n) x l m e = elim (cases_eq x k) [

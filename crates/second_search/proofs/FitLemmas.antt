@@ -1,10 +1,10 @@
 -- Whether some list fits a line is decided: the lists of colours that are left are gone through.
-use Rattle.std.proofs.Common.{◌≡◌, ℕ, zero, suc, ◌^◌, ◌<◌, ◌⊎◌, List, [], ◌∷◌, length, get_or, refl, sym, ap, subst, ◌∙◌, arith, inl, inr}
+use Rattle.std.proofs.Common.{◌≡◌, ℕ, zero, suc, ◌^◌, ◌<◌, ◌⊎◌, List, [], ◌∷◌, length, get_or, refl, ap, subst, ◌∙◌, arith, inl, inr}
 use Rattle.std.specs.Prelude.{IsBitSet}
 use Rattle.std.proofs.lemmas.Bool.{cases_eq, cases_lt}
 use Rattle.clues.specs.declared.block.Block.{Block}
 use Rattle.clues.specs.Clue.{block, clue_of}
-use Rattle.line_settle.specs.Fitting.{CanFit, CanHave, Fits}
+use Rattle.line_settle.specs.Fitting.{CanFit, CanHave}
 use Rattle.picture.specs.BitLaws.{bit_below, bit_or_not}
 use Rattle.second_search.proofs.PickLemmas.{find_below}
 

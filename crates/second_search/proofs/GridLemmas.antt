@@ -2,7 +2,7 @@
 use Rattle.std.proofs.Common.{◌≡◌, ℕ, ◌<◌, List, [], length, get_or, sym, ap, subst, ◌∙◌, arith, inl, inr}
 use Rattle.std.proofs.lemmas.Bool.{cases_eq, cases_lt}
 use Rattle.std.proofs.lemmas.List.{ext_get_or, get_or_past}
-use Rattle.picture.specs.Rows.{width_of, row_at, cell_at, with_cell}
+use Rattle.picture.specs.Rows.{row_at, cell_at, with_cell}
 use Rattle.line_settle.specs.FactSets.{SameShape}
 use Rattle.line_settle.specs.GridLaws.{shape_sym, shape_trans, at_with_cell, off_with_cell, shape_with_cell}
 
@@ -66,9 +66,3 @@ same_cell facts i j h l = same_grid (with_cell facts i j (cell_at facts i j)) fa
         subst P (sym e) (subst Q (sym f) (at_with_cell facts i j (cell_at facts i j) h l))
   ]
 ])
-
-pub width_with_cell : (facts : List (List ℕ)) (i j x : ℕ) → width_of (with_cell facts i j x) ≡ width_of facts
-width_with_cell facts i j x = sym ((shape_with_cell facts i j x).each 0)
-
-pub height_with_cell : (facts : List (List ℕ)) (i j x : ℕ) → length (with_cell facts i j x) ≡ length facts
-height_with_cell facts i j x = sym (shape_with_cell facts i j x).rows

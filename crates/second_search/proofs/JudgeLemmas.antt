@@ -1,7 +1,5 @@
 -- Going along the parts, with the counts of what is done.
-use Rattle.std.proofs.Common.{◌≡◌, ℕ, zero, suc, ◌+◌, ◌^◌, ◌<◌, Option, List, [], ◌∷◌, length, get_or, set, refl, sym, ap, subst, ◌∙◌, arith, inl, inr}
-use Rattle.std.proofs.lemmas.Bool.{cases_eq}
-use Rattle.std.proofs.lemmas.List.{get_or-set_other, get_or-set_same, length-set}
+use Rattle.std.proofs.Common.{◌≡◌, ℕ, zero, suc, ◌+◌, ◌^◌, ◌<◌, Option, List, [], ◌∷◌, length, get_or, refl, sym, ap, subst, ◌∙◌, arith}
 use Rattle.clues.specs.ClueBook.{Clues}
 use Rattle.line_settle.specs.declared.meter.Meter.{Meter}
 use Rattle.line_settle.specs.FitLaws.{counting_adds}
@@ -11,8 +9,8 @@ use Rattle.second_search.specs.declared.keeper.Answer.{Answer}
 use Rattle.second_search.specs.declared.keeper.Answer.TheVariants.{Filling, Nothing, Unknown}
 use Rattle.second_search.specs.declared.keeper.KeptPart.{KeptPart}
 use Rattle.second_search.specs.declared.keeper.Spent.{Spent}
-use Rattle.second_search.specs.Searching.{raised}
-use Rattle.second_search.specs.Judging.{AddsUp, Changes, Done, DoneBy, EndsBy, EndsPart, Passes, StopsAt, answer_at, cells_at, kept_at}
+use Rattle.second_search.specs.Searching.{CountsSome, EndsWithin, alone, raised}
+use Rattle.second_search.specs.Judging.{AddsUp, Done, DoneBy, EndsBy, EndsPart, Passes, StopsAt, answer_at, kept_at}
 
 raised_both : (start before after m n : ℕ) → before ≡ raised start m → after ≡ raised before n → after ≡ raised start (m + n)
 raised_both start before after m n a b = omega arith
@@ -91,37 +89,6 @@ module _ (clues : Clues) (facts picture : List (List ℕ)) (allowance : Option �
   pub stops_here : (i : ℕ) (found : Ending) (m n x y : ℕ) → i < length kept → Passes clues facts picture allowance kept i m n → EndsPart clues facts picture allowance (kept_at kept i) found x y → StopsAt clues facts picture allowance kept i found (m + x) (n + y)
   stops_here i found m n x y l p e = record { place = l; searched_before = m; splits_before = n; searched_here = x; splits_here = y; before = p; here = e; searched_is = refl; splits_is = refl }
 
--- ---- what is known then
-
-pub changes_none : (kept : List KeptPart) → Changes kept kept 0
-changes_none kept = record { count = refl; cells = λ i. refl; before = λ i l. absurd (omega arith); behind = λ i l. refl }
-
-same_cells : (one other : KeptPart) → one ≡ other → one.cells ≡ other.cells
-same_cells one other e = ap (λ (x : KeptPart). x.cells) e
-
--- one part more of which it is known that it has no other filling
-pub changes_more : (first kept more : List KeptPart) (i : ℕ) (part : KeptPart) → Changes first kept i → i < length kept → more ≡ set kept i part → part.cells ≡ cells_at kept i → part.answer ≡ Nothing → Changes first more (i + 1)
-changes_more first kept more i part c l e same gone =
-    let none : KeptPart = record { cells = []; answer = Unknown } in
-    let here : kept_at more i ≡ part = ap (λ (xs : List KeptPart). kept_at xs i) e ∙ get_or-set_same kept i part none l in
-    let off : (j : ℕ) → (j ≡ i → ⊥) → kept_at more j ≡ kept_at kept j = λ j d. ap (λ (xs : List KeptPart). kept_at xs j) e ∙ get_or-set_other kept i j part none d in
-    record {
-      count = ap length e ∙ (length-set kept i part ∙ c.count);
-      cells = λ j. elim (cases_eq j i) [
-        | inl q ↦
-            let P : ℕ → Type 0 = λ x. cells_at more x ≡ cells_at first x in
-            subst P (sym q) (same_cells (kept_at more i) part here ∙ (same ∙ c.cells i))
-        | inr d ↦ same_cells (kept_at more j) (kept_at kept j) (off j d) ∙ c.cells j
-      ];
-      before = λ j m. elim (cases_eq j i) [
-        | inl q ↦
-            let P : ℕ → Type 0 = λ x. answer_at more x ≡ Nothing in
-            subst P (sym q) (ap (λ (x : KeptPart). x.answer) here ∙ gone)
-        | inr d ↦ ap (λ (x : KeptPart). x.answer) (off j d) ∙ c.before j (omega arith)
-      ];
-      behind = λ j m. off j (λ q. absurd (omega arith)) ∙ c.behind j (omega arith);
-    }
-
 -- ---- a part of which something is known
 
 module _ (clues : Clues) (facts picture : List (List ℕ)) where
@@ -138,8 +105,28 @@ same_default [] i a b l = absurd (omega arith)
 same_default (x ∷ xs) zero a b l = refl
 same_default (x ∷ xs) (suc i) a b l = same_default xs i a b (omega arith)
 
-pub answer_is : (items kept : List KeptPart) (i : ℕ) (part : KeptPart) (answer : Answer) → items ≡ kept → i < length kept → part ≡ get_or items i part → part.answer ≡ answer → answer_at kept i ≡ answer
-answer_is items kept i part answer e l p a =
+pub part_is : (items kept : List KeptPart) (i : ℕ) (part : KeptPart) → items ≡ kept → i < length kept → part ≡ get_or items i part → part ≡ kept_at kept i
+part_is items kept i part e l p =
     let none : KeptPart = record { cells = []; answer = Unknown } in
-    let here : part ≡ kept_at kept i = p ∙ (ap (λ (xs : List KeptPart). get_or xs i part) e ∙ same_default kept i part none l) in
-    ap (λ (x : KeptPart). x.answer) (sym here) ∙ a
+    p ∙ (ap (λ (xs : List KeptPart). get_or xs i part) e ∙ same_default kept i part none l)
+
+pub answer_is : (items kept : List KeptPart) (i : ℕ) (part : KeptPart) (answer : Answer) → items ≡ kept → i < length kept → part ≡ get_or items i part → part.answer ≡ answer → answer_at kept i ≡ answer
+answer_is items kept i part answer e l p a = ap (λ (x : KeptPart). x.answer) (sym (part_is items kept i part e l p)) ∙ a
+
+-- a part of which nothing was known was searched, which took an evaluation at least
+pub searched_once : (clues : Clues) (facts picture : List (List ℕ)) (allowance : Option ℕ) (kept : List KeptPart) (i : ℕ) (part : KeptPart) (found : Ending) (splits : ℕ) (start end : Meter) (p q : ℕ) → part ≡ kept_at kept i → part.answer ≡ Unknown → (n : ℕ) × ((splits ≡ raised 0 n) × EndsWithin clues picture (alone part.cells facts picture) allowance found n) → CountsSome start end p q → DoneBy (record { searched = 1; splits = splits }) start end p q (EndsPart clues facts picture allowance (kept_at kept i) found)
+searched_once clues facts picture allowance kept i part found splits start end p q here unknown ends some =
+    let P : KeptPart → Type 0 = λ x. EndsPart clues facts picture allowance x found 1 ends.0 in
+    let Q : Answer → Type 0 = λ x. EndsBy clues facts picture allowance part.cells x found 1 ends.0 in
+    let one = some.1.0 in
+    record {
+      searched = 1;
+      splits = ends.0;
+      evaluations = some.0;
+      is = subst P here (subst Q (sym unknown) (refl, ends.1.1));
+      searched_is = refl;
+      splits_is = ends.1.0;
+      counts = some.1.1;
+      none = λ z. absurd (omega arith);
+      at_least = omega arith;
+    }

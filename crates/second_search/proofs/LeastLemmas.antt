@@ -1,18 +1,18 @@
 -- Facts have least closed facts over them: while some line forces an exclusion, one colour more is excluded.
-use Rattle.std.proofs.Common.{◌≡◌, ℕ, zero, suc, ◌+◌, ◌^◌, ◌<◌, ◌≤◌, ◌⊎◌, ◌↔◌, List, [], length, get_or, bit_and, refl, sym, ap, subst, ◌∙◌, arith, inl, inr}
+use Rattle.std.proofs.Common.{◌≡◌, ℕ, zero, suc, ◌^◌, ◌<◌, ◌≤◌, ◌⊎◌, ◌↔◌, List, length, get_or, bit_and, refl, sym, subst, arith, inl, inr}
 use Rattle.std.specs.Prelude.{IsBitSet}
 use Rattle.std.specs.Int.{bit_not, w16}
 use Rattle.std.proofs.lemmas.Bool.{cases_eq, cases_lt}
-use Rattle.std.proofs.lemmas.List.{get_or_past, length-map}
+use Rattle.std.proofs.lemmas.List.{get_or_past}
 use Rattle.std.proofs.Math.Pow.{pow_mono}
 use Rattle.picture.specs.declared.line_id.Axis.{Axis}
 use Rattle.picture.specs.declared.line_id.Axis.TheVariants.{Across, Down}
 use Rattle.picture.specs.declared.line_id.LineId.{LineId}
-use Rattle.picture.specs.Rows.{width_of, row_at, cell_at, with_cell, line_along, line_of, lines_along, HasLine}
+use Rattle.picture.specs.Rows.{width_of, row_at, cell_at, with_cell, line_of, lines_along, HasLine}
 use Rattle.picture.specs.BitLaws.{bit_below, bit_or_not, fewer_le, no_bit, power_has}
 use Rattle.clues.specs.declared.block.Block.{Block}
 use Rattle.clues.specs.ClueBook.{Clues, clue_at}
-use Rattle.line_settle.specs.Fitting.{CanFit, CanHave, Forces}
+use Rattle.line_settle.specs.Fitting.{CanFit, Forces}
 use Rattle.line_settle.specs.FactSets.{IsClosed, IsClosedLine, IsFacts, IsLeast, IsWithin, Leaves, SameShape, col_on, row_on}
 use Rattle.line_settle.specs.FitLaws.{tighter_can_fit, tighter_have, within_tighter}
 use Rattle.line_settle.specs.GridLaws.{at_with_cell, cell_on, off_with_cell, same_has_line, shape_refl, shape_sym, shape_trans, shape_with_cell}

@@ -12,7 +12,7 @@ use Rattle.line_settle.specs.declared.line_engine.Outcome.TheVariants.{Narrowed}
 use Rattle.propagate.specs.Closing.{Closes, EachFits}
 use Rattle.propagate.specs.Filling.{Fills}
 use Rattle.second_search.specs.Branching.{AreSameAbove}
-use Rattle.second_search.specs.Looking.{AreRowsSettled, Shows, ShowsRow}
+use Rattle.second_search.specs.Looking.{AreRowsSettled, Shows}
 use Rattle.second_search.specs.Through.{across}
 use Rattle.line_settle.specs.GridLaws.{shape_sym, shape_trans, at_with_cell, off_with_cell, shape_with_cell}
 use Rattle.picture.specs.BitLaws.{bit_below, fewer_le, no_bit}
@@ -48,12 +48,6 @@ pub others_shown : (first picture : List (List ℕ)) (row col colour : ℕ) → 
 others_shown first picture row col colour h r c n = off_with_cell picture row col colour r c (λ p. n p.0) ∙ h r c n
 
 -- ---- one more row shown
-
-pub more_rows : (facts old new : List (List ℕ)) (row : ℕ) → ShowsRow facts old new row → ((r c : ℕ) → r < row → c < width_of facts → IsOnly (cell_at facts r c) (cell_at old r c)) → (r c : ℕ) → r < row + 1 → c < width_of facts → IsOnly (cell_at facts r c) (cell_at new r c)
-more_rows facts old new row s h r c l w = below_next (λ i. IsOnly (cell_at facts i c) (cell_at new i c)) row
-    (λ i m. let P : ℕ → Type 0 = λ x. IsOnly (cell_at facts i c) x in subst P (sym (s.elsewhere i c (λ e. absurd (omega arith)))) (h i c m w))
-    (s.only c w)
-    r l
 
 pub blank_shape : (facts : List (List ℕ)) (height width : ℕ) → IsFacts facts → height ≡ length facts → width ≡ width_of facts → SameShape (replicate height (replicate width 0)) facts
 blank_shape facts height width is h w = record {

@@ -1,8 +1,7 @@
 -- What is found in a window is another picture.
 use Rattle.std.proofs.Common.{◌≡◌, ℕ, ◌<◌, List, [], ◌∷◌, length, Option, Some, refl, sym, ap, subst, inl, inr}
-use Rattle.picture.specs.declared.line_id.LineId.{LineId}
 use Rattle.picture.specs.CellSet.{HasCell, PutsCell}
-use Rattle.picture.specs.LineSet.{Lines, HasName}
+use Rattle.picture.specs.LineSet.{Lines}
 use Rattle.picture.specs.Rows.{width_of}
 use Rattle.clues.specs.ClueBook.{Clues}
 use Rattle.clues.specs.Laws.{BooksAreTheirClues, CluesAreOfLines}
@@ -43,14 +42,6 @@ more_open facts part old cells lines splits row col h l has is puts both = recor
       (both (down c)).1 (inr (inr (ap down e.1))),
     )
   ];
-}
-
-pub no_window : (facts : List (List ℕ)) (part cells : List ℕ) (lines : Lines) (splits : ℕ) → ((r c : ℕ) → HasCell cells r c → ⊥) → ((line : LineId) → HasName lines line → ⊥) → IsWindow facts part (record { cells = cells; lines = lines; splits = splits })
-no_window facts part cells lines splits none nameless = record {
-  among = λ r c m. absurd (none r c m);
-  inside = λ r c m. absurd (none r c m);
-  lines = λ line h. absurd (nameless line h);
-  through = λ r c m. absurd (none r c m);
 }
 
 pub found_inside : CluesAreOfLines → BooksAreTheirClues → ClosingKeepsFillings → OnlyIsClosed → FillingsAreOfFacts → (clues : Clues) (givens : List ℕ) (facts picture : List (List ℕ)) → IsScene clues givens facts picture → (cells : List ℕ) (first new : List (List ℕ)) → first ≡ facts → LeavesAlone cells picture first new (length first) → (most : Option ℕ) (count : ℕ) (ending : Ending) (other : List (List ℕ)) → ending ≡ Found other → (part : List ℕ) → ((r c : ℕ) → HasCell cells r c → HasCell part r c) → (n : ℕ) × ((count ≡ raised 0 n) × EndsAs clues picture new most ending n) → IsOtherFilling clues givens picture part other

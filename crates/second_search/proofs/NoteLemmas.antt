@@ -14,7 +14,7 @@ use Rattle.second_search.specs.declared.note.Note.TheVariants.{Restore, Branch}
 use Rattle.second_search.specs.Branching.{AreInside, IsInside, Search, cells_held, place, places, search_of, waiting}
 use Rattle.line_settle.specs.MaskLaws.{lowest_below, shifted}
 use Rattle.line_settle.specs.Branches.{branches, colours_of, held}
-use Rattle.second_search.proofs.GridLemmas.{cell_back, same_cell}
+use Rattle.second_search.proofs.GridLemmas.{cell_back}
 
 has : ℕ → ℕ → Bool
 has mask k = bit_at mask k == 1
@@ -106,17 +106,6 @@ holds s facts new notes more cell mask v is h w m n e =
     subst P (sym n) (ap (λ (x : List (List (List ℕ))). search_of held_to x (cells_held (reverse more))) behind
     ∙ (ap (λ (x : List Cell). search_of held_to s.behind x) cells
     ∙ ap (λ (x : List (List ℕ)). search_of (with_cell x cell.row cell.col mask) s.behind s.cells) front))
-
--- a cell that has the mask already
-pub holds_same : (s : Search) (facts : List (List ℕ)) (behind : List (List (List ℕ))) (cells : List Cell) (row col mask : ℕ) → search_of facts behind cells ≡ s → IsFacts facts → row < length s.at_hand → col < width_of s.at_hand → cell_at facts row col ≡ mask → s ≡ search_of (with_cell s.at_hand row col mask) s.behind s.cells
-holds_same s facts behind cells row col mask v is h w e =
-    let front = ap (λ (x : Search). x.at_hand) v in
-    let tall = ap length front in
-    let wide = ap width_of front in
-    let r = is.rectangular row (omega arith) in
-    let P : List (List ℕ) → Type 0 = λ x. with_cell x row col mask ≡ x in
-    let same : with_cell facts row col mask ≡ facts = ap (λ x. with_cell facts row col x) (sym e) ∙ same_cell facts row col (omega arith) (omega arith) in
-    sym (ap (λ x. search_of x s.behind s.cells) (subst P front same))
 
 -- no colours make no branches
 pub no_branches : (s : Search) (row col mask : ℕ) → mask ≡ 0 → s ≡ search_of s.at_hand (branches s.at_hand row col mask ++ s.behind) (places row col mask ++ s.cells)

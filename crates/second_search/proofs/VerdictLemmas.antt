@@ -11,7 +11,7 @@ use Rattle.second_search.specs.declared.keeper.Stop.TheVariants.{BrokenOff, Foun
 use Rattle.second_search.specs.declared.keeper.Verdict.{Verdict}
 use Rattle.second_search.specs.declared.keeper.Verdict.TheVariants.{Other, Undecided, Unique}
 use Rattle.second_search.specs.Parts.{AreParts, IsPart, part_at}
-use Rattle.second_search.specs.Judging.{Changes, Fills, Finds, HasFilling, HasNoFilling, IsFilling, IsPlace, IsShown, IsTrueOf, Judges, Notes, Starts, StartsWith, Stops, answer_at, cells_at, kept_at, parts_of}
+use Rattle.second_search.specs.Judging.{HasFilling, HasNoFilling, IsFilling, IsShown, IsTrueOf, Judges, Notes, Starts, StartsWith, Stops, answer_at, cells_at, kept_at, parts_of}
 
 -- ---- the parts that are kept
 
@@ -103,20 +103,6 @@ all_started facts parts kept count are s e =
     }
 
 -- ---- what is noted
-
-pub finds_one : (old between new : List KeptPart) (i : ℕ) (other : List (List ℕ)) → Changes old between i → Fills between new i other → Finds old new i other
-finds_one old between new i other c f = record {
-  count = f.count ∙ c.count;
-  cells = λ j. f.cells j ∙ c.cells j;
-  before = λ j l. ap (λ (x : KeptPart). x.answer) (f.elsewhere j (λ q. absurd (omega arith))) ∙ c.before j l;
-  here = f.here;
-  behind = λ j l. f.elsewhere j (λ q. absurd (omega arith)) ∙ c.behind j (omega arith);
-}
-
-pub is_place : (clues : Clues) (facts picture : List (List ℕ)) (allowance : Option ℕ) (kept : List KeptPart) (stop : Stop) (m n : ℕ) → Stops clues facts picture allowance kept stop m n → IsPlace kept stop
-is_place clues facts picture allowance kept Through m n s = tt
-is_place clues facts picture allowance kept (Found i other) m n s = s.place
-is_place clues facts picture allowance kept (BrokenOff i) m n s = s.place
 
 pub judges_as : (clues : Clues) (facts picture : List (List ℕ)) (allowance : Option ℕ) (old new : List KeptPart) (stop : Stop) (verdict : Verdict) (m n : ℕ) → HasNoFilling old (length old) → Stops clues facts picture allowance old stop m n → Notes old new stop verdict → Judges clues facts picture allowance old new verdict m n
 judges_as clues facts picture allowance old new Through verdict m n none s noted =

@@ -1,5 +1,5 @@
 -- How the search of a part ends where no allowance is set: within some splits of the fixed order, or by what is true.
-use Rattle.std.proofs.Common.{◌≡◌, ℕ, ◌+◌, ◌<◌, false, Option, None, Some, List, sym, subst, arith, inl, inr}
+use Rattle.std.proofs.Common.{◌≡◌, ℕ, ◌+◌, ◌<◌, false, Option, None, Some, List, subst, arith, inl, inr}
 use Rattle.std.specs.Prelude.{IfSome}
 use Rattle.clues.specs.ClueBook.{Clues}
 use Rattle.clues.specs.Laws.{BooksAreTheirClues, CluesAreOfLines}
@@ -8,7 +8,6 @@ use Rattle.line_settle.specs.Counting.{Counts}
 use Rattle.line_settle.specs.FitLaws.{counting_adds}
 use Rattle.line_settle.specs.FactSets.{SameShape}
 use Rattle.propagate.specs.Laws.{ClosingKeepsFillings, OnlyIsClosed}
-use Rattle.second_search.specs.declared.counting.Ending.{Ending}
 use Rattle.second_search.specs.declared.counting.Ending.TheVariants as ending
 use Rattle.second_search.specs.declared.ladder.Decided.{Decided}
 use Rattle.second_search.specs.declared.ladder.Decided.TheVariants.{OtherPicture, Tree}
@@ -16,7 +15,7 @@ use Rattle.second_search.specs.declared.tree_lines.Lines.{Lines}
 use Rattle.second_search.specs.Laws.{FillingsAreOfFacts}
 use Rattle.second_search.specs.Looking.{FindsFilling}
 use Rattle.second_search.specs.Parts.{IsOtherFilling, IsScene}
-use Rattle.second_search.specs.Searching.{CountsSome, EndsAs, EndsTrue, EndsWithin, alone, fixed_splits, raised}
+use Rattle.second_search.specs.Searching.{CountsSome, EndsTrue, EndsWithin, alone}
 use Rattle.second_search.specs.Trees.{Decides}
 use Rattle.second_search.proofs.EndLemmas.{none_found, one_found}
 use Rattle.second_search.proofs.TreeLemmas.{none_fills}
@@ -35,18 +34,6 @@ module _ (law : CluesAreOfLines) (books : BooksAreTheirClues) (closing : Closing
   within_one cells other None n (inr e) = (fillings clues givens facts picture other cells scene).1 e.1
 
 -- ---- within some splits, or past them
-
-pub within_fixed : (clues : Clues) (known facts : List (List ℕ)) (allowance : Option ℕ) (found other : Ending) (start count : ℕ) → allowance ≡ None → found ≡ other → (other ≡ ending.BrokenOff → ⊥) → (n : ℕ) × ((count ≡ raised start n) × EndsAs clues known facts (Some fixed_splits) found n) → (n : ℕ) × ((count ≡ raised start n) × EndsWithin clues known facts allowance other n)
-within_fixed clues known facts allowance found other start count e f d h =
-    let P : Ending → Type 0 = λ x. EndsAs clues known facts (Some fixed_splits) x h.0 in
-    let Q : Option ℕ → Type 0 = λ a. EndsWithin clues known facts a other h.0 in
-    (h.0, (h.1.0, subst Q (sym e) (inl (subst P f h.1.1, d))))
-
-pub within_past : (clues : Clues) (known facts : List (List ℕ)) (allowance : Option ℕ) (found other : Ending) (start count : ℕ) → allowance ≡ None → found ≡ ending.BrokenOff → EndsTrue clues known facts other → (n : ℕ) × ((count ≡ raised start n) × EndsAs clues known facts (Some fixed_splits) found n) → (n : ℕ) × ((count ≡ raised start n) × EndsWithin clues known facts allowance other n)
-within_past clues known facts allowance found other start count e f t h =
-    let P : Ending → Type 0 = λ x. EndsAs clues known facts (Some fixed_splits) x h.0 in
-    let Q : Option ℕ → Type 0 = λ a. EndsWithin clues known facts a other h.0 in
-    (h.0, (h.1.0, subst Q (sym e) (inr (subst P f h.1.1, t))))
 
 pub counts_some_more : (start between end : Meter) (p q r : ℕ) → CountsSome start between p q → (evaluations : ℕ) × Counts evaluations 0 between end q r → CountsSome start end p r
 counts_some_more start between end p q r a b =

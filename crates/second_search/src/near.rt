@@ -9,7 +9,7 @@ ghost use Rattle.second_search.specs.Searching.{CountsAny};
 ghost use Rattle.second_search.specs.Scene.{CanSearch};
 
 use crate::cell_lines::put_both;
-use crate::counting::{Ending, Start, search_counted};
+use crate::counting::{Ending, Searched, Start, search_counted};
 use crate::laws::fillings_are_of_facts;
 use crate::part_search::{leave_alone, lines_through};
 use crate::parts::Parts;
@@ -141,7 +141,8 @@ fn find_inside<E: LineEngine>(
         allowance: Some(window.splits),
     };
     let searched = search_counted(alloc, engine, scene.clues, scene.picture, start, meter)?;
-    match searched.ending {
+    let Searched { ending, splits: _ } = searched;
+    match ending {
         Ending::Found(picture) => Ok(Some(picture)),
         Ending::Nothing => Ok(None),
         Ending::BrokenOff => Ok(None),

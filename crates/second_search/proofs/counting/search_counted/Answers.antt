@@ -67,21 +67,21 @@ returns-in-None-clause-ends g c =
     let t = c.look_once.new.self.pending in
     let unique = c.least_is_unique.ensures in
     let i = c.loop-search.invariant.counting in
-    let counting : Counting c.args.book.now c.args.known.now c.args.start.facts c.args.start.allowance 0 t.behind c.look_once.new.self.left c.look_once.new.self.splits = elim c.match-branch-2.branch [
+    let counting : Counting c.args.book.now c.args.known.now c.args.start.facts c.args.start.allowance 0 t.behind c.look_once.new.self.left c.look_once.new.self.splits = elim c.match-step.branch [
       | in-Passed w ↦ counting_passes unique _ _ _ _ _ s t _ _ _ _ i (steps_as _ _ s t _ _ _ _ _ _ w.in-Passed.is c.in_ok-step.ensures.steps)
       | in-Split w ↦ counting_splits unique _ _ _ _ _ s t _ _ _ _ i (steps_as _ _ s t _ _ _ _ _ _ w.in-Split.is c.in_ok-step.ensures.steps)
     ] in
     let P : Option Cell → Type 0 = GoesOn t c.advance.new.self in
     counted_nothing _ _ _ _ _ _ _ _ counting (subst P c.in-None.is c.in_ok-next.ensures)
 
-pub lines_at-dirty-requires-clause-in_rows : goal.lines_at-dirty-requires-clause-in_rows
-lines_at-dirty-requires-clause-in_rows g c =
+pub lines_at-requires-clause-in_rows : goal.lines_at-requires-clause-in_rows
+lines_at-requires-clause-in_rows g c =
     let s = c.loop-search.search.pending in
     let t = c.look_once.new.self.pending in
     let u = c.advance.new.self in
     let book = c.args.book.now in
     let first = c.args.start.facts in
-    let quiet : EachQuiet book first t.behind t.cells = elim c.match-branch-2.branch [
+    let quiet : EachQuiet book first t.behind t.cells = elim c.match-step.branch [
       | in-Passed w ↦ quiet_passes book c.args.known.now first s t _ _ _ _ c.loop-search.invariant.behind (steps_as _ _ s t _ _ _ _ _ _ w.in-Passed.is c.in_ok-step.ensures.steps)
       | in-Split w ↦ quiet_splits book c.args.known.now first s t _ _ _ _ c.loop-search.invariant.ready.same_shape c.loop-search.invariant.behind (steps_as _ _ s t _ _ _ _ _ _ w.in-Split.is c.in_ok-step.ensures.steps)
     ] in
@@ -90,14 +90,14 @@ lines_at-dirty-requires-clause-in_rows g c =
     let Q : List (List ℕ) → Type 0 = λ x. c.in-Some.cell.row < length x in
     subst Q (sym c.at_hand.ensures) next.0.1.in_rows
 
-pub lines_at-dirty-requires-clause-in_columns : goal.lines_at-dirty-requires-clause-in_columns
-lines_at-dirty-requires-clause-in_columns g c =
+pub lines_at-requires-clause-in_columns : goal.lines_at-requires-clause-in_columns
+lines_at-requires-clause-in_columns g c =
     let s = c.loop-search.search.pending in
     let t = c.look_once.new.self.pending in
     let u = c.advance.new.self in
     let book = c.args.book.now in
     let first = c.args.start.facts in
-    let quiet : EachQuiet book first t.behind t.cells = elim c.match-branch-2.branch [
+    let quiet : EachQuiet book first t.behind t.cells = elim c.match-step.branch [
       | in-Passed w ↦ quiet_passes book c.args.known.now first s t _ _ _ _ c.loop-search.invariant.behind (steps_as _ _ s t _ _ _ _ _ _ w.in-Passed.is c.in_ok-step.ensures.steps)
       | in-Split w ↦ quiet_splits book c.args.known.now first s t _ _ _ _ c.loop-search.invariant.ready.same_shape c.loop-search.invariant.behind (steps_as _ _ s t _ _ _ _ _ _ w.in-Split.is c.in_ok-step.ensures.steps)
     ] in
@@ -116,22 +116,22 @@ loop-search-preserved g c =
     let first = c.args.start.facts in
     let unique = c.least_is_unique.ensures in
     let i = c.loop-search.invariant.counting in
-    let counting : Counting book c.args.known.now first c.args.start.allowance 0 t.behind c.look_once.new.self.left c.look_once.new.self.splits = elim c.match-branch-2.branch [
+    let counting : Counting book c.args.known.now first c.args.start.allowance 0 t.behind c.look_once.new.self.left c.look_once.new.self.splits = elim c.match-step.branch [
       | in-Passed w ↦ counting_passes unique _ _ _ _ _ s t _ _ _ _ i (steps_as _ _ s t _ _ _ _ _ _ w.in-Passed.is c.in_ok-step.ensures.steps)
       | in-Split w ↦ counting_splits unique _ _ _ _ _ s t _ _ _ _ i (steps_as _ _ s t _ _ _ _ _ _ w.in-Split.is c.in_ok-step.ensures.steps)
     ] in
-    let quiet : EachQuiet book first t.behind t.cells = elim c.match-branch-2.branch [
+    let quiet : EachQuiet book first t.behind t.cells = elim c.match-step.branch [
       | in-Passed w ↦ quiet_passes book c.args.known.now first s t _ _ _ _ c.loop-search.invariant.behind (steps_as _ _ s t _ _ _ _ _ _ w.in-Passed.is c.in_ok-step.ensures.steps)
       | in-Split w ↦ quiet_splits book c.args.known.now first s t _ _ _ _ c.loop-search.invariant.ready.same_shape c.loop-search.invariant.behind (steps_as _ _ s t _ _ _ _ _ _ w.in-Split.is c.in_ok-step.ensures.steps)
     ] in
     let P : Option Cell → Type 0 = GoesOn t u in
     let on : GoesOn t u (Some cell) = subst P c.in-Some.is c.in_ok-next.ensures in
     let next = quiet_at book first t u cell quiet on in
-    let Q : List (List ℕ) → Type 0 = λ x. AreLinesOf x c.lines_at-dirty.result in
+    let Q : List (List ℕ) → Type 0 = λ x. AreLinesOf x c.lines_at.result in
     record {
       counting = counting_at _ _ _ _ _ _ u _ _ counting on.0;
-      ready = ready_at book first u.at_hand cell c.lines_at-dirty.result next.0.0 next.0.1 (subst Q c.at_hand.ensures c.lines_at-dirty.ensures.lines) c.lines_at-dirty.ensures.both;
-      some = name_counts c.lines_at-dirty.result (across cell.row) c.lines_at-dirty.ensures.both.0;
+      ready = ready_at book first u.at_hand cell c.lines_at.result next.0.0 next.0.1 (subst Q c.at_hand.ensures c.lines_at.ensures.lines) c.lines_at.ensures.both;
+      some = name_counts c.lines_at.result (across cell.row) c.lines_at.ensures.both.0;
       behind = next.1;
       counts = counts_more _ _ _ _ _ _ c.loop-search.invariant.counts c.look_once.ensures.counts;
       same_longest = c.look_once.ensures.same_longest ∙ c.loop-search.invariant.same_longest;
@@ -144,7 +144,7 @@ loop-search-smaller g c =
     let u = c.advance.new.self in
     let P : Option Cell → Type 0 = GoesOn t u in
     let on : GoesOn t u (Some c.in-Some.cell) = subst P c.in-Some.is c.in_ok-next.ensures in
-    elim c.match-branch-2.branch [
+    elim c.match-step.branch [
       | in-Passed w ↦ passes_lighter c.args.book.now c.args.known.now s t u _ _ _ _ (steps_as _ _ s t _ _ _ _ _ _ w.in-Passed.is c.in_ok-step.ensures.steps) on.0
       | in-Split w ↦ splits_lighter c.args.book.now c.args.known.now s t u _ _ _ _ (steps_as _ _ s t _ _ _ _ _ _ w.in-Split.is c.in_ok-step.ensures.steps) on.0
     ]

@@ -19,4 +19,4 @@ search_counted-requires-clause-quiet g c =
 pub returns-in-Found-clause-other : goal.returns-in-Found-clause-other
 returns-in-Found-clause-other g c =
     let scene = c.args.scene.now in
-    found_inside c.clues_are_of_lines.ensures c.books_are_their_clues.ensures c.closing_keeps_fillings.ensures c.only_is_closed.ensures c.fillings_are_of_facts.ensures scene.clues.now scene.givens.now scene.facts.now scene.picture.now c.requires.can.is_scene c.args.window.cells c.in_ok-facts.facts c.leave_alone.new.facts c.in_ok-facts.ensures c.leave_alone.ensures (Some c.args.window.splits) _ c.in_ok-searched.searched.ending c.in-Found.picture c.in-Found.is c.args.cells.now c.requires.window.among c.in_ok-searched.ensures.ends
+    found_inside c.clues_are_of_lines.ensures c.books_are_their_clues.ensures c.closing_keeps_fillings.ensures c.only_is_closed.ensures c.fillings_are_of_facts.ensures scene.clues.now scene.givens.now scene.facts.now scene.picture.now c.requires.can.is_scene c.args.window.cells c.in_ok-facts.facts c.leave_alone.new.facts c.in_ok-facts.ensures c.leave_alone.ensures (Some c.args.window.splits) _ _ c.in-Found.picture c.in-Found.is c.args.cells.now c.requires.window.among c.in_ok-searched.ensures.ends

@@ -16,47 +16,47 @@ pub returns-in_ok-stop-in-None-clause-judges : goal.returns-in_ok-stop-in-None-c
 returns-in_ok-stop-in-None-clause-judges g c =
     let s = c.args.scene.now in
     let old = c.args.self.now in
-    let new = c.note.new.self in
-    let turn = judges_as s.clues.now s.facts.now s.picture.now c.args.allowance old new c.in_ok-stop-in-None.field-0.0 c.note.result in
-    done_as _ _ _ _ _ _ _ _ (Stops s.clues.now s.facts.now s.picture.now c.args.allowance old c.in_ok-stop-in-None.field-0.0) (Judges s.clues.now s.facts.now s.picture.now c.args.allowance old new c.note.result) c.in_ok-stop-in-None.ensures.stops (λ m n h. turn m n c.in-None.ensures h c.note.ensures)
+    let new = c.note-verdict.new.self in
+    let turn = judges_as s.clues.now s.facts.now s.picture.now c.args.allowance old new c.in_ok-stop-in-None.stop c.note-verdict.result in
+    done_as _ _ _ _ _ _ _ _ (Stops s.clues.now s.facts.now s.picture.now c.args.allowance old c.in_ok-stop-in-None.stop) (Judges s.clues.now s.facts.now s.picture.now c.args.allowance old new c.note-verdict.result) c.in_ok-stop-in-None.ensures.stops (λ m n h. turn m n c.in-None.ensures h c.note-verdict.ensures)
 
 pub returns-in_ok-stop-in-None-clause-parts : goal.returns-in_ok-stop-in-None-clause-parts
 returns-in_ok-stop-in-None-clause-parts g c =
     let s = c.args.scene.now in
     let old = c.args.self.now in
-    let new = c.note.new.self in
-    let turn = judges_as s.clues.now s.facts.now s.picture.now c.args.allowance old new c.in_ok-stop-in-None.field-0.0 c.note.result in
+    let new = c.note-verdict.new.self in
+    let turn = judges_as s.clues.now s.facts.now s.picture.now c.args.allowance old new c.in_ok-stop-in-None.stop c.note-verdict.result in
     let d = c.in_ok-stop-in-None.ensures.stops in
-    let j = turn d.searched d.splits c.in-None.ensures d.is c.note.ensures in
+    let j = turn d.searched d.splits c.in-None.ensures d.is c.note-verdict.ensures in
     let P : List (List ℕ) → Type 0 = λ parts. AreParts s.facts.now parts in
-    subst P (sym (same_kept s.clues.now s.facts.now s.picture.now c.args.allowance old new c.note.result d.searched d.splits j)) c.requires.parts
+    subst P (sym (same_kept s.clues.now s.facts.now s.picture.now c.args.allowance old new c.note-verdict.result d.searched d.splits j)) c.requires.parts
 
 pub returns-in_ok-stop-in-None-clause-true_answers : goal.returns-in_ok-stop-in-None-clause-true_answers
 returns-in_ok-stop-in-None-clause-true_answers g c =
     let s = c.args.scene.now in
     let old = c.args.self.now in
-    let new = c.note.new.self in
-    let turn = judges_as s.clues.now s.facts.now s.picture.now c.args.allowance old new c.in_ok-stop-in-None.field-0.0 c.note.result in
+    let new = c.note-verdict.new.self in
+    let turn = judges_as s.clues.now s.facts.now s.picture.now c.args.allowance old new c.in_ok-stop-in-None.stop c.note-verdict.result in
     let d = c.in_ok-stop-in-None.ensures.stops in
-    let j = turn d.searched d.splits c.in-None.ensures d.is c.note.ensures in
-    judged_true c.clues_are_of_lines.ensures c.books_are_their_clues.ensures c.closing_keeps_fillings.ensures c.only_is_closed.ensures c.fillings_are_of_facts.ensures c.parts_decide.ensures s.clues.now s.givens.now s.facts.now s.picture.now c.requires.can.is_scene c.args.allowance old new c.note.result d.searched d.splits c.requires.true_answers j
+    let j = turn d.searched d.splits c.in-None.ensures d.is c.note-verdict.ensures in
+    judged_true c.clues_are_of_lines.ensures c.books_are_their_clues.ensures c.closing_keeps_fillings.ensures c.only_is_closed.ensures c.fillings_are_of_facts.ensures c.parts_decide.ensures s.clues.now s.givens.now s.facts.now s.picture.now c.requires.can.is_scene c.args.allowance old new c.note-verdict.result d.searched d.splits c.requires.true_answers j
 
 pub returns-in_ok-stop-in-None-clause-shown : goal.returns-in_ok-stop-in-None-clause-shown
 returns-in_ok-stop-in-None-clause-shown g c =
     let s = c.args.scene.now in
     let old = c.args.self.now in
-    let new = c.note.new.self in
-    let turn = judges_as s.clues.now s.facts.now s.picture.now c.args.allowance old new c.in_ok-stop-in-None.field-0.0 c.note.result in
+    let new = c.note-verdict.new.self in
+    let turn = judges_as s.clues.now s.facts.now s.picture.now c.args.allowance old new c.in_ok-stop-in-None.stop c.note-verdict.result in
     let d = c.in_ok-stop-in-None.ensures.stops in
-    let j = turn d.searched d.splits c.in-None.ensures d.is c.note.ensures in
-    is_shown s.clues.now s.facts.now s.picture.now c.args.allowance old new c.note.result d.searched d.splits j
+    let j = turn d.searched d.splits c.in-None.ensures d.is c.note-verdict.ensures in
+    is_shown s.clues.now s.facts.now s.picture.now c.args.allowance old new c.note-verdict.result d.searched d.splits j
 
 pub returns-in_ok-stop-in-None-clause-verdict : goal.returns-in_ok-stop-in-None-clause-verdict
 returns-in_ok-stop-in-None-clause-verdict g c =
     let s = c.args.scene.now in
     let old = c.args.self.now in
-    let new = c.note.new.self in
-    let turn = judges_as s.clues.now s.facts.now s.picture.now c.args.allowance old new c.in_ok-stop-in-None.field-0.0 c.note.result in
+    let new = c.note-verdict.new.self in
+    let turn = judges_as s.clues.now s.facts.now s.picture.now c.args.allowance old new c.in_ok-stop-in-None.stop c.note-verdict.result in
     let d = c.in_ok-stop-in-None.ensures.stops in
-    let j = turn d.searched d.splits c.in-None.ensures d.is c.note.ensures in
-    verdict_true c.clues_are_of_lines.ensures c.books_are_their_clues.ensures c.closing_keeps_fillings.ensures c.only_is_closed.ensures c.fillings_are_of_facts.ensures c.parts_decide.ensures s.clues.now s.givens.now s.facts.now s.picture.now c.requires.can.is_scene c.args.allowance old new c.note.result d.searched d.splits c.requires.parts c.requires.true_answers j
+    let j = turn d.searched d.splits c.in-None.ensures d.is c.note-verdict.ensures in
+    verdict_true c.clues_are_of_lines.ensures c.books_are_their_clues.ensures c.closing_keeps_fillings.ensures c.only_is_closed.ensures c.fillings_are_of_facts.ensures c.parts_decide.ensures s.clues.now s.givens.now s.facts.now s.picture.now c.requires.can.is_scene c.args.allowance old new c.note-verdict.result d.searched d.splits c.requires.parts c.requires.true_answers j

@@ -1,14 +1,16 @@
 use Rattle.std.proofs.Common.{arith, refl}
+use Rattle.second_search.specs.Judging.{Judges}
 use Rattle.second_search.proofs.AnswerLemmas.{answer_true}
 use Rattle.second_search.proofs.JudgeLemmas.{done_added}
 use Rattle.second_search.proofs.keeper.Keeper.judge.Goals as goal
 
 pub returns : goal.returns
 returns g c =
+    let s = c.args.scene.now in
     let d = c.in_ok-verdict.ensures in
     let all = c.decide.ensures in
-    let v = c.in_ok-verdict.field-0.0 in
-    let done = done_added c.args.searched.now _ c.args.splits.now _ c.in_ok-verdict.field-0.1 _ _ _ _ _ d.judges c.saturating_add.ensures c.saturating_add-2.ensures in (
+    let v = c.in_ok-verdict.verdict in
+    let done = done_added c.args.searched.now _ c.args.splits.now _ c.in_ok-verdict.spent _ _ _ _ (Judges s.clues.now s.facts.now s.picture.now c.args.allowance c.args.self.now c.decide.new.self v) d.judges c.saturating_add.ensures c.saturating_add-2.ensures in (
       (refl, λ b. tt, (all.parts, all.true_answers, (v, (c.judged.ensures, done)))),
       record {
         keeps = tt;

@@ -31,9 +31,9 @@ returns-in-Found-clause-stops g c =
     let inside : n < length kept = omega (arith, same) in
     let before = Passes s.clues.now s.facts.now s.picture.now c.args.allowance kept n in
     let here = EndsPart s.clues.now s.facts.now s.picture.now c.args.allowance (kept_at kept n) in
-    let P : Ending → Type 0 = λ x. DoneBy c.in_ok-ending.field-0.1 c.loop-i.meter c.search_one.new.meter (g.E.LineEngine.calls c.loop-i.engine) (g.E.LineEngine.calls c.search_one.new.engine) (here x) in
+    let P : Ending → Type 0 = λ x. DoneBy c.in_ok-ending.here c.loop-i.meter c.search_one.new.meter (g.E.LineEngine.calls c.loop-i.engine) (g.E.LineEngine.calls c.search_one.new.engine) (here x) in
     let found = ending.Found c.in-Found.picture in
-    done_then _ _ _ _ _ _ _ _ _ before (here found) (StopsAt s.clues.now s.facts.now s.picture.now c.args.allowance kept n found) c.loop-i.invariant.done (subst P c.in-Found.is c.in_ok-ending.ensures.ends) c.plus.ensures (λ m k x y. stops_here s.clues.now s.facts.now s.picture.now c.args.allowance kept n found m k x y inside)
+    done_then _ _ _ _ _ _ _ _ _ before (here found) (StopsAt s.clues.now s.facts.now s.picture.now c.args.allowance kept n found) c.loop-i.invariant.done (subst P c.in-Found.is c.in_ok-ending.ensures.ends) c.plus-spent.ensures (λ m k x y. stops_here s.clues.now s.facts.now s.picture.now c.args.allowance kept n found m k x y inside)
 
 pub returns-in-BrokenOff-clause-stops : goal.returns-in-BrokenOff-clause-stops
 returns-in-BrokenOff-clause-stops g c =
@@ -44,8 +44,8 @@ returns-in-BrokenOff-clause-stops g c =
     let inside : n < length kept = omega (arith, same) in
     let before = Passes s.clues.now s.facts.now s.picture.now c.args.allowance kept n in
     let here = EndsPart s.clues.now s.facts.now s.picture.now c.args.allowance (kept_at kept n) in
-    let P : Ending → Type 0 = λ x. DoneBy c.in_ok-ending.field-0.1 c.loop-i.meter c.search_one.new.meter (g.E.LineEngine.calls c.loop-i.engine) (g.E.LineEngine.calls c.search_one.new.engine) (here x) in
-    done_then _ _ _ _ _ _ _ _ _ before (here ending.BrokenOff) (StopsAt s.clues.now s.facts.now s.picture.now c.args.allowance kept n ending.BrokenOff) c.loop-i.invariant.done (subst P c.in-BrokenOff.is c.in_ok-ending.ensures.ends) c.plus.ensures (λ m k x y. stops_here s.clues.now s.facts.now s.picture.now c.args.allowance kept n ending.BrokenOff m k x y inside)
+    let P : Ending → Type 0 = λ x. DoneBy c.in_ok-ending.here c.loop-i.meter c.search_one.new.meter (g.E.LineEngine.calls c.loop-i.engine) (g.E.LineEngine.calls c.search_one.new.engine) (here x) in
+    done_then _ _ _ _ _ _ _ _ _ before (here ending.BrokenOff) (StopsAt s.clues.now s.facts.now s.picture.now c.args.allowance kept n ending.BrokenOff) c.loop-i.invariant.done (subst P c.in-BrokenOff.is c.in_ok-ending.ensures.ends) c.plus-spent.ensures (λ m k x y. stops_here s.clues.now s.facts.now s.picture.now c.args.allowance kept n ending.BrokenOff m k x y inside)
 
 pub loop-i-preserved : goal.loop-i-preserved
 loop-i-preserved g c =
@@ -54,11 +54,11 @@ loop-i-preserved g c =
     let n = c.loop-i.i in
     let before = Passes s.clues.now s.facts.now s.picture.now c.args.allowance kept n in
     let here = EndsPart s.clues.now s.facts.now s.picture.now c.args.allowance (kept_at kept n) in
-    let P : Ending → Type 0 = λ x. DoneBy c.in_ok-ending.field-0.1 c.loop-i.meter c.search_one.new.meter (g.E.LineEngine.calls c.loop-i.engine) (g.E.LineEngine.calls c.search_one.new.engine) (here x) in
-    let Q : ℕ → Type 0 = λ k. DoneBy c.plus.result c.args.meter.now c.search_one.new.meter (g.E.LineEngine.calls c.args.engine.now) (g.E.LineEngine.calls c.search_one.new.engine) (Passes s.clues.now s.facts.now s.picture.now c.args.allowance kept k) in
+    let P : Ending → Type 0 = λ x. DoneBy c.in_ok-ending.here c.loop-i.meter c.search_one.new.meter (g.E.LineEngine.calls c.loop-i.engine) (g.E.LineEngine.calls c.search_one.new.engine) (here x) in
+    let Q : ℕ → Type 0 = λ k. DoneBy c.plus-spent.result c.args.meter.now c.search_one.new.meter (g.E.LineEngine.calls c.args.engine.now) (g.E.LineEngine.calls c.search_one.new.engine) (Passes s.clues.now s.facts.now s.picture.now c.args.allowance kept k) in
     let next : suc n ≡ n + 1 = omega arith in
     record {
-      done = subst Q next (done_then _ _ _ _ _ _ _ _ _ before (here ending.Nothing) (Passes s.clues.now s.facts.now s.picture.now c.args.allowance kept (suc n)) c.loop-i.invariant.done (subst P c.in-Nothing.is c.in_ok-ending.ensures.ends) c.plus.ensures (λ m k x y. passes_more s.clues.now s.facts.now s.picture.now c.args.allowance kept n m k x y));
+      done = subst Q next (done_then _ _ _ _ _ _ _ _ _ before (here ending.Nothing) (Passes s.clues.now s.facts.now s.picture.now c.args.allowance kept (suc n)) c.loop-i.invariant.done (subst P c.in-Nothing.is c.in_ok-ending.ensures.ends) c.plus-spent.ensures (λ m k x y. passes_more s.clues.now s.facts.now s.picture.now c.args.allowance kept n m k x y));
       same_longest = c.search_one.ensures.same_longest ∙ c.loop-i.invariant.same_longest;
     }
 
