@@ -1,9 +1,6 @@
 -- Givens held one by one.
-use Rattle.std.proofs.Common.{◌≡◌, ℕ, zero, suc, ◌+◌, ◌-◌, ◌*◌, ◌<◌, ◌≤◌, List, [], ◌∷◌, Option, Some, length, get_or, drop, drop-cons, add-one, refl, sym, ap, subst, ◌∙◌, arith, inl, inr}
-use Rattle.line_settle.specs.FactSets.{with_given}
-use Rattle.std.proofs.lemmas.List.{drop_all}
+use Rattle.std.proofs.Common.{◌≡◌, ℕ, zero, suc, ◌+◌, ◌*◌, ◌<◌, ◌≤◌, List, [], ◌∷◌, Option, length, get_or, drop, drop-cons, add-one, refl, sym, subst, arith}
 use Rattle.cert_text.specs.declared.fault.CertFault.{CertFault}
-use Rattle.cert_text.specs.declared.fault.CertFault.TheVariants.{Place}
 use Rattle.cert_text.specs.declared.tree_line.CellNumber.{CellNumber}
 use Rattle.cert_text.specs.declared.tree_line.CertLine.{CertLine}
 use Rattle.cert_text.specs.Cert.{AreOrdered}
@@ -15,33 +12,8 @@ pub record BaseSoFar (picture start facts : List (List ℕ)) (i : ℕ) (givens :
   pub goes : (lines : List CertLine) (fault : Option CertFault) → FirstFaultBehind picture facts (2 + i) (drop i givens) lines fault → FirstFaultBehind picture start 2 givens lines fault
   pub held : with_givens picture (drop i givens) facts ≡ with_givens picture givens start
 
-pub base_start : (picture start : List (List ℕ)) (givens : List CellNumber) → BaseSoFar picture start start 0 givens
-base_start picture start givens = record { goes = λ lines fault f. f; held = refl }
-
 here : (cells : List CellNumber) (i : ℕ) (d : CellNumber) → i < length cells → drop i cells ≡ get_or cells i d ∷ drop (i + 1) cells
 here cells i d l = rw (add-one, drop-cons cells i d) refl
-
-pub base_place : (picture start facts : List (List ℕ)) (i : ℕ) (givens : List CellNumber) (cell d : CellNumber) → i < length givens → cell ≡ get_or givens i d → (HasCellNumber picture cell → ⊥) → BaseSoFar picture start facts i givens → (lines : List CertLine) → FirstFaultBehind picture start 2 givens lines (Some (Place (2 + i)))
-base_place picture start facts i givens cell d l e h b lines =
-    let P : List CellNumber → Type 0 = λ cs. FirstFaultBehind picture facts (2 + i) cs lines (Some (Place (2 + i))) in
-    b.goes lines (Some (Place (2 + i))) (subst P (ap (λ (x : CellNumber). x ∷ drop (i + 1) givens) e ∙ sym (here givens i d l)) (inl (h, refl)))
-
-pub base_more : (picture start facts new : List (List ℕ)) (i : ℕ) (givens : List CellNumber) (cell d : CellNumber) → i < length givens → cell ≡ get_or givens i d → HasCellNumber picture cell → new ≡ with_given picture facts (cell.row - 1) (cell.col - 1) → BaseSoFar picture start facts i givens → BaseSoFar picture start new (i + 1) givens
-base_more picture start facts new i givens cell d l e h is b = record {
-  goes = λ lines fault f.
-      let P : List CellNumber → Type 0 = λ cs. FirstFaultBehind picture facts (2 + i) cs lines fault in
-      let Q : List (List ℕ) → Type 0 = λ g. FirstFaultBehind picture g (2 + (i + 1)) (drop (i + 1) givens) lines fault in
-      let R : ℕ → Type 0 = λ n. FirstFaultBehind picture (with_given picture facts (cell.row - 1) (cell.col - 1)) n (drop (i + 1) givens) lines fault in
-      b.goes lines fault (subst P (ap (λ (x : CellNumber). x ∷ drop (i + 1) givens) e ∙ sym (here givens i d l)) (inr (h, subst R (let q : 2 + (i + 1) ≡ 2 + i + 1 = omega arith in q) (subst Q is f))));
-  held =
-      ap (with_givens picture (drop (i + 1) givens)) is
-      ∙ (ap (λ (x : CellNumber). with_givens picture (x ∷ drop (i + 1) givens) facts) e
-      ∙ (ap (λ (cells : List CellNumber). with_givens picture cells facts) (sym (here givens i d l)) ∙ b.held));
-}
-
--- all givens are held
-pub base_end : (picture start facts : List (List ℕ)) (i : ℕ) (givens : List CellNumber) → length givens ≤ i → BaseSoFar picture start facts i givens → facts ≡ with_givens picture givens start
-base_end picture start facts i givens l b = ap (λ (cells : List CellNumber). with_givens picture cells facts) (sym (drop_all i givens l)) ∙ b.held
 
 -- each given lies in the picture where all do
 pub has_each : (picture : List (List ℕ)) (cells : List CellNumber) (i : ℕ) (cell d : CellNumber) → i < length cells → cell ≡ get_or cells i d → HasCellNumbers picture cells → HasCellNumber picture cell

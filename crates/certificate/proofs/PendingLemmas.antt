@@ -42,9 +42,6 @@ held_waits facts row col mask before colours notes h e z =
 pub hold_waits : (facts : List (List ℕ)) (row col mask before colours : ℕ) (old new : List Note) → row < length facts → before ≡ cell_at facts row col → colours ≡ 0 → new ≡ old ++ (record { row = row; col = col; before = before; colours = colours } ∷ []) → pending (with_cell facts row col mask) (reverse new) ≡ pending facts (reverse old)
 hold_waits facts row col mask before colours old new h e z p = ap (pending (with_cell facts row col mask)) (pushed old new _ p) ∙ held_waits facts row col mask before colours (reverse old) h e z
 
-pub push_inside : (height width : ℕ) (old new : List Note) (note : Note) → new ≡ old ++ (note ∷ []) → note.row < height → note.col < width → AreInside height width (reverse old) → AreInside height width (reverse new)
-push_inside height width old new note e r c is = subst (AreInside height width) (sym (pushed old new note e)) (r, c, is)
-
 -- a branch begun: its colour is the lowest, and the others are noted
 pub begun_waits : (facts : List (List ℕ)) (row col before colours low rest k : ℕ) (notes : List Note) → row < length facts → low ≡ 2 ^ k → colours_of colours ≡ k ∷ colours_of rest → waiting true (with_cell facts row col low) (record { row = row; col = col; before = before; colours = rest } ∷ notes) ≡ pending facts (record { row = row; col = col; before = before; colours = colours } ∷ notes)
 begun_waits facts row col before colours low rest k notes h is e =
@@ -71,10 +68,6 @@ popped_waits facts next old new note e z is =
 
 pub popped_inside : (height width : ℕ) (old new : List Note) (note : Note) → old ≡ new ++ (note ∷ []) → AreInside height width (reverse old) → AreInside height width (note ∷ reverse new)
 popped_inside height width old new note e is = subst (AreInside height width) (pushed new old note e) is
-
--- the branches of a note taken off, one of which begins
-pub popped_begins : (facts : List (List ℕ)) (old new : List Note) (note : Note) → old ≡ new ++ (note ∷ []) → pending facts (note ∷ reverse new) ≡ pending facts (reverse old)
-popped_begins facts old new note e = ap (pending facts) (sym (pushed new old note e))
 
 -- notes on the cells of facts are notes on the cells of all facts of that shape
 pub moved_inside : (a b : List (List ℕ)) (notes : List Note) → SameShape a b → AreInside (length a) (width_of a) notes → AreInside (length b) (width_of b) notes

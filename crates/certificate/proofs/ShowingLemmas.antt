@@ -1,5 +1,5 @@
 -- Masks with one colour alone.
-use Rattle.std.proofs.Common.{◌≡◌, ℕ, ◌*◌, ◌%◌, ◌^◌, ◌<◌, ◌≤◌, ◌↔◌, List, [], sym, subst, ◌∙◌, arith, inl, inr, length, bit_and}
+use Rattle.std.proofs.Common.{◌≡◌, ℕ, ◌*◌, ◌%◌, ◌^◌, ◌<◌, ◌≤◌, ◌↔◌, List, sym, subst, ◌∙◌, arith, inl, inr, length, bit_and}
 use Rattle.std.specs.Prelude.{IsBitSet}
 use Rattle.std.specs.Int.{bit_not, w16}
 use Rattle.std.proofs.lemmas.Bool.{cases_eq}
@@ -33,8 +33,3 @@ pub ruleset one_mask = (only_bit)
 -- past the last column nothing is left
 pub past_row : (facts : List (List ℕ)) (row col k : ℕ) → length (row_at facts row) ≤ col → Leaves facts row col k → ⊥
 past_row facts row col k h s = let P : ℕ → Type 0 = λ m. IsBitSet m k in no_bit k (subst P (get_or_past (row_at facts row) col 0 h) s)
-
--- below the last row nothing is left
-pub past_rows : (facts : List (List ℕ)) (row col k : ℕ) → length facts ≤ row → Leaves facts row col k → ⊥
-past_rows facts row col k h s =
-    past_row facts row col k (let e : row_at facts row ≡ [] = get_or_past facts row [] h in rw e (omega arith)) s

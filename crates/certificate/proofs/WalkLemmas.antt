@@ -83,9 +83,6 @@ forced_takes picture facts gained clues longest old new clue number found n can 
 pub record FirstSoFar (picture : List (List ℕ)) (start waits : List (List (List ℕ))) (first n : ℕ) (lines rest : List CertLine) : Type 0 where
   pub goes : (fault : Option CertFault) → FirstFault picture waits n rest fault → FirstFault picture start first lines fault
 
-pub first_start : (picture : List (List ℕ)) (start : List (List (List ℕ))) (first : ℕ) (lines : List CertLine) → FirstSoFar picture start start first (first + 0) lines (drop 0 lines)
-first_start picture start first lines = record { goes = λ fault f. let P : ℕ → Type 0 = λ n. FirstFault picture start n lines fault in subst P (omega arith) f }
-
 here : (lines : List CertLine) (i : ℕ) (d : CertLine) → i < length lines → drop i lines ≡ get_or lines i d ∷ drop (i + 1) lines
 here lines i d l = rw (add-one, drop-cons lines i d) refl
 
