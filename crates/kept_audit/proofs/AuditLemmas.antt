@@ -151,21 +151,4 @@ bases_leave givens picture base is b = record {
       (b.left row col (cell_at picture row col) r (omega arith)).1 (is.colours row col, λ given. refl);
 }
 
--- facts of a picture's size that leave each of its colours
-pub base_by_cells : (picture base : List (List ℕ)) → IsPicture picture → IsFacts base → length base ≡ length picture → width_of base ≡ width_of picture
-    → ((row : ℕ) → row < length picture → (col : ℕ) → col < width_of picture → Leaves base row col (cell_at picture row col)) → IsBaseOf picture base
-base_by_cells picture base is facts rows columns leaves = record {
-  same_shape = record {
-    rows = sym rows;
-    each = λ i. elim (cases_lt i (length picture)) [
-      | inl l ↦ is.rectangular i l ∙ (sym columns ∙ sym (facts.rectangular i (omega arith)))
-      | inr past ↦ ap length (get_or_past picture i [] past) ∙ sym (ap length (get_or_past base i [] (omega arith)))
-    ];
-  };
-  leaves = λ row col l.
-      let r = row_or_past picture row col l in
-      let wide = is.rectangular row r in
-      leaves row r col (omega arith);
-}
-
 pub ruleset bases = (bases_leave)

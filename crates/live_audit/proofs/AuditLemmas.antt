@@ -33,17 +33,6 @@ base_for marks leave d base inside is b = record {
   leaves = leave d.givens d.picture base is b;
 }
 
--- an audit of a picture over the base of its document's givens, and back
-pub audit_is : (d : Design) (base : List (List ℕ)) (clues : Clues) (book : Account) → IsAudit d.rows base clues book → AreGivens d base → IsAccount book → IsAuditOf d clues book
-audit_is d base clues book a g is =
-    let e : base ≡ book.base = sym a.over in
-    let P : List (List ℕ) → Type 0 = λ b. AreGivens d b in
-    let Q : List (List ℕ) → Type 0 = λ b. IsLeast clues b book.facts in
-    record { clues_are = a.counted; givens = subst P e g; map = subst Q e a.least; fits = a.fits; account = is; derivation = a.derivation; trimmed = a.trimmed }
-
-pub audit_was : (d : Design) (clues : Clues) (book : Account) → IsAuditOf d clues book → IsAudit d.rows book.base clues book
-audit_was d clues book a = record { counted = a.clues_are; over = refl; derivation = a.derivation; least = a.map; fits = a.fits; trimmed = a.trimmed }
-
 -- ---- steps back and forth
 
 no_last : (turns : List Turn) → last_turn turns ≡ None → turns ≡ []
