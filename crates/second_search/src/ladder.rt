@@ -57,9 +57,12 @@ pub fn climb<E: LineEngine>(
     let (_calls, _evaluations, _trials) = (engine.calls(), meter.evaluations, meter.trials);
     let mut bound = ladder.first_bound;
     for _ in 0..MOST_ROUNDS {
-        let tried = try_both(alloc, engine, scene, ladder, bound, meter)?;
-        if let Some(decided) = tried {
-            return Ok(decided);
+        for choice in [Choice::Look, Choice::First].iter() {
+            let way = way_of(ladder, *choice, bound, meter);
+            let tried = write(alloc, engine, scene, way, ladder.keeps, meter)?;
+            if let Some(decided) = tried {
+                return Ok(decided);
+            }
         }
         bound = bound.saturating_mul(4);
     }
@@ -74,31 +77,6 @@ pub fn climb<E: LineEngine>(
         Some(decided) => Ok(decided),
         None => unreachable!(),
     }
-}
-
-// Both ways in turn, each under a bound.
-fn try_both<E: LineEngine>(
-    alloc: Global,
-    engine: &mut E,
-    scene: &Scene,
-    ladder: Ladder,
-    bound: u64,
-    meter: &mut Meter,
-) -> Result<Option<Decided>, AllocError>
-    requires { AreClosable scene.now.clues.now (E.longest engine.old) scene.now.facts.now }
-    ensures decides { IfOk result (λ found. IfSome found (Decides scene.now.clues.now
-        scene.now.picture.now scene.now.facts.now ladder.keeps)) }
-    ensures counts { CountsAny meter.old meter.new (E.calls engine.old) (E.calls engine.new) }
-    ensures same_longest { E.longest engine.new ≡ E.longest engine.old }
-{
-    let (_calls, _evaluations, _trials) = (engine.calls(), meter.evaluations, meter.trials);
-    let way = way_of(ladder, Choice::Look, bound, meter);
-    let looked = write(alloc, engine, scene, way, ladder.keeps, meter)?;
-    if looked.is_some() {
-        return Ok(looked);
-    }
-    let way = way_of(ladder, Choice::First, bound, meter);
-    write(alloc, engine, scene, way, ladder.keeps, meter)
 }
 
 // The way to write a tree, to be broken off so many evaluations from now.

@@ -3,15 +3,15 @@ use Rattle.second_search.proofs.CountLemmas.{counts_more}
 use Rattle.second_search.proofs.ladder.climb.Goals as goal
 
 pub returns-in_err-tried-clause-counts : goal.returns-in_err-tried-clause-counts
-returns-in_err-tried-clause-counts g c = counts_more _ _ _ _ _ _ c.loop.invariant.counts c.try_both.ensures.counts
+returns-in_err-tried-clause-counts g c = counts_more _ _ _ _ _ _ c.loop-choice.invariant.counts c.write.ensures.counts
 
 pub returns-in-Some-clause-counts : goal.returns-in-Some-clause-counts
-returns-in-Some-clause-counts g c = counts_more _ _ _ _ _ _ c.loop.invariant.counts c.try_both.ensures.counts
+returns-in-Some-clause-counts g c = counts_more _ _ _ _ _ _ c.loop-choice.invariant.counts c.write.ensures.counts
 
-pub loop-preserved : goal.loop-preserved
-loop-preserved g c = record {
-  counts = counts_more _ _ _ _ _ _ c.loop.invariant.counts c.try_both.ensures.counts;
-  same_longest = c.try_both.ensures.same_longest ∙ c.loop.invariant.same_longest;
+pub loop-choice-preserved : goal.loop-choice-preserved
+loop-choice-preserved g c = record {
+  counts = counts_more _ _ _ _ _ _ c.loop-choice.invariant.counts c.write.ensures.counts;
+  same_longest = c.write.ensures.same_longest ∙ c.loop-choice.invariant.same_longest;
 }
 
 pub returns-in_err-last-clause-counts : goal.returns-in_err-last-clause-counts
