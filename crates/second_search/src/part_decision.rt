@@ -92,38 +92,9 @@ pub fn decide_within<E: LineEngine>(
     }
 }
 
-// Decides a part by the ladder: other fillings that differ in one window alone, and then trees.
+// Decides a part by the ladder: other fillings that differ in one window alone, and then trees of the facts on it, with the
+// picture's colours alone left elsewhere.
 fn climb_part<E: LineEngine>(
-    alloc: Global,
-    engine: &mut E,
-    scene: &Scene,
-    cells: &CellSet,
-    bounds: Bounds,
-    meter: &mut Meter,
-) -> Result<Ending, AllocError>
-    requires { CanSearch scene.now (E.longest engine.old) }
-    ensures ends { IfOk result (EndsTrue scene.now.clues.now scene.now.picture.now
-        (alone cells.now scene.now.facts.now scene.now.picture.now)) }
-    ensures counts { CountsAny meter.old meter.new (E.calls engine.old) (E.calls engine.new) }
-    ensures same_longest { E.longest engine.new ≡ E.longest engine.old }
-{
-    fillings_are_of_facts();
-    let (_calls, _evaluations, _trials) = (engine.calls(), meter.evaluations, meter.trials);
-    for size in SIZES.iter() {
-        let windows = Windows {
-            size: *size,
-            splits: bounds.window_splits,
-        };
-        let near = find_near(alloc, engine, scene, cells, windows, meter)?;
-        if let Some(picture) = near {
-            return Ok(Ending::Found(picture));
-        }
-    }
-    search_alone(alloc, engine, scene, cells, bounds, meter)
-}
-
-// The trees of a part: the facts on it, with the picture's colours alone left elsewhere.
-fn search_alone<E: LineEngine>(
     alloc: Global,
     engine: &mut E,
     scene: &Scene,
@@ -140,8 +111,19 @@ fn search_alone<E: LineEngine>(
     clues_are_of_lines();
     only_is_closed();
     closing_keeps_fillings();
+    fillings_are_of_facts();
     let _ = scene.facts.height();
     let (_calls, _evaluations, _trials) = (engine.calls(), meter.evaluations, meter.trials);
+    for size in SIZES.iter() {
+        let windows = Windows {
+            size: *size,
+            splits: bounds.window_splits,
+        };
+        let near = find_near(alloc, engine, scene, cells, windows, meter)?;
+        if let Some(picture) = near {
+            return Ok(Ending::Found(picture));
+        }
+    }
     let mut facts = scene.facts.copy()?;
     leave_alone(&mut facts, scene.picture, cells);
     let part = Scene {
