@@ -9,7 +9,7 @@ ghost use Rattle.second_search.specs.Looking.{FindsFilling};
 
 use crate::bounds::BOUNDS;
 use crate::ladder::{Decided, Ladder, MOST_CELLS, climb};
-use crate::near_closed::find_near_other;
+use crate::near::find_near_other;
 use crate::scene::Scene;
 use clues::ClueBook;
 use clues::laws::clues_are_of_lines;

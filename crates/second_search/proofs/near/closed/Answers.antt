@@ -1,7 +1,7 @@
 use Rattle.std.proofs.Common.{refl}
 use Rattle.second_search.proofs.FindLemmas.{can_close}
 use Rattle.second_search.proofs.NearClosedLemmas.{scene_settled}
-use Rattle.second_search.proofs.near_closed.closed.Goals as goal
+use Rattle.second_search.proofs.near.closed.Goals as goal
 
 pub settle_afresh-requires : goal.settle_afresh-requires
 settle_afresh-requires g c =
