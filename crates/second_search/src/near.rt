@@ -11,14 +11,11 @@ ghost use Rattle.second_search.specs.Scene.{CanSearch};
 
 use crate::cell_lines::put_both;
 use crate::counting::{Ending, Searched, Start, search_counted};
-use crate::laws::{fillings_are_of_facts, sound_facts};
 use crate::part_search::{leave_alone, lines_through};
 use crate::parts::Parts;
 use crate::scene::Scene;
-use clues::laws::{books_are_their_clues, clues_are_of_lines};
 use line_settle::{Facts, LineEngine, Meter};
 use picture::{Axis, CellSet, LineId, LineSet, MAX_SIDE, Picture};
-use propagate::laws::{closing_keeps_fillings, only_is_closed};
 use propagate::{CloseFault, InOrder, settle_afresh};
 use std::alloc::{AllocError, Global};
 
@@ -101,8 +98,6 @@ fn closed<E: LineEngine>(
     ensures counts { CountsAny meter.old meter.new (E.calls engine.old) (E.calls engine.new) }
     ensures same_longest { E.longest engine.new ≡ E.longest engine.old }
 {
-    sound_facts();
-    clues_are_of_lines();
     let (_calls, _evaluations, _trials) = (engine.calls(), meter.evaluations, meter.trials);
     let mut agenda = InOrder::make();
     match settle_afresh(engine, &mut agenda, scene.clues, meter, scene.facts) {
@@ -166,11 +161,6 @@ fn find_inside<E: LineEngine>(
     if window.lines.len() < FEWEST {
         return Ok(None);
     }
-    clues_are_of_lines();
-    books_are_their_clues();
-    closing_keeps_fillings();
-    only_is_closed();
-    fillings_are_of_facts();
     let _ = scene.facts.height();
     let mut facts = scene.facts.copy()?;
     leave_alone(&mut facts, scene.picture, &window.cells);

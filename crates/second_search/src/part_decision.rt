@@ -10,14 +10,11 @@ ghost use Rattle.second_search.specs.Scene.{CanSearch};
 use crate::bounds::{BOUNDS, Bounds};
 use crate::counting::{Ending, Searched};
 use crate::ladder::{Decided, Ladder, MOST_CELLS, climb};
-use crate::laws::fillings_are_of_facts;
 use crate::near::{SIZES, Windows, find_near};
 use crate::part_search::{leave_alone, search_part};
 use crate::scene::Scene;
-use clues::laws::clues_are_of_lines;
 use line_settle::{LineEngine, Meter};
 use picture::{CellSet, Picture};
-use propagate::laws::{closing_keeps_fillings, only_is_closed};
 use std::alloc::{AllocError, Global};
 
 // Decides a part under an allowance; or, where none is set, within the bounds of the program.
@@ -108,10 +105,6 @@ fn climb_part<E: LineEngine>(
     ensures counts { CountsAny meter.old meter.new (E.calls engine.old) (E.calls engine.new) }
     ensures same_longest { E.longest engine.new ≡ E.longest engine.old }
 {
-    clues_are_of_lines();
-    only_is_closed();
-    closing_keeps_fillings();
-    fillings_are_of_facts();
     let _ = scene.facts.height();
     let (_calls, _evaluations, _trials) = (engine.calls(), meter.evaluations, meter.trials);
     for size in SIZES.iter() {

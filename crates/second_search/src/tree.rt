@@ -16,7 +16,6 @@ use cert_text::CertLine;
 use line_settle::{LineEngine, Meter, Outcome};
 use picture::{LineSet, MAX_SIDE, Picture};
 use propagate::all_lines;
-use propagate::laws::{closing_keeps_fillings, only_is_closed};
 use split_choice::Cell;
 use std::alloc::{AllocError, Global};
 
@@ -58,8 +57,6 @@ pub(crate) fn write_tree<E: LineEngine>(
     ensures counts { CountsAny meter.old meter.new (E.calls engine.old) (E.calls engine.new) }
     ensures same_longest { E.longest engine.new ≡ E.longest engine.old }
 {
-    only_is_closed();
-    closing_keeps_fillings();
     let (_calls, _evaluations, _trials) = (engine.calls(), meter.evaluations, meter.trials);
     let due = all_lines(scene.facts);
     let pending = Pending::start(alloc, scene.facts.copy()?);

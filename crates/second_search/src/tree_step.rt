@@ -14,7 +14,6 @@ use crate::scene::Scene;
 use crate::tree_dead::dead_line;
 use crate::tree_lines::line_number;
 use cert_text::CertLine;
-use clues::laws::{books_are_their_clues, clues_are_of_lines};
 use line_settle::{Facts, LineEngine, Meter};
 use picture::Picture;
 use split_choice::{Cell, Choice, Chosen, Node, Plan, Puzzle, choose, filled, fills_all, leaves};
@@ -183,8 +182,6 @@ fn end_at<E: LineEngine>(
     ensures counts { CountsAny meter.old meter.new (E.calls engine.old) (E.calls engine.new) }
     ensures same_longest { E.longest engine.new ≡ E.longest engine.old }
 {
-    clues_are_of_lines();
-    books_are_their_clues();
     let _ = facts.height();
     let (_calls, _evaluations, _trials) = (engine.calls(), meter.evaluations, meter.trials);
     if let Some(cell) = first_unsettled(facts, 0) {

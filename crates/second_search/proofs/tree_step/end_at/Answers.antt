@@ -5,6 +5,7 @@ use Rattle.picture.specs.declared.line_id.LineId.{LineId}
 use Rattle.propagate.specs.Closing.{EachFits}
 use Rattle.second_search.specs.Trees.{IsDeadLine}
 use Rattle.second_search.proofs.TreeLemmas.{compare_continues, dead_continues, none_dead}
+use Rattle.second_search.proofs.KnownLaws.{books_are_their_clues, clues_are_of_lines}
 use Rattle.second_search.proofs.tree_step.end_at.Goals as goal
 
 pub returns-then-has_clues-clause-continues : goal.returns-then-has_clues-clause-continues
@@ -22,4 +23,4 @@ pub unreachable-requires : goal.unreachable-requires
 unreachable-requires g c =
     let s = c.args.scene.now in
     let P : Option LineId → Type 0 = λ o. MatchOption o (EachFits s.clues.now c.args.facts.now) (IsDeadLine s.clues.now c.args.facts.now) in
-    false≢true (c.if-has_clues.ensures.1 (none_dead c.clues_are_of_lines.ensures c.books_are_their_clues.ensures s.clues.now (g.E.LineEngine.longest c.args.engine.now) c.args.facts.now c.in_ok-picture.picture c.height.ensures.facts c.requires (subst P c.in-None.is c.in_ok-dead.ensures.dead) c.in_ok-picture.ensures))
+    false≢true (c.if-has_clues.ensures.1 (none_dead clues_are_of_lines books_are_their_clues s.clues.now (g.E.LineEngine.longest c.args.engine.now) c.args.facts.now c.in_ok-picture.picture c.height.ensures.facts c.requires (subst P c.in-None.is c.in_ok-dead.ensures.dead) c.in_ok-picture.ensures))
