@@ -5,8 +5,8 @@ use Rattle.second_search.proofs.near.find_near_other.Goals as goal
 pub returns-in_err-found-clause-counts : goal.returns-in_err-found-clause-counts
 returns-in_err-found-clause-counts g c = counts_more _ _ _ _ _ _ c.loop-i.invariant.counts c.find_near.ensures.counts
 
-pub returns-in-Some-clause-counts : goal.returns-in-Some-clause-counts
-returns-in-Some-clause-counts g c = counts_more _ _ _ _ _ _ c.loop-i.invariant.counts c.find_near.ensures.counts
+pub returns-in-Some-found-clause-counts : goal.returns-in-Some-found-clause-counts
+returns-in-Some-found-clause-counts g c = counts_more _ _ _ _ _ _ c.loop-i.invariant.counts c.find_near.ensures.counts
 
 pub loop-i-preserved : goal.loop-i-preserved
 loop-i-preserved g c = record {

@@ -17,7 +17,7 @@ pub returns-clause-continues : goal.returns-clause-continues
 returns-clause-continues g c =
     let s = c.args.scene.now in
     let P : Option LineId → Type 0 = λ o. MatchOption o (EachFits s.clues.now c.args.facts.now) (IsDeadLine s.clues.now c.args.facts.now) in
-    dead_continues s.clues.now s.picture.now c.args.facts.now c.in-Some.line c.line_number.result (subst P c.in-Some.is c.in_ok-dead.ensures.dead) c.line_number.ensures.axis c.line_number.ensures.number
+    dead_continues s.clues.now s.picture.now c.args.facts.now c.in-Some-dead.line c.line_number.result (subst P c.in-Some-dead.is c.in_ok-dead.ensures.dead) c.line_number.ensures.axis c.line_number.ensures.number
 
 pub unreachable-requires : goal.unreachable-requires
 unreachable-requires g c =
