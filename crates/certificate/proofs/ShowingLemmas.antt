@@ -1,11 +1,8 @@
 -- Masks with one colour alone.
-use Rattle.std.proofs.Common.{◌≡◌, ℕ, ◌*◌, ◌%◌, ◌^◌, ◌<◌, ◌≤◌, ◌↔◌, List, sym, subst, ◌∙◌, arith, inl, inr, length, bit_and}
+use Rattle.std.proofs.Common.{◌≡◌, ℕ, ◌*◌, ◌%◌, ◌^◌, ◌<◌, ◌↔◌, sym, subst, ◌∙◌, arith, inl, inr, bit_and}
 use Rattle.std.specs.Prelude.{IsBitSet}
 use Rattle.std.specs.Int.{bit_not, w16}
 use Rattle.std.proofs.lemmas.Bool.{cases_eq}
-use Rattle.std.proofs.lemmas.List.{get_or_past}
-use Rattle.picture.specs.Rows.{row_at}
-use Rattle.line_settle.specs.FactSets.{Leaves}
 use Rattle.picture.specs.BitLaws.{no_bit, power_has, same_bits}
 use Rattle.line_settle.specs.MaskLaws.{shifted, without_bit}
 
@@ -29,7 +26,3 @@ only_bit left colour low q c e =
     )
 
 pub ruleset one_mask = (only_bit)
-
--- past the last column nothing is left
-pub past_row : (facts : List (List ℕ)) (row col k : ℕ) → length (row_at facts row) ≤ col → Leaves facts row col k → ⊥
-past_row facts row col k h s = let P : ℕ → Type 0 = λ m. IsBitSet m k in no_bit k (subst P (get_or_past (row_at facts row) col 0 h) s)

@@ -12,8 +12,6 @@ use crate::checking::set_givens;
 use crate::places::cell_number;
 use cert_text::{CellNumber, Cert, CertFault, CertLine};
 use clues::ClueBook;
-use clues::laws::clues_are_of_lines;
-use line_settle::laws::{forcing_closes_a_line, one_line_decides};
 use line_settle::{Facts, LineEngine, Meter};
 use picture::{CellSet, MAX_SIDE, Picture};
 use second_search::{BOUNDS, Decided, Ladder, Lines, MOST_CELLS, Scene, climb};
@@ -40,9 +38,6 @@ fn write_tree<E: LineEngine>(
     ensures same_longest { E.longest engine.new ≡ E.longest engine.old }
     ensures calls { E.calls engine.old ≤ E.calls engine.new }
 {
-    forcing_closes_a_line();
-    one_line_decides();
-    clues_are_of_lines();
     let _ = engine.calls();
     let mut meter = NOTHING_DONE;
     let ladder = Ladder {

@@ -8,14 +8,11 @@ ghost use Rattle.certificate.specs.Making.{HasOther, Makes};
 ghost use Rattle.certificate.specs.Walk.{CanCheck};
 
 use crate::checking::set_givens;
-use crate::laws::bases_are_one;
 use crate::making::{NOTHING_DONE, climb_from, given_cells};
 use cert_text::{Cert, CertFault};
 use clues::ClueBook;
-use clues::laws::clues_are_of_lines;
 use line_settle::{Facts, LineEngine};
 use picture::{CellSet, Picture};
-use second_search::laws::sound_facts;
 use second_search::{BOUNDS, Bounds, Scene, find_near_other};
 use std::alloc::{AllocError, Global};
 
@@ -35,7 +32,6 @@ fn has_near_other<E: LineEngine>(
     ensures same_longest { E.longest engine.new ≡ E.longest engine.old }
     ensures calls { E.calls engine.old ≤ E.calls engine.new }
 {
-    clues_are_of_lines();
     let _ = engine.calls();
     let mut meter = NOTHING_DONE;
     let near = find_near_other(alloc, engine, scene, splits, &mut meter)?;
@@ -61,8 +57,6 @@ fn is_near_other<E: LineEngine>(
     ensures same_longest { E.longest engine.new ≡ E.longest engine.old }
     ensures calls { E.calls engine.old ≤ E.calls engine.new }
 {
-    bases_are_one();
-    sound_facts();
     let cells = given_cells(alloc, picture, givens)?;
     let mut facts = Facts::none(alloc, picture.height(), picture.width())?;
     let book = ClueBook::of(alloc, picture)?;

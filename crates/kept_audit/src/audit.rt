@@ -9,11 +9,8 @@ ghost use Rattle.line_settle.specs.FactSets.{IsLeast};
 ghost use Rattle.fixpoint.specs.declared.fault.CloseFault.TheVariants as fault;
 ghost use Rattle.kept_audit.specs.Audit.{GoesOn, IsAnew, IsAudit, IsBaseOf};
 
-use clues::laws::{clues_are_of_lines, untouched_clues_stand};
 use clues::{Change, ClueBook};
-use fixpoint::laws::closing_keeps_fillings;
 use justify::Book;
-use line_settle::laws::least_is_unique;
 use line_settle::{Facts, LineEngine, Meter};
 use picture::Picture;
 use propagate::{Agenda, CloseFault, all_lines, close};
@@ -36,6 +33,7 @@ pub struct Revision<'a> {
     pub change: &'a Change,
 }
 
+#[tactic(auto, using(propagate::proofs::PictureLemmas::closing_keeps_fillings))]
 /// Audits a picture anew: counts its clues, and closes the book without a step over a base that leaves its colours.
 pub fn audit_anew<E: LineEngine, A: Agenda>(
     alloc: Global,
@@ -56,8 +54,6 @@ pub fn audit_anew<E: LineEngine, A: Agenda>(
     ensures memory { IfErr result (λ e. e ≡ fault.Memory) }
     ensures same_longest { E.longest engine.new ≡ E.longest engine.old }
 {
-    clues_are_of_lines();
-    closing_keeps_fillings();
     let _ = picture.height();
     let (_calls, _evaluations, _trials) = (engine.calls(), meter.evaluations, meter.trials);
     let clues = ClueBook::of(alloc, picture)?;
@@ -97,10 +93,6 @@ pub fn audit_again<E: LineEngine, A: Agenda>(
     ensures memory { IfErr result (λ e. e ≡ fault.Memory) }
     ensures same_longest { E.longest engine.new ≡ E.longest engine.old }
 {
-    clues_are_of_lines();
-    untouched_clues_stand();
-    closing_keeps_fillings();
-    least_is_unique();
     let before = revision.audit;
     let change = revision.change;
     let _ = revision.new.height();

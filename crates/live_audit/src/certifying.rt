@@ -5,8 +5,6 @@ ghost use Rattle.edits.specs.Design.{design_of};
 ghost use Rattle.live_audit.specs.Certify.{Certifies};
 
 use certificate::{Cert, climb_cert};
-use clues::laws::{books_are_their_clues, clues_are_of_lines};
-use edits::laws::marks_are_givens;
 use line_settle::LineEngine;
 use picture::{Document, MAX_SIDE};
 use std::alloc::{AllocError, Global};
@@ -22,9 +20,6 @@ pub(crate) fn certify_ordered<E: LineEngine>(
     ensures same_longest { E.longest engine.new ≡ E.longest engine.old }
     ensures calls { E.calls engine.old ≤ E.calls engine.new }
 {
-    marks_are_givens();
-    clues_are_of_lines();
-    books_are_their_clues();
     let _ = document.picture.height();
     let _ = document.palette.len();
     let document = document.ordered()?;

@@ -2,9 +2,6 @@
 
 ghost use Rattle.live_audit.specs.Laws.{CertifiedVerdictsSearchNothing, ListsStayAudited, OthersAreColoured};
 
-use clues::laws::clues_are_of_lines;
-use second_search::laws::allowances_break_off;
-
 #[tactic(auto, using(crate::proofs::CallLemmas::lists))]
 /// After any list of edits, undos and redos, verdicts, allowances and certificates, accepted or refused, the state is
 /// audited, history and allowance are the machine's, and each answer was right: each verdict was true of the picture that
@@ -17,14 +14,10 @@ pub fn lists_stay_audited()
 /// is evaluated, whatever the allowance.
 pub fn certified_verdicts_search_nothing()
     ensures { CertifiedVerdictsSearchNothing }
-{
-    allowances_break_off();
-}
+{}
 
-#[tactic(auto, using(crate::proofs::RenumberLemmas::others))]
+#[tactic(auto, using(crate::proofs::RenumberLemmas::others, clues::proofs::LawLemmas::of_lines))]
 /// Another picture for a document, as a verdict shows one, has colours of the document's palette alone.
 pub fn others_are_coloured()
     ensures { OthersAreColoured }
-{
-    clues_are_of_lines();
-}
+{}

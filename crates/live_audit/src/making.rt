@@ -13,15 +13,10 @@ ghost use Rattle.live_audit.specs.Verdict.{IsRulingOn, judged_as};
 use crate::verdict::{Ruled, ruling_of};
 use crate::work::NOTHING_DONE;
 use clues::Change;
-use clues::laws::clues_are_of_lines;
-use edits::laws::marks_are_givens;
-use kept_audit::laws::bases_leave_pictures;
 use kept_audit::{Audit, Revision, audit_again, audit_anew};
 use line_settle::{Facts, LineEngine, Meter};
-use picture::laws::same_cells_are_equal;
 use picture::{Document, MAX_SIDE};
 use propagate::Agenda;
-use second_search::laws::{allowances_break_off, sound_facts};
 use second_search::{Keeper, Scene};
 use std::alloc::{AllocError, Global};
 
@@ -30,8 +25,6 @@ use std::alloc::{AllocError, Global};
 fn base_of(alloc: Global, document: &Document) -> Result<Facts, AllocError>
     ensures { IfOk result (IsBaseFor (design_of document.now)) }
 {
-    bases_leave_pictures();
-    marks_are_givens();
     let _ = document.picture.height();
     let base = Facts::base(alloc, document)?;
     Ok(base)
@@ -117,8 +110,6 @@ pub(crate) fn scene_of<'a>(document: &'a Document, audit: &'a Audit) -> Scene<'a
     ensures givens { result.givens.now ≡ document.now.givens }
     ensures cells { AreGivenCells (design_of document.now) document.now.givens }
 {
-    marks_are_givens();
-    sound_facts();
     let _ = document.picture.height();
     let _ = document.givens.has(0, 0);
     Scene {
@@ -162,13 +153,13 @@ pub(crate) fn answers_next(
     ensures carries { IfOk result (Carries before.now.clues before.now.book.facts old.now.picture
         after.now.clues after.now.book.facts new.now.picture keeper.now) }
 {
-    same_cells_are_equal();
     let before = scene_of(old, before);
     let after = scene_of(new, after);
     let keeper = keeper.carry(&before, &after)?;
     Ok(keeper)
 }
 
+#[tactic(auto, using(clues::proofs::LawLemmas::of_lines))]
 /// Judges a document by the parts of its map, keeps what the searches that ended found, and tells what they took.
 pub(crate) fn rule<E: LineEngine>(
     keeper: &mut Keeper,
@@ -192,9 +183,6 @@ pub(crate) fn rule<E: LineEngine>(
     ensures calls { E.calls engine.old ≤ E.calls engine.new }
     ensures same_longest { E.longest engine.new ≡ E.longest engine.old }
 {
-    same_cells_are_equal();
-    clues_are_of_lines();
-    allowances_break_off();
     let _ = (document.picture.height(), engine.calls());
     let scene = scene_of(document, audit);
     let mut search = NOTHING_DONE;

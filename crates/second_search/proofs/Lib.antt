@@ -31,3 +31,4 @@ pub mod FitLemmas
 pub mod LeastLemmas
 pub mod CostLemmas
 pub mod DearLemmas
+pub mod KnownLaws

@@ -12,7 +12,6 @@ use crate::cell_lines::lines_at;
 use crate::coming::{Coming, Due, come_to};
 use crate::pending::Pending;
 use clues::ClueBook;
-use line_settle::laws::least_is_unique;
 use line_settle::{Facts, LineEngine, Meter};
 use picture::{LineSet, Picture};
 use std::alloc::{AllocError, Global};
@@ -83,7 +82,6 @@ pub(crate) fn search_counted<E: LineEngine>(
         (CountsSome meter.old meter.new (E.calls engine.old) (E.calls engine.new)) }
     ensures same_longest { E.longest engine.new ≡ E.longest engine.old }
 {
-    least_is_unique();
     let _ = known.height();
     let (_calls, _evaluations, _trials) = (engine.calls(), meter.evaluations, meter.trials);
     let Start {

@@ -9,11 +9,9 @@ ghost use Rattle.second_search.specs.Looking.{FindsFilling};
 
 use crate::bounds::BOUNDS;
 use crate::ladder::{Decided, Ladder, MOST_CELLS, climb};
-use crate::near_closed::find_near_other;
+use crate::near::find_near_other;
 use crate::scene::Scene;
 use clues::ClueBook;
-use clues::laws::clues_are_of_lines;
-use fixpoint::laws::{closing_keeps_fillings, only_is_closed};
 use line_settle::{Facts, LineEngine, Meter};
 use picture::{CellSet, Picture};
 use std::alloc::{AllocError, Global};
@@ -30,7 +28,6 @@ pub fn find_first<E: LineEngine>(
     ensures finds { IfOk result (FindsFirst book.now) }
     ensures same_longest { E.longest engine.new ≡ E.longest engine.old }
 {
-    clues_are_of_lines();
     let blank = Picture::blank(alloc, book.height(), book.width())?;
     let _ = blank.height();
     if book.has_clues(&blank) {
@@ -66,7 +63,6 @@ pub fn find_other<E: LineEngine>(
     ensures finds { IfOk result (FindsOther book.now givens.now picture.now) }
     ensures same_longest { E.longest engine.new ≡ E.longest engine.old }
 {
-    clues_are_of_lines();
     let _ = (givens.len(), facts.height(), picture.height());
     let scene = Scene {
         clues: book,
@@ -101,8 +97,6 @@ fn find_filling<E: LineEngine>(
         (FindsFilling scene.now.clues.now scene.now.facts.now scene.now.picture.now) }
     ensures same_longest { E.longest engine.new ≡ E.longest engine.old }
 {
-    closing_keeps_fillings();
-    only_is_closed();
     let ladder = Ladder {
         most: MOST_CELLS,
         first_bound: BOUNDS.first_bound,

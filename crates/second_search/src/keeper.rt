@@ -35,15 +35,11 @@ ghost use Rattle.second_search.specs.Scene.{CanSearch};
 
 use crate::carrying::{answer_for, are_named, first_cell};
 use crate::counting::{Ending, Searched};
-use crate::laws::{fillings_are_of_facts, fillings_stay, parts_decide};
 use crate::part_decision::decide_part;
 use crate::parts::Parts;
 use crate::same_lines::same_lines;
 use crate::scene::Scene;
-use clues::laws::{books_are_their_clues, clues_are_of_lines};
-use fixpoint::laws::{closing_keeps_fillings, only_is_closed};
 use line_settle::{Facts, LineEngine, Meter};
-use picture::laws::same_cells_are_equal;
 use picture::{CellSet, LineSet, MAX_SIDE, Picture};
 use split_choice::Cell;
 use std::alloc::{AllocError, Global};
@@ -168,8 +164,6 @@ impl Keeper {
         ensures carries { IfOk result
             (Carries before.now.clues.now before.now.facts.now before.now.picture.now after.now.clues.now after.now.facts.now after.now.picture.now self.now) }
     {
-        same_cells_are_equal();
-        fillings_stay();
         let alloc = *self.kept.allocator();
         if self.knows_nothing() {
             return Keeper::start(alloc, after.facts);
@@ -223,7 +217,6 @@ impl Keeper {
         ensures true_answer { IfOk result
             (IsTrueOf after.now.clues.now after.now.givens.now after.now.picture.now cells.now) }
     {
-        fillings_stay();
         let _ = after.facts.height();
         if !are_named(same, cells, after.facts) {
             return Ok(Answer::Unknown);
@@ -239,7 +232,6 @@ impl Keeper {
         ensures place { result < length self.now }
         ensures cells { cells_at self.now result ≡ cells.now }
     {
-        same_cells_are_equal();
         let _ = facts.height();
         match first_cell(cells, facts) {
             Some(cell) => match self.part_with(cell) {
@@ -353,12 +345,6 @@ impl Keeper {
         ensures counts { CountsAny meter.old meter.new (E.calls engine.old) (E.calls engine.new) }
         ensures same_longest { E.longest engine.new ≡ E.longest engine.old }
     {
-        clues_are_of_lines();
-        books_are_their_clues();
-        closing_keeps_fillings();
-        only_is_closed();
-        fillings_are_of_facts();
-        parts_decide();
         let (_calls, _evaluations, _trials) = (engine.calls(), meter.evaluations, meter.trials);
         match self.kept_filling() {
             Some(_) => Ok((Verdict::Other, NOTHING_SPENT)),

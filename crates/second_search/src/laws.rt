@@ -4,25 +4,16 @@ ghost use Rattle.second_search.specs.Costs.{CostsAreThere, CostsDecide};
 ghost use Rattle.second_search.specs.Laws.{AllowancesBreakOff, FillingsAreOfFacts, FillingsStay, PartsAreApart, PartsAreOneList, PartsDecide, SoundFacts};
 ghost use Rattle.second_search.specs.Searching.{CostsAreUnique};
 
-use clues::laws::{books_are_their_clues, clues_are_of_lines};
-use fixpoint::laws::{closing_keeps_fillings, only_is_closed};
-use line_settle::laws::least_is_unique;
-use picture::laws::{cells_are_members, same_cells_are_equal};
-
 /// Facts that exclude nothing are sound where there is no given, and so is the base of any givens; facts stay sound with
 /// a given more, and when they are closed.
 pub fn sound_facts()
     ensures { SoundFacts }
-{
-    closing_keeps_fillings();
-}
+{}
 
 /// All parts of facts, in the order of their first cells, are one list.
 pub fn parts_are_one_list()
     ensures { PartsAreOneList }
-{
-    same_cells_are_equal();
-}
+{}
 
 /// Two parts that share a cell are one, and a part has with a cell all open cells of each line through it. Its cells are
 /// open and lie in the picture; a cell of the picture that is not open has the picture's colour alone left.
@@ -34,51 +25,34 @@ pub fn parts_are_apart()
 /// the picture's elsewhere, there is another filling of that part.
 pub fn parts_decide()
     ensures { PartsDecide }
-{
-    clues_are_of_lines();
-    books_are_their_clues();
-    cells_are_members();
-}
+{}
 
 /// The other fillings of a part are what fills the facts on the part, with the picture's colour alone left elsewhere.
 pub fn fillings_are_of_facts()
     ensures { FillingsAreOfFacts }
-{
-    only_is_closed();
-}
+{}
 
 /// A part whose lines are the same in two scenes is a part in both, and has another filling in the one exactly where it
 /// has one in the other: its colours on the part, with the other scene's picture elsewhere.
 pub fn fillings_stay()
     ensures { FillingsStay }
-{
-    clues_are_of_lines();
-    books_are_their_clues();
-    cells_are_members();
-}
+{}
 
 /// The search of facts in the fixed order ends after one number of splits at most: their cost.
 pub fn costs_are_unique()
     ensures { CostsAreUnique }
-{
-    least_is_unique();
-}
+{}
 
 /// The search of facts in the fixed order ends, so that each part of a scene has a cost.
 pub fn costs_are_there()
     ensures { CostsAreThere }
-{
-    only_is_closed();
-}
+{}
 
 /// Under an allowance a picture is left undecided exactly where a part costs more: the first such part is the one at which its
 /// search is broken off.
 pub fn costs_decide()
     ensures { CostsDecide }
-{
-    only_is_closed();
-    costs_are_unique();
-}
+{}
 
 #[tactic(auto, using(crate::proofs::BreakLemmas::break_off))]
 /// A picture is left undecided only where an allowance is set.

@@ -1,24 +1,24 @@
 //! Near pictures: other ones that differ from the known picture inside of one window of a part.
 
-ghost use Rattle.std.specs.Prelude.{◌≡◌, ◌<◌, IfOk, IfSome};
+ghost use Rattle.std.specs.Prelude.{◌≡◌, ◌<◌, ◌≤◌, ℕ, length, IfOk, IfSome};
 ghost use Rattle.picture.specs.CellSet.{HasCell};
 ghost use Rattle.clues.specs.Solution.{IsOther};
+ghost use Rattle.line_settle.specs.Counting.{Counts};
 ghost use Rattle.second_search.specs.Near.{IsWindow};
-ghost use Rattle.second_search.specs.Parts.{IsOtherFilling};
+ghost use Rattle.second_search.specs.Parts.{IsOtherFilling, IsScene};
 ghost use Rattle.second_search.specs.Searching.{CountsAny};
 ghost use Rattle.second_search.specs.Scene.{CanSearch};
 
 use crate::cell_lines::put_both;
 use crate::counting::{Ending, Searched, Start, search_counted};
-use crate::laws::fillings_are_of_facts;
 use crate::part_search::{leave_alone, lines_through};
 use crate::parts::Parts;
 use crate::scene::Scene;
-use clues::laws::{books_are_their_clues, clues_are_of_lines};
-use fixpoint::laws::{closing_keeps_fillings, only_is_closed};
+use fixpoint::{CloseFault, settle_afresh};
 use line_settle::{Facts, LineEngine, Meter};
 use picture::{Axis, CellSet, LineId, LineSet, MAX_SIDE, Picture};
 use std::alloc::{AllocError, Global};
+use worklist::InOrder;
 
 /// How many of a part's rows and columns a window has, one size after the other.
 pub(crate) const SIZES: [u8; 5] = [4, 7, 11, 16, 24];
@@ -41,36 +41,71 @@ pub(crate) struct Window {
     pub splits: u32,
 }
 
-// Looks for another picture that differs in one window of a part alone, by one size after the other. There may be others where the
-// answer is None.
-pub(crate) fn find_in_parts<E: LineEngine>(
+/// Looks for another picture that differs in one window of a part alone, by windows of five sizes and so many splits in each at
+/// most. The parts are those of the scene's facts when they are closed. There may be other pictures where the answer is None. No
+/// line is longer than the engine's `longest`.
+pub fn find_near_other<E: LineEngine>(
     alloc: Global,
     engine: &mut E,
     scene: &Scene,
     splits: u32,
     meter: &mut Meter,
 ) -> Result<Option<Picture>, AllocError>
-    requires { CanSearch scene.now (E.longest engine.old) }
+    requires scene { IsScene scene.now.clues.now scene.now.givens.now scene.now.facts.now
+        scene.now.picture.now }
+    requires tall { length scene.now.clues.now.rows ≤ E.longest engine.old }
+    requires wide { length scene.now.clues.now.columns ≤ E.longest engine.old }
     ensures other { IfOk result (λ found. IfSome found
         (IsOther scene.now.clues.now (HasCell scene.now.givens.now) scene.now.picture.now)) }
-    ensures counts { CountsAny meter.old meter.new (E.calls engine.old) (E.calls engine.new) }
+    ensures counts { (evaluations : ℕ)
+        × Counts evaluations 0 meter.old meter.new (E.calls engine.old) (E.calls engine.new) }
     ensures same_longest { E.longest engine.new ≡ E.longest engine.old }
 {
     let (_calls, _evaluations, _trials) = (engine.calls(), meter.evaluations, meter.trials);
-    let parts = Parts::of(alloc, scene.facts)?;
+    let Some(facts) = closed(engine, scene, meter)? else {
+        return Ok(None);
+    };
+    let closed = Scene {
+        clues: scene.clues,
+        givens: scene.givens,
+        facts: &facts,
+        picture: scene.picture,
+    };
+    let parts = Parts::of(alloc, &facts)?;
     for size in SIZES.iter() {
         let windows = Windows {
             size: *size,
             splits,
         };
         for i in 0..parts.len() {
-            let found = find_near(alloc, engine, scene, parts.cells(i), windows, meter)?;
+            let found = find_near(alloc, engine, &closed, parts.cells(i), windows, meter)?;
             if let Some(picture) = found {
                 return Ok(Some(picture));
             }
         }
     }
     Ok(None)
+}
+
+// The facts of a scene, closed. None where a line is dead.
+fn closed<E: LineEngine>(
+    engine: &mut E,
+    scene: &Scene,
+    meter: &mut Meter,
+) -> Result<Option<Facts>, AllocError>
+    requires { CanSearch scene.now (E.longest engine.old) }
+    ensures scene { IfOk result (λ found. IfSome found (λ facts.
+        IsScene scene.now.clues.now scene.now.givens.now facts scene.now.picture.now)) }
+    ensures counts { CountsAny meter.old meter.new (E.calls engine.old) (E.calls engine.new) }
+    ensures same_longest { E.longest engine.new ≡ E.longest engine.old }
+{
+    let (_calls, _evaluations, _trials) = (engine.calls(), meter.evaluations, meter.trials);
+    let mut agenda = InOrder::make();
+    match settle_afresh(engine, &mut agenda, scene.clues, meter, scene.facts) {
+        Ok(facts) => Ok(Some(facts)),
+        Err(CloseFault::Dead) => Ok(None),
+        Err(CloseFault::Memory) => Err(AllocError),
+    }
 }
 
 // Looks for another filling of a part that differs in one window alone, each of a size, a third over the next. There may be
@@ -127,11 +162,6 @@ fn find_inside<E: LineEngine>(
     if window.lines.len() < FEWEST {
         return Ok(None);
     }
-    clues_are_of_lines();
-    books_are_their_clues();
-    closing_keeps_fillings();
-    only_is_closed();
-    fillings_are_of_facts();
     let _ = scene.facts.height();
     let mut facts = scene.facts.copy()?;
     leave_alone(&mut facts, scene.picture, &window.cells);

@@ -10,12 +10,9 @@ ghost use Rattle.second_search.specs.Scene.{CanSearch};
 use crate::bounds::{BOUNDS, Bounds};
 use crate::counting::{Ending, Searched};
 use crate::ladder::{Decided, Ladder, MOST_CELLS, climb};
-use crate::laws::fillings_are_of_facts;
 use crate::near::{SIZES, Windows, find_near};
 use crate::part_search::{leave_alone, search_part};
 use crate::scene::Scene;
-use clues::laws::clues_are_of_lines;
-use fixpoint::laws::{closing_keeps_fillings, only_is_closed};
 use line_settle::{LineEngine, Meter};
 use picture::{CellSet, Picture};
 use std::alloc::{AllocError, Global};
@@ -92,7 +89,8 @@ pub fn decide_within<E: LineEngine>(
     }
 }
 
-// Decides a part by the ladder: other fillings that differ in one window alone, and then trees.
+// Decides a part by the ladder: other fillings that differ in one window alone, and then trees of the facts on it, with the
+// picture's colours alone left elsewhere.
 fn climb_part<E: LineEngine>(
     alloc: Global,
     engine: &mut E,
@@ -107,7 +105,7 @@ fn climb_part<E: LineEngine>(
     ensures counts { CountsAny meter.old meter.new (E.calls engine.old) (E.calls engine.new) }
     ensures same_longest { E.longest engine.new ≡ E.longest engine.old }
 {
-    fillings_are_of_facts();
+    let _ = scene.facts.height();
     let (_calls, _evaluations, _trials) = (engine.calls(), meter.evaluations, meter.trials);
     for size in SIZES.iter() {
         let windows = Windows {
@@ -119,29 +117,6 @@ fn climb_part<E: LineEngine>(
             return Ok(Ending::Found(picture));
         }
     }
-    search_alone(alloc, engine, scene, cells, bounds, meter)
-}
-
-// The trees of a part: the facts on it, with the picture's colours alone left elsewhere.
-fn search_alone<E: LineEngine>(
-    alloc: Global,
-    engine: &mut E,
-    scene: &Scene,
-    cells: &CellSet,
-    bounds: Bounds,
-    meter: &mut Meter,
-) -> Result<Ending, AllocError>
-    requires { CanSearch scene.now (E.longest engine.old) }
-    ensures ends { IfOk result (EndsTrue scene.now.clues.now scene.now.picture.now
-        (alone cells.now scene.now.facts.now scene.now.picture.now)) }
-    ensures counts { CountsAny meter.old meter.new (E.calls engine.old) (E.calls engine.new) }
-    ensures same_longest { E.longest engine.new ≡ E.longest engine.old }
-{
-    clues_are_of_lines();
-    only_is_closed();
-    closing_keeps_fillings();
-    let _ = scene.facts.height();
-    let (_calls, _evaluations, _trials) = (engine.calls(), meter.evaluations, meter.trials);
     let mut facts = scene.facts.copy()?;
     leave_alone(&mut facts, scene.picture, cells);
     let part = Scene {

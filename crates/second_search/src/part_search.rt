@@ -12,8 +12,6 @@ ghost use Rattle.second_search.specs.Scene.{CanSearch};
 use crate::cell_lines::put_both;
 use crate::counting::{Searched, Start, search_counted};
 use crate::scene::Scene;
-use clues::laws::clues_are_of_lines;
-use fixpoint::laws::only_is_closed;
 use line_settle::{Facts, LineEngine, Meter};
 use picture::{CellSet, LineSet, Picture};
 use std::alloc::{AllocError, Global};
@@ -37,8 +35,6 @@ pub(crate) fn search_part<E: LineEngine>(
         (CountsSome meter.old meter.new (E.calls engine.old) (E.calls engine.new)) }
     ensures same_longest { E.longest engine.new ≡ E.longest engine.old }
 {
-    clues_are_of_lines();
-    only_is_closed();
     let _ = scene.facts.height();
     let (_calls, _evaluations, _trials) = (engine.calls(), meter.evaluations, meter.trials);
     let lines = lines_through(cells, scene.facts);

@@ -6,7 +6,6 @@ ghost use Rattle.second_search.specs.Carrying.{AreSameLines, PutsSame};
 ghost use Rattle.second_search.specs.Parts.{IsSameLine, IsScene};
 
 use crate::scene::Scene;
-use clues::laws::clues_are_of_lines;
 use line_settle::Facts;
 use picture::{Axis, LineId, LineSet, LineView, MAX_SIDE, Picture};
 
@@ -54,6 +53,7 @@ fn line_count(picture: &Picture, axis: Axis) -> u8
     }
 }
 
+#[tactic(auto, using(clues::proofs::LawLemmas::of_lines))]
 // Whether a line of the scene after is the same in both.
 fn is_same_line(before: &Scene, after: &Scene, line: LineId) -> bool
     requires before { IsScene before.now.clues.now before.now.givens.now before.now.facts.now
@@ -64,7 +64,6 @@ fn is_same_line(before: &Scene, after: &Scene, line: LineId) -> bool
     ensures { IsTrue result ↔ IsSameLine before.now.clues.now before.now.facts.now
         before.now.picture.now after.now.clues.now after.now.facts.now after.now.picture.now line }
 {
-    clues_are_of_lines();
     if line.at >= line_count(before.picture, line.axis) {
         return false;
     }

@@ -14,7 +14,6 @@ use crate::tree_lines::{Lines, cell_number};
 use crate::tree_step::{TreeStep, Way, next_step};
 use cert_text::CertLine;
 use fixpoint::all_lines;
-use fixpoint::laws::{closing_keeps_fillings, only_is_closed};
 use line_settle::{LineEngine, Meter, Outcome};
 use picture::{LineSet, MAX_SIDE, Picture};
 use split_choice::Cell;
@@ -58,8 +57,6 @@ pub(crate) fn write_tree<E: LineEngine>(
     ensures counts { CountsAny meter.old meter.new (E.calls engine.old) (E.calls engine.new) }
     ensures same_longest { E.longest engine.new ≡ E.longest engine.old }
 {
-    only_is_closed();
-    closing_keeps_fillings();
     let (_calls, _evaluations, _trials) = (engine.calls(), meter.evaluations, meter.trials);
     let due = all_lines(scene.facts);
     let pending = Pending::start(alloc, scene.facts.copy()?);

@@ -11,7 +11,6 @@ ghost use Rattle.second_search.specs.Searching.{CountsAny};
 use crate::tree_lines::{Lines, line_number};
 use cert_text::CertLine;
 use clues::ClueBook;
-use line_settle::laws::forcing_closes_a_line;
 use line_settle::{Facts, Forced, LineEngine, Meter, Outcome, force_crossing};
 use picture::{Axis, LineId, LineSet};
 use std::alloc::AllocError;
@@ -64,7 +63,7 @@ fn is_line_of(facts: &Facts, line: LineId) -> bool
     }
 }
 
-#[tactic(auto, using(crate::proofs::TreeLemmas::taking))]
+#[tactic(auto, using(crate::proofs::TreeLemmas::taking, line_settle::proofs::LawLemmas::closes_a_line))]
 // Evaluates a line, and writes it where it forces something or is dead.
 fn take_line<E: LineEngine>(
     engine: &mut E,
@@ -81,7 +80,6 @@ fn take_line<E: LineEngine>(
     ensures counts { CountsAny meter.old meter.new (E.calls engine.old) (E.calls engine.new) }
     ensures same_longest { E.longest engine.new ≡ E.longest engine.old }
 {
-    forcing_closes_a_line();
     let _ = (facts.height(), engine.calls());
     let _trials = meter.trials;
     let forced = force_crossing(

@@ -6,7 +6,6 @@ ghost use Rattle.picture.specs.Rows.{cell_at, width_of};
 ghost use Rattle.line_settle.specs.FactSets.{Leaves, SameShape};
 ghost use Rattle.fixpoint.specs.Closing.{AreClosable};
 ghost use Rattle.fixpoint.specs.Filling.{LeavesPicture};
-ghost use Rattle.second_search.specs.Looking.{AreSettled};
 ghost use Rattle.second_search.specs.Trees.{Continues, IsComparedTo, IsOtherIn};
 ghost use Rattle.second_search.specs.Searching.{CountsAny};
 
@@ -15,7 +14,6 @@ use crate::scene::Scene;
 use crate::tree_dead::dead_line;
 use crate::tree_lines::line_number;
 use cert_text::CertLine;
-use clues::laws::{books_are_their_clues, clues_are_of_lines};
 use line_settle::{Facts, LineEngine, Meter};
 use picture::Picture;
 use split_choice::{Cell, Choice, Chosen, Node, Plan, Puzzle, choose, filled, fills_all, leaves};
@@ -169,7 +167,8 @@ fn allows_row(facts: &Facts, picture: &Picture, row: u8) -> bool
     true
 }
 
-// What comes next where no cell was chosen: the first cell in which not just one colour is left, if there is one.
+// What comes next where no cell was chosen: the first cell in which not just one colour is left; or, where each has one, the
+// picture that the branch shows is the known one or another, or some line is dead.
 fn end_at<E: LineEngine>(
     alloc: Global,
     engine: &mut E,
@@ -183,33 +182,11 @@ fn end_at<E: LineEngine>(
     ensures counts { CountsAny meter.old meter.new (E.calls engine.old) (E.calls engine.new) }
     ensures same_longest { E.longest engine.new ≡ E.longest engine.old }
 {
-    let (_calls, _evaluations, _trials) = (engine.calls(), meter.evaluations, meter.trials);
-    match first_unsettled(facts, 0) {
-        Some(cell) => Ok(TreeStep::Splits(cell)),
-        None => end_settled(alloc, engine, scene, facts, meter),
-    }
-}
-
-// The end of a branch in which each cell has just one colour left: the picture that it shows is the known one or another, or
-// some line is dead.
-fn end_settled<E: LineEngine>(
-    alloc: Global,
-    engine: &mut E,
-    scene: &Scene,
-    facts: &Facts,
-    meter: &mut Meter,
-) -> Result<TreeStep, AllocError>
-    requires closable { AreClosable scene.now.clues.now (E.longest engine.old) facts.now }
-    requires settled { AreSettled facts.now }
-    ensures continues { IfOk result
-        (Continues scene.now.clues.now scene.now.picture.now facts.now) }
-    ensures counts { CountsAny meter.old meter.new (E.calls engine.old) (E.calls engine.new) }
-    ensures same_longest { E.longest engine.new ≡ E.longest engine.old }
-{
-    clues_are_of_lines();
-    books_are_their_clues();
     let _ = facts.height();
     let (_calls, _evaluations, _trials) = (engine.calls(), meter.evaluations, meter.trials);
+    if let Some(cell) = first_unsettled(facts, 0) {
+        return Ok(TreeStep::Splits(cell));
+    }
     let picture = shown_picture(alloc, facts)?;
     if scene.clues.has_clues(&picture) {
         return Ok(compared(picture, scene.picture));

@@ -3,19 +3,20 @@ use Rattle.picture.specs.declared.line_id.Axis.TheVariants.{Across, Down}
 use Rattle.picture.specs.Rows.{width_of}
 use Rattle.clues.specs.ClueBook.{Clues}
 use Rattle.certificate.proofs.MadeLemmas.{near_other}
+use Rattle.second_search.proofs.KnownLaws.{clues_are_of_lines}
 use Rattle.certificate.proofs.near_first.has_near_other.Goals as goal
 
 pub find_near_other-requires-clause-tall : goal.find_near_other-requires-clause-tall
 find_near_other-requires-clause-tall g c =
     let s = c.args.scene.now in
-    let rows : length s.clues.now.rows ≡ length s.picture.now = ap (λ (k : Clues). length k.rows) c.requires.can.clues_are ∙ c.clues_are_of_lines.ensures.sizes s.picture.now Across in
+    let rows : length s.clues.now.rows ≡ length s.picture.now = ap (λ (k : Clues). length k.rows) c.requires.can.clues_are ∙ clues_are_of_lines.sizes s.picture.now Across in
     let tall = c.requires.can.tall in
     omega arith
 
 pub find_near_other-requires-clause-wide : goal.find_near_other-requires-clause-wide
 find_near_other-requires-clause-wide g c =
     let s = c.args.scene.now in
-    let columns : length s.clues.now.columns ≡ width_of s.picture.now = ap (λ (k : Clues). length k.columns) c.requires.can.clues_are ∙ c.clues_are_of_lines.ensures.sizes s.picture.now Down in
+    let columns : length s.clues.now.columns ≡ width_of s.picture.now = ap (λ (k : Clues). length k.columns) c.requires.can.clues_are ∙ clues_are_of_lines.sizes s.picture.now Down in
     let wide = c.requires.can.wide in
     omega arith
 

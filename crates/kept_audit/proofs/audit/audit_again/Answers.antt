@@ -3,11 +3,14 @@ use Rattle.std.proofs.lemmas.Result.{err_from_is_err_and}
 use Rattle.line_settle.specs.FactSets.{SameShape}
 use Rattle.fixpoint.specs.Closing.{HasDeadLine}
 use Rattle.kept_audit.proofs.AuditLemmas.{audit_of, base_after, book_closable, can_refresh, goes_on, have_books, never_dead, no_fault_but_memory, quiet_outside, same_as_fresh}
+use Rattle.clues.proofs.LawLemmas.{of_lines as clues_are_of_lines, standing as untouched_clues_stand}
+use Rattle.line_settle.proofs.LawLemmas.{one_least as least_is_unique}
+use Rattle.propagate.proofs.PictureLemmas.{closing_keeps_fillings}
 use Rattle.kept_audit.proofs.audit.audit_again.Goals as goal
 
 pub refresh-requires : goal.refresh-requires
 refresh-requires g c =
-    can_refresh c.args.revision.now.change.now c.args.revision.now.old.now c.args.revision.now.new.now c.requires.change c.untouched_clues_stand.ensures c.args.revision.now.audit.now.clues c.requires.audited.counted
+    can_refresh c.args.revision.now.change.now c.args.revision.now.old.now c.args.revision.now.new.now c.requires.change untouched_clues_stand c.args.revision.now.audit.now.clues c.requires.audited.counted
 
 pub keep-requires-clause-derivation : goal.keep-requires-clause-derivation
 keep-requires-clause-derivation g c = c.requires.audited.derivation
@@ -15,7 +18,7 @@ keep-requires-clause-derivation g c = c.requires.audited.derivation
 pub keep-requires-clause-books : goal.keep-requires-clause-books
 keep-requires-clause-books g c =
     let counted = c.in_ok-clues.ensures.value c.args.revision.now.old.now c.requires.audited.counted c.requires.change.follows in
-    have_books c.args.revision.now.change.now c.args.revision.now.old.now c.args.revision.now.new.now c.requires.change c.clues_are_of_lines.ensures c.args.revision.now.audit.now.clues c.in_ok-clues.clues c.requires.audited.counted counted
+    have_books c.args.revision.now.change.now c.args.revision.now.old.now c.args.revision.now.new.now c.requires.change clues_are_of_lines c.args.revision.now.audit.now.clues c.in_ok-clues.clues c.requires.audited.counted counted
 
 pub keep-requires-clause-base : goal.keep-requires-clause-base
 keep-requires-clause-base g c = base_after c.args.revision.now.change.now c.args.revision.now.old.now c.args.revision.now.new.now c.requires.change c.args.base c.requires.base.same_shape
@@ -39,7 +42,7 @@ pub returns-in_err-book-2-clause-memory : goal.returns-in_err-book-2-clause-memo
 returns-in_err-book-2-clause-memory g c =
     let p = err_from_is_err_and c.from_residual-in_err-book-2.result c.from_residual-in_err-book-2.ensures.1 in
     let counted = c.in_ok-clues.ensures.value c.args.revision.now.old.now c.requires.audited.counted c.requires.change.follows in
-    let dead : HasDeadLine c.in_ok-clues.clues c.in_ok-book.field-0.book.base → ⊥ = λ d. never_dead c.closing_keeps_fillings.ensures c.args.revision.now.new.now c.args.base c.in_ok-clues.clues c.height.ensures.picture counted c.requires.base (rw c.in_ok-book.ensures.base at d) in
+    let dead : HasDeadLine c.in_ok-clues.clues c.in_ok-book.field-0.book.base → ⊥ = λ d. never_dead closing_keeps_fillings c.args.revision.now.new.now c.args.base c.in_ok-clues.clues c.height.ensures.picture counted c.requires.base (rw c.in_ok-book.ensures.base at d) in
     rw (p.1, p.2) (no_fault_but_memory c.in_ok-clues.clues c.in_ok-book.field-0.book c.in_err-book-2.field-0.0 c.in_err-book-2.ensures.closes dead)
 
 pub returns-clause-counts : goal.returns-clause-counts
@@ -57,7 +60,7 @@ returns-clause-fresh g c facts least =
     let a = c.requires.audited in
     let counted = c.in_ok-clues.ensures.value c.args.revision.now.old.now a.counted c.requires.change.follows in
     let e = c.in_ok-book.ensures in
-    same_as_fresh c.least_is_unique.ensures c.args.revision.now.new.now c.args.base facts c.in_ok-clues.clues c.in_ok-book-2.book
+    same_as_fresh least_is_unique c.args.revision.now.new.now c.args.base facts c.in_ok-clues.clues c.in_ok-book-2.book
     (audit_of c.args.revision.now.new.now c.args.base c.in_ok-clues.clues _ c.in_ok-book-2.book counted e.base c.in_ok-book-2.ensures.closes (c.in_ok-book-2.ensures.trimmed (e.trimmed a.trimmed))) least
 
 pub returns-clause-goes_on : goal.returns-clause-goes_on

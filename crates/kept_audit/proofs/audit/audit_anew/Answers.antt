@@ -4,18 +4,19 @@ use Rattle.fixpoint.specs.LineNames.{AllLines}
 use Rattle.line_settle.specs.FactSets.{SameShape}
 use Rattle.justify.specs.Book.{Account, IsDerivation}
 use Rattle.kept_audit.proofs.AuditLemmas.{audit_of, book_closable, derives_anew, is_anew, starts_trimmed}
+use Rattle.clues.proofs.LawLemmas.{of_lines as clues_are_of_lines}
 use Rattle.kept_audit.proofs.audit.audit_anew.Goals as goal
 
 pub close-requires-clause-derivation : goal.close-requires-clause-derivation
 close-requires-clause-derivation g c =
     let P : Account → Type 0 = λ b. IsDerivation c.in_ok-clues.clues b in
-    subst P (sym c.in_ok-book.ensures) (derives_anew c.clues_are_of_lines.ensures c.args.picture.now c.args.base c.in_ok-clues.clues c.in_ok-clues.ensures c.requires.base.same_shape)
+    subst P (sym c.in_ok-book.ensures) (derives_anew clues_are_of_lines c.args.picture.now c.args.base c.in_ok-clues.clues c.in_ok-clues.ensures c.requires.base.same_shape)
 
 pub close-requires-clause-closable : goal.close-requires-clause-closable
 close-requires-clause-closable g c =
     let P : Account → Type 0 = λ b. IsDerivation c.in_ok-clues.clues b in
     let Q : Account → Type 0 = λ b. SameShape c.args.picture.now b.base in
-    let derives = subst P (sym c.in_ok-book.ensures) (derives_anew c.clues_are_of_lines.ensures c.args.picture.now c.args.base c.in_ok-clues.clues c.in_ok-clues.ensures c.requires.base.same_shape) in
+    let derives = subst P (sym c.in_ok-book.ensures) (derives_anew clues_are_of_lines c.args.picture.now c.args.base c.in_ok-clues.clues c.in_ok-clues.ensures c.requires.base.same_shape) in
     let shape = subst Q (sym c.in_ok-book.ensures) c.requires.base.same_shape in
     book_closable c.in_ok-clues.clues _ c.args.picture.now c.in_ok-book.book c.facts.ensures.account derives shape c.requires.wide c.requires.tall
 

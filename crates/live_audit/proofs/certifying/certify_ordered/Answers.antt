@@ -1,12 +1,14 @@
 use Rattle.edits.specs.Design.{design_of}
 use Rattle.live_audit.proofs.CertifyLemmas.{certified}
 use Rattle.live_audit.proofs.OthersLemmas.{joined, same_others}
+use Rattle.edits.proofs.DesignLemmas.{all_marked as marks_are_givens}
+use Rattle.second_search.proofs.KnownLaws.{books_are_their_clues, clues_are_of_lines}
 use Rattle.live_audit.proofs.certifying.certify_ordered.Goals as goal
 
 pub returns-clause-certifies : goal.returns-clause-certifies
 returns-clause-certifies g c =
     let d = c.args.document.now in
     let o = c.in_ok-document in
-    let others = same_others c.clues_are_of_lines.ensures c.books_are_their_clues.ensures d o.document c.len.ensures.palette d.coloured c.height.ensures.picture c.height-2.ensures.picture o.ensures.content o.ensures.shown in
+    let others = same_others clues_are_of_lines books_are_their_clues d o.document c.len.ensures.palette d.coloured c.height.ensures.picture c.height-2.ensures.picture o.ensures.content o.ensures.shown in
     joined (design_of d) c.climb_cert.result others
-    (certified c.marks_are_givens.ensures d o.document c.climb_cert.result d.inside o.ensures.content c.climb_cert.ensures.makes)
+    (certified marks_are_givens d o.document c.climb_cert.result d.inside o.ensures.content c.climb_cert.ensures.makes)

@@ -1,11 +1,12 @@
 use Rattle.live_audit.proofs.VerdictLemmas.{heard}
+use Rattle.second_search.proofs.KnownLaws.{allowances_break_off, same_cells_are_equal}
 use Rattle.live_audit.proofs.making.rule.Goals as goal
 
 pub returns-clause-judges : goal.returns-clause-judges
 returns-clause-judges g c =
     let h = c.judge.follows.holds-at-none in
     let s = c.scene_of-scene.ensures in
-    let all = heard c.same_cells_are_equal.ensures c.allowances_break_off.ensures c.args.document.now c.args.audit.now.clues _ c.args.audit.now.book.facts _ _ _ c.args.allowance c.args.keeper.now c.judge.follows.lender-at-none c.judge.result c.in_ok-judged.judged c.ruling_of-ruling.result _ _ _ _ _ _ _ _
+    let all = heard same_cells_are_equal allowances_break_off c.args.document.now c.args.audit.now.clues _ c.args.audit.now.book.facts _ _ _ c.args.allowance c.args.keeper.now c.judge.follows.lender-at-none c.judge.result c.in_ok-judged.judged c.ruling_of-ruling.result _ _ _ _ _ _ _ _
     s.clues s.facts s.givens s.picture s.cells c.requires.audited.clues_are c.ruling_of-ruling.ensures c.in_ok-judged.was c.in_ok-judged.ensures.answer h.0 h.1 h.2 in
     all.done
 
@@ -13,7 +14,7 @@ pub returns-clause-ruling : goal.returns-clause-ruling
 returns-clause-ruling g c =
     let h = c.judge.follows.holds-at-none in
     let s = c.scene_of-scene.ensures in
-    let all = heard c.same_cells_are_equal.ensures c.allowances_break_off.ensures c.args.document.now c.args.audit.now.clues _ c.args.audit.now.book.facts _ _ _ c.args.allowance c.args.keeper.now c.judge.follows.lender-at-none c.judge.result c.in_ok-judged.judged c.ruling_of-ruling.result _ _ _ _ _ _ _ _
+    let all = heard same_cells_are_equal allowances_break_off c.args.document.now c.args.audit.now.clues _ c.args.audit.now.book.facts _ _ _ c.args.allowance c.args.keeper.now c.judge.follows.lender-at-none c.judge.result c.in_ok-judged.judged c.ruling_of-ruling.result _ _ _ _ _ _ _ _
     s.clues s.facts s.givens s.picture s.cells c.requires.audited.clues_are c.ruling_of-ruling.ensures c.in_ok-judged.was c.in_ok-judged.ensures.answer h.0 h.1 h.2 in
     all.ruling
 
@@ -21,6 +22,6 @@ pub returns-clause-answers : goal.returns-clause-answers
 returns-clause-answers g c =
     let h = c.judge.follows.holds-at-none in
     let s = c.scene_of-scene.ensures in
-    let all = heard c.same_cells_are_equal.ensures c.allowances_break_off.ensures c.args.document.now c.args.audit.now.clues _ c.args.audit.now.book.facts _ _ _ c.args.allowance c.args.keeper.now c.judge.follows.lender-at-none c.judge.result c.in_ok-judged.judged c.ruling_of-ruling.result _ _ _ _ _ _ _ _
+    let all = heard same_cells_are_equal allowances_break_off c.args.document.now c.args.audit.now.clues _ c.args.audit.now.book.facts _ _ _ c.args.allowance c.args.keeper.now c.judge.follows.lender-at-none c.judge.result c.in_ok-judged.judged c.ruling_of-ruling.result _ _ _ _ _ _ _ _
     s.clues s.facts s.givens s.picture s.cells c.requires.audited.clues_are c.ruling_of-ruling.ensures c.in_ok-judged.was c.in_ok-judged.ensures.answer h.0 h.1 h.2 in
     all.answers

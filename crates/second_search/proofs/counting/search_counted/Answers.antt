@@ -7,6 +7,7 @@ use Rattle.second_search.specs.Through.{across}
 use Rattle.second_search.proofs.CountLemmas.{Counting, counted_halted, counted_nothing, counted_other, counting_at, counting_passes, counting_splits, counting_starts, counts_more, counts_none, counts_some, passes_lighter, splits_lighter, steps_as}
 use Rattle.second_search.proofs.KeepLemmas.{EachQuiet, can_close_like, quiet_at, quiet_passes, quiet_splits, ready_at, ready_first}
 use Rattle.second_search.proofs.AloneLemmas.{name_counts}
+use Rattle.second_search.proofs.KnownLaws.{least_is_unique}
 use Rattle.second_search.proofs.counting.search_counted.Goals as goal
 use Rattle.second_search.proofs.counting.search_counted.Goals.{in-Passed, in-Split}
 
@@ -59,13 +60,13 @@ pub returns-in-Halted-clause-ends : goal.returns-in-Halted-clause-ends
 returns-in-Halted-clause-ends g c =
     let s = c.loop-search.search.pending in
     let t = c.look_once.new.self.pending in
-    counted_halted c.least_is_unique.ensures c.args.book.now c.args.known.now c.args.start.facts c.args.start.allowance 0 s t c.loop-search.search.left c.look_once.new.self.left c.loop-search.search.splits c.look_once.new.self.splits c.loop-search.invariant.counting (steps_as _ _ s t _ _ _ _ _ _ c.in-Halted.is c.in_ok-step.ensures.steps)
+    counted_halted least_is_unique c.args.book.now c.args.known.now c.args.start.facts c.args.start.allowance 0 s t c.loop-search.search.left c.look_once.new.self.left c.loop-search.search.splits c.look_once.new.self.splits c.loop-search.invariant.counting (steps_as _ _ s t _ _ _ _ _ _ c.in-Halted.is c.in_ok-step.ensures.steps)
 
 pub returns-in-None-clause-ends : goal.returns-in-None-clause-ends
 returns-in-None-clause-ends g c =
     let s = c.loop-search.search.pending in
     let t = c.look_once.new.self.pending in
-    let unique = c.least_is_unique.ensures in
+    let unique = least_is_unique in
     let i = c.loop-search.invariant.counting in
     let counting : Counting c.args.book.now c.args.known.now c.args.start.facts c.args.start.allowance 0 t.behind c.look_once.new.self.left c.look_once.new.self.splits = elim c.match-step.branch [
       | in-Passed w ↦ counting_passes unique _ _ _ _ _ s t _ _ _ _ i (steps_as _ _ s t _ _ _ _ _ _ w.in-Passed.is c.in_ok-step.ensures.steps)
@@ -114,7 +115,7 @@ loop-search-preserved g c =
     let cell = c.in-Some.cell in
     let book = c.args.book.now in
     let first = c.args.start.facts in
-    let unique = c.least_is_unique.ensures in
+    let unique = least_is_unique in
     let i = c.loop-search.invariant.counting in
     let counting : Counting book c.args.known.now first c.args.start.allowance 0 t.behind c.look_once.new.self.left c.look_once.new.self.splits = elim c.match-step.branch [
       | in-Passed w ↦ counting_passes unique _ _ _ _ _ s t _ _ _ _ i (steps_as _ _ s t _ _ _ _ _ _ w.in-Passed.is c.in_ok-step.ensures.steps)

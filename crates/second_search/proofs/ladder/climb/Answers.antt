@@ -15,7 +15,7 @@ loop-choice-preserved g c = record {
 }
 
 pub returns-in_err-last-clause-counts : goal.returns-in_err-last-clause-counts
-returns-in_err-last-clause-counts g c = counts_more _ _ _ _ _ _ c.loop.invariant.counts c.write.ensures.counts
+returns-in_err-last-clause-counts g c = counts_more _ _ _ _ _ _ c.loop.invariant.counts c.write-2.ensures.counts
 
 pub returns-clause-counts : goal.returns-clause-counts
-returns-clause-counts g c = counts_more _ _ _ _ _ _ c.loop.invariant.counts c.write.ensures.counts
+returns-clause-counts g c = counts_more _ _ _ _ _ _ c.loop.invariant.counts c.write-2.ensures.counts

@@ -1,5 +1,6 @@
 use Rattle.second_search.proofs.DearLemmas as dear
+use Rattle.second_search.proofs.KnownLaws.{only_is_closed}
 use Rattle.second_search.proofs.laws.costs_are_there.Goals as goal
 
 pub returns : goal.returns
-returns c = dear.costs_are_there c.only_is_closed.ensures
+returns c = dear.costs_are_there only_is_closed

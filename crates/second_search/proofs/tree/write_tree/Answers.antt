@@ -4,6 +4,7 @@ use Rattle.second_search.specs.Trees.{Advances, Turns}
 use Rattle.second_search.proofs.CountLemmas.{counts_more, counts_none}
 use Rattle.second_search.proofs.KeepLemmas.{can_close_like}
 use Rattle.second_search.proofs.TreeLemmas.{ends_said, found_said, goes_said, said_lighter, shape_said, starts_said}
+use Rattle.second_search.proofs.KnownLaws.{closing_keeps_fillings, only_is_closed}
 use Rattle.second_search.proofs.tree.write_tree.Goals as goal
 
 pub turn-requires : goal.turn-requires
@@ -16,7 +17,7 @@ pub returns-in-Found-clause-writes : goal.returns-in-Found-clause-writes
 returns-in-Found-clause-writes g c =
     let s = c.args.scene.now in
     let P : Turn → Type 0 = λ t. Turns s.clues.now s.picture.now c.loop-growing.growing c.turn.new.self t in
-    found_said c.only_is_closed.ensures c.closing_keeps_fillings.ensures s.clues.now s.picture.now s.facts.now c.in-Found.picture c.args.lines c.loop-growing.growing c.loop-growing.invariant.said (subst P c.in-Found.is c.in_ok-turn.ensures.turns)
+    found_said only_is_closed closing_keeps_fillings s.clues.now s.picture.now s.facts.now c.in-Found.picture c.args.lines c.loop-growing.growing c.loop-growing.invariant.said (subst P c.in-Found.is c.in_ok-turn.ensures.turns)
 
 pub returns-then-not-goes-clause-writes : goal.returns-then-not-goes-clause-writes
 returns-then-not-goes-clause-writes g c =

@@ -5,6 +5,7 @@ use Rattle.second_search.specs.Carrying.{Carries}
 use Rattle.second_search.specs.Judging.{AreTrue, Starts, parts_of}
 use Rattle.second_search.specs.declared.keeper.KeptPart.{KeptPart}
 use Rattle.second_search.proofs.CarryLemmas.{all_carried, carries_more, nothing_known}
+use Rattle.second_search.proofs.KnownLaws.{fillings_stay, same_cells_are_equal}
 use Rattle.second_search.proofs.keeper.Keeper.carry.Goals as goal
 
 pub loop-i-preserved : goal.loop-i-preserved
@@ -34,4 +35,4 @@ pub returns-then-knows_nothing-clause-carries : goal.returns-then-knows_nothing-
 returns-then-knows_nothing-clause-carries c =
     let b = c.args.before.now in
     let a = c.args.after.now in
-    IfOk-weaker c.start.result (Starts a.facts.now) (Carries b.clues.now b.facts.now b.picture.now a.clues.now a.facts.now a.picture.now c.args.self.now) (λ kept starts. nothing_known c.fillings_stay.ensures c.same_cells_are_equal.ensures b.clues.now b.facts.now b.picture.now a.clues.now a.givens.now a.facts.now a.picture.now c.args.self.now kept c.requires.parts (c.if-knows_nothing.ensures.0 refl) starts) c.start.ensures
+    IfOk-weaker c.start.result (Starts a.facts.now) (Carries b.clues.now b.facts.now b.picture.now a.clues.now a.facts.now a.picture.now c.args.self.now) (λ kept starts. nothing_known fillings_stay same_cells_are_equal b.clues.now b.facts.now b.picture.now a.clues.now a.givens.now a.facts.now a.picture.now c.args.self.now kept c.requires.parts (c.if-knows_nothing.ensures.0 refl) starts) c.start.ensures

@@ -4,6 +4,7 @@ use Rattle.second_search.specs.Judging.{Judges, Stops}
 use Rattle.second_search.proofs.JudgeLemmas.{done_as, done_none}
 use Rattle.second_search.proofs.TruthLemmas.{judged_true, verdict_true}
 use Rattle.second_search.proofs.VerdictLemmas.{each_is_part, is_shown, judges_as, same_kept}
+use Rattle.second_search.proofs.KnownLaws.{books_are_their_clues, closing_keeps_fillings, clues_are_of_lines, fillings_are_of_facts, only_is_closed, parts_decide}
 use Rattle.second_search.proofs.keeper.Keeper.decide.Goals as goal
 
 pub search_parts-requires-clause-parts : goal.search_parts-requires-clause-parts
@@ -39,7 +40,7 @@ returns-in_ok-stop-in-None-clause-true_answers g c =
     let turn = judges_as s.clues.now s.facts.now s.picture.now c.args.allowance old new c.in_ok-stop-in-None.stop c.note-verdict.result in
     let d = c.in_ok-stop-in-None.ensures.stops in
     let j = turn d.searched d.splits c.in-None.ensures d.is c.note-verdict.ensures in
-    judged_true c.clues_are_of_lines.ensures c.books_are_their_clues.ensures c.closing_keeps_fillings.ensures c.only_is_closed.ensures c.fillings_are_of_facts.ensures c.parts_decide.ensures s.clues.now s.givens.now s.facts.now s.picture.now c.requires.can.is_scene c.args.allowance old new c.note-verdict.result d.searched d.splits c.requires.true_answers j
+    judged_true clues_are_of_lines books_are_their_clues closing_keeps_fillings only_is_closed fillings_are_of_facts parts_decide s.clues.now s.givens.now s.facts.now s.picture.now c.requires.can.is_scene c.args.allowance old new c.note-verdict.result d.searched d.splits c.requires.true_answers j
 
 pub returns-in_ok-stop-in-None-clause-shown : goal.returns-in_ok-stop-in-None-clause-shown
 returns-in_ok-stop-in-None-clause-shown g c =
@@ -59,4 +60,4 @@ returns-in_ok-stop-in-None-clause-verdict g c =
     let turn = judges_as s.clues.now s.facts.now s.picture.now c.args.allowance old new c.in_ok-stop-in-None.stop c.note-verdict.result in
     let d = c.in_ok-stop-in-None.ensures.stops in
     let j = turn d.searched d.splits c.in-None.ensures d.is c.note-verdict.ensures in
-    verdict_true c.clues_are_of_lines.ensures c.books_are_their_clues.ensures c.closing_keeps_fillings.ensures c.only_is_closed.ensures c.fillings_are_of_facts.ensures c.parts_decide.ensures s.clues.now s.givens.now s.facts.now s.picture.now c.requires.can.is_scene c.args.allowance old new c.note-verdict.result d.searched d.splits c.requires.parts c.requires.true_answers j
+    verdict_true clues_are_of_lines books_are_their_clues closing_keeps_fillings only_is_closed fillings_are_of_facts parts_decide s.clues.now s.givens.now s.facts.now s.picture.now c.requires.can.is_scene c.args.allowance old new c.note-verdict.result d.searched d.splits c.requires.parts c.requires.true_answers j

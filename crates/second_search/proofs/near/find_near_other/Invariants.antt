@@ -1,6 +1,6 @@
 use Rattle.std.proofs.Common.{◌≡◌}
 use Rattle.second_search.specs.Searching.{CountsAny}
-use Rattle.second_search.proofs.near.find_in_parts.Given as goal
+use Rattle.second_search.proofs.near.find_near_other.Given as goal
 
 abbrev pub invariant-loop-size : goal.invariant-loop-size
 invariant-loop-size g l = record {

@@ -5,7 +5,8 @@ use Rattle.picture.specs.declared.line_id.LineId.{LineId}
 use Rattle.fixpoint.specs.Closing.{EachFits}
 use Rattle.second_search.specs.Trees.{IsDeadLine}
 use Rattle.second_search.proofs.TreeLemmas.{compare_continues, dead_continues, none_dead}
-use Rattle.second_search.proofs.tree_step.end_settled.Goals as goal
+use Rattle.second_search.proofs.KnownLaws.{books_are_their_clues, clues_are_of_lines}
+use Rattle.second_search.proofs.tree_step.end_at.Goals as goal
 
 pub returns-then-has_clues-clause-continues : goal.returns-then-has_clues-clause-continues
 returns-then-has_clues-clause-continues g c =
@@ -16,10 +17,10 @@ pub returns-clause-continues : goal.returns-clause-continues
 returns-clause-continues g c =
     let s = c.args.scene.now in
     let P : Option LineId → Type 0 = λ o. MatchOption o (EachFits s.clues.now c.args.facts.now) (IsDeadLine s.clues.now c.args.facts.now) in
-    dead_continues s.clues.now s.picture.now c.args.facts.now c.in-Some.line c.line_number.result (subst P c.in-Some.is c.in_ok-dead.ensures.dead) c.line_number.ensures.axis c.line_number.ensures.number
+    dead_continues s.clues.now s.picture.now c.args.facts.now c.in-Some-dead.line c.line_number.result (subst P c.in-Some-dead.is c.in_ok-dead.ensures.dead) c.line_number.ensures.axis c.line_number.ensures.number
 
 pub unreachable-requires : goal.unreachable-requires
 unreachable-requires g c =
     let s = c.args.scene.now in
     let P : Option LineId → Type 0 = λ o. MatchOption o (EachFits s.clues.now c.args.facts.now) (IsDeadLine s.clues.now c.args.facts.now) in
-    false≢true (c.if-has_clues.ensures.1 (none_dead c.clues_are_of_lines.ensures c.books_are_their_clues.ensures s.clues.now (g.E.LineEngine.longest c.args.engine.now) c.args.facts.now c.in_ok-picture.picture c.height.ensures.facts c.requires.closable (subst P c.in-None.is c.in_ok-dead.ensures.dead) c.in_ok-picture.ensures))
+    false≢true (c.if-has_clues.ensures.1 (none_dead clues_are_of_lines books_are_their_clues s.clues.now (g.E.LineEngine.longest c.args.engine.now) c.args.facts.now c.in_ok-picture.picture c.height.ensures.facts c.requires (subst P c.in-None.is c.in_ok-dead.ensures.dead) c.in_ok-picture.ensures))
