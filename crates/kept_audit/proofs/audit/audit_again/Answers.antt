@@ -5,7 +5,7 @@ use Rattle.fixpoint.specs.Closing.{HasDeadLine}
 use Rattle.kept_audit.proofs.AuditLemmas.{audit_of, base_after, book_closable, can_refresh, goes_on, have_books, never_dead, no_fault_but_memory, quiet_outside, same_as_fresh}
 use Rattle.clues.proofs.LawLemmas.{of_lines as clues_are_of_lines, standing as untouched_clues_stand}
 use Rattle.line_settle.proofs.LawLemmas.{one_least as least_is_unique}
-use Rattle.propagate.proofs.PictureLemmas.{closing_keeps_fillings}
+use Rattle.fixpoint.proofs.PictureLemmas.{closing_keeps_fillings}
 use Rattle.kept_audit.proofs.audit.audit_again.Goals as goal
 
 pub refresh-requires : goal.refresh-requires
