@@ -4,7 +4,7 @@ ghost use Rattle.std.specs.Prelude.{◌≡◌};
 ghost use Rattle.cert_text.specs.Faults.{name_of, place_of};
 ghost use Rattle.cert_text.specs.declared.fault.CertFault.TheVariants.{Memory};
 
-use std::alloc::AllocError;
+use std::alloc::{AllocError, AllocFailed};
 use thiserror::Error;
 
 /// What is wrong with a certificate: the first fault from the top, with the number of its line, counted from 1.
@@ -73,6 +73,14 @@ impl From<AllocError> for CertFault {
     ghost from_gives = { λ _ e. e ≡ Memory };
 
     fn from(_e: AllocError) -> CertFault {
+        CertFault::Memory
+    }
+}
+
+impl<T: Drop> From<AllocFailed<T>> for CertFault {
+    ghost from_gives = { λ _ e. e ≡ Memory };
+
+    fn from(_refused: AllocFailed<T>) -> CertFault {
         CertFault::Memory
     }
 }
