@@ -233,6 +233,22 @@ filled w set run all n i h l is =
     ∙ (sym (fills_enough (has set) (has run) w past n i (omega arith))
     ∙ ap (λ x. has set i || (has run i && x)) (sym (is (i + 1))))
 
+or_nowhere : (a b : Bool) → (a || (false && b)) ≡ a
+or_nowhere true b = refl
+or_nowhere false b = refl
+
+-- where no n cells in a row are in the run, what reaches the set over fewer is all that does
+pub filled_short : (set run all runs n i : ℕ) → runs ≡ 0 → ((j : ℕ) → has runs j ≡ spans (has run) n j) → ((j : ℕ) → has all j ≡ fills (has set) (has run) n j) → has all i ≡ (has set i || (has run i && has all (i + 1)))
+filled_short set run all runs n i none spanned is =
+    let e : suc n ≡ n + 1 = omega arith in
+    let no_span : spans (has run) n i ≡ false = sym (spanned i) ∙ (ap (λ m. has m i) none ∙ has_none i) in
+    let more : fills (has set) (has run) (suc n) i ≡ fills (has set) (has run) n i =
+    ap (λ m. fills (has set) (has run) m i) e
+    ∙ (fills_more (has set) (has run) n 1 i
+    ∙ (ap (λ s. fills (has set) (has run) n i || (s && fills (has set) (has run) 1 (i + n))) no_span
+    ∙ or_nowhere (fills (has set) (has run) n i) (fills (has set) (has run) 1 (i + n)))) in
+    is i ∙ (sym more ∙ ap (λ x. has set i || (has run i && x)) (sym (is (i + 1))))
+
 nothing_more : (f r : Bool) → f ≡ (f || (r && false))
 nothing_more true r = refl
 nothing_more false true = refl

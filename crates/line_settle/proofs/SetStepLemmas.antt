@@ -85,6 +85,17 @@ written_more sets k places i j a b e before new =
     and_true true = refl
     and_true false = refl
 
+-- a colour that was written before all others
+pub written_first : (sets : List ℕ) (i j : ℕ) (y : Bool) → y ≡ ((nat_lt j 0 && has (get_or sets j 0) i) || y)
+written_first sets i j y = sym (ap (λ x. (x && has (get_or sets j 0) i) || y) (le-ltb j 0 (omega arith)))
+
+pub written_before : (x y z : Bool) → ((x || y) || z) ≡ ((x || z) || y)
+written_before true y z = refl
+written_before false true true = refl
+written_before false true false = refl
+written_before false false true = refl
+written_before false false false = refl
+
 pub written_none : (sets : List ℕ) (k places i j : ℕ) (a : Bool) → places ≡ get_or sets k 0 → places ≡ 0 → a ≡ (nat_lt j k && has (get_or sets j 0) i) → a ≡ (nat_lt j (k + 1) && has (get_or sets j 0) i)
 written_none sets k places i j a e none before =
     let nothing : (has places i && k == j) ≡ false = ap (λ s. has s i && k == j) none ∙ ap (λ x. x && k == j) (has_none i) in

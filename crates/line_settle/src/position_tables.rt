@@ -9,7 +9,7 @@ ghost use Rattle.line_settle.specs.Laying.{AreMarked, AreSeen, IsAllowed};
 
 use crate::block_steps::{before_gap, behind_gap, lay, meets, starts_before};
 use crate::pattern::allows;
-use crate::positions::{add_colour, cells_with, fill_up};
+use crate::positions::{add_colour, cells_with, fill_up, set_colour};
 use crate::word::Word;
 use clues::Block;
 
@@ -142,13 +142,15 @@ pub fn see_blocks<W: Word>(
 
 /// Writes for each cell the colours that were seen there.
 pub fn write_colours<W: Word>(seen: &[W], out: &mut [u16])
+    requires some { 0 < length seen.now }
     requires sixteen { length seen.now ≤ 16 }
     requires short { length out.old < W.width }
     ensures { (i k : ℕ) → i < length out.old
         → allows (slice_index out.new i) k ≡ has (slice_index (map W.bits seen.now) k) i }
 {
-    out.fill(0);
-    for k in 0..seen.len() {
+    let last = seen.len() - 1;
+    set_colour(seen[last], last as u8, out);
+    for k in 0..last {
         let set = seen[k];
         if !set.is_none() {
             add_colour(set, k as u8, out);

@@ -6,6 +6,7 @@ ghost use Rattle.line_settle.specs.Spelling.{allows};
 ghost use Rattle.line_settle.specs.Positions.{has, AreSpans, AreSpansOf, IsCellsWith, IsColoured};
 
 use crate::pattern::allows;
+use crate::tables::colour_bit;
 use crate::word::Word;
 use std::simd::prelude::*;
 
@@ -32,6 +33,9 @@ pub enum Spans {
     /// Of any cells.
     Far([u128; 7]),
 }
+
+// The place of the span over sixteen cells.
+const SHORT: usize = 4;
 
 // The positions that half the width has.
 const NEAR: u128 = 0xffff_ffff_ffff_ffff;
@@ -95,7 +99,8 @@ fn far_spans(cells: u128) -> [u128; 7]
 }
 
 #[tactic(auto, using(crate::proofs::SpanLemmas::filling))]
-/// What reaches a set over cells in 64 bits, by their spans: after a round what does over fewer than `step` cells.
+/// What reaches a set over cells in 64 bits, by their spans: after a round what does over fewer than `step` cells. Most lines
+/// have no sixteen cells in a row, and then four rounds are enough.
 pub fn fill_near(set: u64, spans: &[u64; 6]) -> u64
     ensures { (cells : ℕ) → length spans.now ≡ 6 → AreSpans cells spans.now
         → (i : ℕ) → has result i ≡ (has set i || (has cells i && has result (i + 1))) }
@@ -103,7 +108,11 @@ pub fn fill_near(set: u64, spans: &[u64; 6]) -> u64
     let mut all = set;
     let mut step: u32 = 1;
     for k in 0..6 {
-        all |= (all >> step) & spans[k];
+        let span = spans[k];
+        if k == SHORT && span == 0 {
+            return all;
+        }
+        all |= (all >> step) & span;
         step += step;
     }
     all
@@ -236,6 +245,46 @@ fn colour_cells(set: u16, colour: u8, first: usize, count: usize, out: &mut [u16
 {
     for j in 0..count {
         out[first + j] = with_colour(out[first + j], (set >> j) & 1 == 1, colour);
+    }
+}
+
+#[inline]
+// Leaves one colour alone in so many cells from `first` on, behind the positions of a set that is counted from there, and
+// no colour in the others. The set is as wide as a cell, as above.
+fn set_cells(set: u16, colour: u8, first: usize, count: usize, out: &mut [u16])
+    requires colour { colour < 16 }
+    requires few { count ≤ 8 }
+    requires room { first + count ≤ length out.old }
+    ensures inside { (j k : ℕ) → j < count
+        → allows (slice_index out.new (first + j)) k ≡ (has set j && colour == k) }
+    ensures before { (i : ℕ) → i < first → slice_index out.new i ≡ slice_index out.old i }
+{
+    for j in 0..count {
+        out[first + j] = colour_bit((set >> j) & 1 == 1, colour);
+    }
+}
+
+/// Leaves one colour alone in the cells behind the positions of a set, and no colour in the others.
+pub fn set_colour<W: Word>(set: W, colour: u8, out: &mut [u16])
+    requires colour { colour < 16 }
+    requires short { length out.old < W.width }
+    ensures { (i k : ℕ) → i < length out.old
+        → allows (slice_index out.new i) k ≡ (has (W.bits set) i && colour == k) }
+{
+    let cells = out.len();
+    if cells < 8 {
+        set_cells(set.low_eight(), colour, 0, cells, out);
+        return;
+    }
+    let mut rest = set;
+    for chunk in 0..cells / 8 {
+        set_cells(rest.low_eight(), colour, 8 * chunk, 8, out);
+        rest = rest.down(8);
+    }
+    if cells % 8 != 0 {
+        // The last eight cells: some of them once more, which changes nothing.
+        let last = cells - 8;
+        set_cells(set.down(last).low_eight(), colour, last, 8, out);
     }
 }
 

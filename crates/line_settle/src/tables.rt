@@ -85,8 +85,8 @@ fn step_forward(pattern: &[u8], mask: u16, row: &mut [bool])
 }
 
 #[tactic(auto, using(crate::proofs::BitLemmas::bits))]
-// The mask of one colour where `set` says so, else no colour.
-fn colour_bit(set: bool, colour: u8) -> u16
+/// The mask of one colour where `set` says so, else no colour.
+pub fn colour_bit(set: bool, colour: u8) -> u16
     requires { colour < 16 }
     ensures { (k : ℕ) → allows result k ≡ (set && colour == k) }
 {
