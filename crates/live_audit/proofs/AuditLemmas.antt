@@ -5,18 +5,15 @@ use Rattle.picture.specs.declared.document.Document.{Document}
 use Rattle.picture.specs.Document.{AreInside}
 use Rattle.picture.specs.Picture.{IsPicture}
 use Rattle.clues.specs.Change.{Changes, Moves, back}
-use Rattle.clues.specs.ClueBook.{Clues}
-use Rattle.line_settle.specs.FactSets.{IsBase, IsLeast}
-use Rattle.justify.specs.Book.{Account, IsAccount}
-use Rattle.kept_audit.specs.Audit.{IsAudit}
+use Rattle.line_settle.specs.FactSets.{IsBase}
 use Rattle.kept_audit.specs.Laws.{BasesLeavePictures}
 use Rattle.edits.specs.declared.fault.EditFault.{EditFault}
 use Rattle.edits.specs.declared.fault.EditFault.TheVariants.{UndoEmpty, RedoEmpty, Memory}
 use Rattle.edits.specs.Change.{moves_of}
-use Rattle.edits.specs.Design.{Design, design_of}
+use Rattle.edits.specs.Design.{design_of}
 use Rattle.edits.specs.History.{Advance, Turn, History, IsChangeBy, advanced, or_memory, first_turn, last_turn, fault_if_empty, redo_fault, undo_fault}
 use Rattle.edits.specs.Laws.{MarksAreGivens}
-use Rattle.live_audit.specs.Bench.{AreGivens, IsAuditOf, IsBaseFor, Seen}
+use Rattle.live_audit.specs.Bench.{IsBaseFor, Seen}
 use Rattle.live_audit.specs.Calls.{Accepts, CarriesOn, IsAsBefore, Refuses}
 use Rattle.live_audit.specs.Stroke.{Stroke, after_stroke, moves_back, moves_forth, stroke_fault, stroke_moves}
 
