@@ -11,7 +11,7 @@ use Rattle.clues.specs.Change.{Changes, Moves, IsChangeOf, CanRefresh, lines_aft
 use Rattle.clues.specs.ClueBook.{Clues, clues_along, clues_of}
 use Rattle.clues.specs.Laws.{CluesAreOfLines, UntouchedCluesStand}
 use Rattle.line_settle.specs.declared.meter.Meter.{Meter}
-use Rattle.line_settle.specs.FactSets.{IsClosedLine, IsFacts, IsLeast, Leaves, SameShape}
+use Rattle.line_settle.specs.FactSets.{IsClosedLine, IsLeast, SameShape}
 use Rattle.line_settle.specs.Fitting.{CanFit}
 use Rattle.line_settle.specs.Laws.{LeastIsUnique}
 use Rattle.line_settle.specs.Outside.{EachOutside}
