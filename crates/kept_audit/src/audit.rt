@@ -33,7 +33,7 @@ pub struct Revision<'a> {
     pub change: &'a Change,
 }
 
-#[tactic(auto, using(propagate::proofs::PictureLemmas::closing_keeps_fillings))]
+#[tactic(auto, using(fixpoint::proofs::PictureLemmas::closing_keeps_fillings))]
 /// Audits a picture anew: counts its clues, and closes the book without a step over a base that leaves its colours.
 pub fn audit_anew<E: LineEngine, A: Agenda>(
     alloc: Global,
