@@ -10,7 +10,7 @@ use edits::EditFault;
 use non_text::NonFault;
 use picture::WriteFault;
 use ppm_text::PpmFault;
-use std::alloc::AllocError;
+use std::alloc::{AllocError, AllocFailed};
 use std::fmt;
 
 /// Why the program ends without its answer, in the order of its parts.
@@ -92,6 +92,14 @@ impl From<AllocError> for ProgramFault {
     ghost from_gives = { λ _ e. e ≡ Memory };
 
     fn from(_refused: AllocError) -> ProgramFault {
+        ProgramFault::Memory
+    }
+}
+
+impl<T: Drop> From<AllocFailed<T>> for ProgramFault {
+    ghost from_gives = { λ _ e. e ≡ Memory };
+
+    fn from(_refused: AllocFailed<T>) -> ProgramFault {
         ProgramFault::Memory
     }
 }

@@ -1,6 +1,5 @@
 -- How much room texts take.
-use Rattle.std.proofs.Common.{◌≡◌, ℕ, ◌+◌, ◌*◌, ◌^◌, ◌<◌, ◌≤◌, List, length, Option, append_assoc, refl, ap, arith}
-use Rattle.std.specs.Prelude.{decimal}
+use Rattle.std.proofs.Common.{◌≡◌, ℕ, ◌+◌, ◌^◌, ◌<◌, ◌≤◌, List, length, Option, append_assoc, refl, ap, arith, decimal}
 use Rattle.std.proofs.lemmas.Fmt.{length-decimal-le}
 use Rattle.edits.specs.Design.{Design}
 use Rattle.live_audit.specs.declared.verdict.Verdict.{Verdict}

@@ -92,71 +92,12 @@ fn written_answer(outcome: Result<Vec<u8>, Refusal>) -> Answer
     }
 }
 
-fn answer_edit<E: LineEngine + Drop, A: Agenda + Drop>(
-    bench: &mut Bench<E, A>,
-    edit: &Edit,
-) -> Answer
-    ensures { Replies (command.Edit edit.now) bench.old (answer_text result) bench.new }
-{
-    stroke_answer(bench.apply(edit))
-}
-
-fn answer_undo<E: LineEngine + Drop, A: Agenda + Drop>(bench: &mut Bench<E, A>) -> Answer
-    ensures { Replies command.Undo bench.old (answer_text result) bench.new }
-{
-    stroke_answer(bench.undo())
-}
-
-fn answer_redo<E: LineEngine + Drop, A: Agenda + Drop>(bench: &mut Bench<E, A>) -> Answer
-    ensures { Replies command.Redo bench.old (answer_text result) bench.new }
-{
-    stroke_answer(bench.redo())
-}
-
-fn answer_clues<E: LineEngine + Drop, A: Agenda + Drop>(
-    alloc: Global,
-    bench: &Bench<E, A>,
-) -> Answer
-    ensures { Replies command.Clues bench.now (answer_text result) bench.now }
-{
-    text_answer(clues_text(alloc, bench.clues()))
-}
-
-fn answer_map<E: LineEngine + Drop, A: Agenda + Drop>(alloc: Global, bench: &Bench<E, A>) -> Answer
-    ensures { Replies command.Map bench.now (answer_text result) bench.now }
-{
-    text_answer(map_text(alloc, bench.map()))
-}
-
 fn map_text(alloc: Global, map: &Facts) -> Result<Vec<u8>, AllocError>
     ensures { IfOk result (λ text. text.items ≡ map_text map.now) }
 {
     let mut text = Vec::new(alloc);
     push_map(&mut text, map)?;
     Ok(text)
-}
-
-fn answer_ppm<E: LineEngine + Drop, A: Agenda + Drop>(alloc: Global, bench: &Bench<E, A>) -> Answer
-    ensures { Replies command.WritePpm bench.now (answer_text result) bench.now }
-{
-    written_answer(ppm_text_of(alloc, bench.document()))
-}
-
-fn answer_non<E: LineEngine + Drop, A: Agenda + Drop>(alloc: Global, bench: &Bench<E, A>) -> Answer
-    ensures { Replies command.WriteNon bench.now (answer_text result) bench.now }
-{
-    written_answer(non_text_of(alloc, &bench.document().picture))
-}
-
-fn answer_allow<E: LineEngine + Drop, A: Agenda + Drop>(
-    bench: &mut Bench<E, A>,
-    allowance: Option<u32>,
-) -> Answer
-    requires { IfSome allowance (λ splits. splits < 100000) }
-    ensures { Replies (command.Allow allowance) bench.old (answer_text result) bench.new }
-{
-    bench.allow(allowance);
-    Answer::Done
 }
 
 // Why a colour is not in a cell; a cell outside the picture is refused.
@@ -210,15 +151,6 @@ fn push_why(text: &mut Vec<u8>, why: &Why) -> Result<(), AllocError>
         Why::Given => text.extend_from_slice(b"given\n"),
         Why::By(reason) => push_reason(text, reason),
     }
-}
-
-fn answer_verdict<E: LineEngine + Drop, A: Agenda + Drop>(
-    alloc: Global,
-    bench: &mut Bench<E, A>,
-) -> Answer
-    ensures { Replies command.Verdict bench.old (answer_text result) bench.new }
-{
-    text_answer(verdict_text(alloc, bench))
 }
 
 fn verdict_text<E: LineEngine + Drop, A: Agenda + Drop>(
@@ -275,15 +207,6 @@ fn push_undecided(text: &mut Vec<u8>, splits: u32) -> Result<(), AllocError>
     Ok(())
 }
 
-fn answer_report<E: LineEngine + Drop, A: Agenda + Drop>(
-    alloc: Global,
-    bench: &mut Bench<E, A>,
-) -> Answer
-    ensures { Replies command.Report bench.old (answer_text result) bench.new }
-{
-    text_answer(report_text(alloc, bench))
-}
-
 // The report. All its memory is taken before its verdict is asked for, since that may change what is kept.
 fn report_text<E: LineEngine + Drop, A: Agenda + Drop>(
     alloc: Global,
@@ -330,15 +253,6 @@ fn verdict_word(verdict: &Verdict<'_>) -> &'static [u8]
         Verdict::Ambiguous(_) => b"ambiguous",
         Verdict::Undecided { .. } => b"undecided",
     }
-}
-
-fn answer_certify<E: LineEngine + Drop, A: Agenda + Drop>(
-    alloc: Global,
-    bench: &mut Bench<E, A>,
-) -> Answer
-    ensures { Replies command.Certify bench.old (answer_text result) bench.new }
-{
-    written_answer(certificate_text(alloc, bench))
 }
 
 // The certificate's text, or that there is another picture.
@@ -391,18 +305,21 @@ fn answer_command<E: LineEngine + Drop, A: Agenda + Drop>(
     ensures { Replies command bench.old (answer_text result) bench.new }
 {
     match command {
-        Command::Edit(edit) => answer_edit(bench, &edit),
-        Command::Undo => answer_undo(bench),
-        Command::Redo => answer_redo(bench),
-        Command::Clues => answer_clues(alloc, bench),
-        Command::Map => answer_map(alloc, bench),
-        Command::Verdict => answer_verdict(alloc, bench),
+        Command::Edit(edit) => stroke_answer(bench.apply(&edit)),
+        Command::Undo => stroke_answer(bench.undo()),
+        Command::Redo => stroke_answer(bench.redo()),
+        Command::Clues => text_answer(clues_text(alloc, bench.clues())),
+        Command::Map => text_answer(map_text(alloc, bench.map())),
+        Command::Verdict => text_answer(verdict_text(alloc, bench)),
         Command::Why { row, col, colour } => answer_why(alloc, bench, row, col, colour),
-        Command::WritePpm => answer_ppm(alloc, bench),
-        Command::WriteNon => answer_non(alloc, bench),
-        Command::Report => answer_report(alloc, bench),
-        Command::Allow(allowance) => answer_allow(bench, allowance),
-        Command::Certify => answer_certify(alloc, bench),
+        Command::WritePpm => written_answer(ppm_text_of(alloc, bench.document())),
+        Command::WriteNon => written_answer(non_text_of(alloc, &bench.document().picture)),
+        Command::Report => text_answer(report_text(alloc, bench)),
+        Command::Allow(allowance) => {
+            bench.allow(allowance);
+            Answer::Done
+        }
+        Command::Certify => written_answer(certificate_text(alloc, bench)),
     }
 }
 

@@ -1,0 +1,56 @@
+use Rattle.session.proofs.AnswerLemmas.{allowed, replies_allow, replies_certify, replies_clues, replies_edit, replies_map, replies_non, replies_ppm, replies_redo, replies_report, replies_undo, replies_verdict}
+use Rattle.session.proofs.answer.answer_command.Goals as goal
+
+pub allow-requires : goal.allow-requires
+allow-requires g c = allowed c.in-Allow.allowance (rw c.in-Allow.is at c.requires)
+
+pub returns-in-Edit : goal.returns-in-Edit
+returns-in-Edit g c =
+    let e = c.apply.ensures in
+    rw (c.in-Edit.is, c.stroke_answer.ensures) (replies_edit c.in-Edit.edit c.args.bench.now c.apply.new.self c.apply.result e.accepted e.refused e.audited e.calls)
+
+pub returns-in-Undo : goal.returns-in-Undo
+returns-in-Undo g c =
+    let e = c.undo.ensures in
+    rw (c.in-Undo.is, c.stroke_answer-in-Undo.ensures) (replies_undo c.args.bench.now c.undo.new.self c.undo.result e.accepted e.refused e.audited e.calls)
+
+pub returns-in-Redo : goal.returns-in-Redo
+returns-in-Redo g c =
+    let e = c.redo.ensures in
+    rw (c.in-Redo.is, c.stroke_answer-in-Redo.ensures) (replies_redo c.args.bench.now c.redo.new.self c.redo.result e.accepted e.refused e.audited e.calls)
+
+pub returns-in-Clues : goal.returns-in-Clues
+returns-in-Clues g c =
+    let e = c.clues.ensures in
+    rw (c.in-Clues.is, c.text_answer.ensures) (replies_clues c.args.bench.now c.clues.result.now c.clues_text.result e.value e.audited c.clues_text.ensures)
+
+pub returns-in-Map : goal.returns-in-Map
+returns-in-Map g c =
+    let e = c.map.ensures in
+    rw (c.in-Map.is, c.text_answer-in-Map.ensures) (replies_map c.args.bench.now c.map.result.now c.map_text.result e.value e.audited c.map_text.ensures)
+
+pub returns-in-Verdict : goal.returns-in-Verdict
+returns-in-Verdict g c =
+    rw (c.in-Verdict.is, c.text_answer-in-Verdict.ensures) (replies_verdict c.args.bench.now c.verdict_text.new.bench c.verdict_text.result c.verdict_text.ensures)
+
+pub returns-in-WritePpm : goal.returns-in-WritePpm
+returns-in-WritePpm g c =
+    let e = c.ppm_text_of.ensures in
+    rw (c.in-WritePpm.is, c.written_answer.ensures) (replies_ppm c.args.bench.now c.document.result.now c.ppm_text_of.result c.document.ensures.value e.value e.err)
+
+pub returns-in-WriteNon : goal.returns-in-WriteNon
+returns-in-WriteNon g c =
+    rw (c.in-WriteNon.is, c.written_answer-in-WriteNon.ensures) (replies_non c.args.bench.now c.document-in-WriteNon.result.now c.non_text_of.result c.document-in-WriteNon.ensures.value c.non_text_of.ensures)
+
+pub returns-in-Report : goal.returns-in-Report
+returns-in-Report g c =
+    rw (c.in-Report.is, c.text_answer-in-Report.ensures) (replies_report c.args.bench.now c.report_text.new.bench c.report_text.result c.report_text.ensures)
+
+pub returns-in-Allow : goal.returns-in-Allow
+returns-in-Allow g c = rw c.in-Allow.is (replies_allow c.args.bench.now c.allow.new.self c.in-Allow.allowance c.allow.ensures.value)
+
+pub returns-in-Certify : goal.returns-in-Certify
+returns-in-Certify g c =
+    let e = c.certificate_text.ensures in
+    rw (c.in-Certify.is, c.written_answer-in-Certify.ensures)
+    (replies_certify c.args.bench.now c.certificate_text.new.bench c.certificate_text.result e.learns e.judges e.audited e.calls e.text e.err)
