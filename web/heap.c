@@ -14,9 +14,8 @@ struct head {
 
 // The first class that has room: blocks of 32, 64, 128 .. bytes with their heads.
 static size_t class_of(size_t n) {
-    size_t class = 5;
-    while (((size_t)1 << class) < n + sizeof(struct head)) class++;
-    return class;
+    size_t class = 64 - (size_t)__builtin_clzl(n + sizeof(struct head) - 1);
+    return class < 5 ? 5 : class;
 }
 
 // Lets the nth growth from now on be refused, and each after it pass; 0 for none.
