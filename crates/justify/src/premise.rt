@@ -8,6 +8,9 @@ use smallvec::SmallVec;
 use std::alloc::{AllocError, Global};
 use std::marker::Model;
 
+// A line of at most so many cells has a small table.
+const FEW_CELLS: usize = 32;
+
 /// Colours that are excluded in one cell of a line: bit k stands for colour k.
 #[derive(Clone, Copy, Debug, Default, PartialEq, Eq)]
 pub struct Premise {
@@ -47,6 +50,28 @@ impl Premises {
 
     // The premises that say what the masks of a line have.
     pub(crate) fn from_masks(alloc: Global, masks: &[u16]) -> Result<Premises, AllocError>
+        requires { length masks.now ≤ MOST_CELLS }
+        ensures { IfOk result (Gathers masks.now) }
+    {
+        if masks.len() <= FEW_CELLS {
+            Premises::from_few(alloc, masks)
+        } else {
+            Premises::from_many(alloc, masks)
+        }
+    }
+
+    // The same by a small table, since a function empties its table first.
+    fn from_few(alloc: Global, masks: &[u16]) -> Result<Premises, AllocError>
+        requires { length masks.now ≤ FEW_CELLS }
+        ensures { IfOk result (Gathers masks.now) }
+    {
+        let mut found = [Premise { at: 0, colours: 0 }; FEW_CELLS];
+        let count = gather(masks, &mut found);
+        Premises::from_slice(alloc, &found[..count])
+    }
+
+    // The same for any line.
+    fn from_many(alloc: Global, masks: &[u16]) -> Result<Premises, AllocError>
         requires { length masks.now ≤ MOST_CELLS }
         ensures { IfOk result (Gathers masks.now) }
     {
