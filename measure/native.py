@@ -1,9 +1,9 @@
 #!/usr/bin/env python3
 """Measures in instructions beside a native program: measure/native.py NATIVE [FIGURE ..]
 
-NATIVE is a folder with the source `nonoref.cpp`, P3 files in `pictures/` and `hard/`, and sessions in `sessions/`, each named for
-a picture of these as `NUMBER-KIND_PICTURE.txt`. The source is built into a folder that is deleted in the end. It settles and judges
-by the same lines, with words of 64 bits where a picture has at most 63 cells a side. Needed are g++, valgrind, and the programs
+NATIVE is a folder with the sources `nonoref.cpp` and `treecert.cpp`, P3 files in `pictures/` and `hard/`, and sessions in
+`sessions/`, each named for a picture of these as `NUMBER-KIND_PICTURE.txt`. The sources are built into a folder that is deleted in
+the end. They settle, judge and write trees by the same lines, with words of 64 bits where a picture has at most 63 cells a side. Needed are g++, valgrind, and the programs
 `nonobench`, `tables` and `search_tables` that bash .ci/run leaves. A FIGURE is one of these; without any all are measured:
 
 settle    forcing lines until nothing follows: `settle` of `search_tables`, beside the evaluations of `nonoref map`
@@ -11,6 +11,7 @@ line      an evaluation and leaving out by `tables`, in instructions; lines that
 strokes   sessions with `map` after each edit in place of what they ask, opening and start taken off
 verdict   a session of one `verdict`, start taken off; then beside the search in the fixed order
 judge     a verdict of at most 10,000 splits on `hard/`, beside the search in the fixed order, start taken off
+certify   a session of one `certify` on `hard/`, beside treecert, starts taken off
 
 A start is what a picture of one cell takes. It prints a row for each picture or session, and the median and the largest of each
 figure. A picture for which the native program takes over SECONDS is left out.
@@ -33,7 +34,7 @@ SEARCHES = ROOT / 'crates/search_tables/out/search_tables'
 SECONDS = 60
 ALLOWED = 'allow 10000\nverdict\n'
 CELL = 'P3\n1 1\n255\n0 0 0\n'
-FIGURES = ('settle', 'line', 'strokes', 'verdict', 'judge')
+FIGURES = ('settle', 'line', 'strokes', 'verdict', 'judge', 'certify')
 
 
 def collected(words, said='', within=None):
@@ -160,6 +161,25 @@ def judge(native, folder, start):
     table.end()
 
 
+def certify(native, folder, start):
+    table = Table('certify', 'picture', 'nonobench', 'treecert', 'times')
+    writer = native.with_name('treecert')
+    build(folder / 'treecert.cpp', writer)
+    begun = collected([writer, native.with_name('cell.ppm')])[0]
+    for picture in sorted((folder / 'hard').glob('*.ppm')):
+        if not ends([OURS, 'work', picture], 'certify\n') or not ends([writer, picture]):
+            table.row(picture.stem, None, None)
+            continue
+        ours, _ = collected([OURS, 'work', picture], 'certify\n')
+        theirs, _ = collected([writer, picture])
+        table.row(picture.stem, less(ours, start[0]), less(theirs, begun))
+    table.end()
+
+
+def build(source, program):
+    subprocess.run(['g++', '-std=c++17', '-O3', '-march=x86-64-v3', '-static', '-w', '-o', program, source], check=True)
+
+
 def main():
     words = sys.argv[1:]
     if not words or any(word not in FIGURES for word in words[1:]):
@@ -171,7 +191,7 @@ def main():
     with tempfile.TemporaryDirectory() as work:
         native, cell = Path(work) / 'nonoref', Path(work) / 'cell.ppm'
         cell.write_text(CELL)
-        subprocess.run(['g++', '-std=c++17', '-O3', '-march=x86-64-v3', '-static', '-w', '-o', native, folder / 'nonoref.cpp'], check=True)
+        build(folder / 'nonoref.cpp', native)
         start = [collected([program, 'work', cell])[0] for program in (OURS, native)]
         print(f'start: {start[0]} and {start[1]} instructions')
         for figure in words[1:] or FIGURES:
