@@ -14,10 +14,10 @@ size_t nonobench_version(byte *, size_t);
 // The attribute export_name would make a table of functions, which wasm-opt does not lower.
 #define CALL(name) __asm__(".export_name " #name "_within, nonobench_" #name);
 
-// Whether so many bytes from here on lie within the memory.
+// Whether so many bytes from here on lie within the memory, and there is no null beside a length: the proved calls read no null.
 static _Bool is_within(const void *at, size_t size) {
     size_t all = __builtin_wasm_memory_size(0) << 16;
-    return size <= all && (size_t)at <= all - size;
+    return size <= all && (size_t)at <= all - size && (at || !size);
 }
 
 // Refuses a call as one with other options. No bench has the handle 0, so closing it does nothing but drop the last call's text.

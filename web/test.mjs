@@ -208,6 +208,55 @@ test('lengths past the memory are refused by each plain call, there is no text, 
   assert.equal(engine.open(DIAGONAL).say('verdict\n'), 'ambiguous\n.a\na.\n');
 });
 
+test('bytes up to the last of the memory are taken by each plain call, and the handle of a refused one is 0', async () => {
+  const { calls } = await watched();
+  const cell = calls.malloc(16n), file = calls.malloc(64n), size = BigInt(DIAGONAL.length), end = () => calls.memory.buffer.byteLength;
+  const put = (text, at) => new Uint8Array(calls.memory.buffer, at, text.length).set(new TextEncoder().encode(text));
+  const last = (text) => (put(text, end() - text.length), [BigInt(end() - text.length), BigInt(text.length)]);
+  const handle = (at) => new DataView(calls.memory.buffer).getUint32(Number(at), true);
+  const open = (...words) => calls.nonobench_open(cell, ...words);
+  assert.equal(calls.nonobench_start(cell), 0);
+  put(DIAGONAL, Number(file));
+  assert.equal(open(...last(DIAGONAL), 0, file, 0n, 1, cell + 8n), 0);
+  assert.equal(open(file, size, 0, ...last('0,0,0'), 1, cell + 8n), 0);
+  const behind = BigInt(end() - 4);
+  assert.equal(open(file, size, 0, file, 0n, 1, behind), 0);
+  assert.deepEqual([handle(cell + 8n), handle(behind)], [2, 3]);
+  assert.equal(open(BigInt(end()), 1n, 0, file, 0n, 1, cell + 8n), 6);
+  assert.equal(handle(cell + 8n), 0);
+  assert.equal(open(file, size, 0, BigInt(end()), 0n, 1, cell + 8n), 0);
+  assert.equal(calls.nonobench_check(cell, ...last(DIAGONAL), file, size, file, 0n), 1);
+  assert.equal(calls.nonobench_check(cell, file, size, ...last('nonocert 2\n'), file, 0n), 1);
+  assert.equal(calls.nonobench_check(cell, file, size, file, size, ...last('0,0,0')), 1);
+  assert.equal(calls.nonobench_say(cell, 1, ...last('verdict\n')), 0);
+  assert.equal(calls.nonobench_take(cell, BigInt(end() - 3), 3n), 16n);
+  assert.equal(new TextDecoder().decode(new Uint8Array(calls.memory.buffer, end() - 3, 3)), 'amb');
+  assert.equal(calls.nonobench_version(BigInt(end() - 3), 3n), 5n);
+  assert.equal(new TextDecoder().decode(new Uint8Array(calls.memory.buffer, end() - 3, 3)), '0.1');
+});
+
+test('a null beside a length is refused by each plain call, and nothing is read or written there', async () => {
+  const { calls } = await watched();
+  const cell = calls.malloc(16n), file = calls.malloc(64n), size = BigInt(DIAGONAL.length);
+  new Uint8Array(calls.memory.buffer, Number(file), 64).set(new TextEncoder().encode(DIAGONAL));
+  assert.equal(calls.nonobench_start(0n), 6);
+  assert.equal(calls.nonobench_start(cell), 0);
+  const open = (at, length, word, handle) => calls.nonobench_open(cell, at, length, 0, ...word, 1, handle);
+  assert.equal(open(0n, 1n, [0n, 0n], cell + 8n), 6);
+  assert.equal(open(file, size, [0n, 1n], cell + 8n), 6);
+  assert.equal(open(file, size, [0n, 0n], 0n), 6);
+  assert.equal(open(file, size, [0n, 0n], cell + 8n), 0);
+  assert.equal(calls.nonobench_say(cell, 1, 0n, 1n), 6);
+  assert.equal(calls.nonobench_check(cell, 0n, 1n, file, size, 0n, 0n), 6);
+  assert.equal(calls.nonobench_check(cell, file, size, 0n, 1n, 0n, 0n), 6);
+  assert.equal(calls.nonobench_check(cell, file, size, file, size, 0n, 1n), 6);
+  assert.equal(calls.nonobench_check(cell, file, size, file, size, 0n, 0n), 1);
+  const low = () => new Uint8Array(calls.memory.buffer, 0, 8192).slice(), before = low();
+  assert.equal(calls.nonobench_take(cell, 0n, 64n), 29n);
+  assert.equal(calls.nonobench_version(0n, 64n), 5n);
+  assert.deepEqual(low(), before);
+});
+
 test('at the bound of memory a call is refused, and answers again when there is room', async () => {
   const { engine, calls } = await watched();
   const bench = engine.open(text('examples', 'heart.ppm'));

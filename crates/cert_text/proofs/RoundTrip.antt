@@ -15,7 +15,8 @@ use Rattle.cert_text.specs.declared.tree_line.CertLine.{CertLine}
 use Rattle.cert_text.specs.declared.tree_line.CertLine.TheVariants.{Line, Split, Dead, Done}
 use Rattle.cert_text.specs.Cert.{Certificate, certificate, AreOrdered, AreWritable, IsCert, IsShort, IsWritable, rank}
 use Rattle.cert_text.specs.Text.{below_givens, cell_named, cert_line, cert_of_lines, digit_of, given_line, given_lines, given_of_three, leading_digit, line_named, line_number, line_with, cell_number, cell_with, line_of_three, lines_of, number_of, or_bad, take_given, three_of, tree_lines, with_digit, with_given_before, words_of}
-use Rattle.cert_text.specs.Writing.{IsReadAgain, cell_text, given_text, givens_text, line_text, lines_text, named_text, number_text}
+use Rattle.picture.specs.Writing.{number_text}
+use Rattle.cert_text.specs.Writing.{IsReadAgain, cell_text, given_text, givens_text, line_text, lines_text, named_text}
 use Rattle.cert_text.proofs.WordLemmas.{lines_more, lines_none}
 
 -- ---- pieces

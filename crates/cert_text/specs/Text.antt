@@ -165,11 +165,6 @@ cert_of text = cert_of_lines (lines_of text)
 
 -- ---- what functions that cut a text answer
 
--- the pieces between separators of what stands behind one, if there is one
-abbrev pub pieces_behind : ℕ → Option (Bor (List ℕ)) → List (List ℕ)
-pieces_behind separator None = []
-pieces_behind separator (Some rest) = slice_split (λ b. b == separator) rest.now
-
 -- the first line of a text, and a shorter text with the others
 abbrev pub IsFirstLine : List ℕ → Option (Bor (List ℕ) × Bor (List ℕ)) → Type 0
 IsFirstLine text None = lines_of text ≡ []

@@ -1,18 +1,15 @@
 -- The text that is written for a certificate.
-use Rattle.std.specs.Prelude.{◌≡◌, ℕ, List, [], ◌∷◌, ◌++◌, codes, decimal, ◌==◌, if◌then◌else◌, Ok}
+use Rattle.std.specs.Prelude.{◌≡◌, ℕ, List, ◌++◌, codes, ◌==◌, if◌then◌else◌, Ok}
 use Rattle.std.specs.List.{flat_map}
 use Rattle.picture.specs.declared.line_id.Axis.{Axis}
 use Rattle.picture.specs.declared.line_id.Axis.TheVariants.{Across, Down}
+use Rattle.picture.specs.Writing.{number_text}
 use Rattle.cert_text.specs.declared.tree_line.LineNumber.{LineNumber}
 use Rattle.cert_text.specs.declared.tree_line.CellNumber.{CellNumber}
 use Rattle.cert_text.specs.declared.tree_line.CertLine.{CertLine}
 use Rattle.cert_text.specs.declared.tree_line.CertLine.TheVariants.{Line, Split, Dead, Done}
 use Rattle.cert_text.specs.Cert.{Certificate}
 use Rattle.cert_text.specs.Text.{cert_of}
-
--- a number, and the byte that closes it
-abbrev pub number_text : ℕ → ℕ → List ℕ
-number_text n close = decimal n ++ close ∷ []
 
 -- the letter of an axis, and a space
 abbrev pub axis_text : Axis → List ℕ

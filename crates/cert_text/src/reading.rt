@@ -3,7 +3,7 @@
 ghost use Rattle.std.specs.Prelude.{◌≡◌, ◌+◌, ◌^◌, ◌<◌, ◌≤◌, length, IfOk, IfSome};
 ghost use Rattle.picture.specs.Reading.{Gives};
 ghost use Rattle.cert_text.specs.Cert.{AreOrdered, AreWritable, IsShort, IsWritable, rank};
-ghost use Rattle.cert_text.specs.Text.{axis_of, cell_named, cert_line, cert_of, given_line, given_lines, givens_seen, line_named, lines_of, second_of_lines, tree_lines};
+ghost use Rattle.cert_text.specs.Text.{axis_of, cell_named, cert_line, cert_of, given_line, given_lines, givens_seen, line_named, lines_of, tree_lines};
 
 use crate::cert::Cert;
 use crate::fault::CertFault;
@@ -56,15 +56,14 @@ fn line_in(line: &[u8]) -> Option<CertLine>
     }
     let (word, first, second) = three_words(line)?;
     if is_word(word, b"line") {
-        return Some(CertLine::Line(line_named(first, second)?));
+        line_named(first, second).map(CertLine::Line)
+    } else if is_word(word, b"dead") {
+        line_named(first, second).map(CertLine::Dead)
+    } else if is_word(word, b"split") {
+        cell_named(first, second).map(CertLine::Split)
+    } else {
+        None
     }
-    if is_word(word, b"dead") {
-        return Some(CertLine::Dead(line_named(first, second)?));
-    }
-    if is_word(word, b"split") {
-        return Some(CertLine::Split(cell_named(first, second)?));
-    }
-    None
 }
 
 #[tactic(auto, unfolding(crate::specs::Text::given_line))]
@@ -74,23 +73,14 @@ fn given_in(line: &[u8]) -> Option<CellNumber>
     ensures short { IfSome result (λ cell. IsShort cell.row × IsShort cell.col) }
 {
     let (word, first, second) = three_words(line)?;
-    if is_word(word, b"given") {
-        cell_named(first, second)
-    } else {
-        None
+    if !is_word(word, b"given") {
+        return None;
     }
+    cell_named(first, second)
 }
 
 // The number of the line below the first.
 const SECOND_LINE: usize = 2;
-
-// The place of a cell in the order of rows.
-fn rank(cell: CellNumber) -> u32
-    ensures value { result ≡ rank cell }
-    ensures small { result < 2 ^ 27 }
-{
-    u32::from(cell.row) * 1000 + u32::from(cell.col)
-}
 
 #[tactic(auto, using(crate::proofs::ReadLemmas::given_reading))]
 // The givens that a text begins with, and the text below them.
@@ -109,12 +99,12 @@ fn read_givens(alloc: Global, text: &[u8]) -> Result<(Vec<CellNumber>, &[u8]), C
         let Some(cell) = given_in(line) else {
             return Ok((givens, rest));
         };
-        let place = rank(cell);
-        if place < least {
+        let rank = u32::from(cell.row) * 1000 + u32::from(cell.col);
+        if rank < least {
             return Err(CertFault::BadLine(number));
         }
-        givens.push(cell).map_err(|_| CertFault::Memory)?;
-        least = place + 1;
+        givens.push(cell)?;
+        least = rank + 1;
         number += 1;
         rest = behind;
     }
@@ -136,21 +126,11 @@ fn read_lines(alloc: Global, text: &[u8], first: usize) -> Result<Vec<CertLine>,
         let Some(read) = line_in(line) else {
             return Err(CertFault::BadLine(number));
         };
-        lines.push(read).map_err(|_| CertFault::Memory)?;
+        lines.push(read)?;
         number += 1;
         rest = behind;
     }
     Ok(lines)
-}
-
-// A certificate of version 2 below its first line.
-fn read_second(alloc: Global, text: &[u8]) -> Result<Cert, CertFault>
-    requires { SECOND_LINE + length text.now < 2 ^ 64 }
-    ensures { Gives CertFault.Memory (λ cert. cert) result (second_of_lines (lines_of text.now)) }
-{
-    let (givens, rest) = read_givens(alloc, text)?;
-    let lines = read_lines(alloc, rest, SECOND_LINE + givens.len())?;
-    Ok(Cert::new(2, givens, lines))
 }
 
 /// Reads a certificate.
@@ -163,15 +143,15 @@ fn read_second(alloc: Global, text: &[u8]) -> Result<Cert, CertFault>
 pub fn read_cert(alloc: Global, bytes: &[u8]) -> Result<Cert, CertFault>
     ensures { Gives CertFault.Memory (λ cert. cert) result (cert_of bytes.now) }
 {
-    let Some((first, rest)) = first_line(bytes) else {
-        return Err(CertFault::NotCert(1));
-    };
+    let (first, rest) = first_line(bytes).ok_or(CertFault::NotCert(1))?;
     if is_word(first, b"nonocert 1") {
         let lines = read_lines(alloc, rest, SECOND_LINE)?;
-        return Ok(Cert::new(1, Vec::new(alloc), lines));
+        Ok(Cert::new(1, Vec::new(alloc), lines))
+    } else if is_word(first, b"nonocert 2") {
+        let (givens, rest) = read_givens(alloc, rest)?;
+        let lines = read_lines(alloc, rest, SECOND_LINE + givens.len())?;
+        Ok(Cert::new(2, givens, lines))
+    } else {
+        Err(CertFault::NotCert(1))
     }
-    if is_word(first, b"nonocert 2") {
-        return read_second(alloc, rest);
-    }
-    Err(CertFault::NotCert(1))
 }

@@ -1,29 +1,9 @@
 //! The lines, words and numbers of a text. Nothing is copied.
 
-ghost use Rattle.std.specs.Prelude.{◌≡◌, ◌*◌, ◌+◌, ◌-◌, ◌<◌, ◌==◌, ◌∷◌, length, IfSome, IfNone, Some, option_map, position};
-ghost use Rattle.std.specs.List.{slice_split};
-ghost use Rattle.cert_text.specs.Text.{IsCut, IsFirstLine, digit_of, is_word, leading_digit, number_of, pieces_behind, three_of, three_seen, with_digit, words_of};
+ghost use Rattle.std.specs.Prelude.{◌≡◌, ◌*◌, ◌+◌, ◌<◌, IfSome, Some, option_map};
+ghost use Rattle.cert_text.specs.Text.{IsCut, IsFirstLine, digit_of, is_word, leading_digit, number_of, three_of, three_seen, with_digit, words_of};
 
-// The place of the first separator.
-fn place_of(bytes: &[u8], separator: u8) -> Option<usize>
-    ensures { result ≡ position (λ b. b == separator) bytes.now }
-{
-    bytes.iter().position(|b| *b == separator)
-}
-
-#[tactic(auto, using(crate::proofs::WordLemmas::splitting))]
-// The bytes up to the first separator, and what stands behind it, where there is one.
-fn split_first(bytes: &[u8], separator: u8) -> (&[u8], Option<&[u8]>)
-    ensures pieces { slice_split (λ b. b == separator) bytes.now
-        ≡ result.0.now ∷ pieces_behind separator result.1 }
-    ensures shorter { IfSome result.1 (λ rest. length rest.now < length bytes.now) }
-    ensures all { IfNone result.1 (result.0.now ≡ bytes.now) }
-{
-    match place_of(bytes, separator) {
-        Some(end) => (&bytes[..end], Some(&bytes[end + 1..])),
-        None => (bytes, None),
-    }
-}
+use picture::split_first;
 
 #[tactic(auto, using(crate::proofs::WordLemmas::first_lines))]
 // The first line, and the text behind it.
@@ -49,10 +29,8 @@ pub(crate) fn is_word(bytes: &[u8], word: &[u8]) -> bool
 fn cut_word(bytes: &[u8]) -> Option<(&[u8], &[u8])>
     ensures { IsCut bytes.now result }
 {
-    match split_first(bytes, b' ') {
-        (word, Some(behind)) => Some((word, behind)),
-        (_, None) => None,
-    }
+    let (word, behind) = split_first(bytes, b' ');
+    Some((word, behind?))
 }
 
 // The words of a line that has three.
@@ -72,10 +50,9 @@ fn digit_in(byte: u8) -> Option<u16>
     ensures value { result ≡ digit_of byte }
     ensures small { IfSome result (λ d. d < 10) }
 {
-    if byte.is_ascii_digit() {
-        Some(u16::from(byte - b'0'))
-    } else {
-        None
+    match byte {
+        b'0'..=b'9' => Some(u16::from(byte - b'0')),
+        _ => None,
     }
 }
 
@@ -93,8 +70,7 @@ fn with_digit(number: u16, byte: u8) -> Option<u16>
     ensures value { result ≡ with_digit (Some number) byte }
     ensures small { IfSome result (λ n. n < number * 10 + 10) }
 {
-    let digit = digit_in(byte)?;
-    Some(number * 10 + digit)
+    Some(number * 10 + digit_in(byte)?)
 }
 
 // A number of one to three digits, without leading zeros.

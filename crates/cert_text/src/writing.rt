@@ -3,26 +3,12 @@
 ghost use Rattle.std.specs.Prelude.{◌≡◌, OnOk, OnErr};
 ghost use Rattle.std.specs.Io.KnownBytes.{Appends};
 ghost use Rattle.picture.specs.Writing.{AppendsFront};
-ghost use Rattle.cert_text.specs.Writing.{IsReadAgain, axis_text, cell_text, cert_text, givens_text, line_text, lines_text, named_text, number_text, version_text};
+ghost use Rattle.cert_text.specs.Writing.{axis_text, cell_text, cert_text, givens_text, line_text, lines_text, named_text, version_text};
 
 use crate::cert::Cert;
 use crate::tree_line::{CellNumber, CertLine, LineNumber};
-use itoa::Buffer;
-use picture::{Axis, WriteFault, send};
+use picture::{Axis, WriteFault, send, send_number};
 use std::io::Write;
-
-#[tactic(auto, using(crate::proofs::Sending::sending))]
-// Writes a number and the byte that closes it.
-fn send_number<W: Write>(number: u16, close: u8, writer: &mut W) -> Result<(), WriteFault>
-    ensures ok { OnOk result
-        (Appends (W.contents writer.old) (W.contents writer.new) (number_text number close)) }
-    ensures err { OnErr result
-        (AppendsFront (W.contents writer.old) (W.contents writer.new) (number_text number close)) }
-{
-    let mut buffer = Buffer::new();
-    send(buffer.format(number).as_bytes(), writer)?;
-    send(&[close], writer)
-}
 
 // The letter of an axis, and a space.
 fn axis_word(axis: Axis) -> &'static [u8]
@@ -34,7 +20,7 @@ fn axis_word(axis: Axis) -> &'static [u8]
     }
 }
 
-#[tactic(auto, using(crate::proofs::Sending::sending))]
+#[tactic(auto, using(picture::specs::SendingLaws::sending))]
 // Writes a line that names a line.
 fn send_named<W: Write>(word: &[u8], line: LineNumber, writer: &mut W) -> Result<(), WriteFault>
     ensures ok { OnOk result
@@ -47,7 +33,7 @@ fn send_named<W: Write>(word: &[u8], line: LineNumber, writer: &mut W) -> Result
     send_number(line.number, b'\n', writer)
 }
 
-#[tactic(auto, using(crate::proofs::Sending::sending))]
+#[tactic(auto, using(picture::specs::SendingLaws::sending))]
 // Writes a line that names a cell.
 fn send_cell<W: Write>(word: &[u8], cell: CellNumber, writer: &mut W) -> Result<(), WriteFault>
     ensures ok { OnOk result
@@ -114,7 +100,7 @@ fn version_word(version: u8) -> &'static [u8]
     }
 }
 
-#[tactic(auto, using(crate::proofs::Sending::sending))]
+#[tactic(auto, using(picture::specs::SendingLaws::sending))]
 /// Writes a certificate as a text, each line with a line feed: the version, the givens and the lines. `read_cert` reads it as
 /// the same certificate. Nothing is kept in memory, and after a fault a front of the text is written.
 pub fn write_cert<W: Write>(cert: &Cert, writer: &mut W) -> Result<(), WriteFault>

@@ -11,7 +11,6 @@ ghost use Rattle.clues.specs.Change.{image_of, lines_after, lines_before, moved_
 ghost use Rattle.picture.specs.Crossing.{crossing};
 ghost use Rattle.clues.specs.Change.{places_along, still};
 
-use crate::clue_book::line_count;
 use crate::places::Places;
 use picture::{Axis, LineId, LineSet, LineView, MAX_SIDE, Picture};
 use std::marker::Model;
@@ -49,13 +48,7 @@ impl Change {
             → HasSize height width new
             → FollowsCells result.moves old new }
     {
-        Change {
-            height,
-            width,
-            rows: Places::Kept,
-            columns: Places::Kept,
-            marked: LineSet::empty(),
-        }
+        Change::along(Axis::Across, Places::Kept, height, width)
     }
 
     /// The change where a background line is inserted in a picture of 1 to 120 rows and columns. It touches the new
@@ -169,7 +162,7 @@ impl Change {
         ensures touched { (line : LineId) → IsTouched self.new line
             ↔ (IsTouched self.old line ⊎ ((line.axis ≡ axis) × IsChanged self.old.moves old.now new.now line)) }
     {
-        for at in 0..line_count(new, axis) {
+        for at in 0..new.line_count(axis) {
             self.touch_if_changed(old, new, LineId { axis, at });
         }
     }
@@ -200,10 +193,7 @@ impl Change {
         ensures moves { AreMoves self.now.moves }
     {
         let at = self.places(line.axis).new_place(line.at)?;
-        Some(LineId {
-            axis: line.axis,
-            at,
-        })
+        Some(LineId { at, ..line })
     }
 
     /// Which line of the old picture a line of the new one is, if it was there.
@@ -216,10 +206,7 @@ impl Change {
             ((from : LineId) → image_of self.now.moves from ≡ Some line → ⊥) }
     {
         let at = self.places(line.axis).old_place(line.at)?;
-        Some(LineId {
-            axis: line.axis,
-            at,
-        })
+        Some(LineId { at, ..line })
     }
 
     /// Whether a position along the lines of an axis stays: the line that crosses there is its own image.

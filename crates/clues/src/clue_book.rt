@@ -2,7 +2,7 @@
 
 ghost use Rattle.std.specs.Prelude.{◌≡◌, ℕ, ◌↔◌, ◌<◌, ◌≤◌, List, length, IfOk, IsTrue};
 ghost use Rattle.picture.specs.declared.line_id.Axis.{Axis};
-ghost use Rattle.picture.specs.Rows.{line_of, lines_along, HasLine};
+ghost use Rattle.picture.specs.Rows.{lines_along, HasLine};
 ghost use Rattle.clues.specs.Clue.{clue_of};
 ghost use Rattle.clues.specs.Change.{CanRefresh, CountsClues, EachAlong, Follows, IsNewClue, IsOldClue, KeepsClues};
 ghost use Rattle.clues.specs.ClueBook.{clue_at, clues_along, clues_from, clues_of, first_clues, HasClue, IsBook};
@@ -103,7 +103,7 @@ impl ClueBook {
         ensures counted { IfOk result
             (λ clues. EachAlong axis clues.items (IsNewClue change.now picture.now)) }
     {
-        let count = line_count(picture, axis);
+        let count = picture.line_count(axis);
         let mut clues = Vec::with_capacity(*self.rows.allocator(), usize::from(count))?;
         for at in 0..count {
             clues.push(self.refreshed_clue(picture, change, LineId { axis, at })?)?;
@@ -145,6 +145,17 @@ impl ClueBook {
         self.columns.len() as u8
     }
 
+    /// How many lines there are along an axis, from 1 to 120.
+    pub fn line_count(&self, axis: Axis) -> u8
+        ensures value { result ≡ length (clues_along axis self.now) }
+        ensures book { IsBook self.now }
+    {
+        match axis {
+            Axis::Across => self.height(),
+            Axis::Down => self.width(),
+        }
+    }
+
     /// The clue of a line.
     pub fn clue(&self, line: LineId) -> &Clue
         requires { HasClue self.now line }
@@ -167,23 +178,12 @@ fn clues_along(alloc: Global, picture: &Picture, axis: Axis) -> Result<Vec<Clue>
     ensures fits { IfOk result
         (λ clues. (0 < length clues.items) × (length clues.items ≤ MAX_SIDE)) }
 {
-    let count = line_count(picture, axis);
+    let count = picture.line_count(axis);
     let mut clues = Vec::with_capacity(alloc, usize::from(count))?;
     for at in 0..count {
         clues.push(clue_of(alloc, picture.line(LineId { axis, at }))?)?;
     }
     Ok(clues)
-}
-
-// How many lines a picture has along an axis.
-pub(crate) fn line_count(picture: &Picture, axis: Axis) -> u8
-    ensures count { result ≡ lines_along axis picture.now }
-    ensures fits { (0 < result) × (result ≤ MAX_SIDE) }
-{
-    match axis {
-        Axis::Across => picture.height(),
-        Axis::Down => picture.width(),
-    }
 }
 
 // Each clue once more, in memory of its own.
@@ -203,7 +203,7 @@ fn are_clues(clues: &[Clue], picture: &Picture, axis: Axis) -> bool
     ensures { IsTrue result ↔ (first_clues axis picture.now (lines_along axis picture.now)
         ≡ clues.now) }
 {
-    let count = line_count(picture, axis);
+    let count = picture.line_count(axis);
     if clues.len() != usize::from(count) {
         return false;
     }

@@ -14,7 +14,7 @@ use Rattle.non_text.specs.declared.fault.NonFault.{NonFault}
 use Rattle.non_text.specs.declared.fault.NonFault.TheVariants.{BadClue, ClueTooLong}
 use Rattle.non_text.specs.Bytes.{trimmed, number_of}
 use Rattle.non_text.specs.Lines.{is_blank_line}
-use Rattle.non_text.specs.Cut.{pieces_behind}
+use Rattle.picture.specs.Reading.{pieces_behind}
 use Rattle.non_text.specs.Capped.{all_capped}
 use Rattle.non_text.specs.ClueLine.{numbers_in, cells_needed, black, is_lone_zero, has_zero, clue_from, clue_in}
 

@@ -1,13 +1,7 @@
 -- What functions that cut a text answer, by what they borrow from it.
-use Rattle.std.specs.Prelude.{◌≡◌, ◌<◌, ℕ, List, [], ◌∷◌, length, Option, None, Some, ◌==◌}
+use Rattle.std.specs.Prelude.{◌≡◌, ◌<◌, ℕ, List, [], ◌∷◌, length, Option, None, Some}
 use Rattle.std.specs.Borrow.{Bor}
-use Rattle.std.specs.List.{slice_split}
 use Rattle.non_text.specs.Lines.{lines_of, section_of}
-
--- the pieces between separators of what stands behind one, if there is one
-abbrev pub pieces_behind : ℕ → Option (Bor (List ℕ)) → List (List ℕ)
-pieces_behind separator None = []
-pieces_behind separator (Some rest) = slice_split (λ b. b == separator) rest.now
 
 -- the first of the lines that `lines` finds in the text, and a shorter text with the others
 abbrev pub IsFirstOf : (List ℕ → List (List ℕ)) → List ℕ → Option (Bor (List ℕ) × Bor (List ℕ)) → Type 0

@@ -1,15 +1,16 @@
 //! A clue as a line of numbers.
 
-ghost use Rattle.std.specs.Prelude.{◌≡◌, ◌≢◌, ◌+◌, ◌-◌, ◌*◌, ◌<◌, ◌≤◌, ◌==◌, length, map, min, option_map, IfOk, nat_le};
+ghost use Rattle.std.specs.Prelude.{◌≡◌, ◌+◌, ◌-◌, ◌*◌, ◌<◌, ◌≤◌, ◌==◌, length, map, min, option_map, IfOk, nat_le};
 ghost use Rattle.std.specs.List.{slice_split};
 ghost use Rattle.picture.specs.Reading.{Gives};
 ghost use Rattle.non_text.specs.Bytes.{number_of};
-ghost use Rattle.non_text.specs.ClueLine.{numbers_in, cells_needed, black, is_lone_zero, has_zero, clue_from, clue_in};
+ghost use Rattle.non_text.specs.ClueLine.{numbers_in, cells_needed, black, clue_from, clue_in};
 ghost use Rattle.non_text.specs.Capped.{all_capped};
 
-use crate::fault::NonFault;
-use crate::lines::{is_blank_line, split_first, trim};
+use crate::fault::{NonFault, Read};
+use crate::lines::{is_blank_line, trim};
 use clues::{Block, Clue};
+use picture::split_first;
 use smallvec::SmallVec;
 use std::alloc::{AllocError, Global};
 
@@ -42,7 +43,7 @@ fn with_digit(value: u8, digit: u8) -> u8
 
 #[tactic(auto, using(crate::proofs::ClueLineLemmas::places))]
 // The numbers between the commas of a line.
-fn numbers(alloc: Global, line: &[u8]) -> Result<SmallVec<u8, 8>, NonFault>
+fn numbers(alloc: Global, line: &[u8]) -> Read<SmallVec<u8, 8>>
     ensures { Gives NonFault.Memory (λ v. v.items) result
         (all_capped (numbers_in (slice_split (λ b. b == 44) line.now))) }
 {
@@ -80,36 +81,19 @@ fn blocks(alloc: Global, lens: &[u8]) -> Result<Vec<Block>, AllocError>
     ensures { IfOk result (λ v. v.items ≡ map black lens.now) }
 {
     lens.iter()
-        .map(|len| Block {
-            len: *len,
-            colour: 1,
-        })
+        .map(|&len| Block { len, colour: 1 })
         .collect(alloc)
-}
-
-// Whether the only number is 0.
-fn is_lone_zero(numbers: &[u8]) -> bool
-    ensures { result ≡ is_lone_zero numbers.now }
-{
-    matches!(numbers, [0])
-}
-
-// Whether a number is 0.
-fn has_zero(numbers: &[u8]) -> bool
-    ensures { result ≡ has_zero numbers.now }
-{
-    numbers.iter().any(|n| *n == 0)
 }
 
 #[tactic(auto, using(crate::proofs::ClueLineLemmas::black_clue), unfolding(crate::specs::ClueLine::clue_from))]
 // The clue that the numbers of a line stand for.
-fn clue_from(alloc: Global, numbers: &[u8], cells: u8) -> Result<Clue, NonFault>
+fn clue_from(alloc: Global, numbers: &[u8], cells: u8) -> Read<Clue>
     ensures { Gives NonFault.Memory (λ clue. clue) result (clue_from cells numbers.now) }
 {
-    if is_lone_zero(numbers) {
+    if matches!(numbers, [0]) {
         return Ok(Clue::from_blocks(alloc, &[])?);
     }
-    if has_zero(numbers) {
+    if numbers.contains(&0) {
         return Err(NonFault::BadClue);
     }
     if !have_room(numbers, cells) {
@@ -121,7 +105,7 @@ fn clue_from(alloc: Global, numbers: &[u8], cells: u8) -> Result<Clue, NonFault>
 
 #[tactic(auto, using(crate::proofs::ClueLineLemmas::clue_lines))]
 // The clue that a line of text gives to a line of so many cells.
-pub(crate) fn clue_in(alloc: Global, line: &[u8], cells: u8) -> Result<Clue, NonFault>
+pub(crate) fn clue_in(alloc: Global, line: &[u8], cells: u8) -> Read<Clue>
     requires { cells < 255 }
     ensures { Gives NonFault.Memory (λ clue. clue) result (clue_in cells line.now) }
 {

@@ -5,11 +5,11 @@ ghost use Rattle.non_text.specs.Counting.{with_line, count_of};
 ghost use Rattle.non_text.specs.Cut.{section_lines};
 ghost use Rattle.non_text.specs.Section.{leaves_blanks};
 
-use crate::fault::NonFault;
+use crate::fault::{NonFault, Read};
 use crate::lines::{is_blank_line, next_in_section};
 
 // How many lines there are, how many of them are not blank, and whether one of those stands behind the first n.
-#[derive(Clone, Copy)]
+#[derive(Clone, Copy, Default)]
 struct Count {
     lines: usize,
     full: usize,
@@ -18,7 +18,7 @@ struct Count {
 
 #[tactic(auto, using(crate::proofs::SectionLemmas::counting))]
 // Whether the blank lines of a section for n lines are left out.
-pub(crate) fn leaves_blanks(text: &[u8], n: u8) -> Result<bool, NonFault>
+pub(crate) fn leaves_blanks(text: &[u8], n: u8) -> Read<bool>
     ensures { result ≡ leaves_blanks n (section_lines text.now) }
 {
     let count = count_lines(text, usize::from(n));
@@ -36,11 +36,7 @@ pub(crate) fn leaves_blanks(text: &[u8], n: u8) -> Result<bool, NonFault>
 fn count_lines(text: &[u8], n: usize) -> Count
     ensures { result ≡ count_of n (section_lines text.now) }
 {
-    let mut count = Count {
-        lines: 0,
-        full: 0,
-        late: false,
-    };
+    let mut count = Count::default();
     let mut rest = text;
     while let Some((line, behind)) = next_in_section(rest) {
         count = with_line(count, line, n);

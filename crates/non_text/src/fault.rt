@@ -41,6 +41,9 @@ pub enum NonFault {
     Memory,
 }
 
+/// What a part of the reader answers.
+pub type Read<T> = Result<T, NonFault>;
+
 impl NonFault {
     /// The fault's name, as the variant is called.
     pub fn name(&self) -> &'static str

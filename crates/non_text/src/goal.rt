@@ -6,9 +6,9 @@ ghost use Rattle.std.specs.Option.{option_copied};
 ghost use Rattle.picture.specs.Reading.{Gives};
 ghost use Rattle.non_text.specs.Goal.{quoted, goal_digits, is_cell_digit, cell_of, goal_in};
 
-use crate::fault::NonFault;
-use crate::lines::{is_blank_line, split_first};
-use picture::{MAX_SIDE, Picture};
+use crate::fault::{NonFault, Read};
+use crate::lines::is_blank_line;
+use picture::{MAX_SIDE, Picture, split_first};
 use std::alloc::{AllocError, Global};
 
 #[tactic(auto, using(crate::proofs::GoalLemmas::values))]
@@ -36,38 +36,30 @@ fn quoted(bytes: &[u8]) -> Option<&[u8]>
     }
 }
 
+// Whether a goal may have these digits.
 fn are_cell_digits(digits: &[u8]) -> bool
     ensures { result ≡ list_all is_cell_digit digits.now }
 {
     digits.iter().all(|d| *d == b'0' || *d == b'1')
 }
 
+// The cells that digits stand for.
 fn cells_of(alloc: Global, digits: &[u8]) -> Result<Vec<u8>, AllocError>
     ensures { IfOk result (λ cells. cells.items ≡ map cell_of digits.now) }
 {
-    digits
-        .iter()
-        .map(|d| if *d == b'1' { 1 } else { 0 })
-        .collect(alloc)
+    digits.iter().map(|d| u8::from(*d == b'1')).collect(alloc)
 }
 
 #[tactic(auto, using(crate::proofs::GoalLemmas::cells))]
 // The picture of a goal line's value.
-pub(crate) fn goal_in(
-    alloc: Global,
-    value: &[u8],
-    height: u8,
-    width: u8,
-) -> Result<Picture, NonFault>
+pub fn goal_in(alloc: Global, value: &[u8], height: u8, width: u8) -> Read<Picture>
     requires has_row { 0 < height }
     requires rows_fit { height ≤ MAX_SIDE }
     requires has_column { 0 < width }
     requires columns_fit { width ≤ MAX_SIDE }
     ensures { Gives NonFault.Memory (λ picture. picture) result (goal_in height width value.now) }
 {
-    let Some(digits) = goal_digits(value) else {
-        return Err(NonFault::BadGoal);
-    };
+    let digits = goal_digits(value).ok_or(NonFault::BadGoal)?;
     if digits.len() != usize::from(height) * usize::from(width) || !are_cell_digits(digits) {
         return Err(NonFault::BadGoal);
     }

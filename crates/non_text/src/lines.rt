@@ -1,11 +1,12 @@
 //! The lines of a text, cut off one by one. Nothing is copied.
 
-ghost use Rattle.std.specs.Prelude.{◌≡◌, ◌<◌, ◌==◌, length, IfSome, IfNone, ◌∷◌, option_map, position};
-ghost use Rattle.std.specs.List.{slice_split};
+ghost use Rattle.std.specs.Prelude.{◌≡◌, option_map};
 ghost use Rattle.std.specs.Str.Lines.{strip_carriage_return};
 ghost use Rattle.non_text.specs.Bytes.{is_blank, past_blanks, before_blanks, trimmed, first_word, past_word};
-ghost use Rattle.non_text.specs.Lines.{all_lines, is_blank_line, is_comment, lines_of, keyword_of, value_of, is_keyword_line, at_keyword};
-ghost use Rattle.non_text.specs.Cut.{pieces_behind, IsFirstOf, section_lines, lines_found};
+ghost use Rattle.non_text.specs.Lines.{all_lines, is_blank_line, is_comment, lines_of, keyword_of, value_of, at_keyword};
+ghost use Rattle.non_text.specs.Cut.{IsFirstOf, section_lines, lines_found};
+
+use picture::split_first;
 
 #[tactic(auto, unfolding(crate::specs::Bytes::is_blank))]
 fn is_blank(byte: u8) -> bool
@@ -61,27 +62,6 @@ fn split_word(bytes: &[u8]) -> (&[u8], &[u8])
         }
     }
     (bytes, &[])
-}
-
-// The place of the first separator.
-fn place_of(bytes: &[u8], separator: u8) -> Option<usize>
-    ensures { result ≡ position (λ b. b == separator) bytes.now }
-{
-    bytes.iter().position(|b| *b == separator)
-}
-
-#[tactic(auto, using(crate::proofs::LinesLemmas::splitting))]
-// The bytes up to the first separator, and what stands behind it, where there is one.
-pub(crate) fn split_first(bytes: &[u8], separator: u8) -> (&[u8], Option<&[u8]>)
-    ensures pieces { slice_split (λ b. b == separator) bytes.now
-        ≡ result.0.now ∷ pieces_behind separator result.1 }
-    ensures shorter { IfSome result.1 (λ rest. length rest.now < length bytes.now) }
-    ensures all { IfNone result.1 (result.0.now ≡ bytes.now) }
-{
-    match place_of(bytes, separator) {
-        Some(end) => (&bytes[..end], Some(&bytes[end + 1..])),
-        None => (bytes, None),
-    }
 }
 
 // The piece without a carriage return at its end.

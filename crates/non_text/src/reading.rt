@@ -5,7 +5,7 @@ ghost use Rattle.picture.specs.Reading.{Gives};
 ghost use Rattle.non_text.specs.Lines.{lines_of};
 ghost use Rattle.non_text.specs.Puzzle.{goal_behind, agreeing, non_of};
 
-use crate::fault::NonFault;
+use crate::fault::{NonFault, Read};
 use crate::goal::goal_in;
 use crate::lines::{find, value};
 use crate::non_puzzle::NonPuzzle;
@@ -38,12 +38,7 @@ pub fn read_non(alloc: Global, bytes: &[u8]) -> Result<NonPuzzle, NonFault>
 
 #[tactic(auto, unfolding(crate::specs::Puzzle::goal_behind))]
 // The first goal of a text, where it has one.
-fn goal_behind(
-    alloc: Global,
-    text: &[u8],
-    height: u8,
-    width: u8,
-) -> Result<Option<Picture>, NonFault>
+fn goal_behind(alloc: Global, text: &[u8], height: u8, width: u8) -> Read<Option<Picture>>
     requires has_row { 0 < height }
     requires rows_fit { height ≤ MAX_SIDE }
     requires has_column { 0 < width }
@@ -59,7 +54,7 @@ fn goal_behind(
 
 #[tactic(auto, using(crate::proofs::PuzzleLemmas::agreement))]
 // The puzzle with these clues, which the goal has to have.
-fn agreeing(clues: ClueBook, goal: Option<Picture>) -> Result<NonPuzzle, NonFault>
+fn agreeing(clues: ClueBook, goal: Option<Picture>) -> Read<NonPuzzle>
     ensures { result ≡ agreeing clues goal }
 {
     match goal {

@@ -1,6 +1,6 @@
 //! The clues of a section.
 
-ghost use Rattle.std.specs.Prelude.{◌&&◌, ◌≡◌, ◌<◌, take};
+ghost use Rattle.std.specs.Prelude.{◌&&◌, ◌<◌, take};
 ghost use Rattle.picture.specs.Reading.{Gives};
 ghost use Rattle.non_text.specs.Lines.{lines_of, is_blank_line};
 ghost use Rattle.non_text.specs.Cut.{IsFirstOf};
@@ -9,17 +9,10 @@ ghost use Rattle.non_text.specs.Section.{clues_behind, kept_in};
 
 use crate::clue_line::clue_in;
 use crate::counting::leaves_blanks;
-use crate::fault::NonFault;
+use crate::fault::{NonFault, Read};
 use crate::lines::{find, is_blank_line, next_in_section};
 use clues::Clue;
 use std::alloc::Global;
-
-// Whether a line gives no clue, where the blank lines are left out or not.
-fn is_left_out(line: &[u8], leaves_blanks: bool) -> bool
-    ensures { result ≡ (leaves_blanks && is_blank_line line.now) }
-{
-    leaves_blanks && is_blank_line(line)
-}
 
 #[tactic(auto, using(crate::proofs::SectionLemmas::keeping))]
 // The first line of a section that gives a clue, and the text behind it.
@@ -28,7 +21,7 @@ fn next_kept(text: &[u8], leaves_blanks: bool) -> Option<(&[u8], &[u8])>
 {
     let mut rest = text;
     while let Some((line, behind)) = next_in_section(rest) {
-        if !is_left_out(line, leaves_blanks) {
+        if !(leaves_blanks && is_blank_line(line)) {
             return Some((line, behind));
         }
         rest = behind;
@@ -38,13 +31,7 @@ fn next_kept(text: &[u8], leaves_blanks: bool) -> Option<(&[u8], &[u8])>
 
 #[tactic(auto, using(crate::proofs::SectionLemmas::reading))]
 // The clues of the first n lines of a section.
-fn clues(
-    alloc: Global,
-    text: &[u8],
-    leaves_blanks: bool,
-    n: u8,
-    cells: u8,
-) -> Result<Vec<Clue>, NonFault>
+fn clues(alloc: Global, text: &[u8], leaves_blanks: bool, n: u8, cells: u8) -> Read<Vec<Clue>>
     requires { cells < 255 }
     ensures { Gives NonFault.Memory (λ v. v.items) result
         (clues_in cells (take n (kept_in leaves_blanks text.now))) }
@@ -55,9 +42,8 @@ fn clues(
         let Some((line, behind)) = next_kept(rest, leaves_blanks) else {
             return Ok(clues);
         };
-        clues
-            .push(clue_in(alloc, line, cells)?)
-            .map_err(|_| NonFault::Memory)?;
+        let clue = clue_in(alloc, line, cells)?;
+        clues.push(clue).map_err(|_| NonFault::Memory)?;
         rest = behind;
     }
     Ok(clues)
@@ -65,20 +51,12 @@ fn clues(
 
 #[tactic(auto, unfolding(crate::specs::Section::clues_behind))]
 // The n clues behind a keyword, for lines of so many cells.
-pub(crate) fn clues_behind(
-    alloc: Global,
-    text: &[u8],
-    word: &[u8],
-    n: u8,
-    cells: u8,
-) -> Result<Vec<Clue>, NonFault>
+pub fn clues_behind(alloc: Global, text: &[u8], word: &[u8], n: u8, cells: u8) -> Read<Vec<Clue>>
     requires { cells < 255 }
     ensures { Gives NonFault.Memory (λ v. v.items) result
         (clues_behind word.now n cells (lines_of text.now)) }
 {
-    let Some((_, behind)) = find(text, word) else {
-        return Err(NonFault::BadCount);
-    };
+    let (_, behind) = find(text, word).ok_or(NonFault::BadCount)?;
     let leaves_blanks = leaves_blanks(behind, n)?;
     clues(alloc, behind, leaves_blanks, n, cells)
 }

@@ -1,6 +1,6 @@
 //! The keywords of a text, checked from the top.
 
-ghost use Rattle.std.specs.Prelude.{◌≡◌, [], codes};
+ghost use Rattle.std.specs.Prelude.{◌≡◌, []};
 ghost use Rattle.non_text.specs.Lines.{has_keyword, lines_of};
 ghost use Rattle.non_text.specs.Puzzle.{size_in, is_size_line, first_fault, size_behind};
 ghost use Rattle.non_text.specs.Seen.{is_seen, seen_with, fault_below};

@@ -1,11 +1,11 @@
 //! The text of a picture, made in memory.
 
-ghost use Rattle.std.specs.Prelude.{◌≡◌, ◌++◌, ◌∷◌, [], map, length, codes, decimal, IfOk, OnOk};
+ghost use Rattle.std.specs.Prelude.{◌≡◌, ◌++◌, ◌∷◌, map, decimal, IfOk, OnOk};
 ghost use Rattle.std.specs.List.{flat_map};
 ghost use Rattle.clues.specs.ClueBook.{clues_along};
 ghost use Rattle.non_text.specs.Written.{clue_text, digit_of, goal_text, ended_line, ended_clue, non_text_of};
 
-use clues::{Block, Clue, ClueBook};
+use clues::{Block, ClueBook};
 use itoa::Buffer;
 use picture::{Axis, LineId, LineView, Picture};
 use std::alloc::{AllocError, Global};
@@ -46,23 +46,13 @@ fn put_size(text: &mut Vec<u8>, keyword: &[u8], size: u8) -> Result<(), AllocErr
     Ok(())
 }
 
-// The clue of a line, on a line of its own.
-fn put_clue(text: &mut Vec<u8>, clue: &Clue) -> Result<(), AllocError>
-    ensures { OnOk result (text.new.items ≡ text.old.items ++ ended_clue clue.now) }
-{
-    put_blocks(text, clue.blocks())?;
-    text.push(b'\n')?;
-    Ok(())
-}
-
 #[tactic(auto, using(crate::proofs::TextLemmas::clue_texts))]
 // The numbers of a clue, or 0 for the empty one.
 fn put_blocks(text: &mut Vec<u8>, blocks: &[Block]) -> Result<(), AllocError>
     ensures { OnOk result (text.new.items ≡ text.old.items ++ clue_text blocks.now) }
 {
     if blocks.is_empty() {
-        text.push(b'0')?;
-        return Ok(());
+        return Ok(text.push(b'0')?);
     }
     put_number(text, blocks[0].len)?;
     put_others(text, &blocks[1..])
@@ -86,20 +76,11 @@ fn put_clues(text: &mut Vec<u8>, clues: &ClueBook, axis: Axis) -> Result<(), All
     ensures { OnOk result (text.new.items
         ≡ text.old.items ++ flat_map ended_clue (clues_along axis clues.now)) }
 {
-    for at in 0..line_count(clues, axis) {
-        put_clue(text, clues.clue(LineId { axis, at }))?;
+    for at in 0..clues.line_count(axis) {
+        put_blocks(text, clues.clue(LineId { axis, at }).blocks())?;
+        text.push(b'\n')?;
     }
     Ok(())
-}
-
-// How many clues a book has along an axis.
-fn line_count(clues: &ClueBook, axis: Axis) -> u8
-    ensures { result ≡ length (clues_along axis clues.now) }
-{
-    match axis {
-        Axis::Across => clues.height(),
-        Axis::Down => clues.width(),
-    }
 }
 
 #[tactic(auto, using(crate::proofs::TextLemmas::texts))]
@@ -118,12 +99,9 @@ fn put_goal(text: &mut Vec<u8>, picture: &Picture) -> Result<(), AllocError>
 fn put_rows(text: &mut Vec<u8>, picture: &Picture) -> Result<(), AllocError>
     ensures { OnOk result (text.new.items ≡ text.old.items ++ flat_map (map digit_of) picture.now) }
 {
+    let axis = Axis::Across;
     for at in 0..picture.height() {
-        let row = LineId {
-            axis: Axis::Across,
-            at,
-        };
-        put_row(text, picture.line(row))?;
+        put_row(text, picture.line(LineId { axis, at }))?;
     }
     Ok(())
 }

@@ -32,12 +32,9 @@ pub fn write_non<W: Write>(
 fn is_two_colour(picture: &Picture) -> bool
     ensures { result ≡ is_two_colour picture.now }
 {
+    let axis = Axis::Across;
     for at in 0..picture.height() {
-        let row = LineId {
-            axis: Axis::Across,
-            at,
-        };
-        if !is_two_colour_row(picture.line(row)) {
+        if !is_two_colour_row(picture.line(LineId { axis, at })) {
             return false;
         }
     }

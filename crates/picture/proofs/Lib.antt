@@ -13,3 +13,4 @@ pub mod PaletteLemmas
 pub mod RoomLemmas
 pub mod UnionLemmas
 pub mod WritingLemmas
+pub mod SplitLemmas

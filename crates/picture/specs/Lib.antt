@@ -13,3 +13,4 @@ pub mod Writing
 pub mod BitLaws
 pub mod FlatLaws
 pub mod LineSetLaws
+pub mod SendingLaws

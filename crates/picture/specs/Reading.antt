@@ -1,5 +1,7 @@
 -- What a reader answers, against what its definition reads from the whole text.
-use Rattle.std.specs.Prelude.{◌≡◌, ◌⊎◌, Result, Ok, Err, Option, None, Some}
+use Rattle.std.specs.Prelude.{◌≡◌, ◌⊎◌, ℕ, ◌==◌, List, [], Result, Ok, Err, Option, None, Some}
+use Rattle.std.specs.Borrow.{Bor}
+use Rattle.std.specs.List.{slice_split}
 
 -- the next step of reading, where the one before met no fault
 infixl 10 ◌>>=◌
@@ -21,3 +23,8 @@ Reads view (Err e) read = read ≡ Err e
 abbrev pub Refuses : {X E : Type 0} → E → Result X E → Option E → Type 0
 Refuses memory (Ok x) fault = fault ≡ None
 Refuses memory (Err e) fault = (fault ≡ Some e) ⊎ ((fault ≡ None) × (e ≡ memory))
+
+-- the pieces between separators of what stands behind one, if there is one
+abbrev pub pieces_behind : ℕ → Option (Bor (List ℕ)) → List (List ℕ)
+pieces_behind separator None = []
+pieces_behind separator (Some rest) = slice_split (λ b. b == separator) rest.now

@@ -2,6 +2,7 @@
 #![tactic(auto)]
 
 mod cell_set;
+mod cutting;
 mod document;
 pub mod laws;
 mod line_edits;
@@ -15,6 +16,7 @@ mod rgb;
 mod writing;
 
 pub use cell_set::CellSet;
+pub use cutting::split_first;
 pub use document::Document;
 pub use line_id::{Axis, LineId};
 pub use line_set::LineSet;
@@ -22,4 +24,4 @@ pub use line_view::{LineIter, LineView};
 pub use palette::{Palette, PaletteFault};
 pub use picture::{MAX_COLOURS, MAX_SIDE, Picture};
 pub use rgb::Rgb;
-pub use writing::{WriteFault, send};
+pub use writing::{WriteFault, send, send_number};

@@ -1,26 +1,33 @@
 //! A row or a column, borrowed from a picture. Nothing is copied.
 
-ghost use Rattle.std.specs.Prelude.{◌≡◌, ℕ, ◌+◌, ◌*◌, ◌-◌, ◌<◌, ◌≤◌, List, length, slice_index, IsFalse};
+ghost use Rattle.std.specs.Prelude.{◌≡◌, ℕ, ◌+◌, ◌*◌, ◌-◌, ◌<◌, List, length, slice_index, IsFalse};
 ghost use Rattle.std.specs.Iterator.{YieldsFirst, YieldsLast, item_count};
 ghost use Rattle.picture.specs.Line.{spaced, IsLine, IsSpaced};
 
 use std::marker::Model;
 
-/// The cells of a row from the left, or of a column from the top.
-#[derive(Drop)]
-pub struct LineView<'a> {
+// The cells at `start`, `start + step` and so on.
+#[derive(Clone, Copy)]
+struct Spaced<'a> {
     cells: &'a [u8],
     start: usize,
     step: usize,
     count: usize,
 }
 
+/// The cells of a row from the left, or of a column from the top.
+#[derive(Drop)]
+pub struct LineView<'a> {
+    line: Spaced<'a>,
+}
+
 impl<'a> Model for LineView<'a> {
     ghost Value = { List ℕ };
 
-    ghost view = { λ v. spaced v.cells.now v.start v.step v.count };
+    ghost view = { λ v. spaced v.line.cells.now v.line.start v.line.step v.line.count };
 
-    ghost invariant = { λ v. (0 < v.count) × IsSpaced v.cells.now v.start v.step v.count };
+    ghost invariant = { λ v.
+        (0 < v.line.count) × IsSpaced v.line.cells.now v.line.start v.line.step v.line.count };
 }
 
 #[tactic(auto, using(crate::proofs::LineLemmas::spacing))]
@@ -31,12 +38,13 @@ impl<'a> LineView<'a> {
         requires spaced { IsSpaced cells.now start step count }
         ensures { result ≡ spaced cells.now start step count }
     {
-        LineView {
+        let line = Spaced {
             cells,
             start,
             step,
             count,
-        }
+        };
+        LineView { line }
     }
 
     /// How many cells the line has, from 1 to `MAX_SIDE`.
@@ -44,14 +52,14 @@ impl<'a> LineView<'a> {
         ensures value { result ≡ length self.now }
         ensures line { IsLine self.now }
     {
-        self.count
+        self.line.count
     }
 
     /// Whether the line has no cell, which is never so.
     pub fn is_empty(&self) -> bool
         ensures { IsFalse result }
     {
-        self.count == 0
+        self.line.count == 0
     }
 
     /// The colour of the cell at a place from 0.
@@ -59,7 +67,7 @@ impl<'a> LineView<'a> {
         requires { i < length self.now }
         ensures { result ≡ slice_index self.now i }
     {
-        self.cells[self.start + i * self.step]
+        self.line.cells[self.line.start + i * self.line.step]
     }
 
     /// The colours of the cells in order.
@@ -67,30 +75,22 @@ impl<'a> LineView<'a> {
         ensures rest { result ≡ self.now }
         ensures line { IsLine self.now }
     {
-        LineIter {
-            cells: self.cells,
-            start: self.start,
-            step: self.step,
-            count: self.count,
-        }
+        LineIter { line: self.line }
     }
 }
 
 /// The colours of a line's cells, from both ends.
 #[derive(Drop)]
 pub struct LineIter<'a> {
-    cells: &'a [u8],
-    start: usize,
-    step: usize,
-    count: usize,
+    line: Spaced<'a>,
 }
 
 impl<'a> Model for LineIter<'a> {
     ghost Value = { List ℕ };
 
-    ghost view = { λ v. spaced v.cells.now v.start v.step v.count };
+    ghost view = { λ v. spaced v.line.cells.now v.line.start v.line.step v.line.count };
 
-    ghost invariant = { λ v. IsSpaced v.cells.now v.start v.step v.count };
+    ghost invariant = { λ v. IsSpaced v.line.cells.now v.line.start v.line.step v.line.count };
 }
 
 #[tactic(auto, using(crate::proofs::LineLemmas::spacing))]
@@ -102,12 +102,12 @@ impl<'a> Iterator for LineIter<'a> {
     ghost remaining = { item_count (λ s. s) };
 
     fn next(&mut self) -> Option<u8> {
-        if self.count == 0 {
+        if self.line.count == 0 {
             return None;
         }
-        let cell = self.cells[self.start];
-        self.count -= 1;
-        self.start += self.step;
+        let cell = self.line.cells[self.line.start];
+        self.line.count -= 1;
+        self.line.start += self.line.step;
         Some(cell)
     }
 }
@@ -117,10 +117,10 @@ impl<'a> DoubleEndedIterator for LineIter<'a> {
     ghost next_back_gives = { YieldsLast (λ s. s) };
 
     fn next_back(&mut self) -> Option<u8> {
-        if self.count == 0 {
+        if self.line.count == 0 {
             return None;
         }
-        self.count -= 1;
-        Some(self.cells[self.start + self.count * self.step])
+        self.line.count -= 1;
+        Some(self.line.cells[self.line.start + self.line.count * self.line.step])
     }
 }

@@ -86,6 +86,17 @@ impl Picture {
         self.width
     }
 
+    /// How many lines it has along an axis.
+    pub fn line_count(&self, axis: Axis) -> u8
+        ensures value { result ≡ lines_along axis self.now }
+        ensures picture { IsPicture self.now }
+    {
+        match axis {
+            Axis::Across => self.height(),
+            Axis::Down => self.width(),
+        }
+    }
+
     /// The colour of the cell at a row and a column, from 0.
     pub fn cell(&self, row: u8, col: u8) -> u8
         requires in_rows { row < length self.now }

@@ -2,8 +2,9 @@
 
 ghost use Rattle.std.specs.Prelude.{◌<◌, ◌≤◌, length, take, IfOk, OnOk, OnErr};
 ghost use Rattle.std.specs.Io.KnownBytes.{Appends, Keeps};
-ghost use Rattle.picture.specs.Writing.{AppendsFront};
+ghost use Rattle.picture.specs.Writing.{AppendsFront, number_text};
 
+use itoa::Buffer;
 use std::io::Write;
 use thiserror::Error;
 
@@ -24,6 +25,19 @@ pub fn send<W: Write>(bytes: &[u8], writer: &mut W) -> Result<(), WriteFault>
         sent += write_some(&bytes[sent..], writer)?;
     }
     Ok(())
+}
+
+#[tactic(auto, using(crate::specs::SendingLaws::sending))]
+/// Writes a number and the byte that closes it, or after a fault a front of them.
+pub fn send_number<W: Write>(number: u16, close: u8, writer: &mut W) -> Result<(), WriteFault>
+    ensures ok { OnOk result
+        (Appends (W.contents writer.old) (W.contents writer.new) (number_text number close)) }
+    ensures err { OnErr result
+        (AppendsFront (W.contents writer.old) (W.contents writer.new) (number_text number close)) }
+{
+    let mut buffer = Buffer::new();
+    send(buffer.format(number).as_bytes(), writer)?;
+    send(&[close], writer)
 }
 
 // Writes at least one of the bytes, and says how many.

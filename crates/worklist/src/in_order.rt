@@ -66,15 +66,11 @@ impl Agenda for InOrder {
         ensures members { Takes self.old.waiting self.new.waiting result }
         ensures next { TakesNextRound self.old self.new result }
     {
-        match next_line(&self.lines, self.axis, self.from) {
-            Some(line) => {
-                self.lines.take_out(line);
-                self.axis = line.axis;
-                self.from = line.at + 1;
-                Some(line)
-            }
-            None => None,
-        }
+        let line = next_line(&self.lines, self.axis, self.from)?;
+        self.lines.take_out(line);
+        self.axis = line.axis;
+        self.from = line.at + 1;
+        Some(line)
     }
 
     fn clear(&mut self)
@@ -102,8 +98,6 @@ fn next_line(lines: &LineSet, axis: Axis, from: u8) -> Option<LineId>
     if let Some(at) = lines.first_from(crossing, 0) {
         return Some(LineId { axis: crossing, at });
     }
-    match lines.first_from(axis, 0) {
-        Some(at) => Some(LineId { axis, at }),
-        None => None,
-    }
+    let at = lines.first_from(axis, 0)?;
+    Some(LineId { axis, at })
 }

@@ -39,10 +39,8 @@ impl NewestFirst {
     pub fn make() -> NewestFirst
         ensures { result ≡ pile no_names [] }
     {
-        let none = LineId {
-            axis: Axis::Across,
-            at: 0,
-        };
+        let axis = Axis::Across;
+        let none = LineId { axis, at: 0 };
         NewestFirst {
             stack: [none; MOST_LINES],
             len: 0,

@@ -1,6 +1,6 @@
 use Rattle.std.proofs.Common.{◌∷◌, Option, List, ℕ, sym, ◌∙◌, ap}
 use Rattle.std.specs.Borrow.{Bor}
-use Rattle.non_text.specs.Cut.{pieces_behind}
+use Rattle.picture.specs.Reading.{pieces_behind}
 use Rattle.non_text.proofs.GoalLemmas.{quoted_blank, quoted_other}
 use Rattle.non_text.proofs.goal.quoted.Goals as goal
 

@@ -2,10 +2,10 @@ use Rattle.std.proofs.Common.{sym, ap, ◌∙◌, arith}
 use Rattle.worklist.specs.Orders.{Round}
 use Rattle.worklist.proofs.in_order.InOrderAgenda.take.Goals as goal
 
-pub returns-in-None-clause-members : goal.returns-in-None-clause-members
-returns-in-None-clause-members c =
-    let e = ap (λ (r : Round). r.waiting) (sym c.self.view_is) ∙ c.in-None.ensures in
-    (e, e)
+pub returns-in_err-line-clause-members : goal.returns-in_err-line-clause-members
+returns-in_err-line-clause-members c =
+    let e = ap (λ (r : Round). r.waiting) (sym c.self.view_is) ∙ c.in_err-line.ensures in
+    rw c.from_residual.ensures (e, e)
 
 pub invariant_of-self : goal.invariant_of-self
-invariant_of-self c = (c.take_out.ensures.set, (let l = c.in-Some.ensures.0 in omega arith))
+invariant_of-self c = (c.take_out.ensures.set, (let l = c.in_ok-line.ensures.0 in omega arith))

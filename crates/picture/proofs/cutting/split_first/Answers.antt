@@ -1,6 +1,6 @@
 use Rattle.std.proofs.Common.{sym}
-use Rattle.non_text.proofs.LinesLemmas.{split_found, split_none}
-use Rattle.non_text.proofs.lines.split_first.Goals as goal
+use Rattle.picture.proofs.SplitLemmas.{split_found, split_none}
+use Rattle.picture.proofs.cutting.split_first.Goals as goal
 
 pub returns-in-Some-clause-pieces : goal.returns-in-Some-clause-pieces
 returns-in-Some-clause-pieces c = split_found c.args.separator c.args.bytes.now c.in-Some.end (sym c.in-Some.ensures)

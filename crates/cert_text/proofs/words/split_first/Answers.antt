@@ -1,9 +1,0 @@
-use Rattle.std.proofs.Common.{sym}
-use Rattle.cert_text.proofs.WordLemmas.{split_found, split_none}
-use Rattle.cert_text.proofs.words.split_first.Goals as goal
-
-pub returns-in-Some-clause-pieces : goal.returns-in-Some-clause-pieces
-returns-in-Some-clause-pieces c = split_found c.args.separator c.args.bytes.now c.in-Some.end (sym c.in-Some.ensures)
-
-pub returns-in-None-clause-pieces : goal.returns-in-None-clause-pieces
-returns-in-None-clause-pieces c = split_none c.args.separator c.args.bytes.now (sym c.in-None.ensures)
