@@ -101,9 +101,8 @@ function showStart() {
   const kept = make('section', { id: 'kept', class: 'card wide', 'aria-labelledby': 'kept-title', hidden: true }, make('h2', { id: 'kept-title' }, 'Recent'), list);
   const examples = [...document.querySelectorAll('script[data-example]')].map(exampleItem).filter(Boolean);
   const shown = make('section', { id: 'examples', class: 'card wide', 'aria-labelledby': 'examples-title', hidden: examples.length === 0 }, make('h2', { id: 'examples-title' }, 'Examples'), make('ul', { class: 'tiles' }, ...examples));
-  const wants = BUILT.bits === 64 ? [make('p', { id: 'wants' }, 'This copy of the page runs in Chrome and Edge from version 133 on, and in Firefox from 134 on.')] : [];
   const back = bench.state ? [make('p', {}, make('button', { type: 'button', id: 'start-back', onclick: hideStart }, `Back to ${bench.name}`))] : [];
-  $('start').replaceChildren(make('p', { class: 'lead' }, 'Draw a picture or open one. Its clues stand beside it, and whether it is their only solution. Then export the puzzle, or print it.'), ...wants, ...back, make('div', { class: 'cards' }, newCard(), openCard(), kept, shown));
+  $('start').replaceChildren(make('p', { class: 'lead' }, 'Draw a picture or open one. Its clues stand beside it, and whether it is their only solution. Then export the puzzle, or print it.'), ...back, make('div', { class: 'cards' }, newCard(), openCard(), kept, shown));
   $('start').hidden = false;
   $('work').hidden = true;
   document.body.classList.add('starting');

@@ -1,11 +1,11 @@
-// Joins the page's files and the module into one HTML file, and lays the same out as a folder for a site: join.mjs ROOT FOLDER BITS.
-// FOLDER has nonobench.wasm, whose memory has so many bits, 32 or 64. Nothing of the time or of paths goes in, so two builds of one commit have the same bytes.
+// Joins the page's files and the module into one HTML file, and lays the same out as a folder for a site: join.mjs ROOT FOLDER.
+// FOLDER has nonobench.wasm. Nothing of the time or of paths goes in, so two builds of one commit have the same bytes.
 import { execFileSync } from 'node:child_process';
 import { existsSync, mkdirSync, readFileSync, readdirSync, writeFileSync, copyFileSync, rmSync } from 'node:fs';
 import { join } from 'node:path';
 import { gzipSync } from 'node:zlib';
 
-const [root, folder, bits] = process.argv.slice(2);
+const [root, folder] = process.argv.slice(2);
 const EXAMPLES = ['heart', 'mushroom', 'boat'];
 const POLICY = "default-src 'none'; script-src 'unsafe-inline' 'wasm-unsafe-eval' blob:; worker-src blob:; style-src 'unsafe-inline'; "
   + "img-src data: blob:; connect-src blob: data:; base-uri 'none'; form-action 'none'";
@@ -55,7 +55,6 @@ function pageText(version) {
   const built = {
     module: packed.toString('base64'),
     packed: 'gzip',
-    bits: Number(bits),
     worker: `'use strict';\n${engine}\n${sources(worker)}`,
     version,
     commit: commitOf(),

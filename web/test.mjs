@@ -306,13 +306,13 @@ test('products and shifts of 128 bits are those of whole numbers', async () => {
   for (let i = 0n, n = 1n; i < 40n; i += 1n) words.push(n = BigInt.asUintN(128, n * 0x2545f4914f6cdd1d9e3779b97f4a7c15n + i));
   for (const one of words) {
     for (const other of words) {
-      calls.__multi3(out, ...halves(one), ...halves(other));
+      calls.__multi3(Number(out), ...halves(one), ...halves(other));
       assert.equal(got(), BigInt.asUintN(128, one * other), `${one} * ${other}`);
     }
     for (let by = 0; by < 128; by += 1) {
-      calls.__lshrti3(out, ...halves(one), by);
+      calls.__lshrti3(Number(out), ...halves(one), by);
       assert.equal(got(), one >> BigInt(by), `${one} >> ${by}`);
-      calls.__ashlti3(out, ...halves(one), by);
+      calls.__ashlti3(Number(out), ...halves(one), by);
       assert.equal(got(), BigInt.asUintN(128, one << BigInt(by)), `${one} << ${by}`);
     }
   }
