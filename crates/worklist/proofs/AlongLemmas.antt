@@ -4,9 +4,8 @@ use Rattle.std.specs.Prelude.{IsBitSet}
 use Rattle.picture.specs.declared.line_id.Axis.{Axis}
 use Rattle.picture.specs.declared.line_id.Axis.TheVariants.{Across, Down}
 use Rattle.picture.specs.declared.line_id.LineId.{LineId}
-use Rattle.picture.specs.LineSet.{Lines, HasName, PutsNames, mask_along, no_names}
+use Rattle.picture.specs.LineSet.{Lines, HasName, PutsNames, mask_along}
 use Rattle.worklist.specs.Agenda.{PutsAlong}
-use Rattle.picture.specs.LineSetLaws.{members}
 
 -- the names before a place are put on
 pub record PutBefore (axis : Axis) (lines old now : Lines) (from : ℕ) : Type 0 where

@@ -2,14 +2,14 @@
 use Rattle.std.proofs.Common.{◌≡◌, ◌≢◌, ℕ, ◌+◌, ◌-◌, ◌<◌, ◌≤◌, List, [], ◌∷◌, ◌++◌, length, set, take, refl, sym, ap, subst, ◌∙◌, arith, ◌⊎◌, inl, inr}
 use Rattle.std.specs.Prelude.{IsBitSet}
 use Rattle.std.proofs.lemmas.Bool.{cases_lt}
-use Rattle.std.proofs.lemmas.List.{take_more, take_more_set}
+use Rattle.std.proofs.lemmas.List.{append-nil, append_assoc, take_more, take_more_set}
 use Rattle.picture.specs.declared.line_id.Axis.{Axis}
 use Rattle.picture.specs.declared.line_id.Axis.TheVariants.{Across, Down}
 use Rattle.picture.specs.declared.line_id.LineId.{LineId}
 use Rattle.picture.specs.LineSet.{Lines, IsLineSet, IsClearFrom, IsFirstBit, HasName, mask_along, no_names}
 use Rattle.picture.specs.Crossing.{crossing}
 use Rattle.worklist.specs.Agenda.{name_at}
-use Rattle.worklist.specs.Orders.{IsNextRound, Pile, PutsNewest, pile, place_along, place_of, places_on, round}
+use Rattle.worklist.specs.Orders.{IsNextRound, Pile, PutsAbove, PutsNewest, pile, place_along, place_of, places_on, round}
 use Rattle.picture.specs.LineSetLaws.{members}
 use Rattle.worklist.specs.NameLaws.{no_name_is_empty}
 
@@ -130,3 +130,17 @@ newest_taken old stack len lines e h l =
     let d : len ≢ 0 = h in
     let s : len ≡ len - 1 + 1 = omega arith in
     sym (ap (λ (p : Pile). p.order) e) ∙ (ap (λ n. take n stack) s ∙ take_more stack (len - 1) (record { axis = Across; at = 0 }) (omega arith))
+
+-- ---- what came above what waited
+
+pub nothing_above : (old : List LineId) → PutsAbove old old
+nothing_above old = ([], sym (append-nil old))
+
+pub above_both : (old half new : List LineId) → PutsAbove old half → PutsAbove half new → PutsAbove old new
+above_both old half new a b = (a.0 ++ b.0, b.1 ∙ (ap (λ order. order ++ b.0) a.1 ∙ append_assoc old a.0 b.0))
+
+pub above_put : (first : List LineId) (old new : Pile) (line : LineId) → PutsAbove first old.order → PutsNewest old new line → PutsAbove first new.order
+above_put first old new line above put = elim (members.decided old.waiting line) [
+  | inl has ↦ (above.0, put.known has ∙ above.1)
+  | inr not ↦ above_both first old.order new.order above (line ∷ [], put.fresh not)
+]

@@ -1,10 +1,10 @@
 -- A stack of line names, as a worklist keeps them.
-use Rattle.std.proofs.Common.{◌≡◌, ◌≢◌, ℕ, suc, ◌+◌, ◌-◌, ◌<◌, ◌≤◌, List, length, set, sym, ap, subst, ◌∙◌, arith, inl, inr, get_or-set_same, get_or-set_other}
+use Rattle.std.proofs.Common.{◌≡◌, ◌≢◌, ℕ, ◌+◌, ◌-◌, ◌<◌, List, set, sym, ap, subst, ◌∙◌, arith, inl, inr, get_or-set_same, get_or-set_other}
 use Rattle.std.proofs.lemmas.Bool.{cases_eq}
 use Rattle.std.proofs.lemmas.List.{length-set}
 use Rattle.picture.specs.declared.line_id.Axis.TheVariants.{Across}
 use Rattle.picture.specs.declared.line_id.LineId.{LineId}
-use Rattle.picture.specs.LineSet.{Lines, IsLineSet, HasName, PutsName, TakesOutName, name_count}
+use Rattle.picture.specs.LineSet.{Lines, IsLineSet, HasName, PutsName, TakesOutName}
 use Rattle.picture.specs.LineSetLaws.{more_put}
 use Rattle.worklist.specs.Agenda.{IsStack, name_at}
 use Rattle.worklist.specs.NameLaws.{few_names, take_counts}

@@ -1,5 +1,5 @@
 -- Laws of sets of line names: which are one, how many names they have, and where they are empty.
-use Rattle.std.proofs.Common.{◌≡◌, ℕ, ◌+◌, ◌≤◌, ◌↔◌, sym, subst, arith, inl, inr}
+use Rattle.std.proofs.Common.{◌≡◌, ◌+◌, ◌≤◌, ◌↔◌, sym, subst, arith, inl, inr}
 use Rattle.std.proofs.lemmas.Nat.{ones-le}
 use Rattle.picture.specs.declared.line_id.Axis.TheVariants.{Across, Down}
 use Rattle.picture.specs.declared.line_id.LineId.{LineId}

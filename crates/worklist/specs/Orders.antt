@@ -53,6 +53,10 @@ pub record PutsNewest (old new : Pile) (line : LineId) : Type 0 where
   pub known : HasName old.waiting line → new.order ≡ old.order
   pub fresh : ¬ HasName old.waiting line → new.order ≡ old.order ++ line ∷ []
 
+-- what came stands above what waited, which keeps its order
+abbrev pub PutsAbove : List LineId → List LineId → Type 0
+PutsAbove old new = (added : List LineId) × (new ≡ old ++ added)
+
 -- the name that came last is taken
 abbrev pub TakesNewest : Pile → Pile → Option LineId → Type 0
 TakesNewest old new None = new ≡ old

@@ -1,10 +1,10 @@
 //! The worklist that takes the newest line first.
 
 ghost use Rattle.std.specs.Prelude.{◌≡◌, ◌<◌, []};
-ghost use Rattle.picture.specs.LineSet.{PutsName, no_names};
+ghost use Rattle.picture.specs.LineSet.{PutsName, PutsNames, no_names};
 ghost use Rattle.worklist.specs.Agenda.{Takes};
 ghost use Rattle.worklist.specs.Agenda.{PutsAlong};
-ghost use Rattle.worklist.specs.Orders.{PutsNewest, TakesNewest, pile};
+ghost use Rattle.worklist.specs.Orders.{PutsAbove, PutsNewest, TakesNewest, pile};
 
 use crate::agenda::Agenda;
 use picture::{Axis, LineId, LineSet, MAX_SIDE};
@@ -50,7 +50,8 @@ impl NewestFirst {
 
     // Puts the lines of a set along an axis on the agenda, by number.
     fn put_along(&mut self, lines: &LineSet, axis: Axis)
-        ensures { PutsAlong axis lines.now self.old.waiting self.new.waiting }
+        ensures members { PutsAlong axis lines.now self.old.waiting self.new.waiting }
+        ensures newest { PutsAbove self.old.order self.new.order }
     {
         let mut from = 0;
         while let Some(at) = lines.first_from(axis, from) {
@@ -75,7 +76,10 @@ impl Agenda for NewestFirst {
         }
     }
 
-    fn put_all(&mut self, lines: &LineSet) {
+    fn put_all(&mut self, lines: &LineSet)
+        ensures members { PutsNames self.old.waiting self.new.waiting lines.now }
+        ensures newest { PutsAbove self.old.order self.new.order }
+    {
         self.put_along(lines, Axis::Across);
         self.put_along(lines, Axis::Down);
     }
