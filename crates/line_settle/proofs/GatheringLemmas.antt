@@ -3,7 +3,7 @@ use Rattle.std.proofs.Common.{◌≡◌, ℕ, zero, suc, ◌+◌, ◌-◌, ◌*�
 use Rattle.std.specs.Int.{bit_at}
 use Rattle.std.specs.Simd.Lanes.{zip2, chunk, top, mask_l}
 use Rattle.std.proofs.lemmas.Bool.{cases_lt}
-use Rattle.std.proofs.lemmas.List.{get_or_past, get_or-map, get_or-take, length-map, length-take, take_all}
+use Rattle.std.proofs.lemmas.List.{get_or_past, get_or-map, get_or-take, length-map, length-replicate, length-take, take_all}
 use Rattle.std.proofs.lemmas.Nat.{pow_pos}
 use Rattle.std.proofs.lemmas.Nat.Bits.{bit_at_cat_low, bit_at_cat_high, bit_at-lt, and_pow}
 use Rattle.std.proofs.lemmas.Simd.{length-chunk, get_or-chunk, length-zip2, zip2_splat, map-map, bitmask_splat, bit_mask_l, mask_l-lt}
@@ -64,9 +64,9 @@ none_past left colour i h = ap (λ m. allows m colour) (get_or_past left i 0 h) 
 pub none_gathered : (left : List ℕ) (colour j : ℕ) → has 0 j ≡ allows (get_or left (length left + j) 0) colour
 none_gathered left colour j = has_none j ∙ sym (none_past left colour (length left + j) (omega arith))
 
--- the cells of the whole eights, and the last eight cells laid over them
-pub overlapped : (w : ℕ) (left : List ℕ) (cells low colour whole last : ℕ) → last + 8 ≡ length left → last < whole → whole ≤ length left → length left < whole + 8 → length left < w → low < 2 ^ 8 → ((j : ℕ) → j < 8 → has low j ≡ allows (get_or left (last + j) 0) colour) → ((j : ℕ) → j < w → has cells j ≡ allows (get_or (take whole left) j 0) colour) → (i : ℕ) → i < w → has (bit_or cells (low * 2 ^ last % 2 ^ w)) i ≡ allows (get_or left i 0) colour
-overlapped w left cells low colour whole last e l ends short room small new before i h =
+-- the cells of the whole parts of s cells, and the last s cells laid over them
+pub overlapped : (w s : ℕ) (left : List ℕ) (cells low colour whole last : ℕ) → last + s ≡ length left → last ≤ whole → whole ≤ length left → length left ≤ w → low < 2 ^ s → ((j : ℕ) → j < s → has low j ≡ allows (get_or left (last + j) 0) colour) → ((j : ℕ) → j < w → has cells j ≡ allows (get_or (take whole left) j 0) colour) → (i : ℕ) → i < w → has (bit_or cells (low * 2 ^ last % 2 ^ w)) i ≡ allows (get_or left i 0) colour
+overlapped w s left cells low colour whole last e l ends room small new before i h =
     has_or cells (low * 2 ^ last % 2 ^ w) i ∙ elim (cases_lt i last) [
       | inl m ↦
           ap (λ x. has cells i || x) (below_shifted w last low i m h)
@@ -75,16 +75,16 @@ overlapped w left cells low colour whole last e l ends short room small new befo
       | inr m ↦
           ap (λ x. has cells i || x) (shifted w last low i (pow_pos last) m h)
           ∙ (ap (λ x. x || has low (i - last)) (before i h)
-          ∙ elim (cases_lt (i - last) 8) [
-            | inl in_eight ↦
+          ∙ elim (cases_lt (i - last) s) [
+            | inl in_part ↦
                 let q : last + (i - last) ≡ i = omega arith in
-                ap (λ x. allows (get_or (take whole left) i 0) colour || x) (new (i - last) in_eight ∙ ap (λ n. allows (get_or left n 0) colour) q)
+                ap (λ x. allows (get_or (take whole left) i 0) colour || x) (new (i - last) in_part ∙ ap (λ n. allows (get_or left n 0) colour) q)
                 ∙ elim (cases_lt i whole) [
                   | inl b ↦ ap (λ n. allows n colour || allows (get_or left i 0) colour) (get_or-take whole left i 0 b) ∙ twice (allows (get_or left i 0) colour)
                   | inr b ↦ ap (λ x. x || allows (get_or left i 0) colour) (none_past (take whole left) colour i (let n = length-take whole left in omega arith))
                 ]
             | inr past ↦
-                ap (λ x. allows (get_or (take whole left) i 0) colour || x) (has_above 8 low (i - last) small past)
+                ap (λ x. allows (get_or (take whole left) i 0) colour || x) (has_above s low (i - last) small past)
                 ∙ (false_behind (allows (get_or (take whole left) i 0) colour)
                 ∙ (none_past (take whole left) colour i (let n = length-take whole left in omega arith)
                 ∙ sym (none_past left colour i (omega arith))))
@@ -95,12 +95,12 @@ overlapped w left cells low colour whole last e l ends short room small new befo
     twice true = refl
     twice false = refl
 
--- eight cells more behind those that are gathered already
+-- s cells more behind those that are gathered already
 pub none_taken : (left : List ℕ) (colour n j : ℕ) → n ≡ 0 → has 0 j ≡ allows (get_or (take n left) j 0) colour
 none_taken left colour n j e = has_none j ∙ sym (none_past (take n left) colour j (let l = length-take n left in omega arith))
 
-pub gathered_on : (w : ℕ) (left : List ℕ) (cells low colour here next : ℕ) → next ≡ here + 8 → low < 2 ^ 8 → ((j : ℕ) → j < 8 → has low j ≡ allows (get_or left (here + j) 0) colour) → ((j : ℕ) → j < w → has cells j ≡ allows (get_or (take here left) j 0) colour) → (j : ℕ) → j < w → has (bit_or cells (low * 2 ^ here % 2 ^ w)) j ≡ allows (get_or (take next left) j 0) colour
-gathered_on w left cells low colour here next e small new before j h = has_or cells (low * 2 ^ here % 2 ^ w) j ∙ elim (cases_lt j here) [
+pub gathered_on : (w s : ℕ) (left : List ℕ) (cells low colour here next : ℕ) → next ≡ here + s → low < 2 ^ s → ((j : ℕ) → j < s → has low j ≡ allows (get_or left (here + j) 0) colour) → ((j : ℕ) → j < w → has cells j ≡ allows (get_or (take here left) j 0) colour) → (j : ℕ) → j < w → has (bit_or cells (low * 2 ^ here % 2 ^ w)) j ≡ allows (get_or (take next left) j 0) colour
+gathered_on w s left cells low colour here next e small new before j h = has_or cells (low * 2 ^ here % 2 ^ w) j ∙ elim (cases_lt j here) [
   | inl m ↦
       ap (λ x. has cells j || x) (below_shifted w here low j m h)
       ∙ (false_behind (has cells j)
@@ -109,12 +109,21 @@ gathered_on w left cells low colour here next e small new before j h = has_or ce
   | inr m ↦
       ap (λ x. has cells j || x) (shifted w here low j (pow_pos here) m h)
       ∙ (ap (λ x. x || has low (j - here)) (before j h ∙ none_past (take here left) colour j (let n = length-take here left in omega arith))
-      ∙ elim (cases_lt (j - here) 8) [
+      ∙ elim (cases_lt (j - here) s) [
         | inl inside ↦
             let q : here + (j - here) ≡ j = omega arith in
             new (j - here) inside ∙ (ap (λ n. allows (get_or left n 0) colour) q ∙ sym (ap (λ n. allows n colour) (get_or-take next left j 0 (omega arith))))
-        | inr past ↦ has_above 8 low (j - here) small past ∙ sym (none_past (take next left) colour j (let n = length-take next left in omega arith))
+        | inr past ↦ has_above s low (j - here) small past ∙ sym (none_past (take next left) colour j (let n = length-take next left in omega arith))
       ])
+]
+
+-- the first s cells alone
+pub gathered_first : (s : ℕ) (left : List ℕ) (low colour : ℕ) → low < 2 ^ s → ((j : ℕ) → j < s → has low j ≡ allows (get_or left (0 + j) 0) colour) → (j : ℕ) → has low j ≡ allows (get_or (take s left) j 0) colour
+gathered_first s left low colour small is j = elim (cases_lt j s) [
+  | inl l ↦
+      let z : 0 + j ≡ j = omega arith in
+      is j l ∙ (ap (λ n. allows (get_or left n 0) colour) z ∙ sym (ap (λ n. allows n colour) (get_or-take s left j 0 l)))
+  | inr m ↦ has_above s low j small m ∙ sym (none_past (take s left) colour j (let n = length-take s left in omega arith))
 ]
 
 -- all cells, where they are at most 64
@@ -149,7 +158,7 @@ two_halves w left front rest colour small f r i h = has_or front (rest * 2 ^ 64 
       ∙ (r (i - 64) ∙ (ap (λ n. allows n colour) (get_or-drop 64 left (i - 64) 0) ∙ ap (λ n. allows (get_or left n 0) colour) q)))
 ]
 
--- ---- eight cells that are compared together
+-- ---- s cells that are compared together
 
 -- a cell has all bits of a mask
 abbrev covers : ℕ → ℕ → Bool
@@ -163,22 +172,22 @@ covers_is cell colour = ap (λ n. eqb n (2 ^ colour)) (and_pow cell colour) ∙ 
     once (suc zero) p h i = eq-eqb (suc zero * p) p (omega arith)
     once (suc (suc b)) p h i = absurd (omega arith)
 
--- what the comparison of eight cells gives
-abbrev pub compared : ℕ → List ℕ → ℕ
-compared bit cells = mask_l (map (top 15) (zip2 (λ (a b : ℕ). cond (eqb a b) 65535 0) (zip2 bit_and cells (replicate 8 bit)) (replicate 8 bit))) % 2 ^ 64
+-- what the comparison of s cells gives
+abbrev pub compared : ℕ → ℕ → List ℕ → ℕ
+compared s bit cells = mask_l (map (top 15) (zip2 (λ (a b : ℕ). cond (eqb a b) 65535 0) (zip2 bit_and cells (replicate s bit)) (replicate s bit))) % 2 ^ 64
 
-compared_is : (bit : ℕ) (cells : List ℕ) → length cells ≡ 8 → compared bit cells ≡ mask_l (map (covers bit) cells)
-compared_is bit cells h =
-    let n : length (zip2 bit_and cells (replicate 8 bit)) ≡ 8 = length-zip2 bit_and cells (replicate 8 bit) h ∙ h in
-    bitmask_splat w16 eqb (zip2 bit_and cells (replicate 8 bit)) 8 bit n (omega arith)
-    ∙ (ap (λ xs. mask_l (map (λ x. eqb x bit) xs)) (zip2_splat bit_and cells 8 bit h)
+compared_is : (s bit : ℕ) (cells : List ℕ) → s ≤ 64 → length cells ≡ s → compared s bit cells ≡ mask_l (map (covers bit) cells)
+compared_is s bit cells few h =
+    let n : length (zip2 bit_and cells (replicate s bit)) ≡ s = length-zip2 bit_and cells (replicate s bit) (h ∙ sym (length-replicate s bit)) ∙ h in
+    bitmask_splat w16 eqb (zip2 bit_and cells (replicate s bit)) s bit n few
+    ∙ (ap (λ xs. mask_l (map (λ x. eqb x bit) xs)) (zip2_splat bit_and cells s bit h)
     ∙ ap mask_l (map-map (λ x. eqb x bit) (λ x. bit_and x bit) cells))
 
-pub compared-lt : (bit : ℕ) (cells : List ℕ) → length cells ≡ 8 → compared bit cells < 256
-compared-lt bit cells h =
-    let P : ℕ → Type 0 = λ n. n < 256 in
+pub compared-lt : (s bit : ℕ) (cells : List ℕ) → s ≤ 64 → length cells ≡ s → compared s bit cells < 2 ^ s
+compared-lt s bit cells few h =
+    let P : ℕ → Type 0 = λ n. n < 2 ^ s in
     let Q : ℕ → Type 0 = λ n. mask_l (map (covers bit) cells) < 2 ^ n in
-    subst P (sym (compared_is bit cells h)) (subst Q (length-map cells (covers bit) ∙ h) (mask_l-lt (map (covers bit) cells)))
+    subst P (sym (compared_is s bit cells few h)) (subst Q (length-map cells (covers bit) ∙ h) (mask_l-lt (map (covers bit) cells)))
 
 pub has_mask : (ms : List Bool) (i : ℕ) → has (mask_l ms) i ≡ get_or ms i false
 unfolding has
@@ -188,14 +197,14 @@ has_mask ms i = ap (λ n. n == 1) (bit_mask_l ms i) ∙ told (get_or ms i false)
     told true = refl
     told false = refl
 
-pub compared_each : (left : List ℕ) (first colour i : ℕ) → colour < 16 → first + 8 ≤ length left → i < 8 → has (compared (1 * 2 ^ colour % 65536) (chunk first 8 left)) i ≡ allows (get_or left (first + i) 0) colour
-compared_each left first colour i h room l =
+pub compared_each : (s : ℕ) (left : List ℕ) (first colour i : ℕ) → s ≤ 64 → colour < 16 → first + s ≤ length left → i < s → has (compared s (1 * 2 ^ colour % 65536) (chunk first s left)) i ≡ allows (get_or left (first + i) 0) colour
+compared_each s left first colour i few h room l =
     let bit = 1 * 2 ^ colour % 65536 in
-    let cells = chunk first 8 left in
-    let n : length cells ≡ 8 = length-chunk first 8 left room in
-    ap (λ m. has m i) (compared_is bit cells n)
+    let cells = chunk first s left in
+    let n : length cells ≡ s = length-chunk first s left room in
+    ap (λ m. has m i) (compared_is s bit cells few n)
     ∙ (has_mask (map (covers bit) cells) i
     ∙ (get_or-map (covers bit) cells i 0 false (omega arith)
-    ∙ (ap (λ m. covers bit m) (get_or-chunk first 8 left i 0 l)
+    ∙ (ap (λ m. covers bit m) (get_or-chunk first s left i 0 l)
     ∙ (ap (λ b. covers b (get_or left (first + i) 0)) (one_shifted colour 65535 refl h).0
     ∙ covers_is (get_or left (first + i) 0) colour))))

@@ -50,16 +50,14 @@ impl Facts {
         }
     }
 
-    // The same for a row. It asks for no axis at each cell.
+    // The same for a row, whose masks lie side by side.
     fn copy_across(&self, line: LineId, masks: &mut [u16])
         requires axis { line.axis ≡ Axis.Across }
         requires line { HasLine self.now line }
         requires whole { length masks.old ≡ length (line_of self.now line) }
         ensures { masks.new ≡ line_of self.now line }
     {
-        for col in 0..self.width() {
-            masks[usize::from(col)] = self.left(line.at, col);
-        }
+        masks.copy_from_slice(self.row_masks(line.at));
     }
 
     // The same for a column.

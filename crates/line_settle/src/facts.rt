@@ -132,7 +132,7 @@ impl Facts {
     }
 
     // The masks of a row, from the left.
-    fn row_masks(&self, row: u8) -> &[u16]
+    pub(crate) fn row_masks(&self, row: u8) -> &[u16]
         requires { row < length self.now }
         ensures { result.now ≡ row_at self.now row }
     {

@@ -14,8 +14,8 @@ use crate::positions::places_apart;
 use clues::Clue;
 use picture::{LineId, LineSet, MAX_SIDE};
 
-// No line has more cells.
-const MOST_CELLS: usize = MAX_SIDE as usize;
+// No line has more cells. They are compared sixteen by sixteen.
+const MOST_CELLS: usize = 128;
 
 /// What forcing a line came to.
 #[derive(Clone, Copy)]
@@ -83,7 +83,7 @@ fn write_changes(
     requires room { cells ≤ MAX_SIDE }
     requires cells { cells ≡ length (line_of facts.old line) }
     requires old { take cells left.now ≡ line_of facts.old line }
-    requires whole { length left.now ≡ MAX_SIDE }
+    requires whole { length left.now ≡ MOST_CELLS }
     requires same_length { length masks.now ≡ length left.now }
     requires same_behind { (i : ℕ) → cells ≤ i → slice_index left.now i ≡ slice_index masks.now i }
     ensures holds { HoldsLine line facts.old facts.new (take cells masks.now) }

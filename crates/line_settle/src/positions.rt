@@ -159,7 +159,32 @@ fn eight_with(left: &[u16], first: usize, colour: u8) -> u64
     (cells & bit).simd_eq(bit).to_bitmask()
 }
 
-// The same for at most 64 cells, eight by eight from the first on.
+#[inline]
+// The same for sixteen cells.
+fn sixteen_with(left: &[u16], first: usize, colour: u8) -> u64
+    requires colour { colour < 16 }
+    requires room { first + 16 ≤ length left.now }
+    ensures each { (i : ℕ) → i < 16
+        → has result i ≡ allows (slice_index left.now (first + i)) colour }
+    ensures no_more { result < 65536 }
+{
+    let bit = u16x16::splat(1 << colour);
+    let cells = u16x16::from_slice(&left[first..]);
+    (cells & bit).simd_eq(bit).to_bitmask()
+}
+
+// The same for 8 to 16 cells: the first eight and the last eight.
+fn eights_with(left: &[u16], colour: u8) -> u64
+    requires colour { colour < 16 }
+    requires some { 8 ≤ length left.now }
+    requires short { length left.now ≤ 16 }
+    ensures { (i : ℕ) → has result i ≡ allows (slice_index left.now i) colour }
+{
+    let last = left.len() - 8;
+    eight_with(left, 0, colour) | (eight_with(left, last, colour) << last)
+}
+
+// The same for at most 64 cells, sixteen by sixteen from the first on.
 fn near_with(left: &[u16], colour: u8) -> u64
     requires colour { colour < 16 }
     requires short { length left.now ≤ 64 }
@@ -168,16 +193,19 @@ fn near_with(left: &[u16], colour: u8) -> u64
     if left.len() < 8 {
         return few_with(left, colour);
     }
-    let mut cells = 0;
-    for chunk in 0..left.len() / 8 {
-        cells |= eight_with(left, 8 * chunk, colour) << (8 * chunk);
+    if left.len() < 16 {
+        return eights_with(left, colour);
     }
-    if left.len() % 8 == 0 {
+    let mut cells = 0;
+    for chunk in 0..left.len() / 16 {
+        cells |= sixteen_with(left, 16 * chunk, colour) << (16 * chunk);
+    }
+    if left.len() % 16 == 0 {
         return cells;
     }
-    // The last eight cells together: some of them once more, which changes nothing.
-    let last = left.len() - 8;
-    cells | (eight_with(left, last, colour) << last)
+    // The last sixteen cells together: some of them once more, which changes nothing.
+    let last = left.len() - 16;
+    cells | (sixteen_with(left, last, colour) << last)
 }
 
 /// The cells of a line in which a colour is left, as the positions before them.
@@ -195,31 +223,31 @@ pub fn cells_with<W: Word>(left: &[u16], colour: u8) -> W
 }
 
 #[inline]
-// The places among the eight from `first` on at which two lists of masks differ, compared together.
-fn eight_apart(before: &[u16], after: &[u16], first: usize) -> u64
-    requires room { first + 8 ≤ length before.now }
+// The places among the sixteen from `first` on at which two lists of masks differ, compared together.
+fn sixteen_apart(before: &[u16], after: &[u16], first: usize) -> u64
+    requires room { first + 16 ≤ length before.now }
     requires same_length { length after.now ≡ length before.now }
-    ensures each { (i : ℕ) → i < 8 → has result i ≡ differs before.now after.now (first + i) }
-    ensures no_more { result < 256 }
+    ensures each { (i : ℕ) → i < 16 → has result i ≡ differs before.now after.now (first + i) }
+    ensures no_more { result < 65536 }
 {
-    let old = u16x8::from_slice(&before[first..]);
-    let new = u16x8::from_slice(&after[first..]);
+    let old = u16x16::from_slice(&before[first..]);
+    let new = u16x16::from_slice(&after[first..]);
     old.simd_ne(new).to_bitmask()
 }
 
-/// The places at which two lists of masks differ, which are all below `cells`. The lists reach to the end of the eight
+/// The places at which two lists of masks differ, which are all below `cells`. The lists reach to the end of the sixteen
 /// places in which the last of these lies.
 pub fn places_apart(before: &[u16], after: &[u16], cells: usize) -> u128
     requires same_length { length after.now ≡ length before.now }
-    requires room { 8 * ((cells + 7) / 8) ≤ length before.now }
-    requires short { length before.now < 128 }
+    requires room { 16 * ((cells + 15) / 16) ≤ length before.now }
+    requires short { length before.now ≤ 128 }
     requires same_behind { (i : ℕ) → cells ≤ i
         → slice_index before.now i ≡ slice_index after.now i }
     ensures { (i : ℕ) → has result i ≡ differs before.now after.now i }
 {
     let mut places = 0u128;
-    for chunk in (0..(cells + 7) / 8).rev() {
-        places = (places << 8) | u128::from(eight_apart(before, after, 8 * chunk));
+    for chunk in (0..(cells + 15) / 16).rev() {
+        places = (places << 16) | u128::from(sixteen_apart(before, after, 16 * chunk));
     }
     places
 }

@@ -4,4 +4,4 @@ use Rattle.line_settle.specs.Positions.{has}
 use Rattle.line_settle.proofs.positions.near_with.Given as goal
 
 abbrev pub invariant-loop-chunk : goal.invariant-loop-chunk
-invariant-loop-chunk l = (j : ℕ) → j < 64 → has l.cells j ≡ allows (get_or (take (8 * l.chunk) l.left) j 0) l.colour
+invariant-loop-chunk l = (j : ℕ) → j < 64 → has l.cells j ≡ allows (get_or (take (16 * l.chunk) l.left) j 0) l.colour

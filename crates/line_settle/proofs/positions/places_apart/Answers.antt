@@ -6,12 +6,12 @@ use Rattle.line_settle.proofs.GatheringLemmas.{gathered_more}
 use Rattle.line_settle.proofs.positions.places_apart.Goals as goal
 
 pub loop-chunk-init : goal.loop-chunk-init
-loop-chunk-init c = λ j h. none_apart c.args.before.now c.args.after.now c.args.cells (8 * ((c.args.cells + 7) / 8)) j (omega arith) c.requires.same_behind
+loop-chunk-init c = λ j h. none_apart c.args.before.now c.args.after.now c.args.cells (16 * ((c.args.cells + 15) / 16)) j (omega arith) c.requires.same_behind
 
 pub loop-chunk-preserved : goal.loop-chunk-preserved
 loop-chunk-preserved c =
-    gathered_more 128 8 (differs c.args.before.now c.args.after.now) c.loop-chunk.places c.from.result (8 * (c.loop-chunk.chunk - 1)) (8 * c.loop-chunk.chunk) (omega arith) (omega (arith, c.from.ensures, c.eight_apart.ensures.no_more))
-    (λ j h. ap (λ m. has m j) c.from.ensures ∙ c.eight_apart.ensures.each j h)
+    gathered_more 128 16 (differs c.args.before.now c.args.after.now) c.loop-chunk.places c.from.result (16 * (c.loop-chunk.chunk - 1)) (16 * c.loop-chunk.chunk) (omega arith) (omega (arith, c.from.ensures, c.sixteen_apart.ensures.no_more))
+    (λ j h. ap (λ m. has m j) c.from.ensures ∙ c.sixteen_apart.ensures.each j h)
     c.loop-chunk.invariant
 
 pub returns : goal.returns

@@ -4,4 +4,4 @@ use Rattle.line_settle.specs.Crossing.{differs}
 use Rattle.line_settle.proofs.positions.places_apart.Given as goal
 
 abbrev pub invariant-loop-chunk : goal.invariant-loop-chunk
-invariant-loop-chunk l = (j : ℕ) → j < 128 → has l.places j ≡ differs l.before l.after (8 * l.chunk + j)
+invariant-loop-chunk l = (j : ℕ) → j < 128 → has l.places j ≡ differs l.before l.after (16 * l.chunk + j)

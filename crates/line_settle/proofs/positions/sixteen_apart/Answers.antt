@@ -1,5 +1,5 @@
 use Rattle.line_settle.proofs.ApartLemmas.{pairs-lt, pairs_each}
-use Rattle.line_settle.proofs.positions.eight_apart.Goals as goal
+use Rattle.line_settle.proofs.positions.sixteen_apart.Goals as goal
 
 pub returns-clause-each : goal.returns-clause-each
 returns-clause-each c = pairs_each c.args.before.now c.args.after.now c.args.first c.requires.room c.requires.same_length
