@@ -10,8 +10,11 @@ ghost use Rattle.edits.specs.Note.{IsCellIn, IsPlaceIn, as_mark, repainted, with
 use crate::edit::Edit;
 use picture::{CellSet, Picture};
 
+/// A cell by its row and its column, with a colour.
+pub type Cell = (u8, u8, u8);
+
 /// Gives each of the cells its colour.
-pub(crate) fn put_cells(picture: &mut Picture, cells: &[(u8, u8, u8)])
+pub(crate) fn put_cells(picture: &mut Picture, cells: &[Cell])
     requires { All (IsCellIn picture.old) cells.now }
     ensures { picture.new ≡ with_cells picture.old cells.now }
 {
@@ -23,7 +26,7 @@ pub(crate) fn put_cells(picture: &mut Picture, cells: &[(u8, u8, u8)])
 }
 
 /// Gives each of the cells the colour that an edit makes of its old one.
-pub(crate) fn paint_cells(picture: &mut Picture, edit: &Edit, cells: &[(u8, u8, u8)])
+pub(crate) fn paint_cells(picture: &mut Picture, edit: &Edit, cells: &[Cell])
     requires { All (IsCellIn picture.old) (map (repainted edit.now) cells.now) }
     ensures { picture.new ≡ with_cells picture.old (map (repainted edit.now) cells.now) }
 {

@@ -9,6 +9,7 @@ ghost use Rattle.edits.specs.Change.{DifferIn};
 ghost use Rattle.edits.specs.Note.{cells_along};
 ghost use Rattle.edits.specs.Painting.{SameAt};
 
+use crate::cells::Cell;
 use crate::edit::Edit;
 use crate::entry::Entry;
 use crate::facts::know;
@@ -81,7 +82,7 @@ impl Entry {
 }
 
 // The change between two pictures of one size. The cells are those in which they differ.
-fn of_cells(old: &Picture, new: &Picture, cells: &[(u8, u8, u8)]) -> Change
+fn of_cells(old: &Picture, new: &Picture, cells: &[Cell]) -> Change
     requires { DifferIn cells.now old.now new.now }
     ensures moves { result.moves ≡ still (length old.now) (width_of old.now) }
     ensures are_moves { AreMoves result.moves }

@@ -6,6 +6,7 @@ ghost use Rattle.edits.specs.Design.{design_of};
 ghost use Rattle.edits.specs.Fault.{is_outside, lacks_colour};
 ghost use Rattle.edits.specs.Note.{cells_kept, cells_of_line, givens_kept, givens_of_line, triple_kept};
 
+use crate::cells::Cell;
 use crate::edit::Edit;
 use crate::idle::is_given;
 use crate::painting::changed_cells;
@@ -13,12 +14,11 @@ use crate::places::{line_length, place_on};
 use picture::{Document, LineId, Palette, Picture, Rgb};
 use std::alloc::{AllocError, Global};
 
+// The rows and the columns of givens.
+type Givens = Vec<(u8, u8)>;
+
 /// The cells that an edit changes or deletes, with their old colours, in row order.
-pub(crate) fn kept_cells(
-    alloc: Global,
-    picture: &Picture,
-    edit: &Edit,
-) -> Result<Vec<(u8, u8, u8)>, AllocError>
+pub fn kept_cells(alloc: Global, picture: &Picture, edit: &Edit) -> Result<Vec<Cell>, AllocError>
     requires { is_outside picture.now edit.now ≡ false }
     ensures { IfOk result (λ cells. cells.items ≡ cells_kept picture.now edit.now) }
 {
@@ -33,11 +33,7 @@ pub(crate) fn kept_cells(
 
 // The cells of a line.
 #[tactic(auto, using(crate::proofs::KeptLemmas::keeping))]
-fn cells_of_line(
-    alloc: Global,
-    picture: &Picture,
-    line: LineId,
-) -> Result<Vec<(u8, u8, u8)>, AllocError>
+fn cells_of_line(alloc: Global, picture: &Picture, line: LineId) -> Result<Vec<Cell>, AllocError>
     requires { line.at < lines_along line.axis picture.now }
     ensures { IfOk result (λ cells. cells.items ≡ cells_of_line picture.now line) }
 {
@@ -50,7 +46,7 @@ fn cells_of_line(
 }
 
 /// The colour that another one takes the place of.
-pub(crate) fn kept_triple(palette: &Palette, edit: &Edit) -> Option<Rgb>
+pub fn kept_triple(palette: &Palette, edit: &Edit) -> Option<Rgb>
     requires { lacks_colour palette.now edit.now ≡ false }
     ensures { result ≡ triple_kept palette.now edit.now }
 {
@@ -61,11 +57,7 @@ pub(crate) fn kept_triple(palette: &Palette, edit: &Edit) -> Option<Rgb>
 }
 
 /// The givens of a deleted line, in row order.
-pub(crate) fn kept_givens(
-    alloc: Global,
-    document: &Document,
-    edit: &Edit,
-) -> Result<Vec<(u8, u8)>, AllocError>
+pub fn kept_givens(alloc: Global, document: &Document, edit: &Edit) -> Result<Givens, AllocError>
     requires { is_outside document.now.picture edit.now ≡ false }
     ensures { IfOk result (λ givens.
         givens.items ≡ givens_kept (design_of document.now).marks edit.now) }
@@ -78,11 +70,7 @@ pub(crate) fn kept_givens(
 
 // The givens of a line.
 #[tactic(auto, using(crate::proofs::KeptLemmas::keeping))]
-fn givens_of_line(
-    alloc: Global,
-    document: &Document,
-    line: LineId,
-) -> Result<Vec<(u8, u8)>, AllocError>
+fn givens_of_line(alloc: Global, document: &Document, line: LineId) -> Result<Givens, AllocError>
     requires { line.at < lines_along line.axis document.now.picture }
     ensures { IfOk result (λ givens.
         givens.items ≡ givens_of_line (design_of document.now).marks line) }

@@ -7,6 +7,7 @@ ghost use Rattle.edits.specs.Fault.{is_outside};
 ghost use Rattle.edits.specs.Note.{changed_cells, changed_in_row};
 ghost use Rattle.edits.specs.Painting.{IsArea};
 
+use crate::cells::Cell;
 use crate::edit::Edit;
 use picture::Picture;
 use std::alloc::{AllocError, Global};
@@ -87,11 +88,7 @@ impl Edit {
 
 #[tactic(auto, using(crate::proofs::PaintLemmas::painting))]
 /// The cells that an edit gives another colour, with their old ones, in row order.
-pub(crate) fn changed_cells(
-    alloc: Global,
-    picture: &Picture,
-    edit: &Edit,
-) -> Result<Vec<(u8, u8, u8)>, AllocError>
+pub fn changed_cells(alloc: Global, picture: &Picture, edit: &Edit) -> Result<Vec<Cell>, AllocError>
     requires { is_outside picture.now edit.now ≡ false }
     ensures { IfOk result (λ cells. cells.items ≡ changed_cells edit.now picture.now) }
 {
@@ -106,7 +103,7 @@ pub(crate) fn changed_cells(
 #[tactic(auto, using(crate::proofs::PaintLemmas::painting))]
 // Appends the cells of a row.
 fn push_changed(
-    cells: &mut Vec<(u8, u8, u8)>,
+    cells: &mut Vec<Cell>,
     picture: &Picture,
     edit: &Edit,
     area: Area,

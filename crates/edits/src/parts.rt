@@ -10,7 +10,7 @@ ghost use Rattle.edits.specs.Design.{design, design_of};
 ghost use Rattle.edits.specs.Moving.{AreMoved};
 ghost use Rattle.edits.specs.Note.{IsCellIn, IsPlaceIn, as_mark, repainted, with_cells, with_old};
 
-use crate::cells::{paint_cells, put_cells, put_givens};
+use crate::cells::{Cell, paint_cells, put_cells, put_givens};
 use crate::edit::Edit;
 use crate::moving::moved_givens;
 use clues::Change;
@@ -18,11 +18,7 @@ use picture::{Axis, Document, LineId, MAX_SIDE, Picture, Rgb};
 use std::alloc::AllocError;
 
 /// The document with the cells of a list painted.
-pub(crate) fn painted(
-    document: &Document,
-    edit: &Edit,
-    cells: &[(u8, u8, u8)],
-) -> Result<Document, AllocError>
+pub fn painted(document: &Document, edit: &Edit, cells: &[Cell]) -> Result<Document, AllocError>
     requires cells { All (IsCellIn document.now.picture) (map (repainted edit.now) cells.now) }
     requires coloured { AreColoured (with_cells document.now.picture
         (map (repainted edit.now) cells.now)) document.now.palette }
@@ -36,10 +32,7 @@ pub(crate) fn painted(
 }
 
 /// The document with the cells of a list given back.
-pub(crate) fn with_cells(
-    document: &Document,
-    cells: &[(u8, u8, u8)],
-) -> Result<Document, AllocError>
+pub fn with_cells(document: &Document, cells: &[Cell]) -> Result<Document, AllocError>
     requires cells { All (IsCellIn document.now.picture) cells.now }
     requires coloured { AreColoured (with_cells document.now.picture cells.now)
         document.now.palette }
@@ -73,7 +66,7 @@ fn moved(document: &Document, picture: Picture, back: &Change) -> Result<Documen
 }
 
 /// The document with a line of background inserted.
-pub(crate) fn inserted(document: &Document, line: LineId) -> Result<Document, AllocError>
+pub fn inserted(document: &Document, line: LineId) -> Result<Document, AllocError>
     requires place { line.at ≤ lines_along line.axis document.now.picture }
     requires room { lines_along line.axis document.now.picture < MAX_SIDE }
     requires coloured { AreColoured (line_inserted document.now.picture line) document.now.palette }
@@ -88,7 +81,7 @@ pub(crate) fn inserted(document: &Document, line: LineId) -> Result<Document, Al
 }
 
 /// The document with a line deleted.
-pub(crate) fn deleted(document: &Document, line: LineId) -> Result<Document, AllocError>
+pub fn deleted(document: &Document, line: LineId) -> Result<Document, AllocError>
     requires place { line.at < lines_along line.axis document.now.picture }
     requires others { 1 < lines_along line.axis document.now.picture }
     requires coloured { AreColoured (line_deleted document.now.picture line) document.now.palette }
@@ -103,7 +96,7 @@ pub(crate) fn deleted(document: &Document, line: LineId) -> Result<Document, All
 }
 
 /// The document with two lines exchanged.
-pub(crate) fn swapped(
+pub fn swapped(
     document: &Document,
     axis: Axis,
     first: u8,
@@ -124,7 +117,7 @@ pub(crate) fn swapped(
 }
 
 /// The document with a cell that is a given.
-pub(crate) fn pinned(document: &Document, row: u8, col: u8) -> Result<Document, AllocError>
+pub fn pinned(document: &Document, row: u8, col: u8) -> Result<Document, AllocError>
     requires in_rows { row < length document.now.picture }
     requires in_columns { col < width_of document.now.picture }
     ensures { IfOk result (λ d. design_of d
@@ -137,7 +130,7 @@ pub(crate) fn pinned(document: &Document, row: u8, col: u8) -> Result<Document, 
 }
 
 /// The document with a cell that is no given.
-pub(crate) fn unpinned(document: &Document, row: u8, col: u8) -> Result<Document, AllocError>
+pub fn unpinned(document: &Document, row: u8, col: u8) -> Result<Document, AllocError>
     requires in_rows { row < length document.now.picture }
     requires in_columns { col < width_of document.now.picture }
     ensures { IfOk result (λ d. design_of d
@@ -150,7 +143,7 @@ pub(crate) fn unpinned(document: &Document, row: u8, col: u8) -> Result<Document
 }
 
 /// The document with one colour more.
-pub(crate) fn added(document: &Document, rgb: Rgb) -> Result<Document, AllocError>
+pub fn added(document: &Document, rgb: Rgb) -> Result<Document, AllocError>
     ensures { IfOk result (λ d. design_of d
         ≡ design (with_colour document.now.palette rgb) document.now.picture (design_of document.now).marks) }
 {
@@ -163,7 +156,7 @@ pub(crate) fn added(document: &Document, rgb: Rgb) -> Result<Document, AllocErro
 }
 
 /// The document with another colour at a number.
-pub(crate) fn recoloured(document: &Document, colour: u8, rgb: Rgb) -> Result<Document, AllocError>
+pub fn recoloured(document: &Document, colour: u8, rgb: Rgb) -> Result<Document, AllocError>
     requires { colour < length document.now.palette.triples }
     ensures { IfOk result (λ d. design_of d
         ≡ design (with_triple document.now.palette colour rgb) document.now.picture (design_of document.now).marks) }
@@ -177,7 +170,7 @@ pub(crate) fn recoloured(document: &Document, colour: u8, rgb: Rgb) -> Result<Do
 }
 
 /// The document without its last colour, which no cell has.
-pub(crate) fn without_last(document: &Document) -> Result<Document, AllocError>
+pub fn without_last(document: &Document) -> Result<Document, AllocError>
     requires more { 1 < length document.now.palette.triples }
     requires coloured { AreColoured document.now.picture (without_last document.now.palette) }
     ensures { IfOk result (λ d. design_of d
@@ -189,7 +182,7 @@ pub(crate) fn without_last(document: &Document) -> Result<Document, AllocError>
 }
 
 /// The document with a number's old colour.
-pub(crate) fn with_old(
+pub fn with_old(
     document: &Document,
     colour: u8,
     triple: Option<Rgb>,
@@ -205,10 +198,10 @@ pub(crate) fn with_old(
 }
 
 /// The document with a deleted line given back.
-pub(crate) fn restored(
+pub fn restored(
     document: &Document,
     line: LineId,
-    cells: &[(u8, u8, u8)],
+    cells: &[Cell],
     givens: &[(u8, u8)],
 ) -> Result<Document, AllocError>
     requires place { line.at ≤ lines_along line.axis document.now.picture }

@@ -1,7 +1,6 @@
 //! Positions along lines.
 
-ghost use Rattle.std.specs.Prelude.{◌≡◌, ◌<◌, ◌≤◌, length};
-ghost use Rattle.picture.specs.Rows.{lines_along, width_of};
+ghost use Rattle.std.specs.Prelude.{◌≡◌, ◌≤◌};
 ghost use Rattle.edits.specs.Note.{cells_along, place_on};
 
 use picture::{Axis, MAX_SIDE, Picture};
@@ -16,21 +15,10 @@ pub(crate) fn place_on(axis: Axis, at: u8, position: u8) -> (u8, u8)
     }
 }
 
-/// How many lines a picture has along an axis.
-pub(crate) fn line_count(picture: &Picture, axis: Axis) -> u8
-    ensures value { result ≡ lines_along axis picture.now }
-    ensures fits { result ≤ MAX_SIDE }
-{
-    match axis {
-        Axis::Across => picture.height(),
-        Axis::Down => picture.width(),
-    }
-}
-
 /// How many cells the lines of an axis have.
 pub(crate) fn line_length(picture: &Picture, axis: Axis) -> u8
     ensures value { result ≡ cells_along axis picture.now }
     ensures fits { result ≤ MAX_SIDE }
 {
-    line_count(picture, axis.crossing())
+    picture.line_count(axis.crossing())
 }

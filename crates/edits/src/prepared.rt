@@ -60,11 +60,7 @@ impl Prepared {
 }
 
 /// An edit of a document, and what is kept of it.
-pub(crate) fn edit_of(
-    alloc: Global,
-    document: &Document,
-    edit: &Edit,
-) -> Result<Prepared, EditFault>
+pub fn edit_of(alloc: Global, document: &Document, edit: &Edit) -> Result<Prepared, EditFault>
     ensures refused { IfErr result
         (λ fault. fault ≡ or_memory (edit_fault (design_of document.now) edit.now)) }
     ensures lawful { IfOk result (λ _. edit_fault (design_of document.now) edit.now ≡ None) }
@@ -86,7 +82,7 @@ pub(crate) fn edit_of(
 }
 
 /// The document before an edit that was made, from the one after it and what was kept of the edit.
-pub(crate) fn undo_of(document: &Document, entry: &Entry) -> Result<Prepared, AllocError>
+pub fn undo_of(document: &Document, entry: &Entry) -> Result<Prepared, AllocError>
     requires { (before : Design) × IsStep before (note_of entry.now) (design_of document.now) }
     ensures { IfOk result (λ p.
         (before : Design) → IsStep before (note_of entry.now) (design_of document.now)
@@ -102,7 +98,7 @@ pub(crate) fn undo_of(document: &Document, entry: &Entry) -> Result<Prepared, Al
 }
 
 /// The document after an edit that was undone, and is made again.
-pub(crate) fn redo_of(document: &Document, entry: &Entry) -> Result<Prepared, AllocError>
+pub fn redo_of(document: &Document, entry: &Entry) -> Result<Prepared, AllocError>
     requires { IsEntry (design_of document.now) (note_of entry.now) }
     ensures { IfOk result (λ p. IsMade ByRedo (moves_of entry.now.edit document.now.picture)
         (design_of document.now) (edited (design_of document.now) entry.now.edit) p) }

@@ -7,7 +7,6 @@ ghost use Rattle.edits.specs.Fault.{deletes_last, edit_fault, has_cell, has_no_r
 use crate::edit::Edit;
 use crate::fault::EditFault;
 use crate::idle::changes_nothing;
-use crate::places::line_count;
 use picture::{Document, MAX_COLOURS, MAX_SIDE, Palette, Picture};
 
 impl Edit {
@@ -55,13 +54,13 @@ fn is_outside(picture: &Picture, edit: &Edit) -> bool
             right,
             ..
         } => !(has_cell(picture, bottom, right) && (top <= bottom && left <= right)),
-        Edit::InsertLine { line } => line.at > line_count(picture, line.axis),
-        Edit::DeleteLine { line } => line.at >= line_count(picture, line.axis),
+        Edit::InsertLine { line } => line.at > picture.line_count(line.axis),
+        Edit::DeleteLine { line } => line.at >= picture.line_count(line.axis),
         Edit::SwapLines {
             axis,
             first,
             second,
-        } => first >= line_count(picture, axis) || second >= line_count(picture, axis),
+        } => first >= picture.line_count(axis) || second >= picture.line_count(axis),
         Edit::Recolour { .. } | Edit::AddColour { .. } | Edit::SetColour { .. } => false,
     }
 }
@@ -91,7 +90,7 @@ fn has_no_room(picture: &Picture, edit: &Edit) -> bool
     ensures { result ≡ has_no_room picture.now edit.now }
 {
     match *edit {
-        Edit::InsertLine { line } => line_count(picture, line.axis) >= MAX_SIDE,
+        Edit::InsertLine { line } => picture.line_count(line.axis) >= MAX_SIDE,
         _ => false,
     }
 }
@@ -101,7 +100,7 @@ fn deletes_last(picture: &Picture, edit: &Edit) -> bool
     ensures { result ≡ deletes_last picture.now edit.now }
 {
     match *edit {
-        Edit::DeleteLine { line } => line_count(picture, line.axis) <= 1,
+        Edit::DeleteLine { line } => picture.line_count(line.axis) <= 1,
         _ => false,
     }
 }

@@ -16,7 +16,8 @@ use Rattle.ppm_text.specs.declared.fault.PpmFault.TheVariants.{NotP3}
 use Rattle.ppm_text.specs.Tokens.{Token, Unread, magic_of}
 use Rattle.ppm_text.specs.Samples.{side_at}
 use Rattle.ppm_text.specs.Ppm.{Header, header_of, palette_at, cells_at, at_the_end, ppm_of}
-use Rattle.ppm_text.specs.Text.{number_text, triple_text, cell_text, row_text, rows_text, ppm_text}
+use Rattle.picture.specs.Writing.{number_text}
+use Rattle.ppm_text.specs.Text.{triple_text, cell_text, row_text, rows_text, ppm_text}
 use Rattle.ppm_text.specs.RoundTrip.{IsUngiven, IsReadAgain}
 use Rattle.ppm_text.proofs.Binds.{bind_is}
 use Rattle.ppm_text.proofs.Spelled.{text_tokens, behind, space_closes, line_end_closes, side_again, palette_again}

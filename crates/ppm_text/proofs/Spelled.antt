@@ -20,7 +20,8 @@ use Rattle.ppm_text.specs.Tokens.{Token, tokens_from, without_comments, is_gap, 
 use Rattle.ppm_text.specs.Numerals.{numeral_at}
 use Rattle.ppm_text.specs.Samples.{side_at, sample_at, triple_at}
 use Rattle.ppm_text.specs.Ppm.{palette_at}
-use Rattle.ppm_text.specs.Text.{number_text, triple_text}
+use Rattle.picture.specs.Writing.{number_text}
+use Rattle.ppm_text.specs.Text.{triple_text}
 use Rattle.ppm_text.proofs.Binds.{bind_is}
 use Rattle.ppm_text.proofs.Scanning.{no_comment, gap_parts}
 

@@ -1,13 +1,13 @@
 -- Numbers of any length, counted no further than a cap that is above each limit.
-use Rattle.std.specs.Prelude.{ℕ, ◌+◌, ◌-◌, ◌*◌, min, Bool, false, if◌then◌else◌, List, [], ◌∷◌, Option, Some, None, Result, Ok, Err}
+use Rattle.std.specs.Prelude.{ℕ, ◌+◌, ◌-◌, ◌*◌, min, Bool, false, if◌then◌else◌, List, [], ◌∷◌, length, Option, Some, None, Result, Ok, Err}
 use Rattle.std.specs.Char.{is_ascii_digit}
 use Rattle.std.specs.Str.{all_ascii_digits}
 use Rattle.std.specs.Str.Parse.{digits_value}
-use Rattle.picture.specs.Reading.{◌>>=◌}
+use Rattle.picture.specs.Reading.{◌>>=◌, Reads}
 use Rattle.ppm_text.specs.declared.fault.PpmFault.{PpmFault}
 use Rattle.ppm_text.specs.declared.fault.PpmFault.TheVariants.{Truncated, BadNumber}
 use Rattle.ppm_text.specs.declared.scanner.Numeral.{Numeral}
-use Rattle.ppm_text.specs.Tokens.{Token, is_gap}
+use Rattle.ppm_text.specs.Tokens.{Token, is_gap, tokens_at}
 
 -- the value of digits up to the cap, and nothing for other bytes
 abbrev pub capped : List ℕ → Option ℕ
@@ -40,3 +40,7 @@ under_cap read = (record { place = read.0.place; value = min read.0.value 65536 
 -- the next token as a number up to the cap
 abbrev pub capped_at : ℕ → List Token → Result (Numeral × List Token) PpmFault
 capped_at end tokens = numeral_at end tokens >>= λ read. Ok (under_cap read)
+
+-- the next number of a text from a place on is read, with a place behind its token
+abbrev pub ReadsNumber : List ℕ → ℕ → Result (Numeral × ℕ) PpmFault → Type 0
+ReadsNumber bytes from result = Reads (λ x. (x.0, tokens_at bytes x.1)) result (capped_at (length bytes) (tokens_at bytes from))

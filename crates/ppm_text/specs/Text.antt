@@ -1,14 +1,11 @@
 -- The one text that is written for a picture.
-use Rattle.std.specs.Prelude.{ℕ, List, [], ◌∷◌, ◌++◌, length, codes, decimal}
+use Rattle.std.specs.Prelude.{ℕ, List, ◌++◌, length, codes}
 use Rattle.std.specs.List.{flat_map}
 use Rattle.picture.specs.declared.rgb.Rgb.{Rgb}
 use Rattle.picture.specs.Rows.{width_of}
+use Rattle.picture.specs.Writing.{number_text}
 use Rattle.picture.specs.Palette.{triple_at}
 use Rattle.picture.specs.Document.{Content}
-
--- a number, and the byte that closes it
-abbrev pub number_text : ℕ → ℕ → List ℕ
-number_text n close = decimal n ++ close ∷ []
 
 -- a cell's samples with spaces between them, on a line of their own
 abbrev pub triple_text : Rgb → List ℕ

@@ -43,6 +43,9 @@ pub enum PpmFault {
     Memory,
 }
 
+/// What a part of the reader answers.
+pub type Read<T> = Result<T, PpmFault>;
+
 impl PpmFault {
     /// The fault's name, as the variant is called.
     pub fn name(&self) -> &'static str

@@ -5,7 +5,7 @@ ghost use Rattle.picture.specs.Palette.{fits};
 ghost use Rattle.picture.specs.Reading.{Reads};
 ghost use Rattle.ppm_text.specs.Samples.{side_at, sample_at, triple_at};
 
-use crate::fault::PpmFault;
+use crate::fault::{PpmFault, Read};
 use crate::scanner::{Numeral, Scanner};
 use picture::{MAX_SIDE, Rgb};
 
@@ -18,7 +18,7 @@ pub struct Triple {
 
 #[tactic(auto, using(crate::proofs::Caps::caps))]
 /// Reads the width or the height.
-pub fn read_side(scanner: &mut Scanner) -> Result<u8, PpmFault>
+pub fn read_side(scanner: &mut Scanner) -> Read<u8>
     ensures read { Reads (λ side. (side, scanner.new.tokens)) result
         (side_at scanner.old.end scanner.old.tokens) }
     ensures within { IfOk result (λ side. (0 < side) × (side ≤ MAX_SIDE)) }
@@ -37,7 +37,7 @@ pub fn read_side(scanner: &mut Scanner) -> Result<u8, PpmFault>
 #[tactic(auto, using(crate::proofs::Caps::caps))]
 #[inline(always)]
 // Reads a sample up to the maxval.
-fn read_sample(scanner: &mut Scanner, maxval: u16) -> Result<Numeral, PpmFault>
+fn read_sample(scanner: &mut Scanner, maxval: u16) -> Read<Numeral>
     ensures read { Reads (λ n. (n, scanner.new.tokens)) result
         (sample_at scanner.old.end maxval scanner.old.tokens) }
     ensures within { IfOk result (λ n. n.value ≤ maxval) }
@@ -52,7 +52,7 @@ fn read_sample(scanner: &mut Scanner, maxval: u16) -> Result<Numeral, PpmFault>
 
 #[tactic(auto, unfolding(crate::specs::Samples::triple_at))]
 /// Reads a colour.
-pub fn read_triple(scanner: &mut Scanner, maxval: u16) -> Result<Triple, PpmFault>
+pub fn read_triple(scanner: &mut Scanner, maxval: u16) -> Read<Triple>
     ensures read { Reads (λ t. (t, scanner.new.tokens)) result
         (triple_at scanner.old.end maxval scanner.old.tokens) }
     ensures within { IfOk result (λ t. IsTrue (fits maxval t.colour)) }
@@ -66,8 +66,6 @@ pub fn read_triple(scanner: &mut Scanner, maxval: u16) -> Result<Triple, PpmFaul
         g: second.value as u16,
         b: third.value as u16,
     };
-    Ok(Triple {
-        place: first.place,
-        colour,
-    })
+    let place = first.place;
+    Ok(Triple { place, colour })
 }

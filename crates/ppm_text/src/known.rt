@@ -8,7 +8,7 @@ ghost use Rattle.ppm_text.specs.Adding.{adding_fault};
 ghost use Rattle.ppm_text.specs.Known.{AreKnown};
 ghost use Rattle.ppm_text.specs.Ppm.{numbered};
 
-use crate::fault::PpmFault;
+use crate::fault::{PpmFault, Read};
 use crate::fields::Triple;
 use picture::{Palette, PaletteFault, Rgb};
 
@@ -28,36 +28,27 @@ pub fn background_alone(palette: &Palette) -> [Known; SLOTS]
     ensures { AreKnown palette.now.triples result }
 {
     let _ = palette.len();
-    let background = Known {
-        colour: palette.rgb(0),
-        number: 0,
-    };
-    [background; SLOTS]
+    let colour = palette.rgb(0);
+    [Known { colour, number: 0 }; SLOTS]
 }
 
 #[tactic(auto, using(crate::proofs::KnownLemmas::knowing))]
 /// The number of a triple in the palette, which is added where it is new. A colour has a slot of its
 /// own or shares one, and only where another colour stands there the palette is asked.
-pub fn number_of(
-    palette: &mut Palette,
-    known: &mut [Known; SLOTS],
-    triple: Triple,
-) -> Result<u8, PpmFault>
+pub fn number_of(palette: &mut Palette, known: &mut [Known; SLOTS], triple: Triple) -> Read<u8>
     requires fits { IsTrue (fits palette.old.maxval triple.colour) }
     requires known { AreKnown palette.old.triples known.old }
     ensures read { Gives Memory (λ number. (number, palette.new)) result
         (numbered palette.old triple) }
     ensures known { OnOk result (AreKnown palette.new.triples known.new) }
 {
-    let slot = slot_of(triple.colour);
-    if known[slot].colour == triple.colour {
+    let colour = triple.colour;
+    let slot = slot_of(colour);
+    if known[slot].colour == colour {
         return Ok(known[slot].number);
     }
     let number = find_or_add(palette, triple)?;
-    known[slot] = Known {
-        colour: triple.colour,
-        number,
-    };
+    known[slot] = Known { colour, number };
     Ok(number)
 }
 
@@ -72,7 +63,7 @@ fn slot_of(colour: Rgb) -> usize
 #[tactic(auto, using(crate::proofs::Adding::refused))]
 #[inline(never)]
 // The number of a triple in the palette, which is added where it is new.
-fn find_or_add(palette: &mut Palette, triple: Triple) -> Result<u8, PpmFault>
+fn find_or_add(palette: &mut Palette, triple: Triple) -> Read<u8>
     requires { IsTrue (fits palette.old.maxval triple.colour) }
     ensures { Gives Memory (λ number. (number, palette.new)) result (numbered palette.old triple) }
 {

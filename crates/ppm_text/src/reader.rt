@@ -4,14 +4,13 @@ ghost use Rattle.std.specs.Prelude.{◌≡◌, ℕ, ◌*◌, ◌<◌, ◌≤◌,
 ghost use Rattle.std.specs.Result.{result_err};
 ghost use Rattle.picture.specs.CellSet.{no_cells};
 ghost use Rattle.picture.specs.Rows.{rows_of};
-ghost use Rattle.picture.specs.Palette.{fits};
 ghost use Rattle.picture.specs.Content.{content_of};
 ghost use Rattle.picture.specs.Reading.{Gives, Refuses};
 ghost use Rattle.ppm_text.specs.declared.fault.PpmFault.TheVariants.{Memory};
 ghost use Rattle.ppm_text.specs.Known.{AreKnown};
 ghost use Rattle.ppm_text.specs.Ppm.{first_palette, palette_at, cell_at, cells_at, header_of, ppm_of};
 
-use crate::fault::PpmFault;
+use crate::fault::{PpmFault, Read};
 use crate::fields::{read_side, read_triple};
 use crate::known::{Known, SLOTS, background_alone, number_of};
 use crate::scanner::{Numeral, Scanner};
@@ -20,11 +19,7 @@ use std::alloc::Global;
 
 #[tactic(auto, using(crate::proofs::Caps::palette_caps))]
 // Reads the maxval, and begins the palette with the background.
-fn read_palette(
-    alloc: Global,
-    scanner: &mut Scanner,
-    background: Option<Rgb>,
-) -> Result<Palette, PpmFault>
+fn read_palette(alloc: Global, scanner: &mut Scanner, background: Option<Rgb>) -> Read<Palette>
     ensures read { Gives Memory (λ p. (p, scanner.new.tokens)) result
         (palette_at background scanner.old.end scanner.old.tokens) }
     ensures fault { Refuses Memory result
@@ -39,12 +34,7 @@ fn read_palette(
 }
 
 // The palette of the background that was handed in, or else of white.
-fn begin_palette(
-    alloc: Global,
-    place: usize,
-    maxval: u16,
-    background: Option<Rgb>,
-) -> Result<Palette, PpmFault>
+fn begin_palette(alloc: Global, place: usize, maxval: u16, background: Option<Rgb>) -> Read<Palette>
     requires { 0 < maxval }
     ensures read { Gives Memory (λ p. p) result (first_palette background maxval place) }
     ensures fault { Refuses Memory result (result_err (first_palette background maxval place)) }
@@ -63,11 +53,7 @@ fn begin_palette(
 
 #[tactic(auto, unfolding(crate::specs::Ppm::cell_at))]
 // Reads a cell's triple, and gives its number.
-fn read_cell(
-    scanner: &mut Scanner,
-    palette: &mut Palette,
-    known: &mut [Known; SLOTS],
-) -> Result<u8, PpmFault>
+fn read_cell(scanner: &mut Scanner, palette: &mut Palette, known: &mut [Known; SLOTS]) -> Read<u8>
     requires { AreKnown palette.old.triples known.old }
     ensures read { Gives Memory (λ number. (number, palette.new, scanner.new.tokens)) result
         (cell_at scanner.old.end palette.old scanner.old.tokens) }
@@ -86,7 +72,7 @@ fn read_cells(
     scanner: &mut Scanner,
     palette: &mut Palette,
     count: usize,
-) -> Result<Vec<u8>, PpmFault>
+) -> Read<Vec<u8>>
     ensures read { Gives Memory (λ cells. (cells.items, palette.new, scanner.new.tokens)) result
         (cells_at scanner.old.end count palette.old scanner.old.tokens) }
     ensures end { scanner.new.end ≡ scanner.old.end }
@@ -133,11 +119,7 @@ struct Head<'a> {
 
 #[tactic(auto, unfolding(crate::specs::Ppm::header_of))]
 // Reads what stands before the cells.
-fn read_head<'a>(
-    alloc: Global,
-    bytes: &'a [u8],
-    background: Option<Rgb>,
-) -> Result<Head<'a>, PpmFault>
+fn read_head(alloc: Global, bytes: &[u8], background: Option<Rgb>) -> Read<Head<'_>>
     ensures read { Gives Memory (λ h. record {
       width = h.width;
       height = h.height;

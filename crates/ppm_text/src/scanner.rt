@@ -1,12 +1,12 @@
 //! The tokens of a P3 text: numbers with their places, past white space and comments.
 
-ghost use Rattle.std.specs.Prelude.{◌≡◌, ◌≢◌, ℕ, ◌+◌, ◌∷◌, ◌<◌, ◌≤◌, length, slice_index, drop, is_some, true, false, IfNone, IfSome, IfOk};
+ghost use Rattle.std.specs.Prelude.{◌≡◌, ℕ, ◌+◌, ◌∷◌, ◌<◌, ◌≤◌, length, slice_index, drop, is_some, true, false, IfNone, IfSome, IfOk};
 ghost use Rattle.picture.specs.Reading.{Reads};
-ghost use Rattle.ppm_text.specs.Tokens.{is_gap, is_line_end, tokens_from, tokens_at, without_comments, magic_of, next_place};
-ghost use Rattle.ppm_text.specs.Numerals.{begins_number, capped_at, number_on};
+ghost use Rattle.ppm_text.specs.Tokens.{is_gap, tokens_from, tokens_at, without_comments, magic_of, next_place};
+ghost use Rattle.ppm_text.specs.Numerals.{ReadsNumber, begins_number, capped_at, number_on};
 ghost use Rattle.ppm_text.specs.ClosedNumbers.{IsBehind, IsClosedNumber, begins_white};
 
-use crate::fault::PpmFault;
+use crate::fault::{PpmFault, Read};
 use std::marker::Model;
 
 // Numbers are counted up to here, which is above every limit.
@@ -39,21 +39,19 @@ impl<'a> Model for Scanner<'a> {
 
 impl<'a> Scanner<'a> {
     /// Reads the magic.
-    pub fn start(bytes: &'a [u8]) -> Result<Scanner<'a>, PpmFault>
+    pub fn start(bytes: &'a [u8]) -> Read<Scanner<'a>>
         ensures { Reads (λ s. s) result (magic_of bytes.now) }
     {
         match bytes {
-            [b'P', b'3'] => {}
-            [b'P', b'3', next, ..] if is_gap(*next) => {}
-            _ => return Err(PpmFault::NotP3(0)),
+            [b'P', b'3'] | [b'P', b'3', b' ' | 9..=13 | b'#', ..] => Ok(Scanner { bytes, at: 2 }),
+            _ => Err(PpmFault::NotP3(0)),
         }
-        Ok(Scanner { bytes, at: 2 })
     }
 
     // Each sample of a picture comes here, so this and what it calls stand in its caller's loop.
     #[inline(always)]
     /// Reads the next token as a number.
-    pub fn numeral(&mut self) -> Result<Numeral, PpmFault>
+    pub fn numeral(&mut self) -> Read<Numeral>
         ensures read { Reads (λ n. (n, self.new.tokens)) result
             (capped_at self.old.end self.old.tokens) }
         ensures end { self.new.end ≡ self.old.end }
@@ -74,10 +72,9 @@ impl<'a> Scanner<'a> {
 #[tactic(auto, using(crate::proofs::NextNumeral::closed_token))]
 #[inline(always)]
 // The next number from a place on, and a place behind its token. Mostly it begins at once, and white space ends it.
-fn numeral_after(bytes: &[u8], from: usize) -> Result<(Numeral, usize), PpmFault>
+fn numeral_after(bytes: &[u8], from: usize) -> Read<(Numeral, usize)>
     requires { from ≤ length bytes.now }
-    ensures read { Reads (λ x. (x.0, tokens_at bytes.now x.1)) result
-        (capped_at (length bytes.now) (tokens_at bytes.now from)) }
+    ensures read { ReadsNumber bytes.now from result }
     ensures within { IfOk result (λ x. x.1 ≤ length bytes.now) }
 {
     match closed_number(&bytes[from..]) {
@@ -117,10 +114,9 @@ fn begins_white(text: &[u8]) -> bool
 #[tactic(auto, using(crate::proofs::NextNumeral::next_numeral))]
 #[inline(never)]
 // The same for any number, with white space and comments before it.
-fn any_numeral(bytes: &[u8], from: usize) -> Result<(Numeral, usize), PpmFault>
+fn any_numeral(bytes: &[u8], from: usize) -> Read<(Numeral, usize)>
     requires { from ≤ length bytes.now }
-    ensures read { Reads (λ x. (x.0, tokens_at bytes.now x.1)) result
-        (capped_at (length bytes.now) (tokens_at bytes.now from)) }
+    ensures read { ReadsNumber bytes.now from result }
     ensures within { IfOk result (λ x. x.1 ≤ length bytes.now) }
 {
     let place = token_start(bytes, from);
@@ -190,7 +186,7 @@ fn comment_end(bytes: &[u8], from: usize) -> usize
         ≡ tokens_from false from (without_comments true (drop from bytes.now)) }
 {
     let mut at = from;
-    while at < bytes.len() && !is_line_end(bytes[at]) {
+    while at < bytes.len() && !matches!(bytes[at], b'\n' | b'\r') {
         at += 1;
     }
     at
@@ -261,18 +257,4 @@ fn behind_token(bytes: &[u8], end: usize) -> Option<usize>
         return Some(end);
     }
     behind_gap(bytes, end)
-}
-
-// White space, or the # that opens a comment.
-fn is_gap(byte: u8) -> bool
-    ensures { result ≡ is_gap byte }
-{
-    matches!(byte, b' ' | 9..=13 | b'#')
-}
-
-// LF and CR.
-fn is_line_end(byte: u8) -> bool
-    ensures { result ≡ is_line_end byte }
-{
-    matches!(byte, b'\n' | b'\r')
 }

@@ -1,31 +1,17 @@
 //! Writing a document as a P3 text.
 
-ghost use Rattle.std.specs.Prelude.{◌≡◌, ◌<◌, length, OnOk, OnErr};
+ghost use Rattle.std.specs.Prelude.{◌<◌, length, OnOk, OnErr};
 ghost use Rattle.std.specs.Io.KnownBytes.{Appends};
 ghost use Rattle.picture.specs.Content.{content_of};
 ghost use Rattle.picture.specs.Rows.{cell_at, row_at, width_of};
 ghost use Rattle.picture.specs.Writing.{AppendsFront};
-ghost use Rattle.ppm_text.specs.Text.{number_text, triple_text, cell_text, row_text, rows_text};
-ghost use Rattle.ppm_text.specs.Text.{sizes_text, header_text, ppm_text};
+ghost use Rattle.ppm_text.specs.Text.{triple_text, cell_text, row_text, rows_text};
+ghost use Rattle.ppm_text.specs.Text.{sizes_text, ppm_text};
 
-use itoa::Buffer;
-use picture::{Document, Rgb, WriteFault, send};
+use picture::{Document, Rgb, WriteFault, send, send_number};
 use std::io::Write;
 
-#[tactic(auto, using(crate::proofs::Sending::sending))]
-// Writes a number and the byte that closes it.
-fn send_number<W: Write>(number: u16, close: u8, writer: &mut W) -> Result<(), WriteFault>
-    ensures ok { OnOk result (Appends (W.contents writer.old) (W.contents writer.new)
-        (number_text number close)) }
-    ensures err { OnErr result (AppendsFront (W.contents writer.old) (W.contents writer.new)
-        (number_text number close)) }
-{
-    let mut buffer = Buffer::new();
-    send(buffer.format(number).as_bytes(), writer)?;
-    send(&[close], writer)
-}
-
-#[tactic(auto, using(crate::proofs::Sending::sending))]
+#[tactic(auto, using(picture::specs::SendingLaws::sending))]
 // Writes a cell's samples as a line.
 fn send_triple<W: Write>(rgb: Rgb, writer: &mut W) -> Result<(), WriteFault>
     ensures ok { OnOk result (Appends (W.contents writer.old) (W.contents writer.new)
@@ -84,18 +70,6 @@ fn send_sizes<W: Write>(document: &Document, writer: &mut W) -> Result<(), Write
     send_number(document.palette.maxval(), b'\n', writer)
 }
 
-#[tactic(auto, using(crate::proofs::Sending::magic_first))]
-// Writes what stands before the cells.
-fn send_header<W: Write>(document: &Document, writer: &mut W) -> Result<(), WriteFault>
-    ensures ok { OnOk result (Appends (W.contents writer.old) (W.contents writer.new)
-        (header_text (width_of document.now.picture) (length document.now.picture) document.now.palette.maxval)) }
-    ensures err { OnErr result (AppendsFront (W.contents writer.old) (W.contents writer.new)
-        (header_text (width_of document.now.picture) (length document.now.picture) document.now.palette.maxval)) }
-{
-    send(b"P3\n", writer)?;
-    send_sizes(document, writer)
-}
-
 #[tactic(auto, using(crate::proofs::Sending::whole))]
 /// Writes the document's picture as a plain PPM text: `P3` on a line, the width and the height on a
 /// line, the maxval on a line, and then each cell's samples on a line, in row order. Numbers have no
@@ -107,7 +81,8 @@ pub fn write_ppm<W: Write>(document: &Document, writer: &mut W) -> Result<(), Wr
     ensures err { OnErr result (AppendsFront (W.contents writer.old) (W.contents writer.new)
         (ppm_text (content_of document.now))) }
 {
-    send_header(document, writer)?;
+    send(b"P3\n", writer)?;
+    send_sizes(document, writer)?;
     send_rows(document, writer)
 }
 
