@@ -9,11 +9,11 @@ ghost use Rattle.program_options.specs.declared.fault.ProgramFault.TheVariants.{
 ghost use Rattle.answers.specs.Check.{Answers, IsCheckOf, IsOnlyPicture, IsProofOf, WritesBy, accepted_text, givens_text};
 
 use certificate::{Cert, CertFault, check_cert, read_cert};
-use itoa::Buffer;
 use line_settle::MaskEngine;
 use picture::{MAX_SIDE, Picture, Rgb, send};
 use ppm_text::read_ppm;
 use program_options::ProgramFault;
+use report_text::push_number;
 use std::alloc::{AllocError, Global};
 use std::io::Write;
 
@@ -87,7 +87,7 @@ fn push_givens(text: &mut Vec<u8>, cert: &Cert) -> Result<(), AllocError>
     let count = cert.givens_len();
     if count > 0 {
         text.extend_from_slice(b", givens ")?;
-        text.extend_from_slice(Buffer::new().format(count).as_bytes())?;
+        push_number(text, count)?;
     }
     Ok(())
 }

@@ -52,19 +52,11 @@ fn edited_document(
     ensures { Gives ProgramFault.Memory design_of result (after_edit edit (ppm_of bytes.now None)) }
 {
     let document = read_ppm(alloc, bytes, None)?;
-    match edit {
-        None => Ok(document),
-        Some(edit) => edited(alloc, &document, edit),
-    }
-}
-
-// The document after an edit.
-fn edited(alloc: Global, document: &Document, edit: Edit) -> Result<Document, ProgramFault>
-    ensures { Gives ProgramFault.Memory design_of result
-        (edited_by (edit_fault (design_of document.now) edit) (edited (design_of document.now) edit)) }
-{
-    if let Some(fault) = edit.refusal(document) {
+    let Some(edit) = edit else {
+        return Ok(document);
+    };
+    if let Some(fault) = edit.refusal(&document) {
         return Err(ProgramFault::Edit(fault));
     }
-    Ok(Entry::of(alloc, document, &edit)?.apply(document)?)
+    Ok(Entry::of(alloc, &document, &edit)?.apply(&document)?)
 }

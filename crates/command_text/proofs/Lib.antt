@@ -1,3 +1,4 @@
+pub mod CommandLemmas
 pub mod CountLemmas
 pub mod LineLemmas
 pub mod NumberLemmas

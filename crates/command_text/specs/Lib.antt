@@ -2,5 +2,4 @@ pub mod Faults
 pub mod Lines
 pub mod Numbers
 pub mod Parse
-pub mod Table
 pub mod Words

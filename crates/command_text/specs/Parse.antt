@@ -1,22 +1,19 @@
 -- The command of a line, or the first fault.
-use Rattle.std.specs.Prelude.{ℕ, ◌<◌, IfSome, List, [], ◌∷◌, length, codes, Option, None, Some, Result, Ok, Err, nat_lt, option_map, ◌==◌, if◌then◌else◌}
+use Rattle.std.specs.Prelude.{◌≡◌, ℕ, ◌<◌, IfSome, List, [], ◌∷◌, length, codes, Option, None, Some, Result, Ok, Err, nat_lt, option_map, ◌==◌, if◌then◌else◌}
 use Rattle.std.specs.Borrow.{Bor}
 use Rattle.std.specs.Option.{ok_or}
-use Rattle.picture.specs.Reading.{◌>>=◌}
+use Rattle.picture.specs.Reading.{Reads, ◌>>=◌}
 use Rattle.picture.specs.declared.line_id.Axis.{Axis}
+use Rattle.picture.specs.declared.line_id.Axis.TheVariants.{Across, Down}
 use Rattle.picture.specs.declared.line_id.LineId.{LineId}
 use Rattle.picture.specs.declared.rgb.Rgb.{Rgb}
+use Rattle.edits.specs.declared.edit.Edit.{Edit}
 use Rattle.edits.specs.declared.edit.Edit.TheVariants as edit
 use Rattle.command_text.specs.declared.command.Command.{Command}
 use Rattle.command_text.specs.declared.command.Command.TheVariants as command
 use Rattle.command_text.specs.declared.fault.CommandFault.{CommandFault}
 use Rattle.command_text.specs.declared.fault.CommandFault.TheVariants.{LongLine, UnknownWord, WordCount, BadNumber, BadColour}
-use Rattle.command_text.specs.declared.verb.Start.{Start}
-use Rattle.command_text.specs.declared.verb.Start.TheVariants.{Whole, Inserting, Deleting, Swapping, Colouring, Writing}
-use Rattle.command_text.specs.declared.verb.Verb.{Verb}
-use Rattle.command_text.specs.declared.verb.Verb.TheVariants.{Paint, Fill, Recolour, Insert, Delete, Swap, AddColour, SetColour, Pin, Unpin, Undo, Redo, Clues, Map, Verdict, Why, Certify, WritePpm, WriteNon, Report, Allow}
 use Rattle.command_text.specs.Numbers.{colour_of, number_of, place_of, sample_of}
-use Rattle.command_text.specs.Table.{first_words, named, second_words, words_wanted}
 use Rattle.command_text.specs.Words.{is_word, words_of}
 
 -- ---- values, word by word from the left
@@ -46,9 +43,6 @@ colour_at words = field_at colour_of BadColour words
 abbrev pub allowance_of : List ℕ → Option (Option ℕ)
 allowance_of word = if is_word word (codes "off") then Some None else option_map Some (number_of word)
 
-abbrev pub allowance_at : List (List ℕ) → Result (Option ℕ × List (List ℕ)) CommandFault
-allowance_at words = field_at allowance_of BadNumber words
-
 abbrev pub rgb : ℕ → ℕ → ℕ → Rgb
 rgb r g b = record { r = r; g = g; b = b }
 
@@ -70,100 +64,179 @@ cell_at words = do
   col ← place_at row.1
   Ok ((row.0, col.0), col.1)
 
--- ---- the commands that have values
+-- what stands beside a word in a table
+abbrev pub named : {X : Type 0} → List ℕ → List (List ℕ × X) → Option X
+named word [] = None
+named word (entry ∷ entries) = if is_word word entry.0 then Some entry.1 else named word entries
 
-unfoldable pub paint_at : List (List ℕ) → Result Command CommandFault
-paint_at words = do
-  cell ← cell_at words
+-- `row` or `column`, and the words behind it
+abbrev pub axis_of : List ℕ → Option Axis
+axis_of word = named word ((codes "row", Across) ∷ (codes "column", Down) ∷ [])
+
+abbrev pub axis_at : List (List ℕ) → Result (Axis × List (List ℕ)) CommandFault
+axis_at words = field_at axis_of UnknownWord words
+
+-- as many words as are wanted
+abbrev pub counted : ℕ → List (List ℕ) → Result (List (List ℕ)) CommandFault
+counted count words = if length words == count then Ok words else Err WordCount
+
+-- what a table says of a word, by the words behind it
+abbrev pub read_by : {X : Type 0} → Option (List (List ℕ) → Result X CommandFault) → List (List ℕ) → Result X CommandFault
+read_by None words = Err UnknownWord
+read_by (Some read) words = read words
+
+-- the same, where the next word is the one in the table
+abbrev pub second_by : {X : Type 0} → List (List ℕ × (List (List ℕ) → Result X CommandFault)) → List (List ℕ) → Result X CommandFault
+second_by table words = do
+  word ← word_at words
+  read_by (named word.0 table) word.1
+
+-- ---- values with nothing behind them
+
+unfoldable pub cell_alone_at : List (List ℕ) → Result (ℕ × ℕ) CommandFault
+cell_alone_at words = do
+  all ← counted 2 words
+  cell ← cell_at all
+  Ok cell.0
+
+-- a cell and a colour
+unfoldable pub spot_at : List (List ℕ) → Result ((ℕ × ℕ) × ℕ) CommandFault
+spot_at words = do
+  all ← counted 3 words
+  cell ← cell_at all
   colour ← colour_at cell.1
-  Ok (command.Edit (edit.Paint cell.0.0 cell.0.1 colour.0))
+  Ok (cell.0, colour.0)
 
-unfoldable pub fill_at : List (List ℕ) → Result Command CommandFault
+-- a row or a column
+unfoldable pub line_at : List (List ℕ) → Result LineId CommandFault
+line_at words = do
+  axis ← axis_at words
+  all ← counted 1 axis.1
+  place ← place_at all
+  Ok (line_id axis.0 place.0)
+
+-- ---- the edits
+
+abbrev pub paint_at : List (List ℕ) → Result Edit CommandFault
+paint_at words = do
+  spot ← spot_at words
+  Ok (edit.Paint spot.0.0 spot.0.1 spot.1)
+
+unfoldable pub fill_at : List (List ℕ) → Result Edit CommandFault
 fill_at words = do
-  first ← cell_at words
+  all ← counted 5 words
+  first ← cell_at all
   last ← cell_at first.1
   colour ← colour_at last.1
-  Ok (command.Edit (edit.Fill first.0.0 first.0.1 last.0.0 last.0.1 colour.0))
+  Ok (edit.Fill first.0.0 first.0.1 last.0.0 last.0.1 colour.0)
 
-unfoldable pub recolour_at : List (List ℕ) → Result Command CommandFault
+unfoldable pub recolour_at : List (List ℕ) → Result Edit CommandFault
 recolour_at words = do
-  source ← colour_at words
+  all ← counted 2 words
+  source ← colour_at all
   target ← colour_at source.1
-  Ok (command.Edit (edit.Recolour source.0 target.0))
+  Ok (edit.Recolour source.0 target.0)
 
-unfoldable pub insert_at : Axis → List (List ℕ) → Result Command CommandFault
-insert_at axis words = do
-  place ← place_at words
-  Ok (command.Edit (edit.InsertLine (line_id axis place.0)))
+abbrev pub insert_at : List (List ℕ) → Result Edit CommandFault
+insert_at words = do
+  line ← line_at words
+  Ok (edit.InsertLine line)
 
-unfoldable pub delete_at : Axis → List (List ℕ) → Result Command CommandFault
-delete_at axis words = do
-  place ← place_at words
-  Ok (command.Edit (edit.DeleteLine (line_id axis place.0)))
+abbrev pub delete_at : List (List ℕ) → Result Edit CommandFault
+delete_at words = do
+  line ← line_at words
+  Ok (edit.DeleteLine line)
 
-unfoldable pub swap_at : Axis → List (List ℕ) → Result Command CommandFault
-swap_at axis words = do
-  first ← place_at words
+unfoldable pub swap_at : List (List ℕ) → Result Edit CommandFault
+swap_at words = do
+  axis ← axis_at words
+  all ← counted 2 axis.1
+  first ← place_at all
   second ← place_at first.1
-  Ok (command.Edit (edit.SwapLines axis first.0 second.0))
+  Ok (edit.SwapLines axis.0 first.0 second.0)
 
-unfoldable pub add_colour_at : List (List ℕ) → Result Command CommandFault
+unfoldable pub add_colour_at : List (List ℕ) → Result Edit CommandFault
 add_colour_at words = do
-  triple ← rgb_at words
-  Ok (command.Edit (edit.AddColour triple))
+  all ← counted 3 words
+  triple ← rgb_at all
+  Ok (edit.AddColour triple)
 
-unfoldable pub set_colour_at : List (List ℕ) → Result Command CommandFault
+unfoldable pub set_colour_at : List (List ℕ) → Result Edit CommandFault
 set_colour_at words = do
-  colour ← colour_at words
+  all ← counted 4 words
+  colour ← colour_at all
   triple ← rgb_at colour.1
-  Ok (command.Edit (edit.SetColour colour.0 triple))
+  Ok (edit.SetColour colour.0 triple)
 
-unfoldable pub pin_at : List (List ℕ) → Result Command CommandFault
+abbrev pub palette_at : List (List ℕ) → Result Edit CommandFault
+palette_at words = second_by ((codes "add", add_colour_at) ∷ (codes "set", set_colour_at) ∷ []) words
+
+abbrev pub pin_at : List (List ℕ) → Result Edit CommandFault
 pin_at words = do
-  cell ← cell_at words
-  Ok (command.Edit (edit.Pin cell.0.0 cell.0.1))
+  cell ← cell_alone_at words
+  Ok (edit.Pin cell.0 cell.1)
 
-unfoldable pub unpin_at : List (List ℕ) → Result Command CommandFault
+abbrev pub unpin_at : List (List ℕ) → Result Edit CommandFault
 unpin_at words = do
-  cell ← cell_at words
-  Ok (command.Edit (edit.Unpin cell.0.0 cell.0.1))
+  cell ← cell_alone_at words
+  Ok (edit.Unpin cell.0 cell.1)
 
-unfoldable pub why_at : List (List ℕ) → Result Command CommandFault
+-- the table of edits
+abbrev pub edit_words : List (List ℕ × (List (List ℕ) → Result Edit CommandFault))
+edit_words =
+    (codes "paint", paint_at)
+    ∷ (codes "fill", fill_at)
+    ∷ (codes "recolour", recolour_at)
+    ∷ (codes "insert", insert_at)
+    ∷ (codes "delete", delete_at)
+    ∷ (codes "swap", swap_at)
+    ∷ (codes "colour", palette_at)
+    ∷ (codes "pin", pin_at)
+    ∷ (codes "unpin", unpin_at)
+    ∷ []
+
+abbrev pub edit_at : List ℕ → List (List ℕ) → Result Edit CommandFault
+edit_at word words = read_by (named word edit_words) words
+
+-- ---- the other commands
+
+-- a command without a value
+abbrev pub bare_at : Command → List (List ℕ) → Result Command CommandFault
+bare_at c words = do
+  all ← counted 0 words
+  Ok c
+
+abbrev pub why_at : List (List ℕ) → Result Command CommandFault
 why_at words = do
-  cell ← cell_at words
-  colour ← colour_at cell.1
-  Ok (command.Why cell.0.0 cell.0.1 colour.0)
+  spot ← spot_at words
+  Ok (command.Why spot.0.0 spot.0.1 spot.1)
 
 unfoldable pub allow_at : List (List ℕ) → Result Command CommandFault
 allow_at words = do
-  splits ← allowance_at words
-  Ok (command.Allow splits.0)
+  all ← counted 1 words
+  word ← word_at all
+  splits ← ok_or (allowance_of word.0) BadNumber
+  Ok (command.Allow splits)
+
+abbrev pub write_at : List (List ℕ) → Result Command CommandFault
+write_at words = second_by ((codes "ppm", bare_at command.WritePpm) ∷ (codes "non", bare_at command.WriteNon) ∷ []) words
+
+-- the table of what is shown, asked or taken back
+abbrev pub asking_words : List (List ℕ × (List (List ℕ) → Result Command CommandFault))
+asking_words =
+    (codes "undo", bare_at command.Undo)
+    ∷ (codes "redo", bare_at command.Redo)
+    ∷ (codes "clues", bare_at command.Clues)
+    ∷ (codes "map", bare_at command.Map)
+    ∷ (codes "verdict", bare_at command.Verdict)
+    ∷ (codes "why", why_at)
+    ∷ (codes "certify", bare_at command.Certify)
+    ∷ (codes "write", write_at)
+    ∷ (codes "report", bare_at command.Report)
+    ∷ (codes "allow", allow_at)
+    ∷ []
 
 -- ---- the command
-
--- the command of a verb, whose words are as many as it wants
-abbrev pub command_by : Verb → List (List ℕ) → Result Command CommandFault
-command_by Paint words = paint_at words
-command_by Fill words = fill_at words
-command_by Recolour words = recolour_at words
-command_by (Insert axis) words = insert_at axis words
-command_by (Delete axis) words = delete_at axis words
-command_by (Swap axis) words = swap_at axis words
-command_by AddColour words = add_colour_at words
-command_by SetColour words = set_colour_at words
-command_by Pin words = pin_at words
-command_by Unpin words = unpin_at words
-command_by Undo words = Ok command.Undo
-command_by Redo words = Ok command.Redo
-command_by Clues words = Ok command.Clues
-command_by Map words = Ok command.Map
-command_by Verdict words = Ok command.Verdict
-command_by Why words = why_at words
-command_by Certify words = Ok command.Certify
-command_by WritePpm words = Ok command.WritePpm
-command_by WriteNon words = Ok command.WriteNon
-command_by Report words = Ok command.Report
-command_by Allow words = allow_at words
 
 -- A colour is a number below 16, and an allowance one of at most five digits.
 abbrev pub IsBounded : Command → Type 0
@@ -180,35 +253,33 @@ IsBounded command.WriteNon = Unit {0}
 IsBounded command.Report = Unit {0}
 IsBounded (command.Allow allowance) = IfSome allowance (λ splits. splits < 100000)
 
--- a second word where the first wants one, and the words behind the verb
-abbrev pub verb_behind : List (List ℕ × Verb) → List (List ℕ) → Result (Verb × List (List ℕ)) CommandFault
-verb_behind table words = field_at (λ second. named second table) UnknownWord words
+abbrev pub as_command : Result Edit CommandFault → Result Command CommandFault
+as_command (Ok edit) = Ok (command.Edit edit)
+as_command (Err fault) = Err fault
 
-abbrev pub verb_from : Option Start → List (List ℕ) → Result (Verb × List (List ℕ)) CommandFault
-verb_from None words = Err UnknownWord
-verb_from (Some (Whole verb)) words = Ok (verb, words)
-verb_from (Some Inserting) words = verb_behind (second_words Inserting) words
-verb_from (Some Deleting) words = verb_behind (second_words Deleting) words
-verb_from (Some Swapping) words = verb_behind (second_words Swapping) words
-verb_from (Some Colouring) words = verb_behind (second_words Colouring) words
-verb_from (Some Writing) words = verb_behind (second_words Writing) words
+-- a first word that is in neither table begins no command
+abbrev pub command_by : Option (List (List ℕ) → Result Command CommandFault) → List ℕ → List (List ℕ) → Result Command CommandFault
+command_by None word words = as_command (edit_at word words)
+command_by (Some read) word words = read words
 
-unfoldable pub verb_at : List ℕ → List (List ℕ) → Result (Verb × List (List ℕ)) CommandFault
-verb_at first words = verb_from (named first first_words) words
-
--- as many words as the verb wants
-abbrev pub counted : Verb × List (List ℕ) → Result Command CommandFault
-counted v = if length v.1 == words_wanted v.0 then command_by v.0 v.1 else Err WordCount
+abbrev pub command_at : List ℕ → List (List ℕ) → Result Command CommandFault
+command_at word words = command_by (named word asking_words) word words
 
 abbrev pub command_of_words : List (List ℕ) → Result Command CommandFault
 command_of_words [] = Err UnknownWord
-command_of_words (first ∷ words) = verb_at first words >>= counted
+command_of_words (first ∷ words) = command_at first words
 
 -- The command of a line without its end, or the first fault. A line without a word, which a session passes over, is UnknownWord.
 unfoldable pub command_of : List ℕ → Result Command CommandFault
 command_of line = if nat_lt 200 (length line) then Err LongLine else command_of_words (words_of line)
 
 -- ---- what functions that read words answer
+
+-- what a word asks by the table, none where it is not there
+abbrev pub IsAsking : Option (List (List ℕ) → Result Command CommandFault) → List (List ℕ) → Option (Result Command CommandFault) → Type 0
+IsAsking None words asked = asked ≡ None
+IsAsking (Some read) words None = ⊥
+IsAsking (Some read) words (Some asked) = Reads (λ c. c) asked (read words)
 
 -- a word, and the words that are left
 abbrev pub word_seen : Bor (List ℕ) × Bor (List ℕ) → List ℕ × List (List ℕ)

@@ -2,17 +2,17 @@
 
 ghost use Rattle.std.specs.Prelude.{◌≡◌, ◌<◌, length, ◌==◌, ◌+◌, IfOk, IfSome};
 ghost use Rattle.picture.specs.Reading.{Reads};
-ghost use Rattle.command_text.specs.Parse.{allowance_at, allowance_of, cell_at, colour_at, field_seen, place_at, rgb_at, sample_at, word_at, word_seen};
+ghost use Rattle.command_text.specs.Parse.{allowance_of, axis_at, cell_alone_at, cell_at, colour_at, counted, field_seen, line_at, place_at, rgb_at, sample_at, spot_at, word_at, word_seen};
 ghost use Rattle.command_text.specs.Words.{words_of};
 
 use crate::fault::CommandFault;
 use crate::numbers::{colour_in, number_in, place_in, sample_in};
 use crate::words::{is_word, next_word};
-use picture::Rgb;
+use picture::{Axis, LineId, Rgb};
 
 #[tactic(auto, using(crate::proofs::CountLemmas::counts))]
 // Whether a line has so many words.
-pub(crate) fn has_words(line: &[u8], count: usize) -> bool
+fn has_words(line: &[u8], count: usize) -> bool
     ensures { result ≡ (length (words_of line.now) == count) }
 {
     let mut rest = line;
@@ -22,9 +22,17 @@ pub(crate) fn has_words(line: &[u8], count: usize) -> bool
         };
         rest = behind;
     }
-    match next_word(rest) {
-        None => true,
-        Some(_) => false,
+    next_word(rest).is_none()
+}
+
+// The words that are left, where they are as many as are wanted.
+pub(crate) fn counted(rest: &[u8], count: usize) -> Result<&[u8], CommandFault>
+    ensures { Reads (λ rest. words_of rest.now) result (counted count (words_of rest.now)) }
+{
+    if has_words(rest, count) {
+        Ok(rest)
+    } else {
+        Err(CommandFault::WordCount)
     }
 }
 
@@ -32,10 +40,7 @@ pub(crate) fn has_words(line: &[u8], count: usize) -> bool
 pub(crate) fn read_word(rest: &[u8]) -> Result<(&[u8], &[u8]), CommandFault>
     ensures { Reads word_seen result (word_at (words_of rest.now)) }
 {
-    match next_word(rest) {
-        Some(word) => Ok(word),
-        None => Err(CommandFault::WordCount),
-    }
+    next_word(rest).ok_or(CommandFault::WordCount)
 }
 
 // A place, and what stands behind it.
@@ -66,6 +71,18 @@ pub(crate) fn read_colour(rest: &[u8]) -> Result<(u8, &[u8]), CommandFault>
     Ok((colour, behind))
 }
 
+// The axis of rows or that of columns, and what stands behind it.
+pub(crate) fn read_axis(rest: &[u8]) -> Result<(Axis, &[u8]), CommandFault>
+    ensures { Reads field_seen result (axis_at (words_of rest.now)) }
+{
+    let (word, behind) = read_word(rest)?;
+    match word {
+        b"row" => Ok((Axis::Across, behind)),
+        b"column" => Ok((Axis::Down, behind)),
+        _ => Err(CommandFault::UnknownWord),
+    }
+}
+
 // Three samples.
 #[tactic(auto, unfolding(crate::specs::Parse::rgb_at))]
 pub(crate) fn read_rgb(rest: &[u8]) -> Result<Rgb, CommandFault>
@@ -87,26 +104,43 @@ pub(crate) fn read_cell(rest: &[u8]) -> Result<((u8, u8), &[u8]), CommandFault>
     Ok(((row, col), rest))
 }
 
+// A row and a column with nothing behind them.
+#[tactic(auto, unfolding(crate::specs::Parse::cell_alone_at))]
+pub(crate) fn read_cell_alone(rest: &[u8]) -> Result<(u8, u8), CommandFault>
+    ensures { Reads (λ cell. cell) result (cell_alone_at (words_of rest.now)) }
+{
+    let (cell, _) = read_cell(counted(rest, 2)?)?;
+    Ok(cell)
+}
+
+// A cell and a colour with nothing behind them.
+#[tactic(auto, unfolding(crate::specs::Parse::spot_at))]
+pub(crate) fn read_spot(rest: &[u8]) -> Result<((u8, u8), u8), CommandFault>
+    ensures value { Reads (λ spot. spot) result (spot_at (words_of rest.now)) }
+    ensures small { IfOk result (λ spot. spot.1 < 16) }
+{
+    let (cell, rest) = read_cell(counted(rest, 3)?)?;
+    let (colour, _) = read_colour(rest)?;
+    Ok((cell, colour))
+}
+
+// A line of an axis with nothing behind it.
+#[tactic(auto, unfolding(crate::specs::Parse::line_at))]
+pub(crate) fn read_line(rest: &[u8]) -> Result<LineId, CommandFault>
+    ensures { Reads (λ line. line) result (line_at (words_of rest.now)) }
+{
+    let (axis, rest) = read_axis(rest)?;
+    let (at, _) = read_place(counted(rest, 1)?)?;
+    Ok(LineId { axis, at })
+}
+
 // `off`, or how many splits are allowed.
-fn allowance_in(word: &[u8]) -> Option<Option<u32>>
+pub(crate) fn allowance_in(word: &[u8]) -> Option<Option<u32>>
     ensures value { result ≡ allowance_of word.now }
     ensures small { IfSome result (λ allowance. IfSome allowance (λ splits. splits < 100000)) }
 {
     if is_word(word, b"off") {
         return Some(None);
     }
-    match number_in(word) {
-        Some(splits) => Some(Some(splits)),
-        None => None,
-    }
-}
-
-// The allowance of splits.
-pub(crate) fn read_allowance(rest: &[u8]) -> Result<(Option<u32>, &[u8]), CommandFault>
-    ensures value { Reads field_seen result (allowance_at (words_of rest.now)) }
-    ensures small { IfOk result (λ x. IfSome x.0 (λ splits. splits < 100000)) }
-{
-    let (word, behind) = read_word(rest)?;
-    let splits = allowance_in(word).ok_or(CommandFault::BadNumber)?;
-    Ok((splits, behind))
+    number_in(word).map(Some)
 }

@@ -10,7 +10,6 @@ mod numbers;
 mod parse;
 mod request;
 mod session_fault;
-mod verb;
 mod words;
 
 pub use command::Command;

@@ -1,7 +1,8 @@
 //! The words of a command that stand for numbers and colours.
 
-ghost use Rattle.std.specs.Prelude.{◌≡◌, ◌+◌, ◌-◌, ◌*◌, ◌<◌, ◌≤◌, IfSome};
-ghost use Rattle.command_text.specs.Numbers.{colour_at, colour_of, number_of, place_of, sample_of};
+ghost use Rattle.std.specs.Prelude.{◌≡◌, ◌+◌, ◌-◌, ◌*◌, ◌<◌, ◌≤◌, true, false, IfSome};
+ghost use Rattle.std.specs.Char.{is_ascii_digit};
+ghost use Rattle.command_text.specs.Numbers.{colour_of, number_of, place_of, sample_of};
 
 // How many digits a number has at the most.
 const MOST_DIGITS: usize = 5;
@@ -17,22 +18,23 @@ pub(crate) fn number_in(word: &[u8]) -> Option<u32>
     }
     let mut value = 0;
     for byte in word {
-        if !byte.is_ascii_digit() {
-            return None;
-        }
-        value = with_digit(value, *byte);
+        value = with_digit(value, *byte)?;
     }
     Some(value)
 }
 
-// A number with one digit more.
-fn with_digit(number: u32, digit: u8) -> u32
-    requires room { number < 100000 }
-    requires low { 48 ≤ digit }
-    requires high { digit ≤ 57 }
-    ensures { result ≡ number * 10 + (digit - 48) }
+// A number with one digit more. None where the byte is no digit.
+fn with_digit(number: u32, byte: u8) -> Option<u32>
+    requires { number < 100000 }
+    ensures none { result ≡ None → is_ascii_digit byte ≡ false }
+    ensures digit { IfSome result (λ _. (is_ascii_digit byte ≡ true) × (byte ≤ 57)) }
+    ensures value { IfSome result (λ n. n ≡ number * 10 + (byte - 48)) }
 {
-    number * 10 + u32::from(digit - b'0')
+    if byte.is_ascii_digit() {
+        Some(number * 10 + u32::from(byte - b'0'))
+    } else {
+        None
+    }
 }
 
 // A place from 1 to 256, counted from 0.
@@ -56,25 +58,14 @@ pub fn sample_in(word: &[u8]) -> Option<u16>
     }
 }
 
-// The number of the colour that a letter names.
-fn colour_at(letter: u8) -> Option<u8>
-    ensures value { result ≡ colour_at letter }
-    ensures small { IfSome result (λ k. k < 16) }
-{
-    match letter {
-        b'.' => Some(0),
-        b'a'..=b'o' => Some(letter - (b'a' - 1)),
-        _ => None,
-    }
-}
-
-// The number of a colour.
+// The number of a colour: `.` is the background, and `a` to `o` are 1 to 15.
 pub(crate) fn colour_in(word: &[u8]) -> Option<u8>
     ensures value { result ≡ colour_of word.now }
     ensures small { IfSome result (λ k. k < 16) }
 {
     match word {
-        [letter] => colour_at(*letter),
+        [b'.'] => Some(0),
+        [letter @ b'a'..=b'o'] => Some(*letter - (b'a' - 1)),
         _ => None,
     }
 }

@@ -1,137 +1,138 @@
 //! The command of a line.
 
-ghost use Rattle.std.specs.Prelude.{◌≡◌, IfOk};
+ghost use Rattle.std.specs.Prelude.{◌≡◌, IfOk, IfSome};
 ghost use Rattle.picture.specs.Reading.{Reads};
-ghost use Rattle.command_text.specs.Parse.{IsBounded, add_colour_at, allow_at, command_by, command_of, delete_at, fill_at, insert_at, paint_at, pin_at, recolour_at, set_colour_at, swap_at, unpin_at, why_at};
+ghost use Rattle.command_text.specs.Parse.{IsAsking, IsBounded, allow_at, asking_words, bare_at, command_at, command_of, edit_at, fill_at, named, palette_at, recolour_at, swap_at, why_at, write_at};
 ghost use Rattle.command_text.specs.Words.{words_of};
 
 use crate::command::Command;
 use crate::fault::CommandFault;
-use crate::fields::{has_words, read_allowance, read_cell, read_colour, read_place, read_rgb};
-use crate::verb::{Verb, read_verb};
+use crate::fields::{
+    allowance_in, counted, read_axis, read_cell, read_cell_alone, read_colour, read_line,
+    read_place, read_rgb, read_spot, read_word,
+};
 use crate::words::next_word;
 use edits::Edit;
-use picture::{Axis, LineId};
 
 /// How many bytes a line has at the most, without its end.
 pub const MOST_BYTES: usize = 200;
 
-#[tactic(auto, unfolding(crate::specs::Parse::paint_at))]
-fn read_paint(rest: &[u8]) -> Result<Command, CommandFault>
-    ensures value { Reads (λ c. c) result (paint_at (words_of rest.now)) }
-    ensures bounded { IfOk result IsBounded }
-{
-    let ((row, col), rest) = read_cell(rest)?;
-    let (colour, _) = read_colour(rest)?;
-    Ok(Command::Edit(Edit::Paint { row, col, colour }))
-}
-
 #[tactic(auto, unfolding(crate::specs::Parse::fill_at))]
-fn read_fill(rest: &[u8]) -> Result<Command, CommandFault>
-    ensures value { Reads (λ c. c) result (fill_at (words_of rest.now)) }
-    ensures bounded { IfOk result IsBounded }
+fn read_fill(rest: &[u8]) -> Result<Edit, CommandFault>
+    ensures { Reads (λ e. e) result (fill_at (words_of rest.now)) }
 {
+    let rest = counted(rest, 5)?;
     let ((top, left), rest) = read_cell(rest)?;
     let ((bottom, right), rest) = read_cell(rest)?;
     let (colour, _) = read_colour(rest)?;
-    Ok(Command::Edit(Edit::Fill {
+    Ok(Edit::Fill {
         top,
         left,
         bottom,
         right,
         colour,
-    }))
+    })
 }
 
 #[tactic(auto, unfolding(crate::specs::Parse::recolour_at))]
-fn read_recolour(rest: &[u8]) -> Result<Command, CommandFault>
-    ensures value { Reads (λ c. c) result (recolour_at (words_of rest.now)) }
-    ensures bounded { IfOk result IsBounded }
+fn read_recolour(rest: &[u8]) -> Result<Edit, CommandFault>
+    ensures { Reads (λ e. e) result (recolour_at (words_of rest.now)) }
 {
+    let rest = counted(rest, 2)?;
     let (source, rest) = read_colour(rest)?;
     let (target, _) = read_colour(rest)?;
-    Ok(Command::Edit(Edit::Recolour { source, target }))
-}
-
-#[tactic(auto, unfolding(crate::specs::Parse::insert_at))]
-fn read_insert(axis: Axis, rest: &[u8]) -> Result<Command, CommandFault>
-    ensures value { Reads (λ c. c) result (insert_at axis (words_of rest.now)) }
-    ensures bounded { IfOk result IsBounded }
-{
-    let (at, _) = read_place(rest)?;
-    let line = LineId { axis, at };
-    Ok(Command::Edit(Edit::InsertLine { line }))
-}
-
-#[tactic(auto, unfolding(crate::specs::Parse::delete_at))]
-fn read_delete(axis: Axis, rest: &[u8]) -> Result<Command, CommandFault>
-    ensures value { Reads (λ c. c) result (delete_at axis (words_of rest.now)) }
-    ensures bounded { IfOk result IsBounded }
-{
-    let (at, _) = read_place(rest)?;
-    let line = LineId { axis, at };
-    Ok(Command::Edit(Edit::DeleteLine { line }))
+    Ok(Edit::Recolour { source, target })
 }
 
 #[tactic(auto, unfolding(crate::specs::Parse::swap_at))]
-fn read_swap(axis: Axis, rest: &[u8]) -> Result<Command, CommandFault>
-    ensures value { Reads (λ c. c) result (swap_at axis (words_of rest.now)) }
-    ensures bounded { IfOk result IsBounded }
+fn read_swap(rest: &[u8]) -> Result<Edit, CommandFault>
+    ensures { Reads (λ e. e) result (swap_at (words_of rest.now)) }
 {
+    let (axis, rest) = read_axis(rest)?;
+    let rest = counted(rest, 2)?;
     let (first, rest) = read_place(rest)?;
     let (second, _) = read_place(rest)?;
-    Ok(Command::Edit(Edit::SwapLines {
+    Ok(Edit::SwapLines {
         axis,
         first,
         second,
-    }))
+    })
 }
 
-#[tactic(auto, unfolding(crate::specs::Parse::add_colour_at))]
-fn read_add_colour(rest: &[u8]) -> Result<Command, CommandFault>
-    ensures value { Reads (λ c. c) result (add_colour_at (words_of rest.now)) }
-    ensures bounded { IfOk result IsBounded }
+#[tactic(auto, unfolding(crate::specs::Parse::add_colour_at, crate::specs::Parse::set_colour_at))]
+// A colour added to the palette, or another triple for one of it.
+fn read_palette(rest: &[u8]) -> Result<Edit, CommandFault>
+    ensures { Reads (λ e. e) result (palette_at (words_of rest.now)) }
 {
-    let rgb = read_rgb(rest)?;
-    Ok(Command::Edit(Edit::AddColour { rgb }))
+    let (word, rest) = read_word(rest)?;
+    match word {
+        b"add" => {
+            let rgb = read_rgb(counted(rest, 3)?)?;
+            Ok(Edit::AddColour { rgb })
+        }
+        b"set" => {
+            let (colour, rest) = read_colour(counted(rest, 4)?)?;
+            let rgb = read_rgb(rest)?;
+            Ok(Edit::SetColour { colour, rgb })
+        }
+        _ => Err(CommandFault::UnknownWord),
+    }
 }
 
-#[tactic(auto, unfolding(crate::specs::Parse::set_colour_at))]
-fn read_set_colour(rest: &[u8]) -> Result<Command, CommandFault>
-    ensures value { Reads (λ c. c) result (set_colour_at (words_of rest.now)) }
-    ensures bounded { IfOk result IsBounded }
+// The edit that a word begins, by what stands behind it.
+fn read_edit(word: &[u8], rest: &[u8]) -> Result<Edit, CommandFault>
+    ensures { Reads (λ e. e) result (edit_at word.now (words_of rest.now)) }
 {
-    let (colour, rest) = read_colour(rest)?;
-    let rgb = read_rgb(rest)?;
-    Ok(Command::Edit(Edit::SetColour { colour, rgb }))
+    match word {
+        b"paint" => {
+            let ((row, col), colour) = read_spot(rest)?;
+            Ok(Edit::Paint { row, col, colour })
+        }
+        b"fill" => read_fill(rest),
+        b"recolour" => read_recolour(rest),
+        b"insert" => {
+            let line = read_line(rest)?;
+            Ok(Edit::InsertLine { line })
+        }
+        b"delete" => {
+            let line = read_line(rest)?;
+            Ok(Edit::DeleteLine { line })
+        }
+        b"swap" => read_swap(rest),
+        b"colour" => read_palette(rest),
+        b"pin" => {
+            let (row, col) = read_cell_alone(rest)?;
+            Ok(Edit::Pin { row, col })
+        }
+        b"unpin" => {
+            let (row, col) = read_cell_alone(rest)?;
+            Ok(Edit::Unpin { row, col })
+        }
+        _ => Err(CommandFault::UnknownWord),
+    }
 }
 
-#[tactic(auto, unfolding(crate::specs::Parse::pin_at))]
-fn read_pin(rest: &[u8]) -> Result<Command, CommandFault>
-    ensures value { Reads (λ c. c) result (pin_at (words_of rest.now)) }
+// A command with no word behind it.
+fn bare(command: Command, rest: &[u8]) -> Result<Command, CommandFault>
+    requires { IsBounded command }
+    ensures value { Reads (λ c. c) result (bare_at command (words_of rest.now)) }
     ensures bounded { IfOk result IsBounded }
 {
-    let ((row, col), _) = read_cell(rest)?;
-    Ok(Command::Edit(Edit::Pin { row, col }))
+    counted(rest, 0)?;
+    Ok(command)
 }
 
-#[tactic(auto, unfolding(crate::specs::Parse::unpin_at))]
-fn read_unpin(rest: &[u8]) -> Result<Command, CommandFault>
-    ensures value { Reads (λ c. c) result (unpin_at (words_of rest.now)) }
+// The picture as a text, in the format that a word names.
+fn read_write(rest: &[u8]) -> Result<Command, CommandFault>
+    ensures value { Reads (λ c. c) result (write_at (words_of rest.now)) }
     ensures bounded { IfOk result IsBounded }
 {
-    let ((row, col), _) = read_cell(rest)?;
-    Ok(Command::Edit(Edit::Unpin { row, col }))
-}
-
-#[tactic(auto, unfolding(crate::specs::Parse::why_at))]
-fn read_why(rest: &[u8]) -> Result<Command, CommandFault>
-    ensures value { Reads (λ c. c) result (why_at (words_of rest.now)) }
-    ensures bounded { IfOk result IsBounded }
-{
-    let ((row, col), rest) = read_cell(rest)?;
-    let (colour, _) = read_colour(rest)?;
-    Ok(Command::Why { row, col, colour })
+    let (word, rest) = read_word(rest)?;
+    match word {
+        b"ppm" => bare(Command::WritePpm, rest),
+        b"non" => bare(Command::WriteNon, rest),
+        _ => Err(CommandFault::UnknownWord),
+    }
 }
 
 #[tactic(auto, unfolding(crate::specs::Parse::allow_at))]
@@ -139,37 +140,51 @@ fn read_allow(rest: &[u8]) -> Result<Command, CommandFault>
     ensures value { Reads (λ c. c) result (allow_at (words_of rest.now)) }
     ensures bounded { IfOk result IsBounded }
 {
-    let (splits, _) = read_allowance(rest)?;
+    let (word, _) = read_word(counted(rest, 1)?)?;
+    let splits = allowance_in(word).ok_or(CommandFault::BadNumber)?;
     Ok(Command::Allow(splits))
 }
 
-// The command of a verb, by the words behind it.
-fn read_command(verb: Verb, rest: &[u8]) -> Result<Command, CommandFault>
-    ensures value { Reads (λ c. c) result (command_by verb (words_of rest.now)) }
+// Why a cell does not have a colour.
+fn read_why(rest: &[u8]) -> Result<Command, CommandFault>
+    ensures value { Reads (λ c. c) result (why_at (words_of rest.now)) }
     ensures bounded { IfOk result IsBounded }
 {
-    match verb {
-        Verb::Paint => read_paint(rest),
-        Verb::Fill => read_fill(rest),
-        Verb::Recolour => read_recolour(rest),
-        Verb::Insert(axis) => read_insert(axis, rest),
-        Verb::Delete(axis) => read_delete(axis, rest),
-        Verb::Swap(axis) => read_swap(axis, rest),
-        Verb::AddColour => read_add_colour(rest),
-        Verb::SetColour => read_set_colour(rest),
-        Verb::Pin => read_pin(rest),
-        Verb::Unpin => read_unpin(rest),
-        Verb::Undo => Ok(Command::Undo),
-        Verb::Redo => Ok(Command::Redo),
-        Verb::Clues => Ok(Command::Clues),
-        Verb::Map => Ok(Command::Map),
-        Verb::Verdict => Ok(Command::Verdict),
-        Verb::Why => read_why(rest),
-        Verb::Certify => Ok(Command::Certify),
-        Verb::WritePpm => Ok(Command::WritePpm),
-        Verb::WriteNon => Ok(Command::WriteNon),
-        Verb::Report => Ok(Command::Report),
-        Verb::Allow => read_allow(rest),
+    let ((row, col), colour) = read_spot(rest)?;
+    Ok(Command::Why { row, col, colour })
+}
+
+// What a word asks, shows or takes back, by what stands behind it. None for any other word.
+fn read_asking(word: &[u8], rest: &[u8]) -> Option<Result<Command, CommandFault>>
+    ensures value { IsAsking (named word.now asking_words) (words_of rest.now) result }
+    ensures bounded { IfSome result (λ asked. IfOk asked IsBounded) }
+{
+    match word {
+        b"undo" => Some(bare(Command::Undo, rest)),
+        b"redo" => Some(bare(Command::Redo, rest)),
+        b"clues" => Some(bare(Command::Clues, rest)),
+        b"map" => Some(bare(Command::Map, rest)),
+        b"verdict" => Some(bare(Command::Verdict, rest)),
+        b"why" => Some(read_why(rest)),
+        b"certify" => Some(bare(Command::Certify, rest)),
+        b"write" => Some(read_write(rest)),
+        b"report" => Some(bare(Command::Report, rest)),
+        b"allow" => Some(read_allow(rest)),
+        _ => None,
+    }
+}
+
+// The command that a word begins, by what stands behind it.
+fn read_command(word: &[u8], rest: &[u8]) -> Result<Command, CommandFault>
+    ensures value { Reads (λ c. c) result (command_at word.now (words_of rest.now)) }
+    ensures bounded { IfOk result IsBounded }
+{
+    match read_asking(word, rest) {
+        Some(asked) => asked,
+        None => match read_edit(word, rest) {
+            Ok(edit) => Ok(Command::Edit(edit)),
+            Err(fault) => Err(fault),
+        },
     }
 }
 
@@ -188,12 +203,8 @@ pub fn parse_command(line: &[u8]) -> Result<Command, CommandFault>
     if line.len() > MOST_BYTES {
         return Err(CommandFault::LongLine);
     }
-    let Some((first, rest)) = next_word(line) else {
-        return Err(CommandFault::UnknownWord);
-    };
-    let (verb, rest) = read_verb(first, rest)?;
-    if !has_words(rest, verb.words_wanted()) {
-        return Err(CommandFault::WordCount);
+    match next_word(line) {
+        Some((first, rest)) => read_command(first, rest),
+        None => Err(CommandFault::UnknownWord),
     }
-    read_command(verb, rest)
 }

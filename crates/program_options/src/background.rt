@@ -22,12 +22,8 @@ pub fn background_in(text: &[u8]) -> Option<Rgb>
 fn sample_before(text: &[u8]) -> Option<(u16, &[u8])>
     ensures { option_map sample_seen result ≡ sample_before text.now }
 {
-    let Some(end) = comma_place(text) else {
-        return None;
-    };
-    let Some(sample) = sample_in(&text[..end]) else {
-        return None;
-    };
+    let end = comma_place(text)?;
+    let sample = sample_in(&text[..end])?;
     Some((sample, &text[end + 1..]))
 }
 

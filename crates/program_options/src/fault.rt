@@ -44,19 +44,33 @@ pub enum ProgramFault {
     Write,
 }
 
+impl From<AllocError> for ProgramFault {
+    ghost from_gives = { λ _ e. e ≡ Memory };
+
+    fn from(_refused: AllocError) -> ProgramFault {
+        ProgramFault::Memory
+    }
+}
+
 impl ProgramFault {
     /// The status with which the program ends: 1 for what it was given, 2 for its words, 3 for reading and writing.
     pub fn status(&self) -> u8
         ensures { result ≡ status_of self.now }
     {
         match self {
-            ProgramFault::Ppm(_) | ProgramFault::Non(_) | ProgramFault::Cert(_) => 1,
-            ProgramFault::Edit(_) | ProgramFault::NoPicture => 1,
-            ProgramFault::Memory | ProgramFault::TooLong => 1,
-            ProgramFault::Words(_) | ProgramFault::Background => 2,
-            ProgramFault::BackgroundOfNon | ProgramFault::NotText => 2,
+            ProgramFault::Words(_) | ProgramFault::NotText => 2,
+            ProgramFault::Background | ProgramFault::BackgroundOfNon => 2,
             ProgramFault::Read | ProgramFault::Write => 3,
+            _ => 1,
         }
+    }
+}
+
+impl<T: Drop> From<AllocFailed<T>> for ProgramFault {
+    ghost from_gives = { λ _ e. e ≡ Memory };
+
+    fn from(_refused: AllocFailed<T>) -> ProgramFault {
+        ProgramFault::Memory
     }
 }
 
@@ -85,30 +99,6 @@ impl fmt::Display for ProgramFault {
             ProgramFault::Read => f.write_str("read failed"),
             ProgramFault::Write => f.write_str("write failed"),
         }
-    }
-}
-
-impl From<AllocError> for ProgramFault {
-    ghost from_gives = { λ _ e. e ≡ Memory };
-
-    fn from(_refused: AllocError) -> ProgramFault {
-        ProgramFault::Memory
-    }
-}
-
-impl<T: Drop> From<AllocFailed<T>> for ProgramFault {
-    ghost from_gives = { λ _ e. e ≡ Memory };
-
-    fn from(_refused: AllocFailed<T>) -> ProgramFault {
-        ProgramFault::Memory
-    }
-}
-
-impl From<WriteFault> for ProgramFault {
-    ghost from_gives = { λ _ e. e ≡ Unwritten };
-
-    fn from(_fault: WriteFault) -> ProgramFault {
-        ProgramFault::Write
     }
 }
 
@@ -153,5 +143,13 @@ impl From<CertFault> for ProgramFault {
             CertFault::Memory => ProgramFault::Memory,
             _ => ProgramFault::Cert(fault),
         }
+    }
+}
+
+impl From<WriteFault> for ProgramFault {
+    ghost from_gives = { λ _ e. e ≡ Unwritten };
+
+    fn from(_fault: WriteFault) -> ProgramFault {
+        ProgramFault::Write
     }
 }

@@ -25,15 +25,14 @@ use Rattle.live_audit.specs.Reason.{Explains}
 use Rattle.live_audit.specs.Stroke.{Stroke, Edits, Undoes, Redoes}
 use Rattle.live_audit.specs.Verdict.{IsVerdictOn, Tells}
 use Rattle.command_text.specs.declared.command.Command.TheVariants as command
-use Rattle.session.specs.declared.refusal.Refusal.{Refusal}
-use Rattle.session.specs.declared.refusal.Refusal.TheVariants as refusal
-use Rattle.session.specs.Answer.{IsAsked, answer_text, stroke_said, text_said, written_said}
+use Rattle.session.specs.declared.answer.Answer.{Answer}
+use Rattle.session.specs.declared.answer.Answer.TheVariants.{Silence, Done, Text, Refused}
+use Rattle.session.specs.Answer.{GivesNon, IsAsked, answer_text, stroke_said, text_said}
 use Rattle.report_text.specs.ClueText.{clues_text}
-use Rattle.session.specs.Refusal.{edit_line, refusal_line}
+use Rattle.session.specs.Refusal.{edit_line, memory_line, refusal_line}
 use Rattle.session.specs.Session.{Judges, Replies, SaysStroke, certified_text, content, done_text, report_on, verdict_text, verdict_word, why_text}
 use Rattle.report_text.specs.Report.{ending_text, front_text}
 use Rattle.report_text.specs.Shown.{map_text}
-use Rattle.session.specs.Written.{GivesNon}
 
 -- a stroke, by what the bench answers
 pub says_stroke : (stroke : Stroke) (old new : Seen) (outcome : Result (Unit {0}) EditFault) → OnOk outcome (Accepts stroke old new) → IfErr outcome (λ fault. Refuses stroke fault old new) → IsAudited new
@@ -73,21 +72,23 @@ unfolding Replies
 replies_map s facts (Ok text) is audited same = (inl (audited, (same ∙ ap (λ (f : List (List ℕ)). map_text f) is, refl)), same_count s.calls)
 replies_map s facts (Err e) is audited same = (inr (refl, refl), same_count s.calls)
 
-pub replies_ppm : (s : Seen) (d : Document) (outcome : Result (Vec ℕ Global) Refusal) → design_of d ≡ s.history.document → IfOk outcome (λ text. text.items ≡ ppm_text (content_of d)) → IfErr outcome (λ e. e ≡ refusal.Memory)
-    → Replies command.WritePpm s (answer_text (written_said outcome)) s
+pub replies_ppm : {E : Type 0} (s : Seen) (d : Document) (outcome : Result (Vec ℕ Global) E) → design_of d ≡ s.history.document → IfOk outcome (λ text. text.items ≡ ppm_text (content_of d))
+    → Replies command.WritePpm s (answer_text (text_said outcome)) s
 unfolding Replies
-replies_ppm s d (Ok text) is same short = (inl (same ∙ ap (λ (e : Design). ppm_text (content e)) is, refl), same_count s.calls)
-replies_ppm s d (Err e) is same short = (inr (ap refusal_line short, refl), same_count s.calls)
+replies_ppm s d (Ok text) is same = (inl (same ∙ ap (λ (e : Design). ppm_text (content e)) is, refl), same_count s.calls)
+replies_ppm s d (Err e) is same = (inr (refl, refl), same_count s.calls)
 
-pub replies_non : (s : Seen) (d : Document) (outcome : Result (Vec ℕ Global) Refusal) → design_of d ≡ s.history.document → GivesNon d.picture outcome → Replies command.WriteNon s (answer_text (written_said outcome)) s
+pub replies_non : (s : Seen) (d : Document) (answer : Answer) → design_of d ≡ s.history.document → GivesNon d.picture answer → Replies command.WriteNon s (answer_text answer) s
 unfolding Replies
-replies_non s d (Ok text) is gives =
+replies_non s d Silence is gives = absurd gives
+replies_non s d Done is gives = absurd gives
+replies_non s d (Text text) is gives =
     let rows : d.picture ≡ s.history.document.rows = ap (λ (e : Design). e.rows) is in
     (inl (inl (sym (ap is_two_colour rows) ∙ gives.0, (gives.1 ∙ ap non_text_of rows, refl))), same_count s.calls)
-replies_non s d (Err e) is (inl two) =
+replies_non s d (Refused e) is (inl two) =
     let rows : d.picture ≡ s.history.document.rows = ap (λ (e : Design). e.rows) is in
     (inl (inr (sym (ap is_two_colour rows) ∙ two.1, (ap refusal_line two.0, refl))), same_count s.calls)
-replies_non s d (Err e) is (inr short) =
+replies_non s d (Refused e) is (inr short) =
     let rows : d.picture ≡ s.history.document.rows = ap (λ (e : Design). e.rows) is in
     (inr (sym (ap is_two_colour rows) ∙ short.1, (ap refusal_line short.0, refl)), same_count s.calls)
 
@@ -104,22 +105,26 @@ replies_report old new (Err e) before = (inr (refl, before.1), before.0)
 
 -- a reason
 pub replies_why : {E : Type 0} (s : Seen) (row col colour : ℕ) (outcome : Result (Vec ℕ Global) E) → has_cell s.history.document.rows row col ≡ true → IsAudited s
-    → IfOk outcome (λ text. (why : Why) × (Explains s row col colour why × (text.items ≡ why_text why))) → Replies (command.Why row col colour) s (answer_text (text_said outcome)) s
+    → (why : Why) → Explains s row col colour why → IfOk outcome (λ text. text.items ≡ why_text why) → Replies (command.Why row col colour) s (answer_text (text_said outcome)) s
 unfolding Replies
-replies_why s row col colour (Ok text) inside audited found = (inl (inr (inside, (found.0, (found.1.0, (audited, (found.1.1, refl)))))), same_count s.calls)
-replies_why s row col colour (Err e) inside audited found = (inr (inside, (refl, refl)), same_count s.calls)
+replies_why s row col colour (Ok text) inside audited why right is = (inl (inr (inside, (why, (right, (audited, (is, refl)))))), same_count s.calls)
+replies_why s row col colour (Err e) inside audited why right is = (inr (inside, (refl, refl)), same_count s.calls)
+
+pub replies_why_short : (s : Seen) (row col colour : ℕ) → has_cell s.history.document.rows row col ≡ true → Replies (command.Why row col colour) s memory_line s
+unfolding Replies
+replies_why_short s row col colour inside = (inr (inside, (refl, refl)), same_count s.calls)
 
 pub replies_outside : (s : Seen) (row col colour : ℕ) → has_cell s.history.document.rows row col ≡ false → Replies (command.Why row col colour) s (edit_line Place) s
 unfolding Replies
 replies_outside s row col colour outside = (inl (inl (outside, (refl, refl))), same_count s.calls)
 
 -- a certificate
-pub replies_certify : (old new : Seen) (outcome : Result (Vec ℕ Global) Refusal) → Learns old new → OnOk outcome (IsSearched old new) → IsAudited new → old.calls ≤ new.calls
-    → IfOk outcome (λ text. (found : Option Certificate) × (Certifies old.history.document found × (text.items ≡ certified_text found))) → IfErr outcome (λ e. e ≡ refusal.Memory)
-    → Replies command.Certify old (answer_text (written_said outcome)) new
+pub replies_certify : {E : Type 0} (old new : Seen) (outcome : Result (Vec ℕ Global) E) → Learns old new → OnOk outcome (IsSearched old new) → IsAudited new → old.calls ≤ new.calls
+    → IfOk outcome (λ text. (found : Option Certificate) × (Certifies old.history.document found × (text.items ≡ certified_text found)))
+    → Replies command.Certify old (answer_text (text_said outcome)) new
 unfolding Replies
-replies_certify old new (Ok text) learns searched audited calls found short = (inl (found.0, (found.1.0, (found.1.1, ((learns, searched), audited)))), calls)
-replies_certify old new (Err e) learns searched audited calls found short = (inr (ap refusal_line short, (learns, audited)), calls)
+replies_certify old new (Ok text) learns searched audited calls found = (inl (found.0, (found.1.0, (found.1.1, ((learns, searched), audited)))), calls)
+replies_certify old new (Err e) learns searched audited calls found = (inr (refl, (learns, audited)), calls)
 
 -- an allowance
 pub replies_allow : (old new : Seen) (allowance : Option ℕ) → new ≡ record old { allowance = allowance } → Replies (command.Allow allowance) old done_text new

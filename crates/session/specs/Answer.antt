@@ -1,8 +1,10 @@
 -- What is answered to a line, as the bytes that are written.
-use Rattle.std.specs.Prelude.{◌≡◌, ◌≤◌, ℕ, List, [], codes, Result, Ok, Err}
+use Rattle.std.specs.Prelude.{◌≡◌, ◌≤◌, ◌⊎◌, ℕ, true, false, List, [], codes, Result, Ok, Err}
 use Rattle.std.specs.declared.vec.Vec.{Vec}
 use Rattle.std.specs.declared.alloc.Global.{Global}
 use Rattle.std.specs.Borrow.{Bor}
+use Rattle.non_text.specs.Writing.{is_two_colour}
+use Rattle.non_text.specs.Written.{non_text_of}
 use Rattle.live_audit.specs.declared.verdict.Verdict.{Verdict}
 use Rattle.live_audit.specs.Bench.{Seen}
 use Rattle.live_audit.specs.Calls.{IsAsBefore}
@@ -10,8 +12,7 @@ use Rattle.session.specs.Session.{Judges, verdict_word}
 use Rattle.edits.specs.declared.fault.EditFault.{EditFault}
 use Rattle.session.specs.declared.answer.Answer.{Answer}
 use Rattle.session.specs.declared.answer.Answer.TheVariants.{Silence, Done, Text, Refused}
-use Rattle.session.specs.declared.refusal.Refusal.{Refusal}
-use Rattle.session.specs.declared.refusal.Refusal.TheVariants.{Edit, Memory}
+use Rattle.session.specs.declared.refusal.Refusal.TheVariants.{Edit, Memory, TwoColoursOnly}
 use Rattle.session.specs.Refusal.{refusal_line}
 
 abbrev pub answer_text : Answer → List ℕ
@@ -30,10 +31,12 @@ abbrev pub text_said : {E : Type 0} → Result (Vec ℕ Global) E → Answer
 text_said (Ok text) = Text text
 text_said (Err e) = Refused Memory
 
--- and to what may be refused otherwise
-abbrev pub written_said : Result (Vec ℕ Global) Refusal → Answer
-written_said (Ok text) = Text text
-written_said (Err refusal) = Refused refusal
+-- The .non text, where no cell has a colour above 1, and else that refusal; want of memory apart.
+abbrev pub GivesNon : List (List ℕ) → Answer → Type 0
+GivesNon rows Silence = ⊥
+GivesNon rows Done = ⊥
+GivesNon rows (Text text) = (is_two_colour rows ≡ true) × (text.items ≡ non_text_of rows)
+GivesNon rows (Refused fault) = ((fault ≡ TwoColoursOnly) × (is_two_colour rows ≡ false)) ⊎ ((fault ≡ Memory) × (is_two_colour rows ≡ true))
 
 -- ---- where a verdict was asked for
 

@@ -4,4 +4,3 @@ pub mod Refusal
 pub mod Room
 pub mod Run
 pub mod Session
-pub mod Written

@@ -1,33 +1,32 @@
 //! What a session answers to a line: all that takes memory comes before the first byte goes out.
 
-ghost use Rattle.std.specs.Prelude.{◌≡◌, ◌+◌, ◌++◌, ◌<◌, ◌≤◌, [], codes, length, vec_capacity, vec_len, Option, IfErr, IfOk, IfSome, OnOk};
-ghost use Rattle.picture.specs.Rows.{width_of};
-ghost use Rattle.edits.specs.Fault.{has_cell};
-ghost use Rattle.cert_text.specs.Cert.{Certificate};
-ghost use Rattle.live_audit.specs.Bench.{IsAudited};
-ghost use Rattle.live_audit.specs.Calls.{IsSearched, Learns};
-ghost use Rattle.live_audit.specs.Certify.{Certifies};
-ghost use Rattle.live_audit.specs.Reason.{Explains};
-ghost use Rattle.live_audit.specs.declared.why.Why.{Why};
-ghost use Rattle.session.specs.Answer.{IsAsked, IsAskedWord, answer_text, stroke_said, text_said, written_said};
-ghost use Rattle.command_text.specs.Lines.{AsksBounded};
-ghost use Rattle.command_text.specs.Parse.{IsBounded};
-ghost use Rattle.report_text.specs.Report.{front_text};
-ghost use Rattle.report_text.specs.Room.{TakesRoom, picture_room};
+ghost use Rattle.std.specs.Prelude.{◌≡◌, ◌+◌, ◌++◌, ◌<◌, ◌≤◌, [], length, vec_capacity, vec_len, Option, IfOk, OnOk};
+ghost use Rattle.session.specs.Answer.{GivesNon, IsAsked, IsAskedWord, answer_text, stroke_said, text_said};
 ghost use Rattle.session.specs.Room.{verdict_room};
 ghost use Rattle.session.specs.Session.{Replies, Says, certified_text, other_text, report_on, undecided_text, verdict_text, verdict_word, why_text};
-ghost use Rattle.report_text.specs.Shown.{map_text};
+ghost use Rattle.command_text.specs.Parse.{IsBounded};
+ghost use Rattle.report_text.specs.Room.{TakesRoom, picture_room};
+ghost use Rattle.live_audit.specs.Certify.{Certifies};
+ghost use Rattle.cert_text.specs.Cert.{Certificate};
+ghost use Rattle.live_audit.specs.Calls.{IsSearched, Learns};
+ghost use Rattle.live_audit.specs.Bench.{IsAudited};
 ghost use Rattle.command_text.specs.declared.command.Command.TheVariants as command;
-ghost use Rattle.session.specs.declared.refusal.Refusal.TheVariants as refusal;
+ghost use Rattle.picture.specs.Content.{content_of};
+ghost use Rattle.command_text.specs.Lines.{AsksBounded};
+ghost use Rattle.report_text.specs.Shown.{map_text};
+ghost use Rattle.edits.specs.Fault.{has_cell};
+ghost use Rattle.ppm_text.specs.Text.{ppm_text};
+ghost use Rattle.report_text.specs.Report.{front_text};
 
 use crate::refusal::Refusal;
-use crate::written::{cert_text_of, non_text_of, ppm_text_of};
-use certificate::Cert;
+use certificate::{Cert, write_cert};
 use command_text::{Command, Request};
 use edits::{Edit, EditFault};
 use line_settle::{Facts, LineEngine};
 use live_audit::{Bench, Verdict, Why};
-use picture::Picture;
+use non_text::{NonWriteFault, write_non};
+use picture::{Document, Picture};
+use ppm_text::write_ppm;
 use propagate::Agenda;
 use report_text::{
     ENDING_ROOM, clues_text, push_ending, push_front, push_map, push_number, push_picture,
@@ -83,15 +82,6 @@ fn text_answer(outcome: Result<Vec<u8>, AllocError>) -> Answer
     }
 }
 
-fn written_answer(outcome: Result<Vec<u8>, Refusal>) -> Answer
-    ensures { result ≡ written_said outcome }
-{
-    match outcome {
-        Ok(text) => Answer::Text(text),
-        Err(refusal) => Answer::Refused(refusal),
-    }
-}
-
 fn map_text(alloc: Global, map: &Facts) -> Result<Vec<u8>, AllocError>
     ensures { IfOk result (λ text. text.items ≡ map_text map.now) }
 {
@@ -114,7 +104,10 @@ fn answer_why<E: LineEngine + Drop, A: Agenda + Drop>(
     if !has_cell(&bench.document().picture, row, col) {
         return Answer::Refused(Refusal::Edit(EditFault::Place));
     }
-    text_answer(why_text(alloc, bench, row, col, colour))
+    match bench.why(row, col, colour) {
+        Ok(why) => text_answer(why_text(alloc, &why)),
+        Err(_) => Answer::Refused(Refusal::Memory),
+    }
 }
 
 // Whether the cell is one of the picture's.
@@ -124,22 +117,11 @@ fn has_cell(picture: &Picture, row: u8, col: u8) -> bool
     row < picture.height() && col < picture.width()
 }
 
-fn why_text<E: LineEngine + Drop, A: Agenda + Drop>(
-    alloc: Global,
-    bench: &Bench<E, A>,
-    row: u8,
-    col: u8,
-    colour: u8,
-) -> Result<Vec<u8>, AllocError>
-    requires in_rows { row < length bench.now.history.document.rows }
-    requires in_columns { col < width_of bench.now.history.document.rows }
-    requires in_colours { colour < 16 }
-    ensures { IfOk result (λ text.
-        (why : Why) × (Explains bench.now row col colour why × (text.items ≡ why_text why))) }
+fn why_text(alloc: Global, why: &Why) -> Result<Vec<u8>, AllocError>
+    ensures { IfOk result (λ text. text.items ≡ why_text why.now) }
 {
     let mut text = Vec::new(alloc);
-    let why = bench.why(row, col, colour)?;
-    push_why(&mut text, &why)?;
+    push_why(&mut text, why)?;
     Ok(text)
 }
 
@@ -255,43 +237,58 @@ fn verdict_word(verdict: &Verdict<'_>) -> &'static [u8]
     }
 }
 
+// The P3 text of a document.
+fn ppm_text(alloc: Global, document: &Document) -> Result<Vec<u8>, AllocError>
+    ensures { IfOk result (λ text. text.items ≡ ppm_text (content_of document.now)) }
+{
+    let mut text = Vec::new(alloc);
+    write_ppm(document, &mut text).map_err(|_| AllocError)?;
+    Ok(text)
+}
+
+// The .non text of a picture, which has two colours.
+fn non_answer(alloc: Global, picture: &Picture) -> Answer
+    ensures { GivesNon picture.now result }
+{
+    let mut text = Vec::new(alloc);
+    match write_non(alloc, picture, &mut text) {
+        Ok(()) => Answer::Text(text),
+        Err(NonWriteFault::TwoColoursOnly) => Answer::Refused(Refusal::TwoColoursOnly),
+        Err(_) => Answer::Refused(Refusal::Memory),
+    }
+}
+
 // The certificate's text, or that there is another picture.
 fn certificate_text<E: LineEngine + Drop, A: Agenda + Drop>(
     alloc: Global,
     bench: &mut Bench<E, A>,
-) -> Result<Vec<u8>, Refusal>
+) -> Result<Vec<u8>, AllocError>
     ensures text { IfOk result (λ text. (found : Option Certificate)
         × (Certifies bench.old.history.document found × (text.items ≡ certified_text found))) }
-    ensures err { IfErr result (λ e. e ≡ refusal.Memory) }
     ensures judges { OnOk result (IsSearched bench.old bench.new) }
     ensures learns { Learns bench.old bench.new }
     ensures calls { bench.old.calls ≤ bench.new.calls }
     ensures audited { IsAudited bench.new }
 {
-    match bench.certify() {
-        Ok(found) => found_text(alloc, &found),
-        Err(_) => Err(Refusal::Memory),
-    }
+    let found = bench.certify()?;
+    found_text(alloc, &found)
 }
 
-fn found_text(alloc: Global, found: &Option<Cert>) -> Result<Vec<u8>, Refusal>
-    ensures text { IfOk result (λ text. text.items ≡ certified_text found.now) }
-    ensures err { IfErr result (λ e. e ≡ refusal.Memory) }
-{
-    match found {
-        Some(cert) => cert_text_of(alloc, cert),
-        None => ambiguous_text(alloc),
-    }
-}
-
-fn ambiguous_text(alloc: Global) -> Result<Vec<u8>, Refusal>
-    ensures text { IfOk result (λ text. text.items ≡ codes "ambiguous\n") }
-    ensures err { IfErr result (λ e. e ≡ refusal.Memory) }
+fn found_text(alloc: Global, found: &Option<Cert>) -> Result<Vec<u8>, AllocError>
+    ensures { IfOk result (λ text. text.items ≡ certified_text found.now) }
 {
     let mut text = Vec::new(alloc);
-    match text.extend_from_slice(b"ambiguous\n") {
-        Ok(()) => Ok(text),
-        Err(_) => Err(Refusal::Memory),
+    push_found(&mut text, found)?;
+    Ok(text)
+}
+
+fn push_found(text: &mut Vec<u8>, found: &Option<Cert>) -> Result<(), AllocError>
+    requires { text.old.items ≡ [] }
+    ensures { OnOk result (text.new.items ≡ certified_text found.now) }
+{
+    match found {
+        Some(cert) => write_cert(cert, text).map_err(|_| AllocError),
+        None => text.extend_from_slice(b"ambiguous\n"),
     }
 }
 
@@ -312,14 +309,14 @@ fn answer_command<E: LineEngine + Drop, A: Agenda + Drop>(
         Command::Map => text_answer(map_text(alloc, bench.map())),
         Command::Verdict => text_answer(verdict_text(alloc, bench)),
         Command::Why { row, col, colour } => answer_why(alloc, bench, row, col, colour),
-        Command::WritePpm => written_answer(ppm_text_of(alloc, bench.document())),
-        Command::WriteNon => written_answer(non_text_of(alloc, &bench.document().picture)),
+        Command::WritePpm => text_answer(ppm_text(alloc, bench.document())),
+        Command::WriteNon => non_answer(alloc, &bench.document().picture),
         Command::Report => text_answer(report_text(alloc, bench)),
         Command::Allow(allowance) => {
             bench.allow(allowance);
             Answer::Done
         }
-        Command::Certify => written_answer(certificate_text(alloc, bench)),
+        Command::Certify => text_answer(certificate_text(alloc, bench)),
     }
 }
 

@@ -5,7 +5,6 @@ mod answer;
 pub mod laws;
 mod refusal;
 mod session;
-mod written;
 
 pub use command_text::{Command, CommandFault, MOST_BYTES, Request, SessionFault, parse_command};
 pub use report_text::clues_text;

@@ -1,7 +1,7 @@
 //! What is printed for a command that is refused.
 
 ghost use Rattle.std.specs.Prelude.{◌≡◌};
-ghost use Rattle.session.specs.Refusal.{edit_line, line_line, refusal_line};
+ghost use Rattle.session.specs.Refusal.{refusal_line};
 
 use command_text::CommandFault;
 use edits::EditFault;
@@ -25,41 +25,25 @@ impl Refusal {
         ensures { result.now ≡ refusal_line self.now }
     {
         match self {
-            Refusal::Line(fault) => line_line(*fault),
-            Refusal::Edit(fault) => edit_line(*fault),
+            Refusal::Line(CommandFault::LongLine) => b"refused: LongLine\n",
+            Refusal::Line(CommandFault::UnknownWord) => b"refused: UnknownWord\n",
+            Refusal::Line(CommandFault::WordCount) => b"refused: WordCount\n",
+            Refusal::Line(CommandFault::BadNumber) => b"refused: BadNumber\n",
+            Refusal::Line(CommandFault::BadColour) => b"refused: BadColour\n",
+            Refusal::Edit(EditFault::Place) => b"refused: Place\n",
+            Refusal::Edit(EditFault::Colour) => b"refused: Colour\n",
+            Refusal::Edit(EditFault::TooLarge) => b"refused: TooLarge\n",
+            Refusal::Edit(EditFault::LastLine) => b"refused: LastLine\n",
+            Refusal::Edit(EditFault::SampleOver) => b"refused: SampleOver\n",
+            Refusal::Edit(EditFault::PaletteFull) => b"refused: PaletteFull\n",
+            Refusal::Edit(EditFault::DuplicateColour) => b"refused: DuplicateColour\n",
+            Refusal::Edit(EditFault::Background) => b"refused: Background\n",
+            Refusal::Edit(EditFault::NoChange) => b"refused: NoChange\n",
+            Refusal::Edit(EditFault::UndoEmpty) => b"refused: UndoEmpty\n",
+            Refusal::Edit(EditFault::RedoEmpty) => b"refused: RedoEmpty\n",
+            Refusal::Edit(EditFault::Memory) => b"refused: Memory\n",
             Refusal::TwoColoursOnly => b"refused: TwoColoursOnly\n",
             Refusal::Memory => b"refused: Memory\n",
         }
-    }
-}
-
-fn line_line(fault: CommandFault) -> &'static [u8]
-    ensures { result.now ≡ line_line fault }
-{
-    match fault {
-        CommandFault::LongLine => b"refused: LongLine\n",
-        CommandFault::UnknownWord => b"refused: UnknownWord\n",
-        CommandFault::WordCount => b"refused: WordCount\n",
-        CommandFault::BadNumber => b"refused: BadNumber\n",
-        CommandFault::BadColour => b"refused: BadColour\n",
-    }
-}
-
-fn edit_line(fault: EditFault) -> &'static [u8]
-    ensures { result.now ≡ edit_line fault }
-{
-    match fault {
-        EditFault::Place => b"refused: Place\n",
-        EditFault::Colour => b"refused: Colour\n",
-        EditFault::TooLarge => b"refused: TooLarge\n",
-        EditFault::LastLine => b"refused: LastLine\n",
-        EditFault::SampleOver => b"refused: SampleOver\n",
-        EditFault::PaletteFull => b"refused: PaletteFull\n",
-        EditFault::DuplicateColour => b"refused: DuplicateColour\n",
-        EditFault::Background => b"refused: Background\n",
-        EditFault::NoChange => b"refused: NoChange\n",
-        EditFault::UndoEmpty => b"refused: UndoEmpty\n",
-        EditFault::RedoEmpty => b"refused: RedoEmpty\n",
-        EditFault::Memory => b"refused: Memory\n",
     }
 }

@@ -8,21 +8,6 @@ use answers::{Options, background_in};
 use edits::MAX_DEPTH;
 use picture::Rgb;
 
-/// What a bench is opened on.
-#[derive(Drop)]
-pub struct Asked<'a> {
-    pub file: &'a [u8],
-    pub options: Options,
-}
-
-/// What a check is of.
-#[derive(Drop)]
-pub struct Checked<'a> {
-    pub file: &'a [u8],
-    pub cert: &'a [u8],
-    pub background: Option<Rgb>,
-}
-
 /// The colour of a background as the host words it: none where the word is empty.
 pub fn background_of(word: &[u8]) -> Option<Option<Rgb>>
     ensures { result ≡ background_asked word.now }
@@ -30,10 +15,7 @@ pub fn background_of(word: &[u8]) -> Option<Option<Rgb>>
     if word.is_empty() {
         return Some(None);
     }
-    match background_in(word) {
-        None => None,
-        background => Some(background),
-    }
+    background_in(word).map(Some)
 }
 
 /// The options of a bench, where they are lawful.
@@ -42,10 +24,7 @@ pub fn options_of(non: bool, word: &[u8], history: u32) -> Option<Options>
     ensures lawful { IfSome result IsLawful }
 {
     let background = background_of(word)?;
-    if non && background.is_some() {
-        return None;
-    }
-    if history == 0 || history > u32::from(MAX_DEPTH) {
+    if (non && background.is_some()) || history == 0 || history > u32::from(MAX_DEPTH) {
         return None;
     }
     Some(Options {

@@ -5,7 +5,7 @@ ghost use Rattle.program_options.specs.declared.version.TheConstants.{VERSION};
 ghost use Rattle.web.specs.Asked.{background_asked, options_asked};
 ghost use Rattle.web.specs.Desk.{Checks, Closes, IsKept, IsUnasked, Opens, Says};
 
-use crate::asked::{Asked, Checked, background_of, options_of};
+use crate::asked::{background_of, options_of};
 use crate::desk::Desk;
 use crate::held::Held;
 use crate::inside::{
@@ -68,7 +68,7 @@ pub extern "C" fn nonobench_open(
         *handle = 0;
         return OPTIONS;
     };
-    let (status, given) = replace_with(held, Asked { file, options }, open_in);
+    let (status, given) = replace_with(held, (file, options), open_in);
     *handle = given;
     status
 }
@@ -122,13 +122,5 @@ pub extern "C" fn nonobench_check(
         replace_with(held, (), forget_in);
         return OPTIONS;
     };
-    replace_with(
-        held,
-        Checked {
-            file,
-            cert,
-            background,
-        },
-        check_in,
-    )
+    replace_with(held, (file, cert, background), check_in)
 }

@@ -127,7 +127,8 @@ impl Desk {
         ensures kept { IsKept self.old self.new }
     {
         self.text.clear();
-        if is_memory(fault) {
+        // A growth of the text that was refused is met as a failed write.
+        if matches!(fault, ProgramFault::Memory | ProgramFault::Write) {
             return MEMORY;
         }
         match format!(in self.alloc; "{fault}") {
@@ -146,14 +147,6 @@ impl Desk {
     {
         self.seats.iter().position(|seat| seat.handle == handle)
     }
-}
-
-// Whether a growth was refused: that of a text is met as a failed write.
-fn is_memory(fault: &ProgramFault) -> bool
-    ensures memory { fault.now ≡ Memory → result ≡ true }
-    ensures write { fault.now ≡ Unwritten → result ≡ true }
-{
-    matches!(fault, ProgramFault::Memory | ProgramFault::Write)
 }
 
 // Runs a session on one bench.

@@ -4,18 +4,19 @@ ghost use Rattle.std.specs.Prelude.{◌≡◌, [], ◌++◌, drop, length, take}
 ghost use Rattle.program_options.specs.Options.{IsLawful};
 ghost use Rattle.web.specs.Desk.{Checks, Closes, IsKept, Opens, Says};
 
-use crate::asked::{Asked, Checked};
 use crate::held::Held;
+use answers::Options;
+use picture::Rgb;
 use std::mem::replace;
 
-/// Opens a bench: the status and the handle.
-pub fn open_in(held: Held, asked: Asked<'_>) -> (Held, (u32, u32))
-    requires { IsLawful asked.options }
-    ensures { Opens asked.entry.file.now asked.entry.options held.desk
+/// Opens a bench on a file, by its options: the status and the handle.
+pub fn open_in(held: Held, asked: (&[u8], Options)) -> (Held, (u32, u32))
+    requires { IsLawful asked.1 }
+    ensures { Opens asked.entry.0.now asked.entry.1 held.desk
         result.0.desk result.1.0 result.1.1 }
 {
     let mut desk = held.into_box();
-    let answer = desk.open(asked.file, &asked.options);
+    let answer = desk.open(asked.0, &asked.1);
     (Held::new(desk), answer)
 }
 
@@ -37,14 +38,14 @@ pub fn close_in(held: Held, handle: u32) -> (Held, u32)
     (Held::new(desk), status)
 }
 
-/// Checks a certificate.
-pub fn check_in(held: Held, asked: Checked<'_>) -> (Held, u32)
-    ensures checks { Checks asked.entry.file.now asked.entry.background asked.entry.cert.now
+/// Checks a certificate: a file, its certificate and the background.
+pub fn check_in(held: Held, asked: (&[u8], &[u8], Option<Rgb>)) -> (Held, u32)
+    ensures checks { Checks asked.entry.0.now asked.entry.2 asked.entry.1.now
         result.0.desk.text.items result.1 }
     ensures kept { IsKept held.desk result.0.desk }
 {
     let mut desk = held.into_box();
-    let status = desk.check(asked.file, asked.cert, asked.background);
+    let status = desk.check(asked.0, asked.1, asked.2);
     (Held::new(desk), status)
 }
 

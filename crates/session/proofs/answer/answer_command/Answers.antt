@@ -35,12 +35,11 @@ returns-in-Verdict g c =
 
 pub returns-in-WritePpm : goal.returns-in-WritePpm
 returns-in-WritePpm g c =
-    let e = c.ppm_text_of.ensures in
-    rw (c.in-WritePpm.is, c.written_answer.ensures) (replies_ppm c.args.bench.now c.document.result.now c.ppm_text_of.result c.document.ensures.value e.value e.err)
+    rw (c.in-WritePpm.is, c.text_answer-in-WritePpm.ensures) (replies_ppm c.args.bench.now c.document.result.now c.ppm_text.result c.document.ensures.value c.ppm_text.ensures)
 
 pub returns-in-WriteNon : goal.returns-in-WriteNon
 returns-in-WriteNon g c =
-    rw (c.in-WriteNon.is, c.written_answer-in-WriteNon.ensures) (replies_non c.args.bench.now c.document-in-WriteNon.result.now c.non_text_of.result c.document-in-WriteNon.ensures.value c.non_text_of.ensures)
+    rw c.in-WriteNon.is (replies_non c.args.bench.now c.document-in-WriteNon.result.now c.non_answer.result c.document-in-WriteNon.ensures.value c.non_answer.ensures)
 
 pub returns-in-Report : goal.returns-in-Report
 returns-in-Report g c =
@@ -52,5 +51,5 @@ returns-in-Allow g c = rw c.in-Allow.is (replies_allow c.args.bench.now c.allow.
 pub returns-in-Certify : goal.returns-in-Certify
 returns-in-Certify g c =
     let e = c.certificate_text.ensures in
-    rw (c.in-Certify.is, c.written_answer-in-Certify.ensures)
-    (replies_certify c.args.bench.now c.certificate_text.new.bench c.certificate_text.result e.learns e.judges e.audited e.calls e.text e.err)
+    rw (c.in-Certify.is, c.text_answer-in-Certify.ensures)
+    (replies_certify c.args.bench.now c.certificate_text.new.bench c.certificate_text.result e.learns e.judges e.audited e.calls e.text)
