@@ -9,7 +9,7 @@ ghost use Rattle.clues.specs.Change.{lines_after, lines_before};
 ghost use Rattle.retract.specs.Standing.{HaveBooks};
 ghost use Rattle.retract.specs.Dirty.{AreDirty, AreDirtyAlong, HaveFacts, IsClean, IsInPlace, SaysTheSame};
 
-use crate::sizes::{line_count, stays_in_place};
+use crate::sizes::is_in_place;
 use clues::{Change, ClueBook};
 use line_settle::Facts;
 use picture::{Axis, LineId, LineSet};
@@ -47,8 +47,8 @@ fn put_dirty(dirty: &mut LineSet, axis: Axis, sides: &Sides<'_>)
     ensures others { (line : LineId) → (line.axis ≡ axis → ⊥)
         → HasName dirty.new line ↔ HasName dirty.old line }
 {
-    let in_place = stays_in_place(sides.old, sides.new, sides.change, axis);
-    for at in 0..line_count(sides.new, axis) {
+    let in_place = is_in_place(sides.old, sides.new, sides.change, axis);
+    for at in 0..sides.new.line_count(axis) {
         let line = LineId { axis, at };
         if !is_clean(in_place, sides, line) {
             dirty.put(line);

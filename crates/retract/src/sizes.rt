@@ -1,26 +1,14 @@
 //! What a change leaves of the lengths and the places along lines.
 
-ghost use Rattle.std.specs.Prelude.{◌≡◌, ◌≤◌, ◌↔◌, length, IsTrue};
-ghost use Rattle.clues.specs.ClueBook.{clues_along};
+ghost use Rattle.std.specs.Prelude.{◌↔◌, IsTrue};
 ghost use Rattle.retract.specs.Standing.{HaveBooks, KeepsLength};
 ghost use Rattle.retract.specs.Dirty.{AllStay, IsInPlace};
 
 use clues::{Change, ClueBook};
-use picture::{Axis, MAX_SIDE};
-
-// How many lines there are along an axis.
-pub(crate) fn line_count(clues: &ClueBook, axis: Axis) -> u8
-    ensures value { result ≡ length (clues_along axis clues.now) }
-    ensures fits { result ≤ MAX_SIDE }
-{
-    match axis {
-        Axis::Across => clues.height(),
-        Axis::Down => clues.width(),
-    }
-}
+use picture::Axis;
 
 // Whether lines along an axis have as many cells as before, and each position along them stays.
-pub(crate) fn stays_in_place(old: &ClueBook, new: &ClueBook, change: &Change, axis: Axis) -> bool
+pub(crate) fn is_in_place(old: &ClueBook, new: &ClueBook, change: &Change, axis: Axis) -> bool
     requires { HaveBooks change.now.moves old.now new.now }
     ensures { IsTrue result ↔ IsInPlace change.now.moves axis }
 {
@@ -43,11 +31,7 @@ fn all_stay(old: &ClueBook, new: &ClueBook, change: &Change, axis: Axis) -> bool
     requires { HaveBooks change.now.moves old.now new.now }
     ensures { IsTrue result ↔ AllStay change.now.moves axis }
 {
-    let cells = match axis {
-        Axis::Across => old.width(),
-        Axis::Down => old.height(),
-    };
-    for place in 0..cells {
+    for place in 0..old.line_count(axis.crossing()) {
         if !change.stays(axis, place) {
             return false;
         }

@@ -17,7 +17,8 @@ use justify::{Premise, Step};
 use line_settle::Facts;
 use picture::{Axis, LineId};
 
-// The line of the new picture on which a step stands, if it does, where these facts are known.
+// The line of the new picture on which a step stands, if it does. `known` is what the new base excludes and the steps kept so
+// far draw.
 pub(crate) fn standing_line(
     step: &Step,
     old: &ClueBook,
@@ -56,7 +57,7 @@ pub(crate) fn standing_line(
     }
 }
 
-// Whether each cell that premises mention keeps its place along the line.
+// Whether each cell that premises mention, or what a step draws, keeps its place along the line.
 fn stay_in_place(change: &Change, axis: Axis, premises: &[Premise]) -> bool
     requires { (i : ℕ) → Mentions premises.now i
         → i < lines_before (crossing axis) change.now.moves }
