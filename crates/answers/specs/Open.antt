@@ -27,11 +27,6 @@ two_colours = record { maxval = 255; triples = rgb 255 255 255 ∷ rgb 0 0 0 ∷
 abbrev pub black_on_white : List (List ℕ) → Design
 black_on_white rows = design two_colours rows (marks_of (length rows) (width_of rows) no_cells)
 
--- the picture that was found, if one was
-abbrev pub picture_found : Option (List (List ℕ)) → Result (List (List ℕ)) ProgramFault
-picture_found None = Err NoPicture
-picture_found (Some rows) = Ok rows
-
 -- what a call answers that looks for a picture with these clues
 abbrev pub FindsPicture : Clues → Result (List (List ℕ)) ProgramFault → Type 0
 FindsPicture clues (Ok rows) = FindsFirst clues (Some rows)
