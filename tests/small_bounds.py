@@ -26,7 +26,7 @@ PATIENCE = 300  # seconds after which a run counts as one that does not end
 SAMPLES = ((3, 3, 2, 1), (2, 4, 2, 1), (3, 3, 3, 41))  # height, width, colours, and each so manieth picture is tried
 # Splits of the fixed order, splits in a window, evaluations of a tree at first. Those of the program; windows first; trees alone,
 # with a bound that each keeps; one that grows; one that cannot grow, so that the last tree is written without a bound.
-PROGRAMS, WINDOWS, TREES, GROWING, LAST = (1000, 64, 10000), (0, 64, 10000), (0, 0, 10000), (0, 0, 1), (0, 0, 0)
+PROGRAMS, WINDOWS, TREES, GROWING, LAST = (100, 64, 10000), (0, 64, 10000), (0, 0, 10000), (0, 0, 1), (0, 0, 0)
 BOUNDS = (PROGRAMS, WINDOWS, TREES, GROWING, LAST, (1, 1, 7))
 TOLD = re.compile(r'(unique|ambiguous), (\d+) searched, (\d+) splits, (\d+) evaluations(?:: (\S+))?')
 

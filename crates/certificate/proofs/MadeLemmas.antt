@@ -9,7 +9,7 @@ use Rattle.clues.specs.ClueBook.{Clues, clues_of}
 use Rattle.clues.specs.Solution.{IsOther}
 use Rattle.clues.specs.SolutionLaws.{solves_fewer}
 use Rattle.line_settle.specs.FactSets.{Leaves, SameShape, nothing_excluded}
-use Rattle.line_settle.specs.GridLaws.{shape_sym, shape_trans}
+use Rattle.line_settle.specs.GridLaws.{full_shape, shape_sym, shape_trans}
 use Rattle.cert_text.specs.declared.tree_line.CellNumber.{CellNumber}
 use Rattle.cert_text.specs.declared.tree_line.CertLine.{CertLine}
 use Rattle.second_search.specs.Laws.{SoundFacts}
@@ -80,6 +80,11 @@ some_made picture start givens cells lines cert is names base root none each c g
 -- the facts at the root, as they were made
 root_is : (picture blank start : List (List ℕ)) (cells : List CellNumber) (height width : ℕ) → height ≡ length picture → width ≡ width_of picture → blank ≡ nothing_excluded height width → blank ≡ blank_for picture
 root_is picture blank start cells height width h w b = b ∙ (ap (λ (n : ℕ). nothing_excluded n width) h ∙ ap (nothing_excluded (length picture)) w)
+
+pub made_shape : (picture blank : List (List ℕ)) (height width : ℕ) → IsPicture picture → height ≡ length picture → width ≡ width_of picture → blank ≡ nothing_excluded height width → SameShape picture blank
+made_shape picture blank height width is h w b =
+    let P : List (List ℕ) → Type 0 = λ x. SameShape picture x in
+    subst P (sym (root_is picture blank blank [] height width h w b)) (full_shape picture is)
 
 pub makes_none : (picture blank start : List (List ℕ)) (givens : List ℕ) (cells : List CellNumber) (height width : ℕ) → IsPicture picture → AreInside givens picture → NamesGivens picture givens cells → height ≡ length picture → width ≡ width_of picture → blank ≡ nothing_excluded height width → GivesBase picture blank cells (Ok tt) start → start ≡ with_givens picture cells blank → WritesTree picture start None → Makes picture givens None
 makes_none picture blank start givens cells height width is inside names h w b base e t =

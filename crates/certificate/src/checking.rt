@@ -1,14 +1,13 @@
 //! The checker of certificates.
 
 ghost use Rattle.std.specs.Prelude.{◌≡◌, ℕ, ◌≤◌, ◌<◌, ◌+◌, ◌∷◌, ◌^◌, [], length, IfErr, OnOk, List, Option, Some};
-ghost use Rattle.picture.specs.Picture.{IsPicture};
 ghost use Rattle.picture.specs.Rows.{width_of};
 ghost use Rattle.line_settle.specs.FactSets.{SameShape};
 ghost use Rattle.cert_text.specs.declared.tree_line.CertLine.{CertLine};
 ghost use Rattle.certificate.specs.FirstFault.{AnswersFirst, CertFirstFault, FirstFault, FirstFaultBehind};
 ghost use Rattle.certificate.specs.Puzzle.{HasCellNumbers, IsUnique, with_givens};
 ghost use Rattle.certificate.specs.Tree.{IsProof};
-ghost use Rattle.certificate.specs.Walk.{GivesBase};
+ghost use Rattle.certificate.specs.Walk.{CanCheck, GivesBase};
 
 use crate::places::cell_in;
 use crate::walk::{Claim, walk};
@@ -42,28 +41,22 @@ pub(crate) fn set_givens(
     Ok(())
 }
 
-// Answers the first fault of a certificate.
+// Answers the first fault of a certificate that claims something.
 fn first_fault<E: LineEngine>(
     alloc: Global,
     engine: &mut E,
-    picture: &Picture,
+    claim: &Claim,
     cert: &Cert,
 ) -> Result<(), CertFault>
-    requires wide { width_of picture.now ≤ E.longest engine.old }
-    requires tall { length picture.now ≤ E.longest engine.old }
-    ensures first { AnswersFirst (CertFirstFault picture.now cert.now) result }
-    ensures picture { IsPicture picture.now }
+    requires { CanCheck claim.now.picture.now claim.now.clues.now (E.longest engine.old) }
+    ensures first { AnswersFirst (CertFirstFault claim.now.picture.now cert.now) result }
     ensures same_longest { E.longest engine.new ≡ E.longest engine.old }
 {
+    let picture = claim.picture;
     let mut facts = Facts::none(alloc, picture.height(), picture.width())?;
-    let book = ClueBook::of(alloc, picture)?;
     set_givens(picture, &mut facts, cert.givens())?;
     let first = FIRST_LINES + cert.givens_len();
-    let claim = Claim {
-        picture,
-        clues: &book,
-    };
-    walk(alloc, engine, &claim, &mut facts, cert.lines(), first)
+    walk(alloc, engine, claim, &mut facts, cert.lines(), first)
 }
 
 #[tactic(auto, using(crate::proofs::Exactness::answering))]
@@ -87,5 +80,11 @@ pub fn check_cert<E: LineEngine>(
     ensures unique { OnOk result (IsUnique picture.now cert.now.givens) }
     ensures same_longest { E.longest engine.new ≡ E.longest engine.old }
 {
-    first_fault(alloc, engine, picture, cert)
+    let _ = picture.height();
+    let clues = ClueBook::of(alloc, picture)?;
+    let claim = Claim {
+        picture,
+        clues: &clues,
+    };
+    first_fault(alloc, engine, &claim, cert)
 }

@@ -114,36 +114,7 @@ fn hold_line(
     Ok(())
 }
 
-// Adds to the facts all that a line forces by its clue, with notes. The buffer is as long as the line.
-fn force_by<E: LineEngine>(
-    engine: &mut E,
-    facts: &mut Facts,
-    notes: &mut Vec<Note>,
-    clue: &Clue,
-    line: LineId,
-    out: &mut [u16],
-) -> Result<(), CertFault>
-    requires line { HasLine facts.old line }
-    requires short { length (line_of facts.old line) ≤ E.longest engine.old }
-    requires whole { length out.old ≡ length (line_of facts.old line) }
-    requires fits { length out.old ≤ MAX_SIDE }
-    requires inside { AreInside (length facts.old) (width_of facts.old) (reverse notes.old.items) }
-    ensures gains { OnOk result
-        ((outcome : Outcome) × Gains clue.now line facts.old facts.new outcome) }
-    ensures pending { OnOk result (pending facts.new (reverse notes.new.items)
-        ≡ pending facts.old (reverse notes.old.items)) }
-    ensures inside { OnOk result
-        (AreInside (length facts.old) (width_of facts.old) (reverse notes.new.items)) }
-    ensures err { IfErr result (λ e. e ≡ CertFault.Memory) }
-    ensures same_longest { E.longest engine.new ≡ E.longest engine.old }
-    ensures calls { E.calls engine.old ≤ E.calls engine.new }
-{
-    let _outcome = narrow_line(engine, facts, clue, line, out);
-    hold_line(facts, notes, line, out)?;
-    Ok(())
-}
-
-// The same, with a buffer of its own.
+// Adds to the facts all that a line forces by its clue, with notes.
 pub(crate) fn force<E: LineEngine>(
     engine: &mut E,
     facts: &mut Facts,
@@ -164,7 +135,10 @@ pub(crate) fn force<E: LineEngine>(
     ensures same_longest { E.longest engine.new ≡ E.longest engine.old }
     ensures calls { E.calls engine.old ≤ E.calls engine.new }
 {
-    let mut out = [0; MOST_CELLS];
+    let mut masks = [0; MOST_CELLS];
     let cells = usize::from(facts.line_len(line));
-    force_by(engine, facts, notes, clue, line, &mut out[..cells])
+    let out = &mut masks[..cells];
+    let _outcome = narrow_line(engine, facts, clue, line, out);
+    hold_line(facts, notes, line, out)?;
+    Ok(())
 }

@@ -5,7 +5,6 @@ mod checking;
 mod forcing;
 pub mod laws;
 mod making;
-mod near_first;
 mod notes;
 mod places;
 mod showing;
@@ -13,5 +12,4 @@ mod walk;
 
 pub use cert_text::{CellNumber, Cert, CertFault, CertLine, LineNumber, read_cert, write_cert};
 pub use checking::check_cert;
-pub use making::climb_cert;
-pub use near_first::{make_cert, make_cert_within};
+pub use making::{climb_cert, make_cert, make_cert_within};

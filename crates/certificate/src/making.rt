@@ -1,26 +1,22 @@
 //! The maker of certificates.
 
-ghost use Rattle.std.specs.Prelude.{◌≡◌, ◌≤◌, ◌<◌, ◌↔◌, [], length, IfErr, IfOk, OnOk};
+ghost use Rattle.std.specs.Prelude.{◌≡◌, ◌≤◌, ◌<◌, ◌↔◌, [], length, IfOk, IsTrue, OnOk};
 ghost use Rattle.picture.specs.Document.{AreInside};
 ghost use Rattle.picture.specs.Rows.{width_of};
 ghost use Rattle.cert_text.specs.Cert.{AreOrdered, AreWritable, IsCert};
-ghost use Rattle.certificate.specs.Making.{Makes, NamesGivens, NamesUpTo, WritesTree, lines_seen};
+ghost use Rattle.certificate.specs.Making.{HasOther, Makes, NamesGivens, NamesUpTo, WritesTree, lines_seen};
 ghost use Rattle.certificate.specs.Walk.{CanCheck};
 ghost use Rattle.line_settle.specs.FactSets.{SameShape};
+ghost use Rattle.second_search.specs.Parts.{IsScene};
 
 use crate::checking::set_givens;
 use crate::places::cell_number;
-use cert_text::{CellNumber, Cert, CertFault, CertLine};
+use cert_text::{CellNumber, Cert, CertLine};
 use clues::ClueBook;
-use line_settle::{Facts, LineEngine, Meter};
+use line_settle::{Facts, LineEngine};
 use picture::{CellSet, MAX_SIDE, Picture};
-use second_search::{BOUNDS, Decided, Ladder, Lines, MOST_CELLS, Scene, climb};
+use second_search::{BOUNDS, Bounds, Decided, Ladder, Lines, Scene, climb, find_near_other};
 use std::alloc::{AllocError, Global};
-
-pub(crate) const NOTHING_DONE: Meter = Meter {
-    evaluations: 0,
-    trials: 0,
-};
 
 #[tactic(auto, using(crate::proofs::MakeLemmas::writing_trees))]
 // The lines of a tree that proves the picture of a scene from its facts on. There is none exactly where another picture fills the
@@ -30,23 +26,20 @@ fn write_tree<E: LineEngine>(
     engine: &mut E,
     scene: &Scene,
     first_bound: u64,
-) -> Result<Option<Vec<CertLine>>, CertFault>
+) -> Result<Option<Vec<CertLine>>, AllocError>
     requires can { CanCheck scene.now.picture.now scene.now.clues.now (E.longest engine.old) }
     requires same_shape { SameShape scene.now.picture.now scene.now.facts.now }
-    ensures writes { IfOk result (λ lines. WritesTree scene.now.picture.now scene.now.facts.now (lines_seen lines)) }
-    ensures err { IfErr result (λ e. e ≡ CertFault.Memory) }
+    ensures writes { IfOk result (λ lines.
+        WritesTree scene.now.picture.now scene.now.facts.now (lines_seen lines)) }
     ensures same_longest { E.longest engine.new ≡ E.longest engine.old }
     ensures calls { E.calls engine.old ≤ E.calls engine.new }
 {
-    let _ = engine.calls();
-    let mut meter = NOTHING_DONE;
     let ladder = Ladder {
-        most: MOST_CELLS,
         first_bound,
         holds: true,
         keeps: true,
     };
-    match climb(alloc, engine, scene, ladder, &mut meter)? {
+    match climb(alloc, engine, scene, ladder)? {
         Decided::Tree(Lines::Kept(lines)) => Ok(Some(lines)),
         Decided::Tree(Lines::Dropped) => unreachable!(),
         Decided::OtherPicture(_) => Ok(None),
@@ -60,12 +53,11 @@ fn put_row(
     givens: &CellSet,
     row: u8,
     width: u8,
-) -> Result<(), CertFault>
+) -> Result<(), AllocError>
     requires in_rows { row < MAX_SIDE }
     requires in_columns { width ≤ MAX_SIDE }
     requires named { NamesUpTo givens.now row 0 cells.old.items }
     ensures named { OnOk result (NamesUpTo givens.now row width cells.new.items) }
-    ensures err { IfErr result (λ e. e ≡ CertFault.Memory) }
 {
     for col in 0..width {
         if givens.has(row, col) {
@@ -81,10 +73,9 @@ pub(crate) fn given_cells(
     alloc: Global,
     picture: &Picture,
     givens: &CellSet,
-) -> Result<Vec<CellNumber>, CertFault>
+) -> Result<Vec<CellNumber>, AllocError>
     requires { AreInside givens.now picture.now }
     ensures named { IfOk result (λ cells. NamesGivens picture.now givens.now cells.items) }
-    ensures err { IfErr result (λ e. e ≡ CertFault.Memory) }
 {
     let mut cells = Vec::new(alloc);
     for row in 0..picture.height() {
@@ -106,47 +97,43 @@ fn with_version(givens: Vec<CellNumber>, lines: Vec<CertLine>) -> Cert
     Cert::new(version, givens, lines)
 }
 
-#[tactic(auto, using(crate::proofs::MadeLemmas::making))]
-// A certificate of a picture, or there is another picture.
-fn made<E: LineEngine>(
+// Whether a scene has another picture that differs in one window alone, where windows may split at all. There may be others where it
+// has not.
+fn has_near_other<E: LineEngine>(
     alloc: Global,
     engine: &mut E,
-    picture: &Picture,
-    givens: &CellSet,
-    first_bound: u64,
-) -> Result<Option<Cert>, CertFault>
-    requires inside { AreInside givens.now picture.now }
-    requires wide { width_of picture.now ≤ E.longest engine.old }
-    requires tall { length picture.now ≤ E.longest engine.old }
-    ensures makes { IfOk result (Makes picture.now givens.now) }
-    ensures err { IfErr result (λ e. e ≡ CertFault.Memory) }
+    scene: &Scene,
+    splits: u32,
+) -> Result<bool, AllocError>
+    requires scene { IsScene scene.now.clues.now scene.now.givens.now scene.now.facts.now
+        scene.now.picture.now }
+    requires can { CanCheck scene.now.picture.now scene.now.clues.now (E.longest engine.old) }
+    ensures other { IfOk result (λ found. IsTrue found
+        → HasOther scene.now.picture.now scene.now.givens.now) }
     ensures same_longest { E.longest engine.new ≡ E.longest engine.old }
     ensures calls { E.calls engine.old ≤ E.calls engine.new }
 {
-    let cells = given_cells(alloc, picture, givens)?;
-    let mut facts = Facts::none(alloc, picture.height(), picture.width())?;
-    let book = ClueBook::of(alloc, picture)?;
-    set_givens(picture, &mut facts, &cells)?;
-    let _ = facts.height();
-    let scene = Scene {
-        clues: &book,
-        givens,
-        facts: &facts,
-        picture,
-    };
-    let Some(lines) = write_tree(alloc, engine, &scene, first_bound)? else {
-        return Ok(None);
-    };
-    Ok(Some(with_version(cells, lines)))
+    if splits == 0 {
+        return Ok(false);
+    }
+    let near = find_near_other(alloc, engine, scene, splits)?;
+    if let Some(_other) = near {
+        return Ok(true);
+    }
+    Ok(false)
 }
 
-/// Makes a certificate by trees alone, which may evaluate so many lines at first.
-pub(crate) fn climb_from<E: LineEngine>(
+/// Makes a certificate of a picture with exactly these givens: `check_cert` accepts it, so there is no other picture with the
+/// clues and, in the givens, the colours. It has version 1 exactly where there are none. The answer is None exactly where there
+/// is another picture. No line of the picture may be longer than the engine takes.
+///
+/// Near pictures are looked for first. The tree is written while it is searched, and a refused growth is answered as the error.
+/// Nothing is said of its length. The engine's calls do not fall; how many lines are evaluated is not said.
+pub fn make_cert<E: LineEngine>(
     alloc: Global,
     engine: &mut E,
     picture: &Picture,
     givens: &CellSet,
-    first_bound: u64,
 ) -> Result<Option<Cert>, AllocError>
     requires inside { AreInside givens.now picture.now }
     requires wide { width_of picture.now ≤ E.longest engine.old }
@@ -155,10 +142,47 @@ pub(crate) fn climb_from<E: LineEngine>(
     ensures same_longest { E.longest engine.new ≡ E.longest engine.old }
     ensures calls { E.calls engine.old ≤ E.calls engine.new }
 {
-    match made(alloc, engine, picture, givens, first_bound) {
-        Ok(cert) => Ok(cert),
-        Err(_) => Err(AllocError),
+    make_cert_within(alloc, engine, picture, givens, BOUNDS)
+}
+
+#[tactic(auto, using(crate::proofs::MadeLemmas::making))]
+/// Makes a certificate as `make_cert` does, within other bounds than the program's. What is promised is the same whatever they
+/// are; those of the fixed order are not looked at.
+pub fn make_cert_within<E: LineEngine>(
+    alloc: Global,
+    engine: &mut E,
+    picture: &Picture,
+    givens: &CellSet,
+    bounds: Bounds,
+) -> Result<Option<Cert>, AllocError>
+    requires inside { AreInside givens.now picture.now }
+    requires wide { width_of picture.now ≤ E.longest engine.old }
+    requires tall { length picture.now ≤ E.longest engine.old }
+    ensures makes { IfOk result (Makes picture.now givens.now) }
+    ensures same_longest { E.longest engine.new ≡ E.longest engine.old }
+    ensures calls { E.calls engine.old ≤ E.calls engine.new }
+{
+    let cells = given_cells(alloc, picture, givens)?;
+    let mut facts = Facts::none(alloc, picture.height(), picture.width())?;
+    let book = ClueBook::of(alloc, picture)?;
+    match set_givens(picture, &mut facts, &cells) {
+        Ok(()) => {}
+        Err(_) => return Err(AllocError),
     }
+    let _ = facts.height();
+    let scene = Scene {
+        clues: &book,
+        givens,
+        facts: &facts,
+        picture,
+    };
+    if has_near_other(alloc, engine, &scene, bounds.window_splits)? {
+        return Ok(None);
+    }
+    let Some(lines) = write_tree(alloc, engine, &scene, bounds.first_bound)? else {
+        return Ok(None);
+    };
+    Ok(Some(with_version(cells, lines)))
 }
 
 /// Makes a certificate as `make_cert` does, and looks for no near picture first: for a caller that has looked already. What is
@@ -176,5 +200,9 @@ pub fn climb_cert<E: LineEngine>(
     ensures same_longest { E.longest engine.new ≡ E.longest engine.old }
     ensures calls { E.calls engine.old ≤ E.calls engine.new }
 {
-    climb_from(alloc, engine, picture, givens, BOUNDS.first_bound)
+    let bounds = Bounds {
+        window_splits: 0,
+        ..BOUNDS
+    };
+    make_cert_within(alloc, engine, picture, givens, bounds)
 }

@@ -1,6 +1,6 @@
 -- Settled facts and the picture that they show.
-use Rattle.std.proofs.Common.{◌≡◌, ℕ, ◌+◌, ◌<◌, List, [], length, get_or, replicate, refl, sym, ap, subst, ◌∙◌, arith, inl, inr, Result, Ok, Err}
-use Rattle.std.specs.Prelude.{IfOk, IsBitSet}
+use Rattle.std.proofs.Common.{◌≡◌, ℕ, ◌+◌, ◌<◌, List, [], length, get_or, replicate, refl, sym, ap, subst, ◌∙◌, arith, inl, inr}
+use Rattle.std.specs.Prelude.{IsBitSet}
 use Rattle.std.proofs.lemmas.Bool.{cases_eq, cases_lt}
 use Rattle.std.proofs.lemmas.List.{get_or_past, get_or-replicate, length-replicate}
 use Rattle.picture.specs.Rows.{width_of, row_at, cell_at, with_cell}
@@ -88,10 +88,6 @@ shown_fills clues facts picture is s e = record {
 }
 
 -- ---- before closing
-
-pub if_ok : {T E : Type 0} (r : Result T E) (P Q : T → Type 0) → ((x : T) → P x → Q x) → IfOk r P → IfOk r Q
-if_ok (Ok x) P Q f h = f x h
-if_ok (Err e) P Q f h = h
 
 -- a cell with just one colour left keeps it where facts exclude more and some list fits its row
 stays_only : (clues : Clues) (facts settled : List (List ℕ)) (row col k : ℕ) → IsWithin facts settled → EachFits clues settled → IsOnly (cell_at facts row col) k → IsOnly (cell_at settled row col) k

@@ -1,5 +1,5 @@
 -- Trees written line by line: where lines lead, what fills the branches that wait, and what they weigh.
-use Rattle.std.proofs.Common.{◌≡◌, ℕ, ◌+◌, ◌-◌, ◌*◌, ◌^◌, ◌<◌, ◌≤◌, ◌==◌, ◌↔◌, eq-eqb, Bool, true, false, Option, None, List, [], ◌∷◌, ◌++◌, length, append_assoc, get_or, refl, sym, ap, subst, ◌∙◌, arith, inl, inr}
+use Rattle.std.proofs.Common.{◌≡◌, ℕ, ◌+◌, ◌-◌, ◌*◌, ◌^◌, ◌<◌, ◌≤◌, ◌==◌, ◌↔◌, eq-eqb, Bool, true, false, Option, None, Some, List, [], ◌∷◌, ◌++◌, length, append_assoc, get_or, refl, sym, ap, subst, ◌∙◌, arith, inl, inr}
 use Rattle.std.specs.Prelude.{IsBitSet}
 use Rattle.std.specs.Int.{bit_at}
 use Rattle.std.proofs.lemmas.Bool.{cases_eq, cases_lt, false≢true}
@@ -38,16 +38,13 @@ use Rattle.cert_text.specs.declared.tree_line.CertLine.TheVariants.{Line, Split,
 use Rattle.second_search.specs.declared.tree_lines.Lines.{Lines}
 use Rattle.second_search.specs.declared.tree_lines.Lines.TheVariants.{Kept, Dropped}
 use Rattle.second_search.specs.declared.tree.Growing.{Growing}
-use Rattle.second_search.specs.declared.tree.Turn.{Turn}
-use Rattle.second_search.specs.declared.tree.Turn.TheVariants.{Goes, Found}
-use Rattle.second_search.specs.declared.tree.Written.TheVariants.{Whole}
 use Rattle.second_search.specs.declared.tree_step.TreeStep.{TreeStep}
 use Rattle.second_search.specs.declared.tree_step.TreeStep.TheVariants.{Ends, Splits, Other}
 use Rattle.second_search.specs.declared.ladder.Decided.TheVariants.{Tree}
 use Rattle.second_search.specs.Branching.{FillsSome, Search, places, search_of}
 use Rattle.line_settle.specs.Branches.{branches, colours_of, held}
 use Rattle.second_search.specs.Looking.{FindsFilling, Shows}
-use Rattle.second_search.specs.Trees.{Adds, Advances, AreNone, AreTree, Continues, Decides, EachFitsAlong, ForcesMore, HasCellNumber, HasLineNumber, IsComparedTo, IsDeadLine, IsOtherIn, IsUnsettledAt, Says, Settles, ShowsOnly, Stands, Turns, TurnsOn, Walks, Writes, line_id, split_at}
+use Rattle.second_search.specs.Trees.{Adds, Advances, AreNone, AreTree, Continues, Decides, EachFitsAlong, ForcesMore, HasCellNumber, HasLineNumber, IsComparedTo, IsDeadLine, IsOtherIn, IsUnsettledAt, Says, Settles, ShowsOnly, Stands, Turns, TurnsOn, Walks, line_id, split_at}
 use Rattle.second_search.proofs.FindLemmas.{Among, AreAlike, alike_both, among_kept, each_colour, held_alike, held_some, some_behind, some_both, some_front, some_held}
 use Rattle.second_search.proofs.EndLemmas.{shown_clues}
 use Rattle.second_search.proofs.LookLemmas.{shown_fills}
@@ -455,9 +452,9 @@ turns_on clues known first settled old mid new f h e t =
       lighter = (let l : load new.pending.behind < load (old.pending.at_hand ∷ old.pending.behind) = omega arith in l);
     }
 
-pub turn_on : (clues : Clues) (known first settled : List (List ℕ)) (old mid new : Growing) → first ≡ old.pending.at_hand → Settles clues first settled old.lines mid.lines Narrowed → mid.pending ≡ search_of settled old.pending.behind old.pending.cells → (turn : Turn) → Turns clues known mid new turn → Turns clues known old new turn
-turn_on clues known first settled old mid new f h e Goes t = turns_on clues known first settled old mid new f h e t
-turn_on clues known first settled old mid new f h e (Found picture) t =
+pub turn_on : (clues : Clues) (known first settled : List (List ℕ)) (old mid new : Growing) → first ≡ old.pending.at_hand → Settles clues first settled old.lines mid.lines Narrowed → mid.pending ≡ search_of settled old.pending.behind old.pending.cells → (found : Option (List (List ℕ))) → Turns clues known mid new found → Turns clues known old new found
+turn_on clues known first settled old mid new f h e None t = turns_on clues known first settled old mid new f h e t
+turn_on clues known first settled old mid new f h e (Some picture) t =
     let hand : mid.pending.at_hand ≡ settled = ap (λ (x : Search). x.at_hand) e in
     let P : List (List ℕ) → Type 0 = λ x. Fills clues x picture in
     let Q : List (List ℕ) → Type 0 = λ x. IsWithin x settled in
@@ -468,6 +465,10 @@ turn_on clues known first settled old mid new f h e (Found picture) t =
 -- the lines so far lead from the first facts to what waits
 abbrev pub Said : Clues → List (List ℕ) → List (List ℕ) → Lines → Growing → Type 0
 Said clues known facts start g = (lines : List CertLine) × (Adds start g.lines lines × Walks clues known lines (facts ∷ []) (g.pending.at_hand ∷ g.pending.behind))
+
+-- lines more lead from the first facts to the end of a tree
+abbrev pub LeadsToEnd : Clues → List (List ℕ) → List (List ℕ) → Lines → Lines → Type 0
+LeadsToEnd clues known facts start end = (lines : List CertLine) × (Adds start end lines × Walks clues known lines (facts ∷ []) [])
 
 pub starts_said : (clues : Clues) (known facts first : List (List ℕ)) (start : Lines) (g : Growing) → first ≡ facts → g.pending ≡ search_of first [] [] → g.lines ≡ start → Said clues known facts start g
 starts_said clues known facts first start g f e l =
@@ -486,8 +487,8 @@ goes_said clues known facts start old mid new s t a =
       ),
     )
 
-pub ends_said : (clues : Clues) (known facts : List (List ℕ)) (start end : Lines) (until : Option ℕ) (old mid new : Growing) → Said clues known facts start old → TurnsOn clues known old mid → Advances mid new false → end ≡ new.lines → Writes clues known facts start until (Whole end)
-ends_said clues known facts start end until old mid new s t a e =
+pub ends_said : (clues : Clues) (known facts : List (List ℕ)) (start end : Lines) (old mid new : Growing) → Said clues known facts start old → TurnsOn clues known old mid → Advances mid new false → end ≡ new.lines → LeadsToEnd clues known facts start end
+ends_said clues known facts start end old mid new s t a e =
     let P : Lines → Type 0 = λ x. Adds start x (s.0 ++ t.lines) in
     let Q : List (List (List ℕ)) → Type 0 = λ x. Walks clues known (s.0 ++ t.lines) (facts ∷ []) x in (
       s.0 ++ t.lines,
@@ -515,14 +516,14 @@ said_lighter clues known old mid new t a =
     subst P a.0 t.lighter
 
 -- what a tree decides
-pub tree_decides : (clues : Clues) (known facts : List (List ℕ)) (keeps : Bool) (start end : Lines) (until : Option ℕ) → AreNone keeps start → Writes clues known facts start until (Whole end) → Decides clues known facts keeps (Tree end)
-tree_decides clues known facts keeps (Kept start) (Kept end) until none w =
+pub tree_decides : (clues : Clues) (known facts : List (List ℕ)) (keeps : Bool) (start end : Lines) → AreNone keeps start → LeadsToEnd clues known facts start end → Decides clues known facts keeps (Tree end)
+tree_decides clues known facts keeps (Kept start) (Kept end) none w =
     let same : end.items ≡ w.0 = w.1.0 ∙ ap (λ (x : List CertLine). x ++ w.0) none in
     let P : List CertLine → Type 0 = λ x. Walks clues known x (facts ∷ []) [] in
     (subst P (sym same) w.1.1, λ e. tt)
-tree_decides clues known facts keeps (Kept start) Dropped until none w = absurd w.1.0
-tree_decides clues known facts keeps Dropped (Kept end) until none w = absurd w.1.0
-tree_decides clues known facts keeps Dropped Dropped until none w = ((w.0, w.1.1), λ e. absurd (false≢true (sym none ∙ e)))
+tree_decides clues known facts keeps (Kept start) Dropped none w = absurd w.1.0
+tree_decides clues known facts keeps Dropped (Kept end) none w = absurd w.1.0
+tree_decides clues known facts keeps Dropped Dropped none w = ((w.0, w.1.1), λ e. absurd (false≢true (sym none ∙ e)))
 
 pub none_fills : OnlyIsClosed → ClosingKeepsFillings → (clues : Clues) (known facts : List (List ℕ)) (lines : Lines) → SameShape known facts → AreTree clues known facts lines → FindsFilling clues facts known None
 none_fills own closing clues known facts (Kept lines) e t picture f d = tree_is_whole own closing clues known facts picture lines.items e t d f

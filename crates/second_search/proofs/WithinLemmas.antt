@@ -8,14 +8,16 @@ use Rattle.line_settle.specs.Counting.{Counts}
 use Rattle.line_settle.specs.FitLaws.{counting_adds}
 use Rattle.line_settle.specs.FactSets.{SameShape}
 use Rattle.fixpoint.specs.Laws.{ClosingKeepsFillings, OnlyIsClosed}
+use Rattle.second_search.specs.declared.counting.Ending.{Ending}
 use Rattle.second_search.specs.declared.counting.Ending.TheVariants as ending
+use Rattle.second_search.specs.declared.counting.Searched.{Searched}
 use Rattle.second_search.specs.declared.ladder.Decided.{Decided}
 use Rattle.second_search.specs.declared.ladder.Decided.TheVariants.{OtherPicture, Tree}
 use Rattle.second_search.specs.declared.tree_lines.Lines.{Lines}
 use Rattle.second_search.specs.Laws.{FillingsAreOfFacts}
 use Rattle.second_search.specs.Looking.{FindsFilling}
 use Rattle.second_search.specs.Parts.{IsOtherFilling, IsScene}
-use Rattle.second_search.specs.Searching.{CountsSome, EndsTrue, EndsWithin, alone}
+use Rattle.second_search.specs.Searching.{CountsAny, CountsSome, EndsAs, EndsTrue, EndsWithin, alone, raised}
 use Rattle.second_search.specs.Trees.{Decides}
 use Rattle.second_search.proofs.EndLemmas.{none_found, one_found}
 use Rattle.second_search.proofs.TreeLemmas.{none_fills}
@@ -33,7 +35,25 @@ module _ (law : CluesAreOfLines) (books : BooksAreTheirClues) (closing : Closing
   within_one cells other None n (inl e) = one_found law books closing own fillings clues givens facts picture scene cells other n e.0.0
   within_one cells other None n (inr e) = (fillings clues givens facts picture other cells scene).1 e.1
 
+  pub fixed_none : (cells : List ℕ) (allowance : Option ℕ) (searched : Searched) → searched.ending ≡ ending.Nothing → (n : ℕ) × ((searched.splits ≡ raised 0 n) × EndsAs clues picture (alone cells facts picture) allowance searched.ending n) → EndsTrue clues picture (alone cells facts picture) ending.Nothing
+  fixed_none cells allowance searched is e =
+      let P : Ending → Type 0 = λ x. EndsAs clues picture (alone cells facts picture) allowance x e.0 in
+      let s = subst P is e.1.1 in
+      λ other fills differs. none_found law books closing own fillings clues givens facts picture scene cells e.0 s.0 other ((fillings clues givens facts picture other cells scene).1 (fills, differs))
+
+  pub fixed_one : (cells : List ℕ) (other : List (List ℕ)) (allowance : Option ℕ) (searched : Searched) → searched.ending ≡ ending.Found other → (n : ℕ) × ((searched.splits ≡ raised 0 n) × EndsAs clues picture (alone cells facts picture) allowance searched.ending n) → EndsTrue clues picture (alone cells facts picture) (ending.Found other)
+  fixed_one cells other allowance searched is e =
+      let P : Ending → Type 0 = λ x. EndsAs clues picture (alone cells facts picture) allowance x e.0 in
+      let s = subst P is e.1.1 in
+      (fillings clues givens facts picture other cells scene).0 (one_found law books closing own fillings clues givens facts picture scene cells other e.0 s.0)
+
 -- ---- within some splits, or past them
+
+-- counts from a number that is that of the calls
+pub counts_from : (start end : Meter) (p q before : ℕ) → before ≡ p → CountsAny start end before q → CountsAny start end p q
+counts_from start end p q before e counts =
+    let P : ℕ → Type 0 = λ n. CountsAny start end n q in
+    subst P e counts
 
 pub counts_some_more : (start between end : Meter) (p q r : ℕ) → CountsSome start between p q → (evaluations : ℕ) × Counts evaluations 0 between end q r → CountsSome start end p r
 counts_some_more start between end p q r a b =

@@ -3,7 +3,11 @@ use Rattle.std.specs.Prelude.{ℕ, ◌≤◌, length}
 use Rattle.second_search.specs.declared.scene.Scene.{Scene}
 use Rattle.second_search.specs.Parts.{IsScene}
 
--- a scene that a search for another picture may start from, and no line of it is longer than an engine takes
+-- a scene that a search for another picture may start from
+abbrev pub IsWhole : Scene → Type 0
+IsWhole scene = IsScene scene.clues.now scene.givens.now scene.facts.now scene.picture.now
+
+-- such a scene, and no line of it is longer than an engine takes
 pub record CanSearch (scene : Scene) (longest : ℕ) : Type 0 where
   pub is_scene : IsScene scene.clues.now scene.givens.now scene.facts.now scene.picture.now
   pub tall : length scene.clues.now.rows ≤ longest

@@ -1,5 +1,5 @@
 -- Trees that a search writes line by line: which line may come next, and where lines lead.
-use Rattle.std.specs.Prelude.{◌≡◌, ℕ, ◌-◌, ◌<◌, ◌≤◌, Bool, true, false, Option, None, List, [], ◌∷◌, ◌++◌, length}
+use Rattle.std.specs.Prelude.{◌≡◌, ℕ, ◌-◌, ◌<◌, ◌≤◌, Bool, true, false, Option, None, Some, List, [], ◌∷◌, ◌++◌, length}
 use Rattle.picture.specs.declared.line_id.Axis.{Axis}
 use Rattle.picture.specs.declared.line_id.LineId.{LineId}
 use Rattle.picture.specs.Rows.{width_of, cell_at, line_of, lines_along, HasLine}
@@ -20,10 +20,6 @@ use Rattle.second_search.specs.declared.tree_lines.Lines.TheVariants.{Kept, Drop
 use Rattle.second_search.specs.declared.tree_step.TreeStep.{TreeStep}
 use Rattle.second_search.specs.declared.tree_step.TreeStep.TheVariants.{Ends, Splits, Other}
 use Rattle.second_search.specs.declared.tree.Growing.{Growing}
-use Rattle.second_search.specs.declared.tree.Turn.{Turn}
-use Rattle.second_search.specs.declared.tree.Turn.TheVariants.{Goes, Found}
-use Rattle.second_search.specs.declared.tree.Written.{Written}
-use Rattle.second_search.specs.declared.tree.Written.TheVariants.{Whole, Another, BrokenOff}
 use Rattle.second_search.specs.declared.ladder.Decided.{Decided}
 use Rattle.second_search.specs.declared.ladder.Decided.TheVariants.{Tree, OtherPicture}
 use Rattle.line_settle.specs.Branches.{branches}
@@ -135,20 +131,14 @@ pub record TurnsOn (clues : Clues) (known : List (List ℕ)) (old new : Growing)
   pub walks : Walks clues known lines (old.pending.at_hand ∷ old.pending.behind) new.pending.behind
   pub lighter : load new.pending.behind < load (old.pending.at_hand ∷ old.pending.behind)
 
-abbrev pub Turns : Clues → List (List ℕ) → Growing → Growing → Turn → Type 0
-Turns clues known old new Goes = TurnsOn clues known old new
-Turns clues known old new (Found picture) = IsOtherIn clues known old.pending.at_hand picture
+abbrev pub Turns : Clues → List (List ℕ) → Growing → Growing → Option (List (List ℕ)) → Type 0
+Turns clues known old new None = TurnsOn clues known old new
+Turns clues known old new (Some picture) = IsOtherIn clues known old.pending.at_hand picture
 
 -- the next branch that waits is at hand, or none waits
 abbrev pub Advances : Growing → Growing → Bool → Type 0
 Advances old new true = (old.pending.behind ≡ new.pending.at_hand ∷ new.pending.behind) × (new.lines ≡ old.lines)
 Advances old new false = (old.pending.behind ≡ []) × (new.lines ≡ old.lines)
-
--- lines more that lead from facts to the end of a tree; or another picture; or the tree was broken off, where a bound is set
-abbrev pub Writes : Clues → List (List ℕ) → List (List ℕ) → Lines → Option ℕ → Written → Type 0
-Writes clues known facts old until (Whole new) = (lines : List CertLine) × (Adds old new lines × Walks clues known lines (facts ∷ []) [])
-Writes clues known facts old until (Another picture) = IsOtherIn clues known facts picture
-Writes clues known facts old until BrokenOff = until ≡ None → ⊥
 
 -- ---- what is decided
 

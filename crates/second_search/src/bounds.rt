@@ -1,7 +1,7 @@
 //! How far each way of a search goes before the next one is taken.
 
-/// How often a part is split in the fixed order, how often a search in a window splits, and how many lines a tree may evaluate
-/// at first. They say which way answers, and never what is true.
+/// How often a part is split in the fixed order at first, how often a search in a window splits, and how many lines a tree may
+/// evaluate at first. They say which way answers, and never what is true.
 #[derive(Clone, Copy)]
 pub struct Bounds {
     pub fixed_splits: u32,
@@ -11,7 +11,7 @@ pub struct Bounds {
 
 /// Those of the program.
 pub const BOUNDS: Bounds = Bounds {
-    fixed_splits: 1_000,
+    fixed_splits: 100,
     window_splits: 64,
     first_bound: 10_000,
 };

@@ -8,11 +8,11 @@ ghost use Rattle.second_search.specs.Other.{AreSound, FindsFirst, FindsOther};
 ghost use Rattle.second_search.specs.Looking.{FindsFilling};
 
 use crate::bounds::BOUNDS;
-use crate::ladder::{Decided, Ladder, MOST_CELLS, climb};
+use crate::ladder::{Decided, Ladder, climb};
 use crate::near::find_near_other;
 use crate::scene::Scene;
 use clues::ClueBook;
-use line_settle::{Facts, LineEngine, Meter};
+use line_settle::{Facts, LineEngine};
 use picture::{CellSet, Picture};
 use std::alloc::{AllocError, Global};
 
@@ -70,12 +70,8 @@ pub fn find_other<E: LineEngine>(
         facts,
         picture,
     };
-    let mut meter = Meter {
-        evaluations: 0,
-        trials: 0,
-    };
     let splits = BOUNDS.window_splits;
-    let near = find_near_other(alloc, engine, &scene, splits, &mut meter)?;
+    let near = find_near_other(alloc, engine, &scene, splits)?;
     if near.is_some() {
         return Ok(near);
     }
@@ -98,16 +94,11 @@ fn find_filling<E: LineEngine>(
     ensures same_longest { E.longest engine.new ≡ E.longest engine.old }
 {
     let ladder = Ladder {
-        most: MOST_CELLS,
         first_bound: BOUNDS.first_bound,
         holds,
         keeps: false,
     };
-    let mut meter = Meter {
-        evaluations: 0,
-        trials: 0,
-    };
-    let decided = climb(alloc, engine, scene, ladder, &mut meter)?;
+    let decided = climb(alloc, engine, scene, ladder)?;
     match decided {
         Decided::Tree(_) => Ok(None),
         Decided::OtherPicture(picture) => Ok(Some(picture)),

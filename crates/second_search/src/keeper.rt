@@ -31,7 +31,7 @@ ghost use Rattle.second_search.specs.Judging.{
   parts_of,
 };
 ghost use Rattle.second_search.specs.Searching.{CountsAny};
-ghost use Rattle.second_search.specs.Scene.{CanSearch};
+ghost use Rattle.second_search.specs.Scene.{CanSearch, IsWhole};
 
 use crate::carrying::{answer_for, are_named, first_cell};
 use crate::counting::{Ending, Searched};
@@ -201,10 +201,8 @@ impl Keeper {
         same: &LineSet,
         cells: &CellSet,
     ) -> Result<Answer, AllocError>
-        requires before { IsScene before.now.clues.now before.now.givens.now before.now.facts.now
-            before.now.picture.now }
-        requires after { IsScene after.now.clues.now after.now.givens.now after.now.facts.now
-            after.now.picture.now }
+        requires before { IsWhole before.now }
+        requires after { IsWhole after.now }
         requires parts { AreParts before.now.facts.now (parts_of self.now) }
         requires true_answers { AreTrue before.now.clues.now before.now.givens.now
             before.now.picture.now self.now }

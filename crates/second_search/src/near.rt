@@ -1,12 +1,10 @@
 //! Near pictures: other ones that differ from the known picture inside of one window of a part.
 
-ghost use Rattle.std.specs.Prelude.{◌≡◌, ◌<◌, ◌≤◌, ℕ, length, IfOk, IfSome};
+ghost use Rattle.std.specs.Prelude.{◌≡◌, ◌<◌, ◌≤◌, length, IfOk, IfSome};
 ghost use Rattle.picture.specs.CellSet.{HasCell};
 ghost use Rattle.clues.specs.Solution.{IsOther};
-ghost use Rattle.line_settle.specs.Counting.{Counts};
 ghost use Rattle.second_search.specs.Near.{IsWindow};
 ghost use Rattle.second_search.specs.Parts.{IsOtherFilling, IsScene};
-ghost use Rattle.second_search.specs.Searching.{CountsAny};
 ghost use Rattle.second_search.specs.Scene.{CanSearch};
 
 use crate::cell_lines::put_both;
@@ -20,18 +18,19 @@ use picture::{Axis, CellSet, LineId, LineSet, MAX_SIDE, Picture};
 use std::alloc::{AllocError, Global};
 use worklist::InOrder;
 
-/// How many of a part's rows and columns a window has, one size after the other.
+// Nobody asks what a search in a window evaluates: the engine counts its calls.
+pub(crate) const NOTHING_DONE: Meter = Meter {
+    evaluations: 0,
+    trials: 0,
+};
+
+/// How many of a part's rows and columns a window has, one size after the other, and how many of these sizes are small.
 pub(crate) const SIZES: [u8; 5] = [4, 7, 11, 16, 24];
+
+pub(crate) const SMALL: usize = 2;
 
 // A line with the same clue differs in two cells or in none, so another picture differs in two rows and in two columns.
 const FEWEST: usize = 4;
-
-/// Windows of one size, and how many splits a search in one of them may make.
-#[derive(Clone, Copy)]
-pub(crate) struct Windows {
-    pub size: u8,
-    pub splits: u32,
-}
 
 // The open cells of a window, the lines through them, and how many splits a search in it may make.
 #[derive(Drop)]
@@ -42,14 +41,13 @@ pub(crate) struct Window {
 }
 
 /// Looks for another picture that differs in one window of a part alone, by windows of five sizes and so many splits in each at
-/// most. The parts are those of the scene's facts when they are closed. There may be other pictures where the answer is None. No
+/// most, one part after the other. The parts are those of the scene's facts when they are closed. There may be other pictures where the answer is None. No
 /// line is longer than the engine's `longest`.
 pub fn find_near_other<E: LineEngine>(
     alloc: Global,
     engine: &mut E,
     scene: &Scene,
     splits: u32,
-    meter: &mut Meter,
 ) -> Result<Option<Picture>, AllocError>
     requires scene { IsScene scene.now.clues.now scene.now.givens.now scene.now.facts.now
         scene.now.picture.now }
@@ -57,12 +55,11 @@ pub fn find_near_other<E: LineEngine>(
     requires wide { length scene.now.clues.now.columns ≤ E.longest engine.old }
     ensures other { IfOk result (λ found. IfSome found
         (IsOther scene.now.clues.now (HasCell scene.now.givens.now) scene.now.picture.now)) }
-    ensures counts { (evaluations : ℕ)
-        × Counts evaluations 0 meter.old meter.new (E.calls engine.old) (E.calls engine.new) }
+    ensures calls { E.calls engine.old ≤ E.calls engine.new }
     ensures same_longest { E.longest engine.new ≡ E.longest engine.old }
 {
-    let (_calls, _evaluations, _trials) = (engine.calls(), meter.evaluations, meter.trials);
-    let Some(facts) = closed(engine, scene, meter)? else {
+    let _ = engine.calls();
+    let Some(facts) = closed(engine, scene)? else {
         return Ok(None);
     };
     let closed = Scene {
@@ -72,68 +69,61 @@ pub fn find_near_other<E: LineEngine>(
         picture: scene.picture,
     };
     let parts = Parts::of(alloc, &facts)?;
-    for size in SIZES.iter() {
-        let windows = Windows {
-            size: *size,
-            splits,
-        };
-        for i in 0..parts.len() {
-            let found = find_near(alloc, engine, &closed, parts.cells(i), windows, meter)?;
-            if let Some(picture) = found {
-                return Ok(Some(picture));
-            }
+    for i in 0..parts.len() {
+        let found = find_near(alloc, engine, &closed, parts.cells(i), &SIZES, splits)?;
+        if found.is_some() {
+            return Ok(found);
         }
     }
     Ok(None)
 }
 
 // The facts of a scene, closed. None where a line is dead.
-fn closed<E: LineEngine>(
-    engine: &mut E,
-    scene: &Scene,
-    meter: &mut Meter,
-) -> Result<Option<Facts>, AllocError>
+fn closed<E: LineEngine>(engine: &mut E, scene: &Scene) -> Result<Option<Facts>, AllocError>
     requires { CanSearch scene.now (E.longest engine.old) }
     ensures scene { IfOk result (λ found. IfSome found (λ facts.
         IsScene scene.now.clues.now scene.now.givens.now facts scene.now.picture.now)) }
-    ensures counts { CountsAny meter.old meter.new (E.calls engine.old) (E.calls engine.new) }
+    ensures calls { E.calls engine.old ≤ E.calls engine.new }
     ensures same_longest { E.longest engine.new ≡ E.longest engine.old }
 {
-    let (_calls, _evaluations, _trials) = (engine.calls(), meter.evaluations, meter.trials);
+    let _ = engine.calls();
     let mut agenda = InOrder::make();
-    match settle_afresh(engine, &mut agenda, scene.clues, meter, scene.facts) {
+    let mut meter = NOTHING_DONE;
+    match settle_afresh(engine, &mut agenda, scene.clues, &mut meter, scene.facts) {
         Ok(facts) => Ok(Some(facts)),
         Err(CloseFault::Dead) => Ok(None),
         Err(CloseFault::Memory) => Err(AllocError),
     }
 }
 
-// Looks for another filling of a part that differs in one window alone, each of a size, a third over the next. There may be
-// others where the answer is None.
+// Looks for another filling of a part that differs in one window alone, by windows of some sizes, a third of each over the next.
+// There may be others where the answer is None.
 pub(crate) fn find_near<E: LineEngine>(
     alloc: Global,
     engine: &mut E,
     scene: &Scene,
     cells: &CellSet,
-    windows: Windows,
-    meter: &mut Meter,
+    sizes: &[u8],
+    splits: u32,
 ) -> Result<Option<Picture>, AllocError>
     requires { CanSearch scene.now (E.longest engine.old) }
     ensures other { IfOk result (λ found. IfSome found
         (IsOtherFilling scene.now.clues.now scene.now.givens.now scene.now.picture.now cells.now)) }
-    ensures counts { CountsAny meter.old meter.new (E.calls engine.old) (E.calls engine.new) }
+    ensures calls { E.calls engine.old ≤ E.calls engine.new }
     ensures same_longest { E.longest engine.new ≡ E.longest engine.old }
 {
-    let (_calls, _evaluations, _trials) = (engine.calls(), meter.evaluations, meter.trials);
+    let _ = engine.calls();
     let lines = lines_through(cells, scene.facts);
     let rows = places_along(alloc, &lines, Axis::Across)?;
     let columns = places_along(alloc, &lines, Axis::Down)?;
-    for i in 0..windows_along(&rows, windows.size) {
-        let down = window_along(&rows, i, windows.size);
-        for j in 0..windows_along(&columns, windows.size) {
-            let across = window_along(&columns, j, windows.size);
-            let window = window_of(scene.facts, cells, down, across, windows.splits);
-            let found = find_inside(alloc, engine, scene, cells, window, meter)?;
+    for size in sizes {
+        let along = windows_along(&columns, *size);
+        let count = windows_along(&rows, *size).saturating_mul(along);
+        for i in 0..count {
+            let down = window_along(&rows, i / along, *size);
+            let across = window_along(&columns, i % along, *size);
+            let window = window_of(scene.facts, cells, down, across, splits);
+            let found = find_inside(alloc, engine, scene, cells, window)?;
             if found.is_some() {
                 return Ok(found);
             }
@@ -149,16 +139,15 @@ fn find_inside<E: LineEngine>(
     scene: &Scene,
     cells: &CellSet,
     window: Window,
-    meter: &mut Meter,
 ) -> Result<Option<Picture>, AllocError>
     requires can { CanSearch scene.now (E.longest engine.old) }
     requires window { IsWindow scene.now.facts.now cells.now window }
     ensures other { IfOk result (λ found. IfSome found
         (IsOtherFilling scene.now.clues.now scene.now.givens.now scene.now.picture.now cells.now)) }
-    ensures counts { CountsAny meter.old meter.new (E.calls engine.old) (E.calls engine.new) }
+    ensures calls { E.calls engine.old ≤ E.calls engine.new }
     ensures same_longest { E.longest engine.new ≡ E.longest engine.old }
 {
-    let (_calls, _evaluations, _trials) = (engine.calls(), meter.evaluations, meter.trials);
+    let _ = engine.calls();
     if window.lines.len() < FEWEST {
         return Ok(None);
     }
@@ -170,7 +159,8 @@ fn find_inside<E: LineEngine>(
         lines: window.lines,
         allowance: Some(window.splits),
     };
-    let searched = search_counted(alloc, engine, scene.clues, scene.picture, start, meter)?;
+    let mut meter = NOTHING_DONE;
+    let searched = search_counted(alloc, engine, scene.clues, scene.picture, start, &mut meter)?;
     let Searched { ending, splits: _ } = searched;
     match ending {
         Ending::Found(picture) => Ok(Some(picture)),
@@ -230,7 +220,9 @@ fn places_along(alloc: Global, lines: &LineSet, axis: Axis) -> Result<Vec<u8>, A
 }
 
 // How many windows of a size there are along some places, at least one.
-fn windows_along(places: &[u8], size: u8) -> usize {
+fn windows_along(places: &[u8], size: u8) -> usize
+    ensures { 0 < result }
+{
     let over = usize::from(size / 3);
     let step = step_of(size);
     let beyond = places.len().saturating_sub(over);

@@ -9,13 +9,20 @@ ghost use Rattle.second_search.specs.Scene.{CanSearch};
 
 use crate::bounds::{BOUNDS, Bounds};
 use crate::counting::{Ending, Searched};
-use crate::ladder::{Decided, Ladder, MOST_CELLS, climb};
-use crate::near::{SIZES, Windows, find_near};
+use crate::ladder::{Decided, Ladder, climb};
+use crate::near::{NOTHING_DONE, SIZES, SMALL, find_near};
 use crate::part_search::{leave_alone, search_part};
 use crate::scene::Scene;
 use line_settle::{LineEngine, Meter};
 use picture::{CellSet, Picture};
 use std::alloc::{AllocError, Global};
+
+// How many times the first splits of the fixed order are made behind small windows.
+const AGAIN: u32 = 5;
+
+// How many times the first lines of a tree are evaluated where the fixed order has gone that far: few trees that split the first
+// open cell close then.
+const LONGER: u64 = 16;
 
 // Decides a part under an allowance; or, where none is set, within the bounds of the program.
 pub(crate) fn decide_part<E: LineEngine>(
@@ -80,42 +87,68 @@ pub fn decide_within<E: LineEngine>(
             splits,
         }),
         Ending::BrokenOff => {
-            let climbed = climb_part(alloc, engine, scene, cells, bounds, meter)?;
-            Ok(Searched {
-                ending: climbed,
-                splits,
-            })
+            let before = engine.calls();
+            match climb_part(alloc, engine, scene, cells, bounds) {
+                Ok(climbed) => {
+                    count_since(before, engine, meter);
+                    Ok(Searched {
+                        ending: climbed,
+                        splits,
+                    })
+                }
+                Err(refused) => {
+                    count_since(before, engine, meter);
+                    Err(refused)
+                }
+            }
         }
     }
 }
 
-// Decides a part by the ladder: other fillings that differ in one window alone, and then trees of the facts on it, with the
-// picture's colours alone left elsewhere.
+// Counts the calls of an engine beyond so many as evaluations.
+fn count_since<E: LineEngine>(before: u64, engine: &E, meter: &mut Meter)
+    requires { before ≤ E.calls engine.now }
+    ensures { CountsAny meter.old meter.new before (E.calls engine.now) }
+{
+    let _trials = meter.trials;
+    let more = engine.calls() - before;
+    meter.evaluations = meter.evaluations.saturating_add(more);
+}
+
+// Decides a part that costs more than the first splits: by small windows, by more splits of the fixed order, by large windows, and
+// then by trees of the facts on it, with the picture's colours alone left elsewhere.
 fn climb_part<E: LineEngine>(
     alloc: Global,
     engine: &mut E,
     scene: &Scene,
     cells: &CellSet,
     bounds: Bounds,
-    meter: &mut Meter,
 ) -> Result<Ending, AllocError>
-    requires { CanSearch scene.now (E.longest engine.old) }
+    requires can { CanSearch scene.now (E.longest engine.old) }
+    requires part { IsPart scene.now.facts.now cells.now }
     ensures ends { IfOk result (EndsTrue scene.now.clues.now scene.now.picture.now
         (alone cells.now scene.now.facts.now scene.now.picture.now)) }
-    ensures counts { CountsAny meter.old meter.new (E.calls engine.old) (E.calls engine.new) }
+    ensures calls { E.calls engine.old ≤ E.calls engine.new }
     ensures same_longest { E.longest engine.new ≡ E.longest engine.old }
 {
-    let _ = scene.facts.height();
-    let (_calls, _evaluations, _trials) = (engine.calls(), meter.evaluations, meter.trials);
-    for size in SIZES.iter() {
-        let windows = Windows {
-            size: *size,
-            splits: bounds.window_splits,
-        };
-        let near = find_near(alloc, engine, scene, cells, windows, meter)?;
-        if let Some(picture) = near {
-            return Ok(Ending::Found(picture));
-        }
+    let _ = (scene.facts.height(), engine.calls());
+    let splits = bounds.window_splits;
+    let small = find_near(alloc, engine, scene, cells, &SIZES[..SMALL], splits)?;
+    if let Some(picture) = small {
+        return Ok(Ending::Found(picture));
+    }
+    let again = Some(bounds.fixed_splits.saturating_mul(AGAIN));
+    let mut meter = NOTHING_DONE;
+    let searched = search_part(alloc, engine, scene, cells, again, &mut meter)?;
+    let Searched { ending, splits: _ } = searched;
+    match ending {
+        Ending::Nothing => return Ok(Ending::Nothing),
+        Ending::Found(picture) => return Ok(Ending::Found(picture)),
+        Ending::BrokenOff => {}
+    }
+    let large = find_near(alloc, engine, scene, cells, &SIZES[SMALL..], splits)?;
+    if let Some(picture) = large {
+        return Ok(Ending::Found(picture));
     }
     let mut facts = scene.facts.copy()?;
     leave_alone(&mut facts, scene.picture, cells);
@@ -126,12 +159,11 @@ fn climb_part<E: LineEngine>(
         picture: scene.picture,
     };
     let ladder = Ladder {
-        most: MOST_CELLS,
-        first_bound: bounds.first_bound,
+        first_bound: bounds.first_bound.saturating_mul(LONGER),
         holds: true,
         keeps: false,
     };
-    let decided = climb(alloc, engine, &part, ladder, meter)?;
+    let decided = climb(alloc, engine, &part, ladder)?;
     match decided {
         Decided::Tree(_) => Ok(Ending::Nothing),
         Decided::OtherPicture(picture) => Ok(Ending::Found(picture)),

@@ -3,7 +3,8 @@
 ghost use Rattle.std.specs.Prelude.{◌≡◌, ◌<◌, ◌≤◌, ◌↔◌, IsTrue};
 ghost use Rattle.picture.specs.Rows.{lines_along, line_of, HasLine};
 ghost use Rattle.second_search.specs.Carrying.{AreSameLines, PutsSame};
-ghost use Rattle.second_search.specs.Parts.{IsSameLine, IsScene};
+ghost use Rattle.second_search.specs.Parts.{IsSameLine};
+ghost use Rattle.second_search.specs.Scene.{IsWhole};
 
 use crate::scene::Scene;
 use line_settle::Facts;
@@ -11,10 +12,8 @@ use picture::{Axis, LineId, LineSet, LineView, MAX_SIDE, Picture};
 
 // The names of the lines that are the same in two scenes.
 pub(crate) fn same_lines(before: &Scene, after: &Scene) -> LineSet
-    requires before { IsScene before.now.clues.now before.now.givens.now before.now.facts.now
-        before.now.picture.now }
-    requires after { IsScene after.now.clues.now after.now.givens.now after.now.facts.now
-        after.now.picture.now }
+    requires before { IsWhole before.now }
+    requires after { IsWhole after.now }
     ensures { AreSameLines before.now.clues.now before.now.facts.now before.now.picture.now
         after.now.clues.now after.now.facts.now after.now.picture.now result }
 {
@@ -26,10 +25,8 @@ pub(crate) fn same_lines(before: &Scene, after: &Scene) -> LineSet
 
 // Puts the names of the lines along an axis that are the same in two scenes into a set.
 fn put_same(before: &Scene, after: &Scene, axis: Axis, lines: &mut LineSet)
-    requires before { IsScene before.now.clues.now before.now.givens.now before.now.facts.now
-        before.now.picture.now }
-    requires after { IsScene after.now.clues.now after.now.givens.now after.now.facts.now
-        after.now.picture.now }
+    requires before { IsWhole before.now }
+    requires after { IsWhole after.now }
     ensures { PutsSame before.now.clues.now before.now.facts.now before.now.picture.now
         after.now.clues.now after.now.facts.now after.now.picture.now axis
         (lines_along axis after.now.picture.now) lines.old lines.new }
@@ -56,10 +53,8 @@ fn line_count(picture: &Picture, axis: Axis) -> u8
 #[tactic(auto, using(clues::proofs::LawLemmas::of_lines))]
 // Whether a line of the scene after is the same in both.
 fn is_same_line(before: &Scene, after: &Scene, line: LineId) -> bool
-    requires before { IsScene before.now.clues.now before.now.givens.now before.now.facts.now
-        before.now.picture.now }
-    requires after { IsScene after.now.clues.now after.now.givens.now after.now.facts.now
-        after.now.picture.now }
+    requires before { IsWhole before.now }
+    requires after { IsWhole after.now }
     requires has { HasLine after.now.picture.now line }
     ensures { IsTrue result ↔ IsSameLine before.now.clues.now before.now.facts.now
         before.now.picture.now after.now.clues.now after.now.facts.now after.now.picture.now line }

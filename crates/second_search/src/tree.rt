@@ -1,12 +1,12 @@
 //! The search that writes a tree, whose lines may be kept or dropped. Each line is lawful where it is written; which cell is split is
 //! free.
 
-ghost use Rattle.std.specs.Prelude.{◌≡◌, None, IfOk, IsTrue};
+ghost use Rattle.std.specs.Prelude.{◌≡◌, ◌≤◌, None, IfOk, IfSome, IsNone, IsTrue};
 ghost use Rattle.fixpoint.specs.Closing.{AreClosable};
-ghost use Rattle.second_search.specs.Trees.{Advances, Turns, Writes};
-ghost use Rattle.second_search.specs.Searching.{CountsAny};
+ghost use Rattle.second_search.specs.Trees.{Advances, AreNone, Decides, Turns};
 
 use crate::cell_lines::put_both;
+use crate::ladder::Decided;
 use crate::pending::Pending;
 use crate::scene::Scene;
 use crate::tree_closing::close_written;
@@ -14,25 +14,10 @@ use crate::tree_lines::{Lines, cell_number};
 use crate::tree_step::{TreeStep, Way, next_step};
 use cert_text::CertLine;
 use fixpoint::all_lines;
-use line_settle::{LineEngine, Meter, Outcome};
+use line_settle::{LineEngine, Outcome};
 use picture::{LineSet, MAX_SIDE, Picture};
 use split_choice::Cell;
 use std::alloc::{AllocError, Global};
-
-// What writing a tree came to: it is whole, or there is another picture than the known one, or it was broken off.
-#[derive(Drop)]
-pub(crate) enum Written {
-    Whole(Lines),
-    Another(Picture),
-    BrokenOff,
-}
-
-// What a turn on the branch at hand came to: it is done with, or another picture was found.
-#[derive(Drop)]
-pub(crate) enum Turn {
-    Goes,
-    Found(Picture),
-}
 
 // A tree that is being written: the branches that wait, the lines so far, and those that are due at the branch at hand.
 #[derive(Drop)]
@@ -42,51 +27,64 @@ pub(crate) struct Growing {
     pub due: LineSet,
 }
 
-// Writes a tree from the facts of a scene. The known picture is that of the scene, which need not have the clues.
+// Writes a tree one way from the facts of a scene, or finds another picture than the scene's, which need not have the clues. None
+// where it was broken off.
 pub(crate) fn write_tree<E: LineEngine>(
     alloc: Global,
     engine: &mut E,
     scene: &Scene,
-    lines: Lines,
     way: Way,
-    meter: &mut Meter,
-) -> Result<Written, AllocError>
+    keeps: bool,
+) -> Result<Option<Decided>, AllocError>
     requires { AreClosable scene.now.clues.now (E.longest engine.old) scene.now.facts.now }
-    ensures writes { IfOk result
-        (Writes scene.now.clues.now scene.now.picture.now scene.now.facts.now lines way.until) }
-    ensures counts { CountsAny meter.old meter.new (E.calls engine.old) (E.calls engine.new) }
+    ensures decides { IfOk result (λ found. IfSome found
+        (Decides scene.now.clues.now scene.now.picture.now scene.now.facts.now keeps)) }
+    ensures broken_off { IfOk result (λ found. IsNone found → way.until ≡ None → ⊥) }
+    ensures calls { E.calls engine.old ≤ E.calls engine.new }
     ensures same_longest { E.longest engine.new ≡ E.longest engine.old }
 {
-    let (_calls, _evaluations, _trials) = (engine.calls(), meter.evaluations, meter.trials);
+    let _ = engine.calls();
     let due = all_lines(scene.facts);
     let pending = Pending::start(alloc, scene.facts.copy()?);
+    let lines = no_lines(alloc, keeps);
     let mut growing = Growing {
         pending,
         lines,
         due,
     };
     loop {
-        let turn = growing.turn(alloc, engine, scene, way, meter)?;
-        match turn {
-            Turn::Found(picture) => return Ok(Written::Another(picture)),
-            Turn::Goes => {}
+        let found = growing.turn(alloc, engine, scene, way)?;
+        match found {
+            Some(picture) => return Ok(Some(Decided::OtherPicture(picture))),
+            None => {}
         }
         let goes = growing.advance()?;
         if !goes {
-            return Ok(Written::Whole(growing.into_lines()));
+            return Ok(Some(Decided::Tree(growing.into_lines())));
         }
-        if is_over(way, meter) {
-            return Ok(Written::BrokenOff);
+        if is_over(way, engine.calls()) {
+            return Ok(None);
         }
     }
 }
 
-// Whether so many lines were evaluated that the tree is broken off.
-fn is_over(way: Way, meter: &Meter) -> bool
+// No line yet.
+fn no_lines(alloc: Global, keeps: bool) -> Lines
+    ensures { AreNone keeps result }
+{
+    if keeps {
+        Lines::Kept(Vec::new(alloc))
+    } else {
+        Lines::Dropped
+    }
+}
+
+// Whether the engine was called so often that the tree is broken off.
+fn is_over(way: Way, calls: u64) -> bool
     ensures { IsTrue result → way.until ≡ None → ⊥ }
 {
     match way.until {
-        Some(until) => meter.evaluations >= until,
+        Some(until) => calls >= until,
         None => false,
     }
 }
@@ -101,68 +99,40 @@ fn due_at(cell: Cell) -> LineSet {
 }
 
 impl Growing {
-    // Closes the branch at hand, and ends or splits it.
+    // Closes the branch at hand, and ends or splits it; or finds another picture.
     fn turn<E: LineEngine>(
         &mut self,
         alloc: Global,
         engine: &mut E,
         scene: &Scene,
         way: Way,
-        meter: &mut Meter,
-    ) -> Result<Turn, AllocError>
+    ) -> Result<Option<Picture>, AllocError>
         requires { AreClosable scene.now.clues.now (E.longest engine.old) self.old.pending.at_hand }
         ensures turns { IfOk result
             (Turns scene.now.clues.now scene.now.picture.now self.old self.new) }
-        ensures counts { CountsAny meter.old meter.new (E.calls engine.old) (E.calls engine.new) }
+        ensures calls { E.calls engine.old ≤ E.calls engine.new }
         ensures same_longest { E.longest engine.new ≡ E.longest engine.old }
     {
-        let (_calls, _evaluations, _trials) = (engine.calls(), meter.evaluations, meter.trials);
+        let _ = engine.calls();
         let mut facts = self.pending.at_hand().copy()?;
-        let outcome = close_written(
-            engine,
-            scene.clues,
-            &mut facts,
-            &self.due,
-            &mut self.lines,
-            meter,
-        )?;
+        let outcome = close_written(engine, scene.clues, &mut facts, &self.due, &mut self.lines)?;
         match outcome {
-            Outcome::Dead => Ok(Turn::Goes),
-            Outcome::Narrowed => {
-                self.pending.narrow(&facts, 0)?;
-                self.go_on(alloc, engine, scene, way, meter)
-            }
+            Outcome::Dead => return Ok(None),
+            Outcome::Narrowed => {}
         }
-    }
-
-    // Ends or splits the branch at hand.
-    fn go_on<E: LineEngine>(
-        &mut self,
-        alloc: Global,
-        engine: &mut E,
-        scene: &Scene,
-        way: Way,
-        meter: &mut Meter,
-    ) -> Result<Turn, AllocError>
-        requires { AreClosable scene.now.clues.now (E.longest engine.old) self.old.pending.at_hand }
-        ensures turns { IfOk result
-            (Turns scene.now.clues.now scene.now.picture.now self.old self.new) }
-        ensures counts { CountsAny meter.old meter.new (E.calls engine.old) (E.calls engine.new) }
-        ensures same_longest { E.longest engine.new ≡ E.longest engine.old }
-    {
-        let facts = self.pending.at_hand();
+        self.pending.narrow(&facts, 0)?;
         let _ = facts.height();
-        let step = next_step(alloc, engine, scene, facts, way, meter)?;
+        let step = next_step(alloc, engine, scene, &facts, way)?;
         match step {
-            TreeStep::Other(picture) => Ok(Turn::Found(picture)),
+            TreeStep::Other(picture) => Ok(Some(picture)),
             TreeStep::Ends(line) => {
                 self.lines.add(line)?;
-                Ok(Turn::Goes)
+                Ok(None)
             }
             TreeStep::Splits(cell) => {
                 self.lines.add(CertLine::Split(cell_number(cell)))?;
                 self.pending.split(cell)?;
-                Ok(Turn::Goes)
+                Ok(None)
             }
         }
     }

@@ -6,12 +6,11 @@ ghost use Rattle.clues.specs.ClueBook.{HasClue};
 ghost use Rattle.line_settle.specs.FactSets.{IsFacts};
 ghost use Rattle.fixpoint.specs.Closing.{AreClosable};
 ghost use Rattle.second_search.specs.Trees.{Settles};
-ghost use Rattle.second_search.specs.Searching.{CountsAny};
 
 use crate::tree_lines::{Lines, line_number};
 use cert_text::CertLine;
 use clues::ClueBook;
-use line_settle::{Facts, Forced, LineEngine, Meter, Outcome, force_crossing};
+use line_settle::{Facts, Forced, LineEngine, Outcome, force_crossing};
 use picture::{Axis, LineId, LineSet};
 use std::alloc::AllocError;
 use worklist::{Agenda, InOrder};
@@ -26,14 +25,13 @@ pub(crate) fn close_written<E: LineEngine>(
     facts: &mut Facts,
     dirty: &LineSet,
     lines: &mut Lines,
-    meter: &mut Meter,
 ) -> Result<Outcome, AllocError>
     requires { AreClosable clues.now (E.longest engine.old) facts.old }
     ensures settles { IfOk result (Settles clues.now facts.old facts.new lines.old lines.new) }
-    ensures counts { CountsAny meter.old meter.new (E.calls engine.old) (E.calls engine.new) }
+    ensures calls { E.calls engine.old ≤ E.calls engine.new }
     ensures same_longest { E.longest engine.new ≡ E.longest engine.old }
 {
-    let (_calls, _evaluations, _trials) = (engine.calls(), meter.evaluations, meter.trials);
+    let _ = engine.calls();
     let mut agenda = InOrder::make();
     agenda.put_all(dirty);
     for _ in 0..MOST_LINES {
@@ -43,7 +41,7 @@ pub(crate) fn close_written<E: LineEngine>(
         if !is_line_of(facts, line) {
             continue;
         }
-        let forced = take_line(engine, clues, facts, line, lines, meter)?;
+        let forced = take_line(engine, clues, facts, line, lines)?;
         match forced.outcome {
             Outcome::Dead => return Ok(Outcome::Dead),
             Outcome::Narrowed => {}
@@ -71,24 +69,17 @@ fn take_line<E: LineEngine>(
     facts: &mut Facts,
     line: LineId,
     lines: &mut Lines,
-    meter: &mut Meter,
 ) -> Result<Forced, AllocError>
     requires closable { AreClosable clues.now (E.longest engine.old) facts.old }
     requires line { HasLine facts.old line }
     ensures settles { IfOk result (λ forced.
         Settles clues.now facts.old facts.new lines.old lines.new forced.outcome) }
-    ensures counts { CountsAny meter.old meter.new (E.calls engine.old) (E.calls engine.new) }
+    ensures calls { E.calls engine.old ≤ E.calls engine.new }
     ensures same_longest { E.longest engine.new ≡ E.longest engine.old }
 {
     let _ = (facts.height(), engine.calls());
-    let _trials = meter.trials;
-    let forced = force_crossing(
-        engine,
-        facts,
-        clues.clue(line),
-        line,
-        &mut meter.evaluations,
-    );
+    let mut count = 0;
+    let forced = force_crossing(engine, facts, clues.clue(line), line, &mut count);
     match forced.outcome {
         Outcome::Dead => {
             lines.add(CertLine::Dead(line_number(line)))?;

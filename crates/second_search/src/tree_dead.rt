@@ -1,15 +1,14 @@
 //! Dead lines of a branch whose picture does not have the clues.
 
-ghost use Rattle.std.specs.Prelude.{◌≡◌, ◌↔◌, IfOk, IsTrue, MatchOption};
+ghost use Rattle.std.specs.Prelude.{◌≡◌, ◌≤◌, ◌↔◌, IfOk, IsTrue, MatchOption};
 ghost use Rattle.picture.specs.Rows.{HasLine, line_of};
 ghost use Rattle.clues.specs.ClueBook.{clue_at};
 ghost use Rattle.line_settle.specs.Fitting.{CanFit};
 ghost use Rattle.fixpoint.specs.Closing.{AreClosable, EachFits};
 ghost use Rattle.second_search.specs.Trees.{EachFitsAlong, IsDeadLine};
-ghost use Rattle.second_search.specs.Searching.{CountsAny};
 
 use clues::ClueBook;
-use line_settle::{Facts, LineEngine, Meter, Outcome, force};
+use line_settle::{Facts, LineEngine, Outcome, force};
 use picture::{Axis, LineId};
 use std::alloc::AllocError;
 
@@ -19,19 +18,18 @@ pub(crate) fn dead_line<E: LineEngine>(
     engine: &mut E,
     clues: &ClueBook,
     facts: &Facts,
-    meter: &mut Meter,
 ) -> Result<Option<LineId>, AllocError>
     requires { AreClosable clues.now (E.longest engine.old) facts.now }
     ensures dead { IfOk result (λ found.
         MatchOption found (EachFits clues.now facts.now) (IsDeadLine clues.now facts.now)) }
-    ensures counts { CountsAny meter.old meter.new (E.calls engine.old) (E.calls engine.new) }
+    ensures calls { E.calls engine.old ≤ E.calls engine.new }
     ensures same_longest { E.longest engine.new ≡ E.longest engine.old }
 {
-    let (_calls, _evaluations, _trials) = (engine.calls(), meter.evaluations, meter.trials);
-    if let Some(line) = dead_along(engine, clues, facts, Axis::Across, meter)? {
+    let _ = engine.calls();
+    if let Some(line) = dead_along(engine, clues, facts, Axis::Across)? {
         return Ok(Some(line));
     }
-    dead_along(engine, clues, facts, Axis::Down, meter)
+    dead_along(engine, clues, facts, Axis::Down)
 }
 
 // The first such line along an axis.
@@ -40,22 +38,21 @@ fn dead_along<E: LineEngine>(
     clues: &ClueBook,
     facts: &Facts,
     axis: Axis,
-    meter: &mut Meter,
 ) -> Result<Option<LineId>, AllocError>
     requires { AreClosable clues.now (E.longest engine.old) facts.now }
     ensures dead { IfOk result (λ found. MatchOption found (EachFitsAlong clues.now facts.now axis)
         (IsDeadLine clues.now facts.now)) }
-    ensures counts { CountsAny meter.old meter.new (E.calls engine.old) (E.calls engine.new) }
+    ensures calls { E.calls engine.old ≤ E.calls engine.new }
     ensures same_longest { E.longest engine.new ≡ E.longest engine.old }
 {
-    let (_calls, _evaluations, _trials) = (engine.calls(), meter.evaluations, meter.trials);
+    let _ = engine.calls();
     let count = match axis {
         Axis::Across => facts.height(),
         Axis::Down => facts.width(),
     };
     for at in 0..count {
         let line = LineId { axis, at };
-        if !some_fits(engine, clues, facts, line, meter)? {
+        if !some_fits(engine, clues, facts, line)? {
             return Ok(Some(line));
         }
     }
@@ -68,25 +65,19 @@ fn some_fits<E: LineEngine>(
     clues: &ClueBook,
     facts: &Facts,
     line: LineId,
-    meter: &mut Meter,
 ) -> Result<bool, AllocError>
     requires closable { AreClosable clues.now (E.longest engine.old) facts.now }
     requires line { HasLine facts.now line }
     ensures fits { IfOk result (λ fits.
         IsTrue fits ↔ CanFit (clue_at clues.now line) (line_of facts.now line)) }
-    ensures counts { CountsAny meter.old meter.new (E.calls engine.old) (E.calls engine.new) }
+    ensures calls { E.calls engine.old ≤ E.calls engine.new }
     ensures same_longest { E.longest engine.new ≡ E.longest engine.old }
 {
     let _ = facts.height();
-    let (_calls, _evaluations, _trials) = (engine.calls(), meter.evaluations, meter.trials);
+    let _ = engine.calls();
     let mut trial = facts.copy()?;
-    match force(
-        engine,
-        &mut trial,
-        clues.clue(line),
-        line,
-        &mut meter.evaluations,
-    ) {
+    let mut count = 0;
+    match force(engine, &mut trial, clues.clue(line), line, &mut count) {
         Outcome::Dead => Ok(false),
         Outcome::Narrowed => Ok(true),
     }

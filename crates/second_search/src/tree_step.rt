@@ -1,23 +1,25 @@
 //! What comes next on a closed branch of a tree.
 
-ghost use Rattle.std.specs.Prelude.{◌≡◌, ◌<◌, ◌↔◌, ℕ, length, IfOk, IfSome, IsTrue, MatchOption};
+ghost use Rattle.std.specs.Prelude.{◌≡◌, ◌<◌, ◌≤◌, ◌↔◌, ℕ, length, IfOk, IfSome, IsTrue, MatchOption};
 ghost use Rattle.picture.specs.Picture.{IsPicture};
 ghost use Rattle.picture.specs.Rows.{cell_at, width_of};
 ghost use Rattle.line_settle.specs.FactSets.{Leaves, SameShape};
 ghost use Rattle.fixpoint.specs.Closing.{AreClosable};
 ghost use Rattle.fixpoint.specs.Filling.{LeavesPicture};
 ghost use Rattle.second_search.specs.Trees.{Continues, IsComparedTo, IsOtherIn};
-ghost use Rattle.second_search.specs.Searching.{CountsAny};
 
 use crate::looking::{first_unsettled, shown_picture};
 use crate::scene::Scene;
 use crate::tree_dead::dead_line;
 use crate::tree_lines::line_number;
 use cert_text::CertLine;
-use line_settle::{Facts, LineEngine, Meter};
+use line_settle::{Facts, LineEngine};
 use picture::Picture;
 use split_choice::{Cell, Choice, Chosen, Node, Plan, Puzzle, choose, filled, fills_all, leaves};
 use std::alloc::{AllocError, Global};
+
+// How many of the most telling cells are looked at. A native model closes as many pictures with 12 of them.
+const MOST_CELLS: usize = 40;
 
 // What comes next: a line that ends the branch, a cell to split, or another picture than the known one.
 #[derive(Drop)]
@@ -27,48 +29,59 @@ pub(crate) enum TreeStep {
     Other(Picture),
 }
 
-// How a tree is written: how cells are chosen, how many are looked at, at how many evaluations the tree is broken off, if at
-// all, and whether the known picture is held on to.
+// How a tree is written: how cells are chosen, at how many of the engine's calls the tree is broken off, if at all, and whether the
+// known picture is held on to.
 #[derive(Clone, Copy)]
 pub(crate) struct Way {
     pub choice: Choice,
-    pub most: usize,
     pub until: Option<u64>,
     pub holds: bool,
 }
 
-// What comes next on a branch. Where it is not closed, that is still a lawful step.
+// What comes next on a branch. Where it is not closed, that is still a lawful step. Where no cell is chosen, it is the first in which
+// not just one colour is left; or, where each has one, the picture that the branch shows is the known one or another, or some line
+// is dead.
 pub(crate) fn next_step<E: LineEngine>(
     alloc: Global,
     engine: &mut E,
     scene: &Scene,
     facts: &Facts,
     way: Way,
-    meter: &mut Meter,
 ) -> Result<TreeStep, AllocError>
     requires { AreClosable scene.now.clues.now (E.longest engine.old) facts.now }
     ensures continues { IfOk result
         (Continues scene.now.clues.now scene.now.picture.now facts.now) }
-    ensures counts { CountsAny meter.old meter.new (E.calls engine.old) (E.calls engine.new) }
+    ensures calls { E.calls engine.old ≤ E.calls engine.new }
     ensures same_longest { E.longest engine.new ≡ E.longest engine.old }
 {
-    let (_calls, _evaluations, _trials) = (engine.calls(), meter.evaluations, meter.trials);
+    let _ = (facts.height(), engine.calls());
     let node = node_at(scene, facts, way);
     let here = other_here(alloc, scene, &node)?;
     if let Some(picture) = here {
         return Ok(TreeStep::Other(picture));
     }
-    let chosen = choose(alloc, engine, &node, plan_of(way), meter)?;
+    let chosen = choose(alloc, engine, &node, plan_of(way))?;
     match chosen {
-        Chosen::Splits(cell) => Ok(TreeStep::Splits(cell)),
-        Chosen::Nothing => end_at(alloc, engine, scene, facts, meter),
+        Chosen::Splits(cell) => return Ok(TreeStep::Splits(cell)),
+        Chosen::Nothing => {}
         Chosen::Fills(trial) => {
             let there = other_in(alloc, scene, &node.puzzle, facts, &trial)?;
-            match there {
-                Some(picture) => Ok(TreeStep::Other(picture)),
-                None => end_at(alloc, engine, scene, facts, meter),
+            if let Some(picture) = there {
+                return Ok(TreeStep::Other(picture));
             }
         }
+    }
+    if let Some(cell) = first_unsettled(facts, 0) {
+        return Ok(TreeStep::Splits(cell));
+    }
+    let shown = shown_picture(alloc, facts)?;
+    if scene.clues.has_clues(&shown) {
+        return Ok(compared(shown, scene.picture));
+    }
+    let dead = dead_line(engine, scene.clues, facts)?;
+    match dead {
+        Some(line) => Ok(TreeStep::Ends(CertLine::Dead(line_number(line)))),
+        None => unreachable!(),
     }
 }
 
@@ -91,7 +104,7 @@ fn node_at<'a>(scene: &Scene<'a>, facts: &'a Facts, way: Way) -> Node<'a>
 fn plan_of(way: Way) -> Plan {
     Plan {
         choice: way.choice,
-        most: way.most,
+        most: MOST_CELLS,
         until: way.until.unwrap_or(u64::MAX),
     }
 }
@@ -165,37 +178,6 @@ fn allows_row(facts: &Facts, picture: &Picture, row: u8) -> bool
         }
     }
     true
-}
-
-// What comes next where no cell was chosen: the first cell in which not just one colour is left; or, where each has one, the
-// picture that the branch shows is the known one or another, or some line is dead.
-fn end_at<E: LineEngine>(
-    alloc: Global,
-    engine: &mut E,
-    scene: &Scene,
-    facts: &Facts,
-    meter: &mut Meter,
-) -> Result<TreeStep, AllocError>
-    requires { AreClosable scene.now.clues.now (E.longest engine.old) facts.now }
-    ensures continues { IfOk result
-        (Continues scene.now.clues.now scene.now.picture.now facts.now) }
-    ensures counts { CountsAny meter.old meter.new (E.calls engine.old) (E.calls engine.new) }
-    ensures same_longest { E.longest engine.new ≡ E.longest engine.old }
-{
-    let _ = facts.height();
-    let (_calls, _evaluations, _trials) = (engine.calls(), meter.evaluations, meter.trials);
-    if let Some(cell) = first_unsettled(facts, 0) {
-        return Ok(TreeStep::Splits(cell));
-    }
-    let picture = shown_picture(alloc, facts)?;
-    if scene.clues.has_clues(&picture) {
-        return Ok(compared(picture, scene.picture));
-    }
-    let dead = dead_line(engine, scene.clues, facts, meter)?;
-    match dead {
-        Some(line) => Ok(TreeStep::Ends(CertLine::Dead(line_number(line)))),
-        None => unreachable!(),
-    }
 }
 
 // What a picture that has the clues is: the known one, which ends the branch, or another.

@@ -1,7 +1,6 @@
 //! The cell that a search splits.
 
-ghost use Rattle.std.specs.Prelude.{◌≡◌, ℕ, IfOk, IsTrue};
-ghost use Rattle.line_settle.specs.Counting.{Counts};
+ghost use Rattle.std.specs.Prelude.{◌≡◌, ◌≤◌, IfOk, IsTrue};
 ghost use Rattle.split_choice.specs.Choosing.{CanSplit, IsUnsettled};
 
 use crate::cell::Cell;
@@ -11,7 +10,7 @@ use crate::pool::Place;
 use crate::puzzle::{Choice, Node, Plan};
 use crate::regions::{Region, smallest_unfilled};
 use crate::telling::most_telling;
-use line_settle::{Facts, LineEngine, Meter};
+use line_settle::{Facts, LineEngine};
 use picture::MAX_SIDE;
 use std::alloc::{AllocError, Global};
 
@@ -24,20 +23,29 @@ pub enum Chosen {
 }
 
 /// Chooses a cell in which not just one colour is left. Where there is such a cell, none may be chosen all the same, and of
-/// facts that are answered nothing is promised.
+/// facts that are answered nothing is promised. The engine's calls do not fall.
 pub fn choose<E: LineEngine>(
     alloc: Global,
     engine: &mut E,
     node: &Node,
     plan: Plan,
-    meter: &mut Meter,
 ) -> Result<Chosen, AllocError>
     ensures can_split { IfOk result (CanSplit node.now.facts.now) }
-    ensures counts { (evaluations : ℕ)
-        × Counts evaluations 0 meter.old meter.new (E.calls engine.old) (E.calls engine.new) }
+    ensures calls { E.calls engine.old ≤ E.calls engine.new }
     ensures same_longest { E.longest engine.new ≡ E.longest engine.old }
 {
-    let chosen = choose_any(alloc, engine, node, plan, meter)?;
+    let _ = engine.calls();
+    let open = OpenCells::of(node.facts);
+    let Some(region) = smallest_unfilled(node, &open) else {
+        return Ok(Chosen::Nothing);
+    };
+    let chosen = match plan.choice {
+        Choice::First => first_in(&open, &region),
+        Choice::Look => {
+            let pool = most_telling(alloc, node, &open, &region, plan.most)?;
+            look_ahead(engine, node, pool.places(), plan.until)?
+        }
+    };
     Ok(tested(node.facts, chosen))
 }
 
@@ -46,10 +54,8 @@ fn tested(facts: &Facts, chosen: Chosen) -> Chosen
     ensures { CanSplit facts.now result }
 {
     match chosen {
-        Chosen::Splits(cell) if can_split(facts, cell) => Chosen::Splits(cell),
-        Chosen::Splits(_) => Chosen::Nothing,
-        Chosen::Fills(others) => Chosen::Fills(others),
-        Chosen::Nothing => Chosen::Nothing,
+        Chosen::Splits(cell) if !can_split(facts, cell) => Chosen::Nothing,
+        chosen => chosen,
     }
 }
 
@@ -57,36 +63,9 @@ fn tested(facts: &Facts, chosen: Chosen) -> Chosen
 fn can_split(facts: &Facts, cell: Cell) -> bool
     ensures { IsTrue result → IsUnsettled facts.now cell }
 {
-    if cell.row >= facts.height() || cell.col >= facts.width() {
-        return false;
-    }
-    facts.shown(cell.row, cell.col).is_none()
-}
-
-// The same, of which nothing is promised.
-fn choose_any<E: LineEngine>(
-    alloc: Global,
-    engine: &mut E,
-    node: &Node,
-    plan: Plan,
-    meter: &mut Meter,
-) -> Result<Chosen, AllocError>
-    ensures counts { (evaluations : ℕ)
-        × Counts evaluations 0 meter.old meter.new (E.calls engine.old) (E.calls engine.new) }
-    ensures same_longest { E.longest engine.new ≡ E.longest engine.old }
-{
-    let (_calls, _evaluations, _trials) = (engine.calls(), meter.evaluations, meter.trials);
-    let open = OpenCells::of(node.facts);
-    let Some(region) = smallest_unfilled(node, &open) else {
-        return Ok(Chosen::Nothing);
-    };
-    match plan.choice {
-        Choice::First => Ok(first_in(&open, &region)),
-        Choice::Look => {
-            let pool = most_telling(alloc, node, &open, &region, plan.most)?;
-            look_ahead(engine, node, pool.places(), plan.until, meter)
-        }
-    }
+    cell.row < facts.height()
+        && cell.col < facts.width()
+        && facts.shown(cell.row, cell.col).is_none()
 }
 
 // The first open cell of a part in row order.
@@ -110,55 +89,36 @@ fn look_ahead<E: LineEngine>(
     node: &Node,
     places: &[Place],
     until: u64,
-    meter: &mut Meter,
 ) -> Result<Chosen, AllocError>
-    ensures counts { (evaluations : ℕ)
-        × Counts evaluations 0 meter.old meter.new (E.calls engine.old) (E.calls engine.new) }
+    ensures calls { E.calls engine.old ≤ E.calls engine.new }
     ensures same_longest { E.longest engine.new ≡ E.longest engine.old }
 {
-    let (_calls, _evaluations, _trials) = (engine.calls(), meter.evaluations, meter.trials);
+    let _ = engine.calls();
     let enough = if node.own { 0 } else { 1 };
-    let mut best = Best {
-        worth: 0,
-        cell: None,
-    };
+    let mut best = None;
+    let mut most = 0;
     for place in places {
-        match look_at(engine, node, place.cell, meter)? {
+        match look_at(engine, node, place.cell)? {
             Look::Fills(facts) => return Ok(Chosen::Fills(facts)),
+            Look::Seen(tally) if tally.alive <= enough => return Ok(Chosen::Splits(place.cell)),
             Look::Seen(tally) => {
-                if tally.alive <= enough {
-                    return Ok(Chosen::Splits(place.cell));
+                if best.is_none() || tally.worth() > most {
+                    most = tally.worth();
+                    best = Some(place.cell);
                 }
-                best.offer(tally.worth(), place.cell);
             }
         }
-        if meter.evaluations >= until {
-            return Ok(best.chosen());
+        if engine.calls() >= until {
+            return Ok(split_at(best));
         }
     }
-    Ok(best.chosen())
+    Ok(split_at(best))
 }
 
-// The cell that tells most so far.
-#[derive(Clone, Copy)]
-struct Best {
-    worth: u64,
-    cell: Option<Cell>,
-}
-
-impl Best {
-    // Takes a cell that tells more.
-    fn offer(&mut self, worth: u64, cell: Cell) {
-        if self.cell.is_none() || worth > self.worth {
-            self.worth = worth;
-            self.cell = Some(cell);
-        }
-    }
-
-    fn chosen(self) -> Chosen {
-        match self.cell {
-            Some(cell) => Chosen::Splits(cell),
-            None => Chosen::Nothing,
-        }
+// A cell to split, if there is one.
+fn split_at(cell: Option<Cell>) -> Chosen {
+    match cell {
+        Some(cell) => Chosen::Splits(cell),
+        None => Chosen::Nothing,
     }
 }

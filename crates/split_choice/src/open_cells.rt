@@ -5,8 +5,8 @@ ghost use Rattle.std.specs.Prelude.{◌<◌};
 use line_settle::Facts;
 use picture::MAX_SIDE;
 
-// No picture has more rows or columns.
-const SIDES: usize = MAX_SIDE as usize;
+/// No picture has more rows or columns.
+pub(crate) const SIDES: usize = MAX_SIDE as usize;
 
 /// For each row the columns of its open cells, and for each column the rows.
 #[derive(Clone, Copy)]

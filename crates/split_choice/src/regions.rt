@@ -2,14 +2,10 @@
 
 ghost use Rattle.std.specs.Prelude.{◌<◌};
 
-use crate::filling::is_filled;
-use crate::open_cells::OpenCells;
-use crate::puzzle::{Node, Puzzle};
-use line_settle::Facts;
-use picture::{Axis, LineId, MAX_SIDE};
-
-// No picture has more rows or columns.
-const SIDES: usize = MAX_SIDE as usize;
+use crate::filling::are_filled;
+use crate::open_cells::{OpenCells, SIDES};
+use crate::puzzle::Node;
+use picture::{Axis, MAX_SIDE};
 
 /// The rows and the columns of a part, and how many open cells it has.
 #[derive(Clone, Copy)]
@@ -87,14 +83,4 @@ fn is_region_filled(node: &Node, region: &Region) -> bool {
     }
     are_filled(&node.puzzle, node.facts, Axis::Across, region.rows)
         && are_filled(&node.puzzle, node.facts, Axis::Down, region.columns)
-}
-
-// The same of some lines along an axis.
-fn are_filled(puzzle: &Puzzle, facts: &Facts, axis: Axis, places: u128) -> bool {
-    for at in 0..MAX_SIDE {
-        if places >> at & 1 == 1 && !is_filled(puzzle, facts, LineId { axis, at }) {
-            return false;
-        }
-    }
-    true
 }

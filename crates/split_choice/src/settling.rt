@@ -1,11 +1,11 @@
 //! Closing facts in a trial: line after line, until none forces more or one is dead.
 
-ghost use Rattle.std.specs.Prelude.{◌≡◌, ℕ};
-ghost use Rattle.line_settle.specs.Counting.{Counts};
+ghost use Rattle.std.specs.Prelude.{◌≡◌, ◌≤◌};
 
 use crate::cell::Cell;
+use crate::filling::is_there;
 use clues::ClueBook;
-use line_settle::{Facts, Forced, LineEngine, Meter, Outcome, force_crossing};
+use line_settle::{Facts, LineEngine, Outcome, force_crossing};
 use picture::{Axis, LineId, LineSet, MAX_SIDE};
 use worklist::{Agenda, InOrder};
 
@@ -25,13 +25,11 @@ pub(crate) fn settle<E: LineEngine>(
     clues: &ClueBook,
     facts: &mut Facts,
     cell: Cell,
-    meter: &mut Meter,
 ) -> Option<Settled>
-    ensures counts { (evaluations : ℕ)
-        × Counts evaluations 0 meter.old meter.new (E.calls engine.old) (E.calls engine.new) }
+    ensures calls { E.calls engine.old ≤ E.calls engine.new }
     ensures same_longest { E.longest engine.new ≡ E.longest engine.old }
 {
-    let (_calls, _evaluations, _trials) = (engine.calls(), meter.evaluations, meter.trials);
+    let _ = engine.calls();
     let mut agenda = InOrder::make();
     let mut settled = Settled {
         touched: lines_at(cell),
@@ -42,9 +40,11 @@ pub(crate) fn settle<E: LineEngine>(
         let Some(line) = agenda.take() else {
             return Some(settled);
         };
-        let Some(forced) = evaluate(engine, clues, facts, line, meter) else {
+        if !is_there(clues, facts, line) || facts.line_len(line) > engine.longest() {
             continue;
-        };
+        }
+        let mut count = 0;
+        let forced = force_crossing(engine, facts, clues.clue(line), line, &mut count);
         if forced.outcome == Outcome::Dead {
             return None;
         }
@@ -69,33 +69,4 @@ fn lines_at(cell: Cell) -> LineSet {
         });
     }
     lines
-}
-
-// Evaluates a line, where it is one of the facts and has a clue.
-fn evaluate<E: LineEngine>(
-    engine: &mut E,
-    clues: &ClueBook,
-    facts: &mut Facts,
-    line: LineId,
-    meter: &mut Meter,
-) -> Option<Forced>
-    ensures counts { (evaluations : ℕ)
-        × Counts evaluations 0 meter.old meter.new (E.calls engine.old) (E.calls engine.new) }
-    ensures same_longest { E.longest engine.new ≡ E.longest engine.old }
-{
-    let (_calls, _evaluations, _trials) = (engine.calls(), meter.evaluations, meter.trials);
-    let (count, clue_count) = match line.axis {
-        Axis::Across => (facts.height(), clues.height()),
-        Axis::Down => (facts.width(), clues.width()),
-    };
-    if line.at >= count || line.at >= clue_count || facts.line_len(line) > engine.longest() {
-        return None;
-    }
-    Some(force_crossing(
-        engine,
-        facts,
-        clues.clue(line),
-        line,
-        &mut meter.evaluations,
-    ))
 }

@@ -26,50 +26,30 @@ pub(crate) fn most_telling(
     most: usize,
 ) -> Result<Pool, AllocError> {
     let mut pool = Pool::start(alloc, most);
-    let unfilled = unfilled_along(node, Axis::Down, region.columns);
+    let rows = unfilled_along(node, Axis::Across, region.rows);
+    let columns = unfilled_along(node, Axis::Down, region.columns);
     for row in 0..node.facts.height() {
-        if region.rows >> row & 1 == 1 {
-            let line = LineId {
-                axis: Axis::Across,
-                at: row,
-            };
-            let extra = if is_unfilled(node, line) { UNFILLED } else { 0 };
-            offer_row(&mut pool, open, row, node.facts.width(), extra, unfilled)?;
+        let along = region.rows >> row & 1;
+        for col in 0..node.facts.width() {
+            if along == 1 && open.in_row(usize::from(row)) >> col & 1 == 1 {
+                let rank = rank_of(open, row, col)
+                    .saturating_add(extra_at(rows, row))
+                    .saturating_add(extra_at(columns, col));
+                pool.offer(Place {
+                    rank,
+                    cell: Cell { row, col },
+                })?;
+            }
         }
     }
     Ok(pool)
 }
 
-// Offers the open cells of a row.
-fn offer_row(
-    pool: &mut Pool,
-    open: &OpenCells,
-    row: u8,
-    width: u8,
-    extra: u16,
-    unfilled: u128,
-) -> Result<(), AllocError>
-    requires in_rows { row < MAX_SIDE }
-    requires in_columns { width ≤ MAX_SIDE }
+// What it counts that a line is among those that the held picture's colours do not fill.
+fn extra_at(unfilled: u128, at: u8) -> u16
+    requires { at < MAX_SIDE }
 {
-    let cells = open.in_row(usize::from(row));
-    for col in 0..width {
-        if cells >> col & 1 == 1 {
-            let more = if unfilled >> col & 1 == 1 {
-                UNFILLED
-            } else {
-                0
-            };
-            let rank = rank_of(open, row, col)
-                .saturating_add(extra)
-                .saturating_add(more);
-            pool.offer(Place {
-                rank,
-                cell: Cell { row, col },
-            })?;
-        }
-    }
-    Ok(())
+    if unfilled >> at & 1 == 1 { UNFILLED } else { 0 }
 }
 
 // What the neighbours of a cell and the open cells on its lines count.
@@ -89,25 +69,26 @@ fn settled_beside(line: u128, at: u8) -> u16
     requires { at < MAX_SIDE }
     ensures { result ≤ 2 }
 {
-    let before = if at == 0 { 0 } else { line >> (at - 1) & 1 };
-    let behind = line >> (at + 1) & 1;
-    let before = if before == 0 { 1 } else { 0 };
-    let behind = if behind == 0 { 1 } else { 0 };
+    let before = if at > 0 && line >> (at - 1) & 1 == 1 {
+        0
+    } else {
+        1
+    };
+    let behind = if line >> (at + 1) & 1 == 1 { 0 } else { 1 };
     before + behind
 }
 
-// The lines along an axis, of some, that the held picture's colours do not fill.
+// The lines along an axis, of some, that the held picture's colours do not fill. Where none is held, there is no such line.
 fn unfilled_along(node: &Node, axis: Axis, places: u128) -> u128 {
     let mut unfilled = 0;
+    if node.own || node.puzzle.held.is_none() {
+        return unfilled;
+    }
     for at in 0..MAX_SIDE {
-        if places >> at & 1 == 1 && is_unfilled(node, LineId { axis, at }) {
+        let line = LineId { axis, at };
+        if places >> at & 1 == 1 && !is_filled(&node.puzzle, node.facts, line) {
             unfilled |= 1 << at;
         }
     }
     unfilled
-}
-
-// Whether the held picture's colours do not fill a line. Where none is held, there is no such line.
-fn is_unfilled(node: &Node, line: LineId) -> bool {
-    !node.own && node.puzzle.held.is_some() && !is_filled(&node.puzzle, node.facts, line)
 }

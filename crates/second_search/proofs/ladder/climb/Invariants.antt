@@ -1,15 +1,14 @@
-use Rattle.std.proofs.Common.{◌≡◌}
-use Rattle.second_search.specs.Searching.{CountsAny}
+use Rattle.std.proofs.Common.{◌≡◌, ◌≤◌}
 use Rattle.second_search.proofs.ladder.climb.Given as goal
 
 abbrev pub invariant-loop : goal.invariant-loop
 invariant-loop g l = record {
-  counts : CountsAny l.fn.meter l.meter (g.E.LineEngine.calls l.fn.engine) (g.E.LineEngine.calls l.engine);
+  calls : g.E.LineEngine.calls l.fn.engine ≤ g.E.LineEngine.calls l.engine;
   same_longest : g.E.LineEngine.longest l.engine ≡ g.E.LineEngine.longest l.fn.engine;
 }
 
 abbrev pub invariant-loop-choice : goal.invariant-loop-choice
 invariant-loop-choice g l = record {
-  counts : CountsAny l.fn.meter l.meter (g.E.LineEngine.calls l.fn.engine) (g.E.LineEngine.calls l.engine);
+  calls : g.E.LineEngine.calls l.fn.engine ≤ g.E.LineEngine.calls l.engine;
   same_longest : g.E.LineEngine.longest l.engine ≡ g.E.LineEngine.longest l.fn.engine;
 }

@@ -1,15 +1,8 @@
-use Rattle.std.proofs.Common.{◌≡◌}
-use Rattle.second_search.specs.Searching.{CountsAny}
+use Rattle.std.proofs.Common.{◌≡◌, ◌≤◌}
 use Rattle.second_search.proofs.near.find_near_other.Given as goal
-
-abbrev pub invariant-loop-size : goal.invariant-loop-size
-invariant-loop-size g l = record {
-  counts : CountsAny l.fn.meter l.meter (g.E.LineEngine.calls l.fn.engine) (g.E.LineEngine.calls l.engine);
-  same_longest : g.E.LineEngine.longest l.engine ≡ g.E.LineEngine.longest l.fn.engine;
-}
 
 abbrev pub invariant-loop-i : goal.invariant-loop-i
 invariant-loop-i g l = record {
-  counts : CountsAny l.fn.meter l.meter (g.E.LineEngine.calls l.fn.engine) (g.E.LineEngine.calls l.engine);
+  calls : g.E.LineEngine.calls l.fn.engine ≤ g.E.LineEngine.calls l.engine;
   same_longest : g.E.LineEngine.longest l.engine ≡ g.E.LineEngine.longest l.fn.engine;
 }

@@ -1,13 +1,14 @@
-use Rattle.std.proofs.Common.{◌≡◌, ◌∷◌, ℕ}
-use Rattle.line_settle.specs.Counting.{Counts}
+use Rattle.std.proofs.Common.{◌≡◌, ◌≤◌, ◌∷◌}
+use Rattle.second_search.specs.declared.tree_lines.Lines.{Lines}
+use Rattle.second_search.specs.Trees.{AreNone}
 use Rattle.second_search.proofs.TreeLemmas.{Said}
 use Rattle.second_search.proofs.WeightLemmas.{load}
 use Rattle.second_search.proofs.tree.write_tree.Given as goal
 
 abbrev pub invariant-loop-growing : goal.invariant-loop-growing
 invariant-loop-growing g l = record {
-  said : Said l.scene.clues.now l.scene.picture.now l.scene.facts.now l.fn.lines l.growing;
-  counts : (evaluations : ℕ) × Counts evaluations 0 l.fn.meter l.meter (g.E.LineEngine.calls l.fn.engine) (g.E.LineEngine.calls l.engine);
+  said : (start : Lines) × (AreNone l.keeps start × Said l.scene.clues.now l.scene.picture.now l.scene.facts.now start l.growing);
+  calls : g.E.LineEngine.calls l.fn.engine ≤ g.E.LineEngine.calls l.engine;
   same_longest : g.E.LineEngine.longest l.engine ≡ g.E.LineEngine.longest l.fn.engine;
 }
 

@@ -1,8 +1,7 @@
-use Rattle.std.proofs.Common.{◌∙◌, arith, refl, subst}
+use Rattle.std.proofs.Common.{◌∙◌, refl, subst, arith}
 use Rattle.line_settle.specs.declared.line_engine.Outcome.{Outcome}
 use Rattle.line_settle.specs.declared.line_engine.Outcome.TheVariants.{Narrowed, Dead}
 use Rattle.second_search.specs.Trees.{Settles}
-use Rattle.second_search.proofs.CountLemmas.{counts_more, counts_none}
 use Rattle.second_search.proofs.KeepLemmas.{can_close_like}
 use Rattle.second_search.proofs.TreeLemmas.{settles_none, settles_on}
 use Rattle.second_search.proofs.tree_closing.close_written.Goals as goal
@@ -11,21 +10,15 @@ pub loop-init : goal.loop-init
 loop-init g c = record {
   settles = settles_none c.args.clues.now c.args.facts.now c.args.lines.now;
   closable = c.requires;
-  counts = counts_none c.args.meter.now (g.E.LineEngine.calls c.args.engine.now) (omega arith) (omega arith) (omega arith);
+  calls = omega arith;
   same_longest = refl;
 }
-
-pub returns-in_err-forced-clause-counts : goal.returns-in_err-forced-clause-counts
-returns-in_err-forced-clause-counts g c = counts_more _ _ _ _ _ _ c.loop.invariant.counts c.take_line.ensures.counts
 
 pub returns-in-Dead-clause-settles : goal.returns-in-Dead-clause-settles
 returns-in-Dead-clause-settles g c =
     let clues = c.args.clues.now in
     let P : Outcome → Type 0 = λ o. Settles clues c.loop.facts c.take_line.new.facts c.loop.lines c.take_line.new.lines o in
     settles_on clues c.args.facts.now c.loop.facts c.take_line.new.facts c.args.lines.now c.loop.lines c.take_line.new.lines Dead c.loop.invariant.settles (subst P c.in-Dead.is c.in_ok-forced.ensures.settles)
-
-pub returns-in-Dead-clause-counts : goal.returns-in-Dead-clause-counts
-returns-in-Dead-clause-counts g c = counts_more _ _ _ _ _ _ c.loop.invariant.counts c.take_line.ensures.counts
 
 pub loop-preserved : goal.loop-preserved
 loop-preserved g c =
@@ -35,6 +28,6 @@ loop-preserved g c =
     record {
       settles = settles_on clues c.args.facts.now c.loop.facts c.take_line.new.facts c.args.lines.now c.loop.lines c.take_line.new.lines Narrowed c.loop.invariant.settles here;
       closable = can_close_like clues (g.E.LineEngine.longest c.loop.engine) (g.E.LineEngine.longest c.take_line.new.engine) c.loop.facts c.take_line.new.facts here.0.same_shape c.take_line.ensures.same_longest c.loop.invariant.closable;
-      counts = counts_more _ _ _ _ _ _ c.loop.invariant.counts c.take_line.ensures.counts;
+      calls = omega arith;
       same_longest = c.take_line.ensures.same_longest ∙ c.loop.invariant.same_longest;
     }

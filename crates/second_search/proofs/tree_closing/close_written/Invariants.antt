@@ -1,6 +1,5 @@
-use Rattle.std.proofs.Common.{◌≡◌, ℕ}
+use Rattle.std.proofs.Common.{◌≡◌, ◌≤◌}
 use Rattle.line_settle.specs.declared.line_engine.Outcome.TheVariants.{Narrowed}
-use Rattle.line_settle.specs.Counting.{Counts}
 use Rattle.fixpoint.specs.Closing.{AreClosable}
 use Rattle.second_search.specs.Trees.{Settles}
 use Rattle.second_search.proofs.tree_closing.close_written.Given as goal
@@ -9,6 +8,6 @@ abbrev pub invariant-loop : goal.invariant-loop
 invariant-loop g l = record {
   settles : Settles l.clues l.fn.facts l.facts l.fn.lines l.lines Narrowed;
   closable : AreClosable l.clues (g.E.LineEngine.longest l.engine) l.facts;
-  counts : (evaluations : ℕ) × Counts evaluations 0 l.fn.meter l.meter (g.E.LineEngine.calls l.fn.engine) (g.E.LineEngine.calls l.engine);
+  calls : g.E.LineEngine.calls l.fn.engine ≤ g.E.LineEngine.calls l.engine;
   same_longest : g.E.LineEngine.longest l.engine ≡ g.E.LineEngine.longest l.fn.engine;
 }

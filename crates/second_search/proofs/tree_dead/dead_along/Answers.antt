@@ -1,20 +1,13 @@
-use Rattle.std.proofs.Common.{◌∙◌}
+use Rattle.std.proofs.Common.{◌∙◌, arith}
 use Rattle.picture.specs.Rows.{line_of}
 use Rattle.clues.specs.ClueBook.{clue_at}
 use Rattle.line_settle.specs.Fitting.{CanFit}
-use Rattle.second_search.proofs.CountLemmas.{counts_more}
 use Rattle.second_search.proofs.LookLemmas.{below_next}
 use Rattle.second_search.proofs.tree_dead.dead_along.Goals as goal
-
-pub returns-in_err-some_fits-clause-counts : goal.returns-in_err-some_fits-clause-counts
-returns-in_err-some_fits-clause-counts g c = counts_more _ _ _ _ _ _ c.loop-at.invariant.counts c.some_fits.ensures.counts
-
-pub returns-then-not-branch-clause-counts : goal.returns-then-not-branch-clause-counts
-returns-then-not-branch-clause-counts g c = counts_more _ _ _ _ _ _ c.loop-at.invariant.counts c.some_fits.ensures.counts
 
 pub loop-at-preserved : goal.loop-at-preserved
 loop-at-preserved g c = record {
   fit = below_next (λ at. CanFit (clue_at c.args.clues.now (record { axis = c.args.axis; at = at })) (line_of c.args.facts.now (record { axis = c.args.axis; at = at }))) c.loop-at.at c.loop-at.invariant.fit (c.in_ok-some_fits.ensures.fits.0 c.if-not-branch.false);
-  counts = counts_more _ _ _ _ _ _ c.loop-at.invariant.counts c.some_fits.ensures.counts;
+  calls = omega arith;
   same_longest = c.some_fits.ensures.same_longest ∙ c.loop-at.invariant.same_longest;
 }

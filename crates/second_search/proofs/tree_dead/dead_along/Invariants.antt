@@ -1,13 +1,12 @@
-use Rattle.std.proofs.Common.{◌≡◌, ◌<◌, ℕ}
+use Rattle.std.proofs.Common.{◌≡◌, ◌<◌, ◌≤◌, ℕ}
 use Rattle.picture.specs.Rows.{line_of}
 use Rattle.clues.specs.ClueBook.{clue_at}
-use Rattle.line_settle.specs.Counting.{Counts}
 use Rattle.line_settle.specs.Fitting.{CanFit}
 use Rattle.second_search.proofs.tree_dead.dead_along.Given as goal
 
 abbrev pub invariant-loop-at : goal.invariant-loop-at
 invariant-loop-at g l = record {
   fit : (at : ℕ) → at < l.at → CanFit (clue_at l.clues (record { axis = l.axis; at = at })) (line_of l.facts (record { axis = l.axis; at = at }));
-  counts : (evaluations : ℕ) × Counts evaluations 0 l.fn.meter l.meter (g.E.LineEngine.calls l.fn.engine) (g.E.LineEngine.calls l.engine);
+  calls : g.E.LineEngine.calls l.fn.engine ≤ g.E.LineEngine.calls l.engine;
   same_longest : g.E.LineEngine.longest l.engine ≡ g.E.LineEngine.longest l.fn.engine;
 }

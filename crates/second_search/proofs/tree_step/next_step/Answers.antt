@@ -1,8 +1,26 @@
-use Rattle.second_search.proofs.CountLemmas.{counts_more}
+use Rattle.std.proofs.Common.{Option, refl, subst}
+use Rattle.std.proofs.lemmas.Bool.{false≢true}
+use Rattle.std.specs.Prelude.{MatchOption}
+use Rattle.picture.specs.declared.line_id.LineId.{LineId}
+use Rattle.fixpoint.specs.Closing.{EachFits}
+use Rattle.second_search.specs.Trees.{IsDeadLine}
+use Rattle.second_search.proofs.TreeLemmas.{compare_continues, dead_continues, none_dead}
+use Rattle.second_search.proofs.KnownLaws.{books_are_their_clues, clues_are_of_lines}
 use Rattle.second_search.proofs.tree_step.next_step.Goals as goal
 
-pub returns-in-Nothing-clause-counts : goal.returns-in-Nothing-clause-counts
-returns-in-Nothing-clause-counts g c = counts_more _ _ _ _ _ _ c.choose.ensures.counts c.end_at.ensures.counts
+pub returns-then-has_clues-clause-continues : goal.returns-then-has_clues-clause-continues
+returns-then-has_clues-clause-continues g c =
+    let s = c.args.scene.now in
+    compare_continues s.clues.now s.picture.now c.args.facts.now c.in_ok-shown.shown c.compared.result c.height.ensures.facts c.in_ok-shown.ensures (c.if-has_clues.ensures.0 refl) c.compared.ensures
 
-pub returns-clause-counts : goal.returns-clause-counts
-returns-clause-counts g c = counts_more _ _ _ _ _ _ c.choose.ensures.counts c.end_at-in-None.ensures.counts
+pub returns-clause-continues : goal.returns-clause-continues
+returns-clause-continues g c =
+    let s = c.args.scene.now in
+    let P : Option LineId → Type 0 = λ o. MatchOption o (EachFits s.clues.now c.args.facts.now) (IsDeadLine s.clues.now c.args.facts.now) in
+    dead_continues s.clues.now s.picture.now c.args.facts.now c.in-Some-dead.line c.line_number.result (subst P c.in-Some-dead.is c.in_ok-dead.ensures.dead) c.line_number.ensures.axis c.line_number.ensures.number
+
+pub unreachable-requires : goal.unreachable-requires
+unreachable-requires g c =
+    let s = c.args.scene.now in
+    let P : Option LineId → Type 0 = λ o. MatchOption o (EachFits s.clues.now c.args.facts.now) (IsDeadLine s.clues.now c.args.facts.now) in
+    false≢true (c.if-has_clues.ensures.1 (none_dead clues_are_of_lines books_are_their_clues s.clues.now (g.E.LineEngine.longest c.args.engine.now) c.args.facts.now c.in_ok-shown.shown c.height.ensures.facts c.requires (subst P c.in-None.is c.in_ok-dead.ensures.dead) c.in_ok-shown.ensures))

@@ -1,12 +1,14 @@
-use Rattle.std.proofs.Common.{◌∙◌, List, ℕ, ap, refl, subst, sym}
+use Rattle.std.proofs.Common.{◌∙◌, List, ℕ, None, Some, ap, refl, subst, sym}
 use Rattle.line_settle.specs.declared.line_engine.Outcome.{Outcome}
+use Rattle.line_settle.specs.FactSets.{IsFacts}
 use Rattle.fixpoint.specs.Closing.{AreClosable}
+use Rattle.second_search.specs.declared.tree.Growing.{Growing}
+use Rattle.second_search.specs.declared.tree_step.TreeStep.{TreeStep}
+use Rattle.second_search.specs.declared.tree_step.TreeStep.TheVariants.{Ends as ends, Splits as splits}
 use Rattle.second_search.specs.Branching.{Search}
-use Rattle.second_search.specs.Trees.{Settles, Turns}
-use Rattle.second_search.proofs.CountLemmas.{counts_more}
+use Rattle.second_search.specs.Trees.{Continues, IsOtherIn, Settles}
 use Rattle.second_search.proofs.KeepLemmas.{can_close_like}
-use Rattle.second_search.proofs.LookLemmas.{if_ok}
-use Rattle.second_search.proofs.TreeLemmas.{dead_turn, turn_on}
+use Rattle.second_search.proofs.TreeLemmas.{dead_turn, ends_turn, splits_turn, turn_on}
 use Rattle.second_search.proofs.tree.Growing.turn.Goals as goal
 
 pub returns-in-Dead-clause-turns : goal.returns-in-Dead-clause-turns
@@ -15,22 +17,45 @@ returns-in-Dead-clause-turns g c =
     let P : Outcome → Type 0 = λ o. Settles s.clues.now c.in_ok-facts.facts c.close_written.new.facts c.args.self.now.lines c.close_written.new.lines o in
     dead_turn s.clues.now s.picture.now c.in_ok-facts.facts c.close_written.new.facts c.args.self.now _ (c.in_ok-facts.ensures ∙ c.at_hand.ensures) refl (subst P c.in-Dead.is c.in_ok-outcome.ensures.settles)
 
-pub go_on-requires : goal.go_on-requires
-go_on-requires g c =
+pub next_step-requires : goal.next_step-requires
+next_step-requires g c =
     let s = c.args.scene.now in
     let P : Outcome → Type 0 = λ o. Settles s.clues.now c.in_ok-facts.facts c.close_written.new.facts c.args.self.now.lines c.close_written.new.lines o in
     let here = subst P c.in-Narrowed.is c.in_ok-outcome.ensures.settles in
     let Q : List (List ℕ) → Type 0 = λ x. AreClosable s.clues.now (g.E.LineEngine.longest c.args.engine.now) x in
     let first = subst Q (sym (c.in_ok-facts.ensures ∙ c.at_hand.ensures)) c.requires in
-    let R : List (List ℕ) → Type 0 = λ x. AreClosable s.clues.now (g.E.LineEngine.longest c.close_written.new.engine) x in
-    subst R (sym (ap (λ (x : Search). x.at_hand) c.in_ok-narrow-in-Narrowed.ensures)) (can_close_like s.clues.now (g.E.LineEngine.longest c.args.engine.now) (g.E.LineEngine.longest c.close_written.new.engine) c.in_ok-facts.facts c.close_written.new.facts here.0.same_shape c.close_written.ensures.same_longest first)
+    can_close_like s.clues.now (g.E.LineEngine.longest c.args.engine.now) (g.E.LineEngine.longest c.close_written.new.engine) c.in_ok-facts.facts c.close_written.new.facts here.0.same_shape c.close_written.ensures.same_longest first
+
+pub returns-in-Other-clause-turns : goal.returns-in-Other-clause-turns
+returns-in-Other-clause-turns g c =
+    let s = c.args.scene.now in
+    let settled = c.close_written.new.facts in
+    let P : Outcome → Type 0 = λ o. Settles s.clues.now c.in_ok-facts.facts settled c.args.self.now.lines c.close_written.new.lines o in
+    let mid : Growing = record { pending = c.narrow.new.self; lines = c.close_written.new.lines; due = c.args.self.now.due } in
+    let Q : TreeStep → Type 0 = λ x. Continues s.clues.now s.picture.now settled x in
+    let R : List (List ℕ) → Type 0 = λ x. IsOtherIn s.clues.now s.picture.now x c.in-Other.picture in
+    let other = subst R (sym (ap (λ (x : Search). x.at_hand) c.in_ok-narrow.ensures)) (subst Q c.in-Other.is c.in_ok-step.ensures.continues) in
+    turn_on s.clues.now s.picture.now c.in_ok-facts.facts settled c.args.self.now mid mid (c.in_ok-facts.ensures ∙ c.at_hand.ensures) (subst P c.in-Narrowed.is c.in_ok-outcome.ensures.settles) c.in_ok-narrow.ensures (Some c.in-Other.picture) other
+
+pub returns-in-Ends-clause-turns : goal.returns-in-Ends-clause-turns
+returns-in-Ends-clause-turns g c =
+    let s = c.args.scene.now in
+    let settled = c.close_written.new.facts in
+    let P : Outcome → Type 0 = λ o. Settles s.clues.now c.in_ok-facts.facts settled c.args.self.now.lines c.close_written.new.lines o in
+    let mid : Growing = record { pending = c.narrow.new.self; lines = c.close_written.new.lines; due = c.args.self.now.due } in
+    let Q : TreeStep → Type 0 = λ x. Continues s.clues.now s.picture.now settled x in
+    let R : List (List ℕ) → Type 0 = λ x. Continues s.clues.now s.picture.now x (ends c.in-Ends.line) in
+    let stands = subst R (sym (ap (λ (x : Search). x.at_hand) c.in_ok-narrow.ensures)) (subst Q c.in-Ends.is c.in_ok-step.ensures.continues) in
+    turn_on s.clues.now s.picture.now c.in_ok-facts.facts settled c.args.self.now mid _ (c.in_ok-facts.ensures ∙ c.at_hand.ensures) (subst P c.in-Narrowed.is c.in_ok-outcome.ensures.settles) c.in_ok-narrow.ensures None (ends_turn s.clues.now s.picture.now mid _ c.in-Ends.line stands refl c.in_ok-add-in-Ends.ensures)
 
 pub returns-clause-turns : goal.returns-clause-turns
 returns-clause-turns g c =
     let s = c.args.scene.now in
-    let P : Outcome → Type 0 = λ o. Settles s.clues.now c.in_ok-facts.facts c.close_written.new.facts c.args.self.now.lines c.close_written.new.lines o in
-    let here = subst P c.in-Narrowed.is c.in_ok-outcome.ensures.settles in
-    if_ok c.go_on.result (Turns s.clues.now s.picture.now _ c.go_on.new.self) (Turns s.clues.now s.picture.now c.args.self.now c.go_on.new.self) (turn_on s.clues.now s.picture.now c.in_ok-facts.facts c.close_written.new.facts c.args.self.now _ c.go_on.new.self (c.in_ok-facts.ensures ∙ c.at_hand.ensures) here c.in_ok-narrow-in-Narrowed.ensures) c.go_on.ensures.turns
-
-pub returns-clause-counts : goal.returns-clause-counts
-returns-clause-counts g c = counts_more _ _ _ _ _ _ c.close_written.ensures.counts c.go_on.ensures.counts
+    let settled = c.close_written.new.facts in
+    let P : Outcome → Type 0 = λ o. Settles s.clues.now c.in_ok-facts.facts settled c.args.self.now.lines c.close_written.new.lines o in
+    let mid : Growing = record { pending = c.narrow.new.self; lines = c.close_written.new.lines; due = c.args.self.now.due } in
+    let hand = sym (ap (λ (x : Search). x.at_hand) c.in_ok-narrow.ensures) in
+    let Q : TreeStep → Type 0 = λ x. Continues s.clues.now s.picture.now settled x in
+    let R : List (List ℕ) → Type 0 = λ x. Continues s.clues.now s.picture.now x (splits c.in-Splits.cell) in
+    let at = subst R hand (subst Q c.in-Splits.is c.in_ok-step.ensures.continues) in
+    turn_on s.clues.now s.picture.now c.in_ok-facts.facts settled c.args.self.now mid _ (c.in_ok-facts.ensures ∙ c.at_hand.ensures) (subst P c.in-Narrowed.is c.in_ok-outcome.ensures.settles) c.in_ok-narrow.ensures None (splits_turn s.clues.now s.picture.now mid _ c.in-Splits.cell c.cell_number.result (subst IsFacts hand c.height.ensures.facts) at c.cell_number.ensures.row c.cell_number.ensures.col c.in_ok-split-in-Splits.ensures c.in_ok-add-in-Splits.ensures)

@@ -4,7 +4,7 @@ use Rattle.picture.specs.Rows.{width_of}
 use Rattle.clues.specs.ClueBook.{Clues}
 use Rattle.certificate.proofs.MadeLemmas.{near_other}
 use Rattle.second_search.proofs.KnownLaws.{clues_are_of_lines}
-use Rattle.certificate.proofs.near_first.has_near_other.Goals as goal
+use Rattle.certificate.proofs.making.has_near_other.Goals as goal
 
 pub find_near_other-requires-clause-tall : goal.find_near_other-requires-clause-tall
 find_near_other-requires-clause-tall g c =

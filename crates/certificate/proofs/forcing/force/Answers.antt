@@ -1,7 +1,7 @@
 use Rattle.std.proofs.Common.{sym, subst}
 use Rattle.picture.specs.Rows.{line_of}
 use Rattle.line_settle.specs.Narrowing.{Narrows}
-use Rattle.certificate.proofs.forcing.force_by.Goals as goal
+use Rattle.certificate.proofs.forcing.force.Goals as goal
 
 pub returns-clause-gains : goal.returns-clause-gains
 returns-clause-gains g c =

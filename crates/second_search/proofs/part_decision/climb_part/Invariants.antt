@@ -1,9 +1,0 @@
-use Rattle.std.proofs.Common.{◌≡◌, ℕ}
-use Rattle.line_settle.specs.Counting.{Counts}
-use Rattle.second_search.proofs.part_decision.climb_part.Given as goal
-
-abbrev pub invariant-loop-size : goal.invariant-loop-size
-invariant-loop-size g l = record {
-  counts : (evaluations : ℕ) × Counts evaluations 0 l.fn.meter l.meter (g.E.LineEngine.calls l.fn.engine) (g.E.LineEngine.calls l.engine);
-  same_longest : g.E.LineEngine.longest l.engine ≡ g.E.LineEngine.longest l.fn.engine;
-}
