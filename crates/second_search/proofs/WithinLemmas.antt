@@ -1,5 +1,5 @@
 -- How the search of a part ends where no allowance is set: within some splits of the fixed order, or by what is true.
-use Rattle.std.proofs.Common.{◌≡◌, ℕ, ◌+◌, ◌<◌, false, Option, None, Some, List, subst, arith, inl, inr}
+use Rattle.std.proofs.Common.{◌≡◌, ℕ, ◌+◌, ◌<◌, false, Option, None, Some, List, refl, subst, arith, inl, inr}
 use Rattle.std.specs.Prelude.{IfSome}
 use Rattle.clues.specs.ClueBook.{Clues}
 use Rattle.clues.specs.Laws.{BooksAreTheirClues, CluesAreOfLines}
@@ -14,10 +14,10 @@ use Rattle.second_search.specs.declared.counting.Searched.{Searched}
 use Rattle.second_search.specs.declared.ladder.Decided.{Decided}
 use Rattle.second_search.specs.declared.ladder.Decided.TheVariants.{OtherPicture, Tree}
 use Rattle.second_search.specs.declared.tree_lines.Lines.{Lines}
-use Rattle.second_search.specs.Laws.{FillingsAreOfFacts}
+use Rattle.second_search.specs.Laws.{AnswersPart, FillingsAreOfFacts}
 use Rattle.second_search.specs.Looking.{FindsFilling}
 use Rattle.second_search.specs.Parts.{IsOtherFilling, IsScene}
-use Rattle.second_search.specs.Searching.{CountsAny, CountsSome, EndsAs, EndsTrue, EndsWithin, alone, raised}
+use Rattle.second_search.specs.Searching.{CountsAny, CountsSome, EndsAs, EndsPast, EndsTrue, EndsWithin, alone, fixed_splits, raised}
 use Rattle.second_search.specs.Trees.{Decides}
 use Rattle.second_search.proofs.EndLemmas.{none_found, one_found}
 use Rattle.second_search.proofs.TreeLemmas.{none_fills}
@@ -25,15 +25,21 @@ use Rattle.second_search.proofs.TreeLemmas.{none_fills}
 -- ---- what an ending says of a part
 
 module _ (law : CluesAreOfLines) (books : BooksAreTheirClues) (closing : ClosingKeepsFillings) (own : OnlyIsClosed) (fillings : FillingsAreOfFacts) (clues : Clues) (givens : List ℕ) (facts picture : List (List ℕ)) (scene : IsScene clues givens facts picture) where
+  pub part_answered : (cells : List ℕ) (most : ℕ) (ending : Ending) (n : ℕ) → EndsPast clues picture (alone cells facts picture) most ending n → AnswersPart clues givens picture cells ending
+  part_answered cells most ending.Nothing n (inl e) = none_found law books closing own fillings clues givens facts picture scene cells n e.0.0
+  part_answered cells most ending.Nothing n (inr e) = λ other is. let f = (fillings clues givens facts picture other cells scene).0 is in e.1 other f.0 f.1
+  part_answered cells most (ending.Found other) n (inl e) = one_found law books closing own fillings clues givens facts picture scene cells other n e.0.0
+  part_answered cells most (ending.Found other) n (inr e) = (fillings clues givens facts picture other cells scene).1 e.1
+  part_answered cells most ending.BrokenOff n (inl e) = absurd (e.1 refl)
+  part_answered cells most ending.BrokenOff n (inr e) = absurd e.1
+
   pub within_none : (cells : List ℕ) (allowance : Option ℕ) (n : ℕ) → EndsWithin clues picture (alone cells facts picture) allowance ending.Nothing n → (other : List (List ℕ)) → IsOtherFilling clues givens picture cells other → ⊥
   within_none cells (Some most) n e = none_found law books closing own fillings clues givens facts picture scene cells n e.0
-  within_none cells None n (inl e) = none_found law books closing own fillings clues givens facts picture scene cells n e.0.0
-  within_none cells None n (inr e) = λ other is. let f = (fillings clues givens facts picture other cells scene).0 is in e.1 other f.0 f.1
+  within_none cells None n e = part_answered cells fixed_splits ending.Nothing n e
 
   pub within_one : (cells : List ℕ) (other : List (List ℕ)) (allowance : Option ℕ) (n : ℕ) → EndsWithin clues picture (alone cells facts picture) allowance (ending.Found other) n → IsOtherFilling clues givens picture cells other
   within_one cells other (Some most) n e = one_found law books closing own fillings clues givens facts picture scene cells other n e.0
-  within_one cells other None n (inl e) = one_found law books closing own fillings clues givens facts picture scene cells other n e.0.0
-  within_one cells other None n (inr e) = (fillings clues givens facts picture other cells scene).1 e.1
+  within_one cells other None n e = part_answered cells fixed_splits (ending.Found other) n e
 
   pub fixed_none : (cells : List ℕ) (allowance : Option ℕ) (searched : Searched) → searched.ending ≡ ending.Nothing → (n : ℕ) × ((searched.splits ≡ raised 0 n) × EndsAs clues picture (alone cells facts picture) allowance searched.ending n) → EndsTrue clues picture (alone cells facts picture) ending.Nothing
   fixed_none cells allowance searched is e =

@@ -1,5 +1,5 @@
 -- Laws of facts that a search may start from, and of parts.
-use Rattle.std.specs.Prelude.{◌≡◌, ℕ, ◌<◌, ◌↔◌, List, length, Option, Some}
+use Rattle.std.specs.Prelude.{◌≡◌, ℕ, ◌<◌, ◌↔◌, Bool, List, length, Option, Some}
 use Rattle.picture.specs.declared.line_id.LineId.{LineId}
 use Rattle.picture.specs.CellSet.{HasCell, PutsCell}
 use Rattle.picture.specs.Picture.{IsPicture}
@@ -7,13 +7,19 @@ use Rattle.picture.specs.Rows.{width_of, cell_at}
 use Rattle.clues.specs.ClueBook.{Clues}
 use Rattle.clues.specs.Laws.{IsOnLine}
 use Rattle.clues.specs.Solution.{IsOther}
-use Rattle.line_settle.specs.FactSets.{IsBase, IsLeast, nothing_excluded, with_given}
+use Rattle.line_settle.specs.FactSets.{IsBase, IsLeast, SameShape, nothing_excluded, with_given}
 use Rattle.line_settle.specs.Masks.{IsOnly}
 use Rattle.fixpoint.specs.Filling.{Fills, only}
+use Rattle.second_search.specs.declared.counting.Ending.{Ending}
+use Rattle.second_search.specs.declared.counting.Ending.TheVariants.{BrokenOff, Found, Nothing}
+use Rattle.second_search.specs.declared.ladder.Decided.TheVariants.{Tree}
+use Rattle.second_search.specs.declared.tree_lines.Lines.{Lines as TreeLines}
 use Rattle.second_search.specs.declared.keeper.KeptPart.{KeptPart}
 use Rattle.second_search.specs.declared.keeper.Verdict.TheVariants.{Undecided}
 use Rattle.second_search.specs.Judging.{Judges}
 use Rattle.second_search.specs.Other.{AreSound}
+use Rattle.second_search.specs.Searching.{EndsPast, alone}
+use Rattle.second_search.specs.Trees.{Decides}
 use Rattle.second_search.specs.Parts.{AreParts, GoesThrough, IsOpenCell, IsOtherFilling, IsPart, IsScene, KeepsLines, part_at, picked}
 
 -- Facts that exclude nothing are sound where there is no given, and so is the base of any givens. They stay sound with a given
@@ -68,3 +74,21 @@ pub record FillingsStay : Type 0 where
 abbrev pub AllowancesBreakOff : Type 0
 AllowancesBreakOff = (clues : Clues) (facts picture : List (List ℕ)) (allowance : Option ℕ) (old new : List KeptPart) (searched splits : ℕ)
     → Judges clues facts picture allowance old new Undecided searched splits → (most : ℕ) × (allowance ≡ Some most)
+
+-- ---- what is answered is true
+
+-- nothing but the picture fills a part, or this is another filling of it
+abbrev pub AnswersPart : Clues → List ℕ → List (List ℕ) → List ℕ → Ending → Type 0
+AnswersPart clues givens picture cells Nothing = (other : List (List ℕ)) → IsOtherFilling clues givens picture cells other → ⊥
+AnswersPart clues givens picture cells (Found other) = IsOtherFilling clues givens picture cells other
+AnswersPart clues givens picture cells BrokenOff = ⊥
+
+-- What a part of a scene is decided as is true, within any bounds.
+abbrev pub EndingsAreTrue : Type 0
+EndingsAreTrue = (clues : Clues) (givens : List ℕ) (facts picture : List (List ℕ)) → IsScene clues givens facts picture
+    → (cells : List ℕ) (most : ℕ) (ending : Ending) (n : ℕ) → EndsPast clues picture (alone cells facts picture) most ending n → AnswersPart clues givens picture cells ending
+
+-- Whatever fills the facts that a tree begins with is the known picture.
+abbrev pub TreesAreWhole : Type 0
+TreesAreWhole = (clues : Clues) (known facts : List (List ℕ)) (keeps : Bool) (lines : TreeLines) → SameShape known facts → Decides clues known facts keeps (Tree lines)
+    → (other : List (List ℕ)) → Fills clues facts other → (other ≡ known → ⊥) → ⊥

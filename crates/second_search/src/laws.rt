@@ -1,7 +1,7 @@
 //! Laws of the definitions in `specs/`. Each function does nothing, and its contract is the law.
 
 ghost use Rattle.second_search.specs.Costs.{CostsAreThere, CostsDecide};
-ghost use Rattle.second_search.specs.Laws.{AllowancesBreakOff, FillingsAreOfFacts, FillingsStay, PartsAreApart, PartsAreOneList, PartsDecide, SoundFacts};
+ghost use Rattle.second_search.specs.Laws.{AllowancesBreakOff, EndingsAreTrue, FillingsAreOfFacts, FillingsStay, PartsAreApart, PartsAreOneList, PartsDecide, SoundFacts, TreesAreWhole};
 ghost use Rattle.second_search.specs.Searching.{CostsAreUnique};
 
 /// Facts that exclude nothing are sound where there is no given, and so is the base of any givens; facts stay sound with
@@ -58,4 +58,14 @@ pub fn costs_decide()
 /// A picture is left undecided only where an allowance is set.
 pub fn allowances_break_off()
     ensures { AllowancesBreakOff }
+{}
+
+/// What `decide_within` decides a part as is true whatever the bounds are: there is no other filling, or this is one.
+pub fn endings_are_true()
+    ensures { EndingsAreTrue }
+{}
+
+/// Where `climb` answers with a tree, nothing but the known picture fills the facts.
+pub fn trees_are_whole()
+    ensures { TreesAreWhole }
 {}
