@@ -148,7 +148,7 @@ impl Keeper {
 
     /// Keeps the parts of another scene's facts. A part keeps what is known of it where each line through it has, under the
     /// same name, the same clue, length, colours left and cells of the picture in both scenes; another filling gets the other
-    /// scene's picture elsewhere. Of each other part nothing is known. The parts kept so far are those of the facts before, and
+    /// scene's picture elsewhere. Givens need no comparison: a cell of a part is open, so it is not given. Of each other part nothing is known. The parts kept so far are those of the facts before, and
     /// what is known of them is true; so it is of the parts after. Takes memory of the allocator that this was made with.
     pub fn carry(&self, before: &Scene, after: &Scene) -> Result<Keeper, AllocError>
         requires before { IsScene before.now.clues.now before.now.givens.now before.now.facts.now
@@ -446,6 +446,7 @@ impl Keeper {
                 ))
             }
             Answer::Nothing => Ok((Ending::Nothing, NOTHING_SPENT)),
+            // Not met here, since a kept filling is answered before: nothing is searched.
             Answer::Filling(_) => Ok((Ending::Nothing, NOTHING_SPENT)),
         }
     }
