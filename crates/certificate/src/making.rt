@@ -97,8 +97,8 @@ fn with_version(givens: Vec<CellNumber>, lines: Vec<CertLine>) -> Cert
     Cert::new(version, givens, lines)
 }
 
-// Whether a scene has another picture that differs in one window alone, where windows may split at all. There may be others where it
-// has not.
+// Whether a scene has another picture that differs in one window alone, where windows may split at all. There may be others where
+// it has not.
 fn has_near_other<E: LineEngine>(
     alloc: Global,
     engine: &mut E,

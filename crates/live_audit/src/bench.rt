@@ -185,8 +185,9 @@ impl<E: LineEngine + Drop, A: Agenda + Drop> Bench<E, A> {
     /// none, Ambiguous with one, and Undecided only where an allowance is set and the search of a part takes more splits.
     /// Where another filling of a part is kept, nothing is searched. Else the parts of which nothing is known are searched in
     /// order, up to the first that has another filling or is broken off at the allowance. What the searches that ended found
-    /// is kept, so a verdict that was decided is answered without a search until an accepted edit, undo or redo drops an
-    /// answer that it rests on. Where memory runs out nothing changes.
+    /// is kept, so a verdict that was decided is answered without a search until an accepted edit, undo or redo drops the
+    /// filling that it showed or, where it was Unique, leaves a part of which nothing is known. Where memory runs out nothing
+    /// changes but `calls`.
     pub fn verdict(&mut self) -> Result<Verdict<'_>, AllocError>
         ensures* keeps { sem 𝓛 (follows_so (the_row E.row A.row E.LineEngine A.Agenda)
             (the_row E.row A.row E.LineEngine A.Agenda)

@@ -3,7 +3,7 @@
 use line_settle::Meter;
 
 /// How much work was done: by the last edit, undo, redo or start that was accepted; by the last verdict, with the number
-/// of parts that it searched and of cells that it split, each count staying at the largest `u32`. What no verdict has
+/// of parts that it searched and of cells that it split in the fixed order, each count staying at the largest `u32`. What no verdict has
 /// counted yet is 0.
 #[derive(Clone, Copy, Debug, PartialEq, Eq)]
 pub struct Work {

@@ -1,7 +1,8 @@
 //! How far each way of a search goes before the next one is taken.
 
-/// How often a part is split in the fixed order at first, how often a search in a window splits, and how many lines a tree may
-/// evaluate at first. They say which way answers, and never what is true.
+/// How often a part is split in the fixed order at first, how often a search in a window splits, and how many lines a tree of the
+/// whole picture may evaluate at first; that of a part may evaluate sixteen times as many. They say which way answers, and never
+/// what is true.
 #[derive(Clone, Copy)]
 pub struct Bounds {
     pub fixed_splits: u32,

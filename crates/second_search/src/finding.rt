@@ -46,8 +46,8 @@ pub fn find_first<E: LineEngine>(
 }
 
 /// Another picture with these clues, which has the picture's colours in the givens. There is none exactly where the answer
-/// is None. Near pictures are looked for first. The picture has the clues; the facts leave in each given no colour but the picture's, and exclude nothing that
-/// a picture with these clues and givens shows. No line is longer than the engine's `longest`.
+/// is None. Near pictures are looked for first. The picture has the clues; the facts leave in each given no colour but the
+/// picture's, and exclude nothing that a picture with these clues and givens shows. No line is longer than the engine's `longest`.
 pub fn find_other<E: LineEngine>(
     alloc: Global,
     engine: &mut E,

@@ -148,8 +148,9 @@ impl Keeper {
 
     /// Keeps the parts of another scene's facts. A part keeps what is known of it where each line through it has, under the
     /// same name, the same clue, length, colours left and cells of the picture in both scenes; another filling gets the other
-    /// scene's picture elsewhere. Givens need no comparison: a cell of a part is open, so it is not given. Of each other part nothing is known. The parts kept so far are those of the facts before, and
-    /// what is known of them is true; so it is of the parts after. Takes memory of the allocator that this was made with.
+    /// scene's picture elsewhere. Givens need no comparison: a cell of a part is open, so it is not given. Of each other part
+    /// nothing is known. The parts kept so far are those of the facts before, and what is known of them is true; so it is of the
+    /// parts after. Takes memory of the allocator that this was made with.
     pub fn carry(&self, before: &Scene, after: &Scene) -> Result<Keeper, AllocError>
         requires before { IsScene before.now.clues.now before.now.givens.now before.now.facts.now
             before.now.picture.now }
@@ -261,7 +262,8 @@ impl Keeper {
     /// is kept, nothing is searched. Else the parts of which nothing is known are searched in order, up to the first that has
     /// another filling or costs more splits than are allowed. What the searches that ended found is kept; of one that was
     /// broken off, nothing is. Adds to `searched` how many parts were searched, the last of them too if it was broken off, and
-    /// to `splits` how often they split; both stay at the largest number. Each part that is searched takes an evaluation at
+    /// to `splits` how often they split in the fixed order, without an allowance at most 100 times each; both stay at the
+    /// largest number. Each part that is searched takes an evaluation at
     /// least, and where nothing is searched, no line is evaluated. Want of memory leaves what is kept as it was, and neither
     /// count falls by it. The parts kept are those of the scene's facts, and what is known of them is true; no line is longer
     /// than the engine's `longest`.

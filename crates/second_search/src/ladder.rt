@@ -23,8 +23,8 @@ pub enum Decided {
     OtherPicture(Picture),
 }
 
-/// How the ladder is climbed: how many lines a tree may evaluate at first, and whether the known picture is held on to, and the lines
-/// are kept.
+/// How the ladder is climbed: how many lines a tree may evaluate at first, and whether the known picture is held on to, and the
+/// lines are kept.
 #[derive(Clone, Copy)]
 pub struct Ladder {
     pub first_bound: u64,

@@ -65,7 +65,7 @@ pub fn endings_are_true()
     ensures { EndingsAreTrue }
 {}
 
-/// Where `climb` answers with a tree, nothing but the known picture fills the facts.
+/// Where `climb` answers with a tree, and the known picture has the facts' size, nothing but it fills the facts.
 pub fn trees_are_whole()
     ensures { TreesAreWhole }
 {}

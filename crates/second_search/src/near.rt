@@ -18,15 +18,16 @@ use picture::{Axis, CellSet, LineId, LineSet, MAX_SIDE, Picture};
 use std::alloc::{AllocError, Global};
 use worklist::InOrder;
 
-// Nobody asks what a search in a window evaluates: the engine counts its calls.
+// A meter for a search of which nobody asks what it evaluates: the engine counts its calls.
 pub(crate) const NOTHING_DONE: Meter = Meter {
     evaluations: 0,
     trials: 0,
 };
 
-/// How many of a part's rows and columns a window has, one size after the other, and how many of these sizes are small.
+/// How many of a part's rows and columns a window has, one size after the other.
 pub(crate) const SIZES: [u8; 5] = [4, 7, 11, 16, 24];
 
+/// How many of these sizes are small.
 pub(crate) const SMALL: usize = 2;
 
 // A line with the same clue differs in two cells or in none, so another picture differs in two rows and in two columns.
@@ -41,8 +42,8 @@ pub(crate) struct Window {
 }
 
 /// Looks for another picture that differs in one window of a part alone, by windows of five sizes and so many splits in each at
-/// most, one part after the other. The parts are those of the scene's facts when they are closed. There may be other pictures where the answer is None. No
-/// line is longer than the engine's `longest`.
+/// most, one part after the other. The parts are those of the scene's facts when they are closed. There may be other pictures
+/// where the answer is None. No line is longer than the engine's `longest`.
 pub fn find_near_other<E: LineEngine>(
     alloc: Global,
     engine: &mut E,

@@ -1,5 +1,5 @@
-//! A part decided: by the search of the fixed order, and where that takes long and no allowance is set, by the ladder inside the
-//! part.
+//! A part decided: by the search of the fixed order, and where that takes long and no allowance is set, by small windows of the
+//! part, the fixed order anew, large windows and trees.
 
 ghost use Rattle.std.specs.Prelude.{◌≡◌, ◌≤◌, ℕ, length, IfOk, OnOk};
 ghost use Rattle.line_settle.specs.Counting.{Counts};
@@ -17,11 +17,11 @@ use line_settle::{LineEngine, Meter};
 use picture::{CellSet, Picture};
 use std::alloc::{AllocError, Global};
 
-// How many times the first splits of the fixed order are made behind small windows.
+// How many times as many splits of the fixed order may be made as at first, when it is begun anew after the small windows.
 const AGAIN: u32 = 5;
 
-// How many times the first lines of a tree are evaluated where the fixed order has gone that far: few trees that split the first
-// open cell close then.
+// How many times as many lines a tree of a part may evaluate at first: where the fixed order has gone so far, few small trees
+// close.
 const LONGER: u64 = 16;
 
 // Decides a part under an allowance; or, where none is set, within the bounds of the program.
@@ -49,8 +49,9 @@ pub(crate) fn decide_part<E: LineEngine>(
     }
 }
 
-/// Decides a part within bounds: by so many splits of the fixed order, and where they do not suffice by the ladder. What is
-/// answered is true whatever the bounds are, and a part is never left undecided. No line is longer than the engine's `longest`.
+/// Decides a part within bounds: by so many splits of the fixed order, and where they do not suffice by windows, by that order
+/// anew and by trees. Only the first splits are counted. What is answered is true whatever the bounds are, and a part is never
+/// left undecided. No line is longer than the engine's `longest`.
 pub fn decide_within<E: LineEngine>(
     alloc: Global,
     engine: &mut E,

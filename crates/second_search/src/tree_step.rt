@@ -38,8 +38,8 @@ pub(crate) struct Way {
     pub holds: bool,
 }
 
-// What comes next on a branch. Where it is not closed, that is still a lawful step. Where no cell is chosen, it is the first in which
-// not just one colour is left; or, where each has one, the picture that the branch shows is the known one or another, or some line
+// What comes next on a branch. Where it is not closed, that is still a lawful step. Where no cell is chosen, it is the first in
+// which not just one colour is left; or, where each has one, the picture that the branch shows is the known one or another, or some line
 // is dead.
 pub(crate) fn next_step<E: LineEngine>(
     alloc: Global,

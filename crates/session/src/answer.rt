@@ -246,7 +246,7 @@ fn ppm_text(alloc: Global, document: &Document) -> Result<Vec<u8>, AllocError>
     Ok(text)
 }
 
-// The .non text of a picture, which has two colours.
+// The .non text of a picture, or that it has more than two colours.
 fn non_answer(alloc: Global, picture: &Picture) -> Answer
     ensures { GivesNon picture.now result }
 {

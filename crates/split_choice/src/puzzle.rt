@@ -29,7 +29,7 @@ pub enum Choice {
     Look,
 }
 
-/// A way to choose: how many of the most telling cells are looked at, and at how many evaluations looking ends.
+/// A way to choose: how many of the most telling cells are looked at, and at how many of the engine's calls looking ends.
 #[derive(Clone, Copy, Debug, PartialEq, Eq)]
 pub struct Plan {
     pub choice: Choice,
