@@ -539,8 +539,7 @@ test('the sessions of the repository come out as they stand there', async () => 
 
 test('the example checks an upload in a thread of its own', () => {
   const env = { ...process.env, WASM: resolve(process.env.WASM ?? join(root, 'web', 'out', 'nonobench.wasm')) };
-  const said = (...files) => spawnSync(process.execPath, [...process.execArgv.filter((word) => word.startsWith('--experimental')), 'check_upload.mjs', ...files],
-    { cwd: join(root, 'examples'), env, encoding: 'utf8' }).stdout;
+  const said = (...files) => spawnSync(process.execPath, ['check_upload.mjs', ...files], { cwd: join(root, 'examples'), env, encoding: 'utf8' }).stdout;
   assert.equal(said('diagonal.ppm', 'diagonal.cert'), 'taken: certificate accepted\n');
   assert.equal(said('given.ppm', 'given.cert'), 'taken: certificate accepted, givens 1\n');
   assert.equal(said('given.ppm', 'diagonal.cert'), 'refused: certificate NotDead at line 5\n');
