@@ -284,6 +284,19 @@ test('at the bound of memory a call is refused, and answers again when there is 
   assert.equal(engine.open(text('examples', 'heart.ppm')).say(lines), whole);
 });
 
+test('a pointer has 64 bits to a host, all of them are looked at, and blocks are for words of 128 bits', async () => {
+  const { calls } = await watched();
+  const cell = calls.malloc(16n), file = calls.malloc(64n), size = BigInt(DIAGONAL.length);
+  new Uint8Array(calls.memory.buffer, Number(file), DIAGONAL.length).set(new TextEncoder().encode(DIAGONAL));
+  new Uint8Array(calls.memory.buffer, Number(cell), 16).fill(0xff);
+  assert.equal(calls.nonobench_start(cell), 0);
+  assert.ok(new DataView(calls.memory.buffer).getBigUint64(Number(cell), true) < 2n ** 30n);
+  assert.equal(calls.nonobench_start(cell + 2n ** 32n), 6);
+  assert.equal(calls.nonobench_open(cell, file + 2n ** 32n, size, 0, file, 0n, 1, cell + 8n), 6);
+  assert.equal(calls.nonobench_open(cell, file, size, 0, file, 0n, 1, cell + 8n), 0);
+  for (const room of [1n, 16n, 17n, 1000n, 100000n]) assert.equal(calls.malloc(room) % 16n, 0n, `${room}`);
+});
+
 test('a desk that is ended gives back what it and its benches held', async () => {
   const { calls } = await watched();
   const cell = calls.malloc(16n), file = calls.malloc(64n);
@@ -539,8 +552,7 @@ test('the sessions of the repository come out as they stand there', async () => 
 
 test('the example checks an upload in a thread of its own', () => {
   const env = { ...process.env, WASM: resolve(process.env.WASM ?? join(root, 'web', 'out', 'nonobench.wasm')) };
-  const said = (...files) => spawnSync(process.execPath, [...process.execArgv.filter((word) => word.startsWith('--experimental')), 'check_upload.mjs', ...files],
-    { cwd: join(root, 'examples'), env, encoding: 'utf8' }).stdout;
+  const said = (...files) => spawnSync(process.execPath, ['check_upload.mjs', ...files], { cwd: join(root, 'examples'), env, encoding: 'utf8' }).stdout;
   assert.equal(said('diagonal.ppm', 'diagonal.cert'), 'taken: certificate accepted\n');
   assert.equal(said('given.ppm', 'given.cert'), 'taken: certificate accepted, givens 1\n');
   assert.equal(said('given.ppm', 'diagonal.cert'), 'refused: certificate NotDead at line 5\n');
