@@ -116,7 +116,7 @@ const CHANGED = [
 ].map(([text, make]) => [form(text), make]);
 
 // The forms that stay: those of numbers, with pointers as whole values alone.
-const VALUE = `(?:${NAME}|-?\\d+|true|false|null|poison|undef|zeroinitializer|0x[0-9A-F]+|-?\\d\\.\\d+e[+-]\\d+|<(?:i\\d+ -?\\d+(?:, )?)+>)`;
+const VALUE = `(?:${NAME}|-?\\d+|true|false|null|zeroinitializer|0x[0-9A-F]+|-?\\d\\.\\d+e[+-]\\d+|<(?:i\\d+ -?\\d+(?:, )?)+>)`;
 const TYPE = `(?:${PLAIN}|ptr|void|\\{ (?:${NUMBER}|ptr), (?:${NUMBER}|ptr) \\})`;
 const ARGUMENT = `${TYPE} (?:noundef |zeroext |signext )*${VALUE}`;
 const STAYS = [
@@ -124,16 +124,11 @@ const STAYS = [
   `NAME = load (?:PLAIN|ptr), ptr NAME, align \\d+MARKS`,
   `store PLAIN ${VALUE}, ptr NAME, align \\d+`,
   `NAME = getelementptr (?:inbounds |nuw |nusw )*i8, ptr NAME, i64 ${NAME}`,
-  `NAME = inttoptr i64 ${VALUE} to ptr`,
   `NAME = (?:add|sub|mul|udiv|sdiv|urem|srem|and|or|xor|shl|lshr|ashr|fadd|fsub|fmul|fdiv)(?: nuw| nsw| exact| disjoint)* PLAIN ${VALUE}, ${VALUE}`,
   `NAME = (?:icmp(?: samesign)?|fcmp) \\w+ (?:PLAIN|ptr) ${VALUE}, ${VALUE}`,
   `NAME = (?:zext|sext|trunc|bitcast|uitofp|sitofp|fptoui|fptosi)(?: nneg| nuw| nsw)* PLAIN ${VALUE} to PLAIN`,
-  `NAME = (?:fneg|freeze) PLAIN ${VALUE}`,
-  `NAME = select i1 ${VALUE}, ${TYPE} ${VALUE}, ${TYPE} ${VALUE}`,
-  `NAME = phi ${TYPE} (?:\\[ ${VALUE}, NAME \\](?:, )?)+`,
   `NAME = extractvalue ${TYPE} NAME, \\d`,
-  `NAME = insertvalue ${TYPE} ${VALUE}, ${TYPE} ${VALUE}, \\d`,
-  `NAME = (?:extractelement|insertelement|shufflevector) <.*`,
+  `NAME = (?:insertelement|shufflevector) <\\d+ x i\\d+> .*`,
   `(?:NAME = )?call (?:noundef |zeroext |signext |range\\([^)]*\\) )*${TYPE} @(?!llvm\\.mem)(?:[\\w.]+|"[^"]*")\\((?:${ARGUMENT}(?:, )?)*\\)(?: #\\d+)?`,
   `br label NAME(?:, !\\w+ !\\d+)?`,
   `br i1 ${VALUE}, label NAME, label NAME(?:, !\\w+(?:\\.\\w+)* !\\d+)?`,
@@ -157,8 +152,8 @@ function instruction(line) {
 // The lines outside of functions.
 const OUTSIDE = [
   /^(?:;.*|source_filename = .*|![\w.]+ = .*|\})?$/,
-  form(`@(?:[\\w.]+|"[^"]*") = (?:private |internal |unnamed_addr )*constant (?:PLAIN|<\\{ [^{}]* \\}>) (?!.*\\bptr\\b).*, align \\d+`),
-  /^declare (?:\w+ )*[\w<> ]+ @llvm\.(?!mem)[\w.]+\(.*\)(?: #\d+)?$/,
+  form(`@(?:[\\w.]+|"[^"]*") = (?:private |internal |unnamed_addr )*constant PLAIN (?!.*\\bptr\\b).*, align \\d+`),
+  /^declare (?:void @llvm\.trap\(\)|i\d+ @llvm\.(?:ctlz|cttz|ctpop)\.i\d+\(i\d+(?:, i1 immarg)?\))(?: #\d+)?$/,
   form(`define (?:internal )?(?:noundef |zeroext |signext |range\\([^)]*\\) )*${TYPE} @(?:[\\w.]+|"[^"]*")\\((?:(?:PLAIN|ptr)(?: noundef| zeroext| signext)* NAME(?:, )?)*\\)(?: unnamed_addr)?(?: #\\d+)? \\{`),
 ];
 const LABEL = form('(?:[\\w.]+|"[^"]*"):(?: +;.*)?');
