@@ -104,12 +104,19 @@ def headless_files():
 
 
 def code_lines(crate=None):
-    """Lines of source without clauses, comments, ghost imports, attributes and blank lines."""
+    """Lines of source without clauses, comments, ghost imports, attributes and blank lines.
+
+    A clause or a ghost import may take several lines: up to the brace that ends it.
+    """
     for file, text in sources('src', '.rt'):
-        if crate is None or file.relative_to(ROOT).parts[1] == crate:
-            for number, line in enumerate(text.split('\n'), 1):
-                if line.strip() and not re.match(r'\s*(//|requires\b|ensures\b|ghost\b|#!?\[)', line):
-                    yield place(file, number)
+        if crate is not None and file.relative_to(ROOT).parts[1] != crate:
+            continue
+        depth = 0
+        for number, line in enumerate(text.split('\n'), 1):
+            if depth > 0 or re.match(r'\s*(requires|ensures|ghost)\b', line):
+                depth += line.count('{') - line.count('}')
+            elif line.strip() and not re.match(r'\s*(//|#!?\[)', line):
+                yield place(file, number)
 
 
 def proof_lines():
