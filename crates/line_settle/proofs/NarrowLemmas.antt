@@ -127,19 +127,6 @@ have_collected clue left out b c i k h =
     let p = subst P s (have_shown clue left i k b h) in
     c i k h.within ∙ passing_below pattern (get_or left i 0) (reaches pattern left i) (finishes pattern (drop (i + 1) left)) (length pattern) p.state k p.within p.passes_there
 
--- a mask with no colour is 0
-no_colour : (mask : ℕ) → ((k : ℕ) → allows mask k ≡ true → ⊥) → mask ≡ 0
-no_colour mask h = same_from_bits mask 0 (λ k. elim (cases_lt (bit_at mask k) 1) [
-  | inl l ↦ (let z : bit_at mask k ≡ 0 = omega arith in z) ∙ sym (bit_at-zero k)
-  | inr g ↦
-      let u = bit_at-lt mask k in
-      let o : bit_at mask k ≡ 1 = omega arith in
-      absurd (h k (allows_is mask k ∙ eq-eqb _ _ o))
-])
-
-dead_empty : (clue : List Block) (left out : List ℕ) → ((i k : ℕ) → allows (get_or out i 0) k ≡ true → CanHave clue left i k) → (CanFit clue left → ⊥) → (i : ℕ) → get_or out i 0 ≡ 0
-dead_empty clue left out have none i = no_colour (get_or out i 0) (λ k e. none (have_fits (have i k e)))
-
 pub narrows_some : (clue : List Block) (left out : List ℕ) → IsClue clue → length out ≡ length left → finishes (pattern_of clue) left 0 ≡ true → Collected (pattern_of clue) left out → Narrows clue left Narrowed out
 narrows_some clue left out b n f c = record {
   same_length = n;
@@ -148,48 +135,27 @@ narrows_some clue left out b n f c = record {
   empty = λ e. absurd (let z : ⊥ = cc in z);
 }
 
-pub narrows_none : (clue : List Block) (left out : List ℕ) → IsClue clue → length out ≡ length left → finishes (pattern_of clue) left 0 ≡ false → Collected (pattern_of clue) left out → Narrows clue left Dead out
-narrows_none clue left out b n f c =
-    let none : CanFit clue left → ⊥ = λ h. false≢true (sym f ∙ fit_finishes clue left b h) in
-    record {
-      same_length = n;
-      fits = ((λ e. absurd (let z : ⊥ = cc in z)), (λ h. absurd (none h)));
-      exact = λ i k. ((λ s. collected_have clue left out b n c i k (bit_allows _ _ s)), (λ h. allows_bit _ _ (have_collected clue left out b c i k h)));
-      empty = λ e. dead_empty clue left out (collected_have clue left out b n c) none;
-    }
-
 pub zeros : (n i : ℕ) → get_or {A = ℕ} (replicate n 0) i 0 ≡ 0
 zeros zero i = refl
 zeros (suc n) zero = refl
 zeros (suc n) (suc i) = zeros n i
 
 -- a line that no list fits
-pub narrows_dead : (clue : List Block) (left out : List ℕ) → out ≡ replicate (length left) 0 → (CanFit clue left → ⊥) → Narrows clue left Dead out
-narrows_dead clue left out n none =
-    let z : (i : ℕ) → get_or out i 0 ≡ 0 = λ i. ap (λ xs. get_or xs i 0) n ∙ zeros (length left) i in
-    record {
-      same_length = ap length n ∙ length-replicate (length left) 0;
-      fits = ((λ e. absurd (let z : ⊥ = cc in z)), (λ h. absurd (none h)));
-      exact = λ i k. ((λ s. absurd (false≢true (sym (allows_none k) ∙ (ap (λ m. allows m k) (sym (z i)) ∙ bit_allows _ _ s)))), (λ h. absurd (none (have_fits h))));
-      empty = λ e. z;
-    }
+pub narrows_dead : (clue : List Block) (left : List ℕ) → (CanFit clue left → ⊥) → Narrows clue left Dead (replicate (length left) 0)
+narrows_dead clue left none = record {
+  same_length = length-replicate (length left) 0;
+  fits = ((λ e. absurd (let z : ⊥ = cc in z)), (λ h. absurd (none h)));
+  exact = λ i k. ((λ s. absurd (false≢true (sym (allows_none k) ∙ (ap (λ m. allows m k) (sym (zeros (length left) i)) ∙ bit_allows _ _ s)))), (λ h. absurd (none (have_fits h))));
+  empty = λ e. zeros (length left);
+}
 
 -- a pattern that is longer than the line and one cell
-pub narrows_long : (clue : List Block) (left out : List ℕ) → IsClue clue → out ≡ replicate (length left) 0 → length left + 1 < length (pattern_of clue) → Narrows clue left Dead out
-narrows_long clue left out b n l = narrows_dead clue left out n (too_long clue left b l)
+pub narrows_long : (clue : List Block) (left : List ℕ) → IsClue clue → length left + 1 < length (pattern_of clue) → Narrows clue left Dead (replicate (length left) 0)
+narrows_long clue left b l = narrows_dead clue left (too_long clue left b l)
 
 -- no line goes from the first state to the end
-pub narrows_stuck : (clue : List Block) (left out : List ℕ) → IsClue clue → out ≡ replicate (length left) 0 → finishes (pattern_of clue) left 0 ≡ false → Narrows clue left Dead out
-narrows_stuck clue left out b n f = narrows_dead clue left out n (λ h. false≢true (sym f ∙ fit_finishes clue left b h))
-
--- the same over what was written for the pattern
-pub narrows_some_at : (clue : List Block) (left out written : List ℕ) → IsClue clue → written ≡ pattern_of clue → length out ≡ length left → finishes written left 0 ≡ true → Collected written left out → Narrows clue left Narrowed out
-narrows_some_at clue left out written b e n f c =
-    narrows_some clue left out b n (let P : List ℕ → Type 0 = λ p. finishes p left 0 ≡ true in subst P e f) (let P : List ℕ → Type 0 = λ p. Collected p left out in subst P e c)
-
-pub narrows_none_at : (clue : List Block) (left out written : List ℕ) → IsClue clue → written ≡ pattern_of clue → length out ≡ length left → finishes written left 0 ≡ false → Collected written left out → Narrows clue left Dead out
-narrows_none_at clue left out written b e n f c =
-    narrows_none clue left out b n (let P : List ℕ → Type 0 = λ p. finishes p left 0 ≡ false in subst P e f) (let P : List ℕ → Type 0 = λ p. Collected p left out in subst P e c)
+pub narrows_stuck : (clue : List Block) (left : List ℕ) → IsClue clue → finishes (pattern_of clue) left 0 ≡ false → Narrows clue left Dead (replicate (length left) 0)
+narrows_stuck clue left b f = narrows_dead clue left (λ h. false≢true (sym f ∙ fit_finishes clue left b h))
 
 pub written_colours : (clue : List Block) (written : List ℕ) → IsClue clue → written ≡ pattern_of clue → All (λ c. c < 16) written
 written_colours clue written b e = let P : List ℕ → Type 0 = λ p. All (λ c. c < 16) p in subst P (sym e) (pattern_colours clue b)

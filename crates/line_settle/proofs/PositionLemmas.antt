@@ -92,12 +92,6 @@ none_moved_up w a h = ap (λ x. x == 1) (bit_low w (a * 2) 0 h ∙ bit_doubled_f
 pub moved_up : (w a i : ℕ) → i + 1 < w → has (a * 2 % 2 ^ w) (suc i) ≡ has a i
 moved_up w a i h = has_bit (a * 2 % 2 ^ w) a (suc i) i (bit_low w (a * 2) (suc i) (omega arith) ∙ bit_doubled a i)
 
-pub has_up_first : (a : ℕ) → has (a * 2 % 340282366920938463463374607431768211456) 0 ≡ false
-has_up_first a = none_moved_up 128 a (omega arith)
-
-pub has_up : (a i : ℕ) → i < 127 → has (a * 2 % 340282366920938463463374607431768211456) (suc i) ≡ has a i
-has_up a i h = moved_up 128 a i (omega arith)
-
 -- ---- the carries of an addition
 
 carried : ℕ → ℕ → ℕ → ℕ → ℕ
@@ -264,24 +258,12 @@ fills_one set run i = nothing_more (has set i) (has run i)
 pub spans_one : (run i : ℕ) → has run i ≡ spans (has run) 1 i
 spans_one run i = all_true (has run i)
 
-pub fills_twice : (set run all runs s t i : ℕ) → t ≡ s + s → ((j : ℕ) → has all j ≡ fills (has set) (has run) s j) → ((j : ℕ) → has runs j ≡ spans (has run) s j) → has (bit_or all (bit_and (all / 2 ^ s) runs)) i ≡ fills (has set) (has run) t i
-fills_twice set run all runs s t i e f g =
-    has_or all (bit_and (all / 2 ^ s) runs) i
-    ∙ (ap (λ x. has all i || x) (has_and (all / 2 ^ s) runs i)
-    ∙ (ap (λ x. has all i || x) (and_comm (has (all / 2 ^ s) i) (has runs i))
-    ∙ (ap (λ x. has all i || (has runs i && x)) (has_down s all i)
-    ∙ (ap (λ x. x || (has runs i && has all (i + s))) (f i)
-    ∙ (ap (λ x. fills (has set) (has run) s i || (x && has all (i + s))) (g i)
-    ∙ (ap (λ x. fills (has set) (has run) s i || (spans (has run) s i && x)) (f (i + s))
-    ∙ (sym (fills_more (has set) (has run) s s i) ∙ ap (λ n. fills (has set) (has run) n i) (sym e))))))))
+pub fills_twice : (set run all runs s i : ℕ) → ((j : ℕ) → has all j ≡ fills (has set) (has run) s j) → ((j : ℕ) → has runs j ≡ spans (has run) s j) → has (bit_or all (bit_and (all / 2 ^ s) runs)) i ≡ fills (has set) (has run) (s + s) i
+fills_twice set run all runs s i f g =
+    rw (has_or, has_and, and_comm (has (all / 2 ^ s) i) (has runs i), has_down, f i, g i, f (i + s)) (sym (fills_more (has set) (has run) s s i))
 
-pub spans_twice : (run runs s t i : ℕ) → t ≡ s + s → ((j : ℕ) → has runs j ≡ spans (has run) s j) → has (bit_and runs (runs / 2 ^ s)) i ≡ spans (has run) t i
-spans_twice run runs s t i e g =
-    has_and runs (runs / 2 ^ s) i
-    ∙ (ap (λ x. has runs i && x) (has_down s runs i)
-    ∙ (ap (λ x. x && has runs (i + s)) (g i)
-    ∙ (ap (λ x. spans (has run) s i && x) (g (i + s))
-    ∙ (sym (spans_more (has run) s s i) ∙ ap (λ n. spans (has run) n i) (sym e)))))
+pub spans_twice : (run runs s i : ℕ) → ((j : ℕ) → has runs j ≡ spans (has run) s j) → has (bit_and runs (runs / 2 ^ s)) i ≡ spans (has run) (s + s) i
+spans_twice run runs s i g = rw (has_and, has_down, g i, g (i + s)) (sym (spans_more (has run) s s i))
 
 -- ---- the next position
 

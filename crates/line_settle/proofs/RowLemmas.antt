@@ -1,18 +1,14 @@
 -- A row of truths that is stepped in place, from one end to the other.
-use Rattle.std.proofs.Common.{◌≡◌, ◌≢◌, ℕ, ◌+◌, ◌-◌, ◌<◌, ◌≤◌, Bool, false, List, ◌&&◌, ◌||◌, nat_lt, sym, ap, subst, ◌∙◌, arith, inl, inr, length, get_or, get_or-set_other, get_or-set_same}
+use Rattle.std.proofs.Common.{◌≡◌, ◌≢◌, ℕ, ◌+◌, ◌-◌, ◌<◌, ◌≤◌, Bool, false, List, ◌&&◌, ◌||◌, nat_lt, refl, sym, ap, subst, ◌∙◌, arith, inl, inr, length, get_or, get_or-set_other, get_or-set_same}
 use Rattle.std.proofs.Math.ListN.{set}
 use Rattle.std.proofs.lemmas.Bool.{cases_eq}
 use Rattle.line_settle.specs.Spelling.{allows, waits, finish_step, reach_step, truth_at}
 
 finish_step_same : (pattern : List ℕ) (mask : ℕ) (f g : ℕ → Bool) (q : ℕ) → f (q + 1) ≡ g (q + 1) → f q ≡ g q → finish_step pattern mask f q ≡ finish_step pattern mask g q
-finish_step_same pattern mask f g q h k =
-    ap (λ x. (nat_lt (q + 1) (length pattern) && (allows mask (get_or pattern (q + 1) 0) && x)) || (waits pattern q && (allows mask 0 && f q))) h
-    ∙ ap (λ x. (nat_lt (q + 1) (length pattern) && (allows mask (get_or pattern (q + 1) 0) && g (q + 1))) || (waits pattern q && (allows mask 0 && x))) k
+finish_step_same pattern mask f g q h k = rw (h, k) refl
 
 reach_step_same : (pattern : List ℕ) (mask : ℕ) (f g : ℕ → Bool) (q : ℕ) → f (q - 1) ≡ g (q - 1) → f q ≡ g q → reach_step pattern mask f q ≡ reach_step pattern mask g q
-reach_step_same pattern mask f g q h k =
-    ap (λ x. (nat_lt 0 q && (allows mask (get_or pattern q 0) && x)) || (waits pattern q && (allows mask 0 && f q))) h
-    ∙ ap (λ x. (nat_lt 0 q && (allows mask (get_or pattern q 0) && g (q - 1))) || (waits pattern q && (allows mask 0 && x))) k
+reach_step_same pattern mask f g q h k = rw (h, k) refl
 
 written : (row : List Bool) (q : ℕ) (v : Bool) → q < length row → truth_at (set row q v) q ≡ v
 written row q v h = get_or-set_same row q v false h

@@ -106,7 +106,7 @@ shown_lines_have clue left i k s e b =
 have_left : (clue : List Block) (left : List ℕ) (i k : ℕ) → CanHave clue left i k → IsBitSet (get_or left i 0) k
 have_left clue left i k h = let P : ℕ → Type 0 = λ x. IsBitSet (get_or left i 0) x in subst P h.has (h.fits.keeps i h.within)
 
-shown_stays : (clue : List Block) (left : List ℕ) → AreShown left → clue_of (lowest_colours left) ≡ clue → Narrows clue left Narrowed left
+pub shown_stays : (clue : List Block) (left : List ℕ) → AreShown left → clue_of (lowest_colours left) ≡ clue → Narrows clue left Narrowed left
 shown_stays clue left s e = record {
   same_length = refl;
   fits = ((λ _. (lowest_colours left, colours_fit clue left s e)), (λ _. refl));
@@ -114,12 +114,8 @@ shown_stays clue left s e = record {
   empty = λ e. absurd (let z : ⊥ = cc in z);
 }
 
-pub narrows_shown : (clue : List Block) (left out : List ℕ) → AreShown left → clue_of (lowest_colours left) ≡ clue → out ≡ left → Narrows clue left Narrowed out
-narrows_shown clue left out s e o = let P : List ℕ → Type 0 = λ m. Narrows clue left Narrowed m in subst P (sym o) (shown_stays clue left s e)
-
-pub narrows_another : (clue : List Block) (left out : List ℕ) → AreShown left → clue_of (lowest_colours left) ≢ clue → out ≡ replicate (length left) 0 → Narrows clue left Dead out
-narrows_another clue left out s n o =
-    narrows_dead clue left out o (λ h. n (ap clue_of (sym (only_colours_fit clue left h.0 s h.1)) ∙ h.1.has_clue))
+pub narrows_another : (clue : List Block) (left : List ℕ) → AreShown left → clue_of (lowest_colours left) ≢ clue → Narrows clue left Dead (replicate (length left) 0)
+narrows_another clue left s n = narrows_dead clue left (λ h. n (ap clue_of (sym (only_colours_fit clue left h.0 s h.1)) ∙ h.1.has_clue))
 
 -- ---- what narrowing a line without blocks promises
 
@@ -163,7 +159,7 @@ have_blank left i k h =
     let P : ℕ → Type 0 = λ m. IsBitSet m k in
     subst P (sym (same_at (length left) 1 i h.within)) ((power_has 0 k).1 z)
 
-blank_narrows : (left : List ℕ) → All (λ mask. IsTrue (allows mask 0)) left → Narrows [] left Narrowed (replicate (length left) 1)
+pub blank_narrows : (left : List ℕ) → All (λ mask. IsTrue (allows mask 0)) left → Narrows [] left Narrowed (replicate (length left) 1)
 blank_narrows left b = record {
   same_length = length-replicate (length left) 1;
   fits = ((λ _. (replicate (length left) 0, background_fits left b)), (λ _. refl));
@@ -171,13 +167,10 @@ blank_narrows left b = record {
   empty = λ e. absurd (let z : ⊥ = cc in z);
 }
 
-pub narrows_blank : (left out : List ℕ) → All (λ mask. IsTrue (allows mask 0)) left → out ≡ replicate (length left) 1 → Narrows [] left Narrowed out
-narrows_blank left out b o = let P : List ℕ → Type 0 = λ m. Narrows [] left Narrowed m in subst P (sym o) (blank_narrows left b)
-
-pub narrows_not_blank : (left out : List ℕ) → (All (λ mask. IsTrue (allows mask 0)) left → ⊥) → out ≡ replicate (length left) 0 → Narrows [] left Dead out
-narrows_not_blank left out n o =
-    narrows_dead [] left out o (λ h. n (All-from_get_or (λ mask. IsTrue (allows mask 0)) left 0
-    (λ i l. bit_allows _ 0 (let P : ℕ → Type 0 = λ k. IsBitSet (get_or left i 0) k in subst P (only_background h.0 i h.1.has_clue) (h.1.keeps i l)))))
+pub narrows_not_blank : (left : List ℕ) → (All (λ mask. IsTrue (allows mask 0)) left → ⊥) → Narrows [] left Dead (replicate (length left) 0)
+narrows_not_blank left n =
+    narrows_dead [] left (λ h. n (All-from_get_or (λ mask. IsTrue (allows mask 0)) left 0
+    (λ i l. bit_allows _ 0 (subst (λ k. IsBitSet (get_or left i 0) k) (only_background h.0 i h.1.has_clue) (h.1.keeps i l)))))
 
 -- background in common with one cell more
 pub common_more : (left : List ℕ) (common n : ℕ) → ((allows common 0 ≡ true) ↔ ((i : ℕ) → i < n → allows (get_or left i 0) 0 ≡ true)) → (allows (bit_and common (get_or left n 0)) 0 ≡ true) ↔ ((i : ℕ) → i < n + 1 → allows (get_or left i 0) 0 ≡ true)

@@ -158,13 +158,6 @@ back_states w pattern mask behind moves later by is = record {
   each = λ q. ((λ h. back_into w pattern mask behind moves later q by is h), (λ p. into_back w pattern mask behind moves later q by is p.0 p.1));
 }
 
--- the same as they are put together
-pub forward_is : (w from on rest moved up stay all : ℕ) → moved ≡ bit_and from on → up ≡ moved * 2 % 2 ^ w → stay ≡ bit_and from rest → all ≡ bit_or up stay → bit_or (bit_and from on * 2 % 2 ^ w) (bit_and from rest) ≡ all
-forward_is w from on rest moved up stay all m u s a = cc
-
-pub back_is : (later on rest lower moved stay all : ℕ) → lower ≡ later / 2 → moved ≡ bit_and lower on → stay ≡ bit_and later rest → all ≡ bit_or moved stay → bit_or (bit_and (later / 2) on) (bit_and later rest) ≡ all
-back_is later on rest lower moved stay all l m s a = cc
-
 -- ---- the moves of a mask
 
 -- of the colours of a mask those that are left have not been taken yet
@@ -294,12 +287,9 @@ all_moves w pattern sets mask are e =
 
 -- ---- the sets of a pattern
 
-pub between_ordered : (start end a b : ℕ) → start ≤ end → a ≡ 2 ^ start → b ≡ 2 ^ end → a ≤ b
-between_ordered start end a b h e f = let m = pow_mono h in omega arith
-
-between_is : (start end q : ℕ) → (has (2 ^ end - 2 ^ start) q ≡ true) ↔ ((start ≤ q) × (q < end))
+pub between : (start end q : ℕ) → (has (2 ^ end - 2 ^ start) q ≡ true) ↔ ((start ≤ q) × (q < end))
 unfolding has
-between_is start end q = (
+between start end q = (
   (λ h. elim (cases_lt q start) [
     | inl l ↦ absurd (false≢true (sym (ap (λ x. x == 1) (bit_at_mask_below start end q l)) ∙ h))
     | inr g ↦ elim (cases_lt q end) [
@@ -309,12 +299,6 @@ between_is start end q = (
   ]),
   (λ p. ap (λ x. x == 1) (bit_at_mask_inside start end q p.0 p.1)),
 )
-
-pub between : (start end a b set q : ℕ) → a ≡ 2 ^ start → b ≡ 2 ^ end → set ≡ b - a → (has set q ≡ true) ↔ ((start ≤ q) × (q < end))
-between start end a b set q e f g =
-    let P : ℕ → Type 0 = λ n. (has n q ≡ true) ↔ ((start ≤ q) × (q < end)) in
-    let same : 2 ^ end - 2 ^ start ≡ set = cc in
-    subst P same (between_is start end q)
 
 -- a run of one colour more
 pub run_next : (pattern old new : List ℕ) (set colour start end : ℕ) → ((q : ℕ) → (has set q ≡ true) ↔ ((start ≤ q) × (q < end))) → ((i k : ℕ) → has (get_or new k 0) i ≡ (has (get_or old k 0) i || (has set i && colour == k))) → start ≤ end → AreNext pattern start old → ((q : ℕ) → start ≤ q → q < end → get_or pattern (q + 1) 0 ≡ colour) → AreNext pattern end new

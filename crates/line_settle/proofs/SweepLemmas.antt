@@ -24,7 +24,7 @@ use Rattle.line_settle.proofs.FittingLemmas.{allows_bit, bit_allows, too_long, h
 use Rattle.line_settle.proofs.PositionLemmas.{has_power, has_one}
 use Rattle.line_settle.proofs.StateSetLemmas.{in_and, and_in, in_or, left_in, right_in, in_none, has_member}
 use Rattle.line_settle.proofs.StepLemmas.{finish_crosses, reached_by_step}
-use Rattle.line_settle.proofs.MarkedLemmas.{within, marked_line, IsWider, Meets, SameBefore, unmarked_forces, marked_misses, wider_marked, marked_at, at_marked, same_reached, same_reached_marked}
+use Rattle.line_settle.proofs.MarkedLemmas.{within, marked_line, IsWider, Meets, SameBefore, forces_unmarked, unmarked_forces, marked_misses, wider_marked, marked_at, at_marked, same_reached, same_reached_marked}
 
 -- ---- sets of states
 
@@ -505,13 +505,15 @@ share_test a b both none e f = (
 
 -- ---- the whole line
 
-pub leaves_out : (clue : List Block) (drawn old new : List ℕ) → IsClue clue → SweepsOut (pattern_of clue) drawn old new (length old) → LeavesOut clue drawn old new
-leaves_out clue drawn old new b s = record {
-  same_length = s.same_length;
-  each = s.each;
-  forced = unmarked_forces clue new drawn b s.forced;
-  needed = λ i l n. marked_misses clue (set new i 65535) drawn b (s.needed i l n);
-}
+pub leaves_out : (clue : List Block) (drawn old new : List ℕ) → IsClue clue → ForcesAll clue old drawn → ((finishes_marked (pattern_of clue) old drawn 0 ≡ true → ⊥) → SweepsOut (pattern_of clue) drawn old new (length old)) → LeavesOut clue drawn old new
+leaves_out clue drawn old new b f swept =
+    let s = swept (forces_unmarked clue old drawn b f) in
+    record {
+      same_length = s.same_length;
+      each = s.each;
+      forced = unmarked_forces clue new drawn b s.forced;
+      needed = λ i l n. marked_misses clue (set new i 65535) drawn b (s.needed i l n);
+    }
 
 full_at : (n i : ℕ) → i < n → get_or {A = ℕ} (replicate n 65535) i 0 ≡ 65535
 full_at zero i h = absurd (omega arith)

@@ -2,8 +2,6 @@
 use Rattle.std.specs.Prelude.{◌≡◌, ℕ, zero, suc, ◌+◌, ◌^◌, ◌<◌, ◌≤◌, List, Bool, true, ◌==◌, ◌&&◌, ◌||◌, length, slice_index}
 use Rattle.std.specs.Int.{bit_at}
 use Rattle.line_settle.specs.Spelling.{allows}
-use Rattle.line_settle.specs.declared.positions.Spans.{Spans}
-use Rattle.line_settle.specs.declared.positions.Spans.TheVariants.{Near, Far}
 
 -- a set has position i
 unfoldable pub has : ℕ → ℕ → Bool
@@ -17,10 +15,10 @@ IsCellsWith left k set = (i : ℕ) → i ≤ length left → has set i ≡ allow
 abbrev pub HasMade : List ℕ → ℕ → List ℕ → Type 0
 HasMade left made allowed = (k : ℕ) → allows made k ≡ true → IsCellsWith left k (slice_index allowed k)
 
--- The cells from `first` up to `end` have got a colour behind the positions of a set that is counted from `first`, and
--- the other cells are as they were.
-pub record IsColoured (set colour first end : ℕ) (old new : List ℕ) : Type 0 where
-  pub inside : (i j k : ℕ) → i ≡ first + j → i < end → allows (slice_index new i) k ≡ (allows (slice_index old i) k || (has set j && colour == k))
+-- The cells from `first` up to `end` have got a colour behind the positions of a set that is counted from `first`, with those
+-- that they had, where these are kept; and the other cells are as they were.
+pub record IsColoured (set colour : ℕ) (keep : Bool) (first end : ℕ) (old new : List ℕ) : Type 0 where
+  pub inside : (i j k : ℕ) → i ≡ first + j → i < end → allows (slice_index new i) k ≡ ((keep && allows (slice_index old i) k) || (has set j && colour == k))
   pub before : (i : ℕ) → i < first → slice_index new i ≡ slice_index old i
   pub behind : (i : ℕ) → end ≤ i → slice_index new i ≡ slice_index old i
 
@@ -29,11 +27,6 @@ abbrev pub spans : (ℕ → Bool) → ℕ → ℕ → Bool
 spans cells zero i = true
 spans cells (suc n) i = cells i && spans cells n (i + 1)
 
--- sets of the positions from which 1, 2, 4 and so on cells in a row are in a set of cells
-abbrev pub AreSpans : ℕ → List ℕ → Type 0
-AreSpans cells spanned = (k i : ℕ) → k < length spanned → has (slice_index spanned k) i ≡ spans (has cells) (2 ^ k) i
-
--- such sets for each power of two below the width
-abbrev pub AreSpansOf : ℕ → Spans → Type 0
-AreSpansOf cells (Near spanned) = (cells < 2 ^ 63) × (length spanned ≡ 6) × AreSpans cells spanned
-AreSpansOf cells (Far spanned) = (length spanned ≡ 7) × AreSpans cells spanned
+-- sets of the positions from which 1, 2, 4 and so on cells in a row are in a set of cells, for the powers of two below a width
+abbrev pub AreSpans : ℕ → ℕ → List ℕ → Type 0
+AreSpans width cells spanned = (k i : ℕ) → 2 ^ k < width → has (slice_index spanned k) i ≡ spans (has cells) (2 ^ k) i

@@ -45,30 +45,12 @@ impl Facts {
         ensures { masks.new ≡ line_of self.now line }
     {
         match line.axis {
-            Axis::Across => self.copy_across(line, masks),
-            Axis::Down => self.copy_down(line, masks),
-        }
-    }
-
-    // The same for a row, whose masks lie side by side.
-    fn copy_across(&self, line: LineId, masks: &mut [u16])
-        requires axis { line.axis ≡ Axis.Across }
-        requires line { HasLine self.now line }
-        requires whole { length masks.old ≡ length (line_of self.now line) }
-        ensures { masks.new ≡ line_of self.now line }
-    {
-        masks.copy_from_slice(self.row_masks(line.at));
-    }
-
-    // The same for a column.
-    fn copy_down(&self, line: LineId, masks: &mut [u16])
-        requires axis { line.axis ≡ Axis.Down }
-        requires line { HasLine self.now line }
-        requires whole { length masks.old ≡ length (line_of self.now line) }
-        ensures { masks.new ≡ line_of self.now line }
-    {
-        for row in 0..self.height() {
-            masks[usize::from(row)] = self.left(row, line.at);
+            Axis::Across => masks.copy_from_slice(self.row_masks(line.at)),
+            Axis::Down => {
+                for row in 0..self.height() {
+                    masks[usize::from(row)] = self.left(row, line.at);
+                }
+            }
         }
     }
 }

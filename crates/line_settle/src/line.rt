@@ -35,11 +35,10 @@ pub fn narrow_line(
     };
     let pattern = &pattern[..cells];
     mark_finishing(pattern, left, row, table);
-    let fits = row[0];
-    collect(pattern, left, row, table, out);
-    if fits {
-        Outcome::Narrowed
-    } else {
-        Outcome::Dead
+    if !row[0] {
+        out.fill(0);
+        return Outcome::Dead;
     }
+    collect(pattern, left, row, table, out);
+    Outcome::Narrowed
 }

@@ -42,17 +42,13 @@ impl MaskEngine {
         ensures { IfOk result (λ made. made ≡ engine longest 0) }
     {
         let side = usize::from(longest) + 1;
-        let starting = vec![in alloc; 0u64; side]?;
-        let waiting = vec![in alloc; 0u64; side]?;
-        let far_starting = vec![in alloc; 0u128; side]?;
-        let far_waiting = vec![in alloc; 0u128; side]?;
         Ok(MaskEngine {
             longest,
             calls: 0,
-            starting,
-            waiting,
-            far_starting,
-            far_waiting,
+            starting: vec![in alloc; 0; side]?,
+            waiting: vec![in alloc; 0; side]?,
+            far_starting: vec![in alloc; 0; side]?,
+            far_waiting: vec![in alloc; 0; side]?,
         })
     }
 }

@@ -1,10 +1,10 @@
 //! One line compared with its clue by sets of positions, for the mask engine.
 
-ghost use Rattle.std.specs.Prelude.{◌≡◌, ℕ, ◌+◌, ◌<◌, ◌≤◌, ◌++◌, ◌==◌, ◌↔◌, true, false, IsTrue, length, slice_index, drop, replicate};
+ghost use Rattle.std.specs.Prelude.{◌≡◌, ◌+◌, ◌<◌, ◌≤◌, ◌↔◌, IsTrue, length};
 ghost use Rattle.std.specs.Mem.{type_size};
 ghost use Rattle.clues.specs.Clue.{IsClue};
 ghost use Rattle.line_settle.specs.Narrowing.{Narrows};
-ghost use Rattle.line_settle.specs.Spelling.{gap, pattern_of, allows, finishes, reaches, passes_below};
+ghost use Rattle.line_settle.specs.Spelling.{pattern_of};
 
 use crate::line_engine::Outcome;
 use crate::position_tables::{colours_of, mark_allowed, mark_back, see_blocks, write_colours};
@@ -12,16 +12,6 @@ use crate::shown_line::{are_shown, narrow_shown, narrow_without_blocks};
 use crate::word::Word;
 use clues::Block;
 use picture::MAX_SIDE;
-
-// How many cells a block takes behind a block of colour `last`, with the background that must lie between them.
-fn cells_for(block: Block, last: u8) -> usize
-    ensures value { result ≡ length
-        (gap (block.colour == last) ++ replicate block.len block.colour) }
-    ensures small { result ≤ 256 }
-{
-    let len = usize::from(block.len);
-    if block.colour == last { len + 1 } else { len }
-}
 
 /// Whether a line of so many cells has room for a clue's blocks and for background between blocks of one colour.
 pub fn has_room(blocks: &[Block], cells: usize) -> bool
@@ -31,7 +21,7 @@ pub fn has_room(blocks: &[Block], cells: usize) -> bool
     let mut needed = 0;
     let mut last = 0;
     for block in blocks {
-        needed += cells_for(*block, last);
+        needed += usize::from(block.len) + usize::from(block.colour == last);
         if needed > cells {
             return false;
         }
@@ -40,46 +30,34 @@ pub fn has_room(blocks: &[Block], cells: usize) -> bool
     true
 }
 
-// Says whether some line of the blocks keeps to the colours left, and writes the colours that such lines have in each
-// cell. It is kept out of the caller's body, where it is slower.
+// Narrows a line by the sets of positions for each block. It is kept out of the caller's body, where it is slower.
 #[inline(never)]
 fn narrow_sets<W: Word>(
     blocks: &[Block],
     left: &[u16],
+    out: &mut [u16],
     starting: &mut [W],
     waiting: &mut [W],
-    out: &mut [u16],
-) -> bool
+) -> Outcome
     requires blocks_of_clue { IsClue blocks.now }
     requires small_word { type_size W.row ≤ 16 }
     requires short { length left.now < W.width }
     requires starting_room { length blocks.now < length starting.old }
     requires waiting_room { length blocks.now < length waiting.old }
     requires same_length { length left.now ≡ length out.old }
-    ensures fits { result ≡ finishes (pattern_of blocks.now) left.now 0 }
-    ensures empty { result ≡ false → out.new ≡ replicate (length left.now) 0 }
-    ensures collected { result ≡ true → (i k : ℕ) → i < length left.now
-        → allows (slice_index out.new i) k
-        ≡ passes_below
-        (pattern_of blocks.now)
-        (slice_index left.now i)
-        (reaches (pattern_of blocks.now) left.now i)
-        (finishes (pattern_of blocks.now) (drop (i + 1) left.now))
-        (length (pattern_of blocks.now))
-        k }
+    ensures { Narrows blocks.now left.now result out.new }
 {
     let mut allowed = [W::low(0); 16];
     let made = mark_allowed(blocks, left, &mut allowed);
-    let fits = mark_back(blocks, left, &allowed, starting, waiting);
-    if !fits {
+    if !mark_back(blocks, left, &allowed, starting, waiting) {
         out.fill(0);
-        return false;
+        return Outcome::Dead;
     }
     let mut seen = [W::low(0); 16];
     see_blocks(blocks, left, &allowed, starting, waiting, &mut seen);
     let colours = colours_of(made);
     write_colours(&seen[..usize::from(colours)], out);
-    true
+    Outcome::Narrowed
 }
 
 /// Compares a line with its clue by sets of positions for each block, in the buffers that are lent. A line without
@@ -110,9 +88,5 @@ pub fn narrow_by_sets<W: Word>(
         out.fill(0);
         return Outcome::Dead;
     }
-    if narrow_sets(blocks, left, starting, waiting, out) {
-        Outcome::Narrowed
-    } else {
-        Outcome::Dead
-    }
+    narrow_sets(blocks, left, out, starting, waiting)
 }

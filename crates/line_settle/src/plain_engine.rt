@@ -34,15 +34,12 @@ impl PlainEngine {
         ensures { IfOk result (λ made. made ≡ engine longest 0) }
     {
         let side = usize::from(longest) + 1;
-        let pattern = vec![in alloc; 0u8; side]?;
-        let row = vec![in alloc; false; side]?;
-        let table = vec![in alloc; false; side * side]?;
         Ok(PlainEngine {
             longest,
             calls: 0,
-            pattern,
-            row,
-            table,
+            pattern: vec![in alloc; 0; side]?,
+            row: vec![in alloc; false; side]?,
+            table: vec![in alloc; false; side * side]?,
         })
     }
 }

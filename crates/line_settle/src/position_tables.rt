@@ -2,6 +2,7 @@
 
 ghost use Rattle.std.specs.Prelude.{◌≡◌, ℕ, ◌<◌, ◌≤◌, ◌&&◌, ◌||◌, ◌==◌, true, length, map, replicate, slice_index};
 ghost use Rattle.std.specs.List.{All};
+ghost use Rattle.std.specs.Mem.{type_size};
 ghost use Rattle.clues.specs.Clue.{IsClue};
 ghost use Rattle.line_settle.specs.Spelling.{allows, pattern_of, finishes};
 ghost use Rattle.line_settle.specs.Positions.{has, HasMade};
@@ -9,7 +10,7 @@ ghost use Rattle.line_settle.specs.Laying.{AreMarked, AreSeen, IsAllowed};
 
 use crate::block_steps::{before_gap, behind_gap, lay, meets, starts_before};
 use crate::pattern::allows;
-use crate::positions::{add_colour, cells_with, fill_up, set_colour};
+use crate::positions::{cells_with, colour_line, fill_down, fill_up, write_spans};
 use crate::word::Word;
 use clues::Block;
 
@@ -62,6 +63,7 @@ pub fn mark_back<W: Word>(
     requires short { length left.now < W.width }
     requires starting_room { length blocks.now < length starting.old }
     requires waiting_room { length blocks.now < length waiting.old }
+    requires small_word { type_size W.row ≤ 16 }
     requires allowed_is { IsAllowed blocks.now left.now (map W.bits allowed.now) }
     ensures marked { AreMarked
         blocks.now
@@ -71,13 +73,14 @@ pub fn mark_back<W: Word>(
     ensures fits { result ≡ finishes (pattern_of blocks.now) left.now 0 }
 {
     let background = allowed[0];
-    let spans = background.spans();
-    let mut later = W::place(left.len()).fill_down(&spans);
+    let mut spans = [background; 7];
+    write_spans(background, &mut spans);
+    let mut later = fill_down(W::place(left.len()), &spans);
     waiting[blocks.len()] = later;
     for j in (0..blocks.len()).rev() {
         let block = blocks[j];
         let starts = starts_before(later, allowed[usize::from(block.colour)], block.len);
-        let waits = starts.fill_down(&spans);
+        let waits = fill_down(starts, &spans);
         starting[j] = starts;
         waiting[j] = waits;
         later = before_gap(waits, background, meets(blocks, j));
@@ -148,12 +151,11 @@ pub fn write_colours<W: Word>(seen: &[W], out: &mut [u16])
     ensures { (i k : ℕ) → i < length out.old
         → allows (slice_index out.new i) k ≡ has (slice_index (map W.bits seen.now) k) i }
 {
-    let last = seen.len() - 1;
-    set_colour(seen[last], last as u8, out);
-    for k in 0..last {
+    colour_line(seen[0], 0, false, out);
+    for k in 1..seen.len() {
         let set = seen[k];
         if !set.is_none() {
-            add_colour(set, k as u8, out);
+            colour_line(set, k as u8, true, out);
         }
     }
 }

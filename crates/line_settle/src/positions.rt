@@ -1,12 +1,11 @@
 //! Sets of positions on a line as bits, and moving them over background.
 
-ghost use Rattle.std.specs.Prelude.{◌≡◌, ℕ, ◌+◌, ◌*◌, ◌/◌, ◌<◌, ◌≤◌, ◌&&◌, ◌||◌, ◌==◌, Bool, length, slice_index};
+ghost use Rattle.std.specs.Prelude.{◌≡◌, ℕ, ◌+◌, ◌*◌, ◌/◌, ◌<◌, ◌≤◌, ◌&&◌, ◌||◌, ◌==◌, Bool, length, map, slice_index};
 ghost use Rattle.line_settle.specs.Crossing.{differs};
 ghost use Rattle.line_settle.specs.Spelling.{allows};
-ghost use Rattle.line_settle.specs.Positions.{has, AreSpans, AreSpansOf, IsCellsWith, IsColoured};
+ghost use Rattle.line_settle.specs.Positions.{has, AreSpans, IsCellsWith, IsColoured};
 
 use crate::pattern::allows;
-use crate::tables::colour_bit;
 use crate::word::Word;
 use std::simd::prelude::*;
 
@@ -24,110 +23,47 @@ pub fn fill_up<W: Word>(set: W, run: W) -> W
     set.or(carried.xor(begun).xor(run))
 }
 
-/// For each power of two below the width of the positions, from 1 on, the positions from which so many cells in a row are
-/// in a set of cells.
-#[derive(Clone, Copy)]
-pub enum Spans {
-    /// Of cells before position 63.
-    Near([u64; 6]),
-    /// Of any cells.
-    Far([u128; 7]),
-}
-
 // The place of the span over sixteen cells.
 const SHORT: usize = 4;
 
-// The positions that half the width has.
-const NEAR: u128 = 0xffff_ffff_ffff_ffff;
-
-impl Spans {
-    /// Those of a set of cells.
-    pub fn of(cells: u128) -> Spans
-        ensures { AreSpansOf cells result }
-    {
-        if cells <= NEAR >> 1 {
-            Spans::Near(near_spans(cells as u64))
-        } else {
-            Spans::Far(far_spans(cells))
-        }
-    }
-
-    /// The positions from which a set can be reached, cell by cell upwards, over the cells.
-    pub fn fill_down(&self, set: u128) -> u128
-        ensures { (cells : ℕ) → AreSpansOf cells self.now
-            → (i : ℕ) → has result i ≡ (has set i || (has cells i && has result (i + 1))) }
-    {
-        match self {
-            Spans::Near(spans) => set | u128::from(fill_near((set & NEAR) as u64, spans)),
-            Spans::Far(spans) => fill_far(set, spans),
-        }
-    }
-}
-
-#[tactic(auto, using(crate::proofs::SpanLemmas::spanning))]
-/// The spans of cells in 64 bits.
-pub fn near_spans(cells: u64) -> [u64; 6]
-    ensures six { length result ≡ 6 }
-    ensures each { AreSpans cells result }
+/// Makes the spans of a set of cells: for each power of two below the width, from 1 on, the positions from which so many
+/// cells in a row are in the set.
+#[inline]
+#[tactic(auto, using(crate::proofs::SpanLemmas::stepping))]
+pub fn write_spans<W: Word>(cells: W, spans: &mut [W])
+    requires { length spans.old ≡ 7 }
+    ensures seven { length spans.new ≡ 7 }
+    ensures each { AreSpans W.width (W.bits cells) (map W.bits spans.new) }
 {
-    let mut spans = [cells; 6];
     let mut span = cells;
-    let mut step: u32 = 1;
-    for k in 0..6 {
+    let mut step = 1;
+    for k in 0..W::rounds() {
         spans[k] = span;
-        span &= span >> step;
+        span = span.and(span.down(step));
         step += step;
     }
-    spans
 }
 
-#[tactic(auto, using(crate::proofs::SpanLemmas::spanning))]
-// The spans of any cells.
-fn far_spans(cells: u128) -> [u128; 7]
-    ensures seven { length result ≡ 7 }
-    ensures each { AreSpans cells result }
+/// The positions from which a set can be reached, cell by cell upwards, over cells with these spans: after a round those
+/// that reach it over fewer than `step` cells. Most lines have no sixteen cells in a row, and then four rounds are enough.
+#[inline]
+#[tactic(auto, using(crate::proofs::SpanLemmas::stepping))]
+pub fn fill_down<W: Word>(set: W, spans: &[W]) -> W
+    requires { length spans.now ≡ 7 }
+    ensures { (cells : ℕ) → AreSpans W.width cells (map W.bits spans.now)
+        → (i : ℕ)
+        → has (W.bits result) i
+        ≡ (has (W.bits set) i || (has cells i && has (W.bits result) (i + 1))) }
 {
-    let mut spans = [cells; 7];
-    let mut span = cells;
-    let mut step: u32 = 1;
-    for k in 0..7 {
-        spans[k] = span;
-        span &= span >> step;
-        step += step;
-    }
-    spans
-}
-
-#[tactic(auto, using(crate::proofs::SpanLemmas::filling))]
-/// What reaches a set over cells in 64 bits, by their spans: after a round what does over fewer than `step` cells. Most lines
-/// have no sixteen cells in a row, and then four rounds are enough.
-pub fn fill_near(set: u64, spans: &[u64; 6]) -> u64
-    ensures { (cells : ℕ) → length spans.now ≡ 6 → AreSpans cells spans.now
-        → (i : ℕ) → has result i ≡ (has set i || (has cells i && has result (i + 1))) }
-{
+    let _ = set.is_none();
     let mut all = set;
-    let mut step: u32 = 1;
-    for k in 0..6 {
+    let mut step = 1;
+    for k in 0..W::rounds() {
         let span = spans[k];
-        if k == SHORT && span == 0 {
+        if k == SHORT && span.is_none() {
             return all;
         }
-        all |= (all >> step) & span;
-        step += step;
-    }
-    all
-}
-
-#[tactic(auto, using(crate::proofs::SpanLemmas::filling))]
-// The same over any cells.
-fn fill_far(set: u128, spans: &[u128; 7]) -> u128
-    ensures { (cells : ℕ) → length spans.now ≡ 7 → AreSpans cells spans.now
-        → (i : ℕ) → has result i ≡ (has set i || (has cells i && has result (i + 1))) }
-{
-    let mut all = set;
-    let mut step: u32 = 1;
-    for k in 0..7 {
-        all |= (all >> step) & spans[k];
+        all = all.or(all.down(step).and(span));
         step += step;
     }
     all
@@ -253,91 +189,54 @@ pub fn places_apart(before: &[u16], after: &[u16], cells: usize) -> u128
 }
 
 #[tactic(auto, using(crate::proofs::ColouringLemmas::colouring))]
-// The mask of a cell with one colour more, or not.
-fn with_colour(mask: u16, more: bool, colour: u8) -> u16
+/// The mask of a cell with one colour more, or not, and with the colours that it had, where `keep` says so.
+pub fn with_colour(mask: u16, keep: bool, more: bool, colour: u8) -> u16
     requires colour { colour < 16 }
-    ensures { (k : ℕ) → allows result k ≡ (allows mask k || (more && colour == k)) }
+    ensures { (k : ℕ) → allows result k ≡ ((keep && allows mask k) || (more && colour == k)) }
 {
-    if more { mask | (1 << colour) } else { mask }
+    let kept = if keep { mask } else { 0 };
+    if more { kept | (1 << colour) } else { kept }
 }
 
 #[inline]
 #[tactic(auto, using(crate::proofs::ColouringLemmas::colouring))]
 // Leaves a colour in so many cells from `first` on, behind the positions of a set that is counted from there. The set is
 // as wide as a cell, so that where the count is known both are lanes of one vector.
-fn colour_cells(set: u16, colour: u8, first: usize, count: usize, out: &mut [u16])
+fn colour_cells(set: u16, colour: u8, keep: bool, first: usize, count: usize, out: &mut [u16])
     requires colour { colour < 16 }
     requires few { count ≤ 8 }
     requires room { first + count ≤ length out.old }
-    ensures { IsColoured set colour first (first + count) out.old out.new }
+    ensures { IsColoured set colour keep first (first + count) out.old out.new }
 {
     for j in 0..count {
-        out[first + j] = with_colour(out[first + j], (set >> j) & 1 == 1, colour);
+        out[first + j] = with_colour(out[first + j], keep, (set >> j) & 1 == 1, colour);
     }
 }
 
-#[inline]
-// Leaves one colour alone in so many cells from `first` on, behind the positions of a set that is counted from there, and
-// no colour in the others. The set is as wide as a cell, as above.
-fn set_cells(set: u16, colour: u8, first: usize, count: usize, out: &mut [u16])
-    requires colour { colour < 16 }
-    requires few { count ≤ 8 }
-    requires room { first + count ≤ length out.old }
-    ensures inside { (j k : ℕ) → j < count
-        → allows (slice_index out.new (first + j)) k ≡ (has set j && colour == k) }
-    ensures before { (i : ℕ) → i < first → slice_index out.new i ≡ slice_index out.old i }
-{
-    for j in 0..count {
-        out[first + j] = colour_bit((set >> j) & 1 == 1, colour);
-    }
-}
-
-/// Leaves one colour alone in the cells behind the positions of a set, and no colour in the others.
-pub fn set_colour<W: Word>(set: W, colour: u8, out: &mut [u16])
-    requires colour { colour < 16 }
-    requires short { length out.old < W.width }
-    ensures { (i k : ℕ) → i < length out.old
-        → allows (slice_index out.new i) k ≡ (has (W.bits set) i && colour == k) }
-{
-    let cells = out.len();
-    if cells < 8 {
-        set_cells(set.low_eight(), colour, 0, cells, out);
-        return;
-    }
-    let mut rest = set;
-    for chunk in 0..cells / 8 {
-        set_cells(rest.low_eight(), colour, 8 * chunk, 8, out);
-        rest = rest.down(8);
-    }
-    if cells % 8 != 0 {
-        // The last eight cells: some of them once more, which changes nothing.
-        let last = cells - 8;
-        set_cells(set.down(last).low_eight(), colour, last, 8, out);
-    }
-}
-
-/// Leaves a colour in the cells behind the positions of a set.
-pub fn add_colour<W: Word>(set: W, colour: u8, out: &mut [u16])
+/// Leaves a colour in the cells behind the positions of a set, and in all cells the colours that they had, where `keep`
+/// says so.
+#[inline(always)]
+pub fn colour_line<W: Word>(set: W, colour: u8, keep: bool, out: &mut [u16])
     requires colour { colour < 16 }
     requires short { length out.old < W.width }
     ensures { (i k : ℕ) → i < length out.old
         → allows (slice_index out.new i) k
-        ≡ (allows (slice_index out.old i) k || (has (W.bits set) i && colour == k)) }
+        ≡ ((keep && allows (slice_index out.old i) k) || (has (W.bits set) i && colour == k)) }
 {
     let cells = out.len();
     if cells < 8 {
-        colour_cells(set.low_eight(), colour, 0, cells, out);
+        colour_cells(set.low_eight(), colour, keep, 0, cells, out);
         return;
     }
     let mut rest = set;
     for chunk in 0..cells / 8 {
         // Always eight cells, so that they are coloured together.
-        colour_cells(rest.low_eight(), colour, 8 * chunk, 8, out);
+        colour_cells(rest.low_eight(), colour, keep, 8 * chunk, 8, out);
         rest = rest.down(8);
     }
     if cells % 8 != 0 {
         // The last eight cells: some of them once more, which changes nothing.
         let last = cells - 8;
-        colour_cells(set.down(last).low_eight(), colour, last, 8, out);
+        colour_cells(set.down(last).low_eight(), colour, keep, last, 8, out);
     }
 }

@@ -4,7 +4,6 @@ ghost use Rattle.std.specs.Prelude.{◌≡◌, ℕ, ◌+◌, ◌<◌, ◌≤◌,
 ghost use Rattle.clues.specs.Clue.{IsClue};
 ghost use Rattle.line_settle.specs.Spelling.{allows, pattern_of, finish_step, reach_step};
 ghost use Rattle.line_settle.specs.Laying.{gap_before};
-ghost use Rattle.line_settle.specs.Masks.{all_sixteen};
 ghost use Rattle.line_settle.specs.Positions.{has};
 ghost use Rattle.line_settle.specs.StateSets.{AreStates, MovesBy, AreMovesOf, AreNext, ArePatternSets, moves_of, sets_of};
 
@@ -14,10 +13,11 @@ use crate::position_tables::see_colour;
 use crate::word::Word;
 use clues::Block;
 
-/// How a cell moves a line along a pattern: the states from which it can lead on to the next one, and those that it can
-/// leave as they are.
+/// How a cell with one of a mask's colours moves a line along a pattern: the states from which it can lead on to the next
+/// one, and those that it can leave as they are.
 #[derive(Clone, Copy)]
 pub struct Moves<W> {
+    pub mask: u16,
     /// The states whose next one the cell can spell.
     pub advancing: W,
     /// The states in which the cell can be background.
@@ -49,13 +49,6 @@ impl<W: Word> Moves<W> {
             .and(self.advancing)
             .or(later.and(self.resting))
     }
-}
-
-/// How a cell with one of a mask's colours moves a line.
-#[derive(Clone, Copy)]
-pub struct MaskMoves<W> {
-    pub mask: u16,
-    pub moves: Moves<W>,
 }
 
 /// The states of a clue's pattern, by what each of them can read.
@@ -168,52 +161,33 @@ impl<'a, W: Word> PatternSets<'a, W> {
     /// How a cell with one of the mask's colours moves a line.
     pub fn moves_by(&self, mask: u16) -> Moves<W>
         requires { length self.now.next.now ≡ 16 }
-        ensures { (pattern : List ℕ) → ArePatternSets W.width pattern (sets_of W.bits self.now)
-            → MovesBy W.width pattern mask (moves_of W.bits result) }
+        ensures mask { result.mask ≡ mask }
+        ensures moves { AreMovesOf W.width (sets_of W.bits self.now) mask (moves_of W.bits result) }
     {
         let colours = mask & self.colours;
         if colours == self.colours {
             return Moves {
+                mask,
                 advancing: self.inner,
                 resting: self.waiting,
             };
         }
         Moves {
+            mask,
             advancing: self.advancing_by(colours),
             resting: self.resting_by(colours),
         }
     }
 
-    /// How a cell with all sixteen colours moves a line.
+    /// The same. Where it is the mask of the cell before, nothing is looked up.
     #[inline]
-    pub fn open_moves(&self) -> MaskMoves<W>
-        requires { length self.now.next.now ≡ 16 }
-        ensures mask { result.mask ≡ all_sixteen }
-        ensures moves { AreMovesOf W.width (sets_of W.bits self.now) result.mask
-            (moves_of W.bits result.moves) }
-    {
-        MaskMoves {
-            mask: u16::MAX,
-            moves: self.moves_by(u16::MAX),
-        }
-    }
-
-    /// The same for a mask. Where it is the mask of the cell before, nothing is looked up.
-    #[inline]
-    pub fn moves_after(&self, mask: u16, before: MaskMoves<W>) -> MaskMoves<W>
+    pub fn moves_after(&self, mask: u16, before: Moves<W>) -> Moves<W>
         requires sixteen { length self.now.next.now ≡ 16 }
         requires before { AreMovesOf W.width (sets_of W.bits self.now) before.mask
-            (moves_of W.bits before.moves) }
+            (moves_of W.bits before) }
         ensures mask { result.mask ≡ mask }
-        ensures moves { AreMovesOf W.width (sets_of W.bits self.now) result.mask
-            (moves_of W.bits result.moves) }
+        ensures moves { AreMovesOf W.width (sets_of W.bits self.now) mask (moves_of W.bits result) }
     {
-        if mask == before.mask {
-            return before;
-        }
-        MaskMoves {
-            mask,
-            moves: self.moves_by(mask),
-        }
+        if mask == before.mask { before } else { self.moves_by(mask) }
     }
 }

@@ -33,84 +33,21 @@ pub struct Reached<W> {
     pub marked: W,
 }
 
-// The states behind a cell of drawn colours; mostly it has none.
-fn reach_drawn<W: Word>(sets: &PatternSets<W>, colours: u16, from: W) -> W
-    requires sixteen { length sets.now.next.now ≡ 16 }
-    ensures { (pattern : List ℕ) (before : ℕ → Bool)
-        → ArePatternSets W.width pattern (sets_of W.bits sets.now)
-        → AreStates pattern before (W.bits from)
-        → AreStates pattern (reach_step pattern colours before) (W.bits result) }
-{
-    if colours == 0 {
-        return W::low(0);
-    }
-    sets.moves_by(colours).forward(from)
+/// What is noted of a line from its end: for each cell the states behind it from which lines, and marked lines, can go to
+/// the end, and the place behind the last cell of a drawn colour.
+#[derive(Clone, Copy)]
+pub struct Behind<'a, W> {
+    pub plain: &'a [W],
+    pub marked: &'a [W],
+    pub end: usize,
 }
 
-// The states behind a cell, `colours` being those of the mask's colours that are drawn there.
-fn reach<W: Word>(
-    sets: &PatternSets<W>,
-    moves: Moves<W>,
-    colours: u16,
-    from: Reached<W>,
-) -> Reached<W>
-    requires sixteen { length sets.now.next.now ≡ 16 }
-    ensures { (pattern : List ℕ) (mask : ℕ) (all marked : ℕ → Bool)
-        → ArePatternSets W.width pattern (sets_of W.bits sets.now)
-        → MovesBy W.width pattern mask (moves_of W.bits moves)
-        → AreReached pattern all marked (reached_of W.bits from)
-        → AreReached
-        pattern
-        (reach_step pattern mask all)
-        (reach_marked pattern mask colours all marked)
-        (reached_of W.bits result) }
-{
-    Reached {
-        all: moves.forward(from.all),
-        marked: moves
-            .forward(from.marked)
-            .or(reach_drawn(sets, colours, from.all)),
-    }
-}
-
-// The states before a cell of drawn colours that it leads to one of a set; mostly it has none.
-fn back_drawn<W: Word>(sets: &PatternSets<W>, colours: u16, later: W) -> W
-    requires sixteen { length sets.now.next.now ≡ 16 }
-    ensures { (pattern : List ℕ) (behind : ℕ → Bool)
-        → ArePatternSets W.width pattern (sets_of W.bits sets.now)
-        → AreStates pattern behind (W.bits later)
-        → AreStates pattern (finish_step pattern colours behind) (W.bits result) }
-{
-    if colours == 0 {
-        return W::low(0);
-    }
-    sets.moves_by(colours).back(later)
-}
-
-// The states before a cell from which lines, and marked lines, can go on to the states behind it.
-fn back<W: Word>(
-    sets: &PatternSets<W>,
-    moves: Moves<W>,
-    colours: u16,
-    later: Reached<W>,
-) -> Reached<W>
-    requires sixteen { length sets.now.next.now ≡ 16 }
-    ensures { (pattern : List ℕ) (mask : ℕ) (all marked : ℕ → Bool)
-        → ArePatternSets W.width pattern (sets_of W.bits sets.now)
-        → MovesBy W.width pattern mask (moves_of W.bits moves)
-        → AreReached pattern all marked (reached_of W.bits later)
-        → AreReached
-        pattern
-        (finish_step pattern mask all)
-        (finish_marked pattern mask colours all marked)
-        (reached_of W.bits result) }
-{
-    Reached {
-        all: moves.back(later.all),
-        marked: moves
-            .back(later.marked)
-            .or(back_drawn(sets, colours, later.all)),
-    }
+/// An edge of the drawn cells: the place on one side of which nothing is drawn, and the states there of the lines on that
+/// side.
+#[derive(Clone, Copy)]
+pub struct Edge<W> {
+    pub at: usize,
+    pub states: W,
 }
 
 // Whether a marked line comes to a state from which a line goes to the end, or a line to one from which a marked one
@@ -122,306 +59,281 @@ fn meets_marked<W: Word>(on: Reached<W>, plain: W, marked: W) -> bool
     !on.marked.and(plain).or(on.all.and(marked)).is_none()
 }
 
-/// What is noted of a line from its end: for each cell the states behind it from which lines, and marked lines, can go to
-/// the end, and the place behind the last cell of a drawn colour.
-#[derive(Clone, Copy)]
-pub struct Behind<'a, W> {
-    pub plain: &'a [W],
-    pub marked: &'a [W],
-    pub end: usize,
-}
-
-/// The place behind the last cell of a drawn colour, and the states there from which lines can go to the end.
-#[derive(Clone, Copy)]
-pub struct LastDrawn<W> {
-    pub end: usize,
-    pub later: W,
-}
-
-/// The place of the first cell of a drawn colour, and the states before it that lines come to.
-#[derive(Clone, Copy)]
-pub struct FirstDrawn<W> {
-    pub at: usize,
-    pub all: W,
-}
-
-#[inline]
-// Whether there is a cell in front of a place, and nothing is drawn there.
-fn is_undrawn_before(drawn: &[u16], end: usize) -> bool
-    requires { end ≤ length drawn.now }
-    ensures some { result ≡ true → 0 < end }
-    ensures undrawn { result ≡ true → slice_index drawn.now (end - 1) ≡ 0 }
-{
-    if end == 0 {
-        return false;
-    }
-    drawn[end - 1] == 0
-}
-
-#[inline]
-// Whether a place comes before another, and nothing is drawn there.
-fn is_undrawn_at(drawn: &[u16], place: usize, end: usize) -> bool
-    requires { end ≤ length drawn.now }
-    ensures inside { result ≡ true → place < end }
-    ensures undrawn { result ≡ true → slice_index drawn.now place ≡ 0 }
-{
-    if place >= end {
-        return false;
-    }
-    drawn[place] == 0
-}
-
-// Notes the states behind each cell that comes after the last drawn one. There no line is marked.
-fn note_last<W: Word>(
-    sets: &PatternSets<W>,
-    drawn: &[u16],
-    left: &[u16],
-    plain: &mut [W],
-    marked: &mut [W],
-) -> LastDrawn<W>
-    requires sixteen { length sets.now.next.now ≡ 16 }
-    requires same_length { length drawn.now ≡ length left.now }
-    requires plain_room { length left.now ≤ length plain.old }
-    requires marked_room { length left.now ≤ length marked.old }
-    ensures inside { result.end ≤ length left.now }
-    ensures undrawn { IsUndrawn drawn.now result.end }
-    ensures later { (pattern : List ℕ) → ArePatternSets W.width pattern (sets_of W.bits sets.now)
-        → AreReached
-        pattern
-        (finishes pattern (drop result.end left.now))
-        (finishes_marked pattern (drop result.end left.now) (drop result.end drawn.now))
-        (unmarked (W.bits result.later)) }
-    ensures noted { (pattern : List ℕ) → ArePatternSets W.width pattern (sets_of W.bits sets.now)
-        → (i : ℕ) → result.end ≤ i → i < length left.now
-        → AreBehind
-        pattern
-        left.now
-        drawn.now
-        (map W.bits plain.new)
-        (map W.bits marked.new)
-        i }
-{
-    let mut later = sets.last;
-    let mut cell = sets.open_moves();
-    let mut end = left.len();
-    'cells: while is_undrawn_before(drawn, end) {
-        end -= 1;
-        plain[end] = later;
-        marked[end] = W::low(0);
-        cell = sets.moves_after(left[end], cell);
-        later = cell.moves.back(later);
-    }
-    LastDrawn { end, later }
-}
-
-/// Notes for each cell the states behind it from which lines, and marked lines, can go to the end, and answers the place
-/// behind the last drawn cell.
-fn note_behind<W: Word>(
-    sets: &PatternSets<W>,
-    drawn: &[u16],
-    left: &[u16],
-    plain: &mut [W],
-    marked: &mut [W],
-) -> usize
-    requires sixteen { length sets.now.next.now ≡ 16 }
-    requires same_length { length drawn.now ≡ length left.now }
-    requires plain_room { length left.now ≤ length plain.old }
-    requires marked_room { length left.now ≤ length marked.old }
-    ensures inside { result ≤ length left.now }
-    ensures undrawn { IsUndrawn drawn.now result }
-    ensures noted { (pattern : List ℕ) → ArePatternSets W.width pattern (sets_of W.bits sets.now)
-        → (i : ℕ) → i < length left.now
-        → AreBehind
-        pattern
-        left.now
-        drawn.now
-        (map W.bits plain.new)
-        (map W.bits marked.new)
-        i }
-{
-    let last = note_last(sets, drawn, left, plain, marked);
-    let mut later = Reached {
-        all: last.later,
-        marked: W::low(0),
-    };
-    let mut cell = sets.open_moves();
-    for i in (0..last.end).rev() {
-        plain[i] = later.all;
-        marked[i] = later.marked;
-        cell = sets.moves_after(left[i], cell);
-        later = back(sets, cell.moves, left[i] & drawn[i], later);
-    }
-    last.end
-}
-
-// Gives the cells before the first drawn one all sixteen colours where no line is marked then. None is marked before them.
-fn sweep_first<W: Word>(
-    sets: &PatternSets<W>,
-    drawn: &[u16],
-    behind: &Behind<W>,
-    left: &mut [u16],
-) -> FirstDrawn<W>
-    requires sixteen { length sets.now.next.now ≡ 16 }
-    requires same_length { length drawn.now ≡ length left.old }
-    requires end { behind.now.end ≤ length left.old }
-    requires plain_room { length left.old ≤ length behind.now.plain.now }
-    requires marked_room { length left.old ≤ length behind.now.marked.now }
-    ensures inside { result.at ≤ behind.now.end }
-    ensures swept { SweptTo
-        W.width
-        (sets_of W.bits sets.now)
-        drawn.now
-        (map W.bits behind.now.plain.now)
-        (map W.bits behind.now.marked.now)
-        left.old
-        left.new
-        (unmarked (W.bits result.all))
-        result.at }
-{
-    let full = sets.open_moves();
-    let mut cell = full;
-    let mut all = W::low(1);
-    let mut at = 0;
-    'cells: while is_undrawn_at(drawn, at, behind.end) {
-        let on = full.moves.forward(all);
-        if on.and(behind.marked[at]).is_none() {
-            left[at] = u16::MAX;
-            all = on;
-        } else {
-            cell = sets.moves_after(left[at], cell);
-            all = cell.moves.forward(all);
+impl<'a, W: Word> PatternSets<'a, W> {
+    // The states behind a cell of drawn colours; mostly it has none.
+    fn reach_drawn(&self, colours: u16, from: W) -> W
+        requires sixteen { length self.now.next.now ≡ 16 }
+        ensures { (pattern : List ℕ) (before : ℕ → Bool)
+            → ArePatternSets W.width pattern (sets_of W.bits self.now)
+            → AreStates pattern before (W.bits from)
+            → AreStates pattern (reach_step pattern colours before) (W.bits result) }
+    {
+        if colours == 0 {
+            return W::low(0);
         }
-        at += 1;
+        self.moves_by(colours).forward(from)
     }
-    FirstDrawn { at, all }
-}
 
-// The same for the cells up to the last drawn one, and answers the states behind it that marked lines come to.
-fn sweep_drawn<W: Word>(
-    sets: &PatternSets<W>,
-    drawn: &[u16],
-    behind: &Behind<W>,
-    left: &mut [u16],
-    first: FirstDrawn<W>,
-) -> W
-    requires sixteen { length sets.now.next.now ≡ 16 }
-    requires same_length { length drawn.now ≡ length left.old }
-    requires end { behind.now.end ≤ length left.old }
-    requires inside { first.at ≤ behind.now.end }
-    requires plain_room { length left.old ≤ length behind.now.plain.now }
-    requires marked_room { length left.old ≤ length behind.now.marked.now }
-    ensures { (old : List ℕ)
-        → SweptTo
-        W.width
-        (sets_of W.bits sets.now)
-        drawn.now
-        (map W.bits behind.now.plain.now)
-        (map W.bits behind.now.marked.now)
-        old
-        left.old
-        (unmarked (W.bits first.all))
-        first.at
-        → SweptMarked
-        W.width
-        (sets_of W.bits sets.now)
-        drawn.now
-        (map W.bits behind.now.plain.now)
-        (map W.bits behind.now.marked.now)
-        old
-        left.new
-        (W.bits result)
-        behind.now.end }
-{
-    let full = sets.open_moves();
-    let mut cell = full;
-    let mut from = Reached {
-        all: first.all,
-        marked: W::low(0),
-    };
-    for i in first.at..behind.end {
-        let on = reach(sets, full.moves, u16::MAX & drawn[i], from);
-        if meets_marked(on, behind.plain[i], behind.marked[i]) {
-            cell = sets.moves_after(left[i], cell);
-            from = reach(sets, cell.moves, left[i] & drawn[i], from);
-        } else {
-            left[i] = u16::MAX;
-            from = on;
+    // The states behind a cell, `colours` being those of the mask's colours that are drawn there.
+    fn reach(&self, moves: Moves<W>, colours: u16, from: Reached<W>) -> Reached<W>
+        requires sixteen { length self.now.next.now ≡ 16 }
+        ensures { (pattern : List ℕ) (mask : ℕ) (all marked : ℕ → Bool)
+            → ArePatternSets W.width pattern (sets_of W.bits self.now)
+            → MovesBy W.width pattern mask (moves_of W.bits moves)
+            → AreReached pattern all marked (reached_of W.bits from)
+            → AreReached
+            pattern
+            (reach_step pattern mask all)
+            (reach_marked pattern mask colours all marked)
+            (reached_of W.bits result) }
+    {
+        Reached {
+            all: moves.forward(from.all),
+            marked: moves
+                .forward(from.marked)
+                .or(self.reach_drawn(colours, from.all)),
         }
     }
-    from.marked
-}
 
-// The same for the cells behind the last drawn one, where only marked lines matter.
-fn sweep_last<W: Word>(
-    sets: &PatternSets<W>,
-    drawn: &[u16],
-    behind: &Behind<W>,
-    left: &mut [u16],
-    before: W,
-)
-    requires sixteen { length sets.now.next.now ≡ 16 }
-    requires same_length { length drawn.now ≡ length left.old }
-    requires end { behind.now.end ≤ length left.old }
-    requires undrawn { IsUndrawn drawn.now behind.now.end }
-    requires plain_room { length left.old ≤ length behind.now.plain.now }
-    requires marked_room { length left.old ≤ length behind.now.marked.now }
-    ensures { (old : List ℕ)
-        → SweptMarked
-        W.width
-        (sets_of W.bits sets.now)
-        drawn.now
-        (map W.bits behind.now.plain.now)
-        (map W.bits behind.now.marked.now)
-        old
-        left.old
-        (W.bits before)
-        behind.now.end
-        → SweptAll
-        W.width
-        (sets_of W.bits sets.now)
-        drawn.now
-        (map W.bits behind.now.plain.now)
-        (map W.bits behind.now.marked.now)
-        old
-        left.new
-        (length left.old) }
-{
-    let full = sets.open_moves();
-    let mut cell = full;
-    let mut marked = before;
-    for place in behind.end..left.len() {
-        let on = full.moves.forward(marked);
-        if on.and(behind.plain[place]).is_none() {
-            left[place] = u16::MAX;
-            marked = on;
-        } else {
-            cell = sets.moves_after(left[place], cell);
-            marked = cell.moves.forward(marked);
+    // The states before a cell of drawn colours that it leads to one of a set; mostly it has none.
+    fn back_drawn(&self, colours: u16, later: W) -> W
+        requires sixteen { length self.now.next.now ≡ 16 }
+        ensures { (pattern : List ℕ) (behind : ℕ → Bool)
+            → ArePatternSets W.width pattern (sets_of W.bits self.now)
+            → AreStates pattern behind (W.bits later)
+            → AreStates pattern (finish_step pattern colours behind) (W.bits result) }
+    {
+        if colours == 0 {
+            return W::low(0);
+        }
+        self.moves_by(colours).back(later)
+    }
+
+    // The states before a cell from which lines, and marked lines, can go on to the states behind it.
+    fn back(&self, moves: Moves<W>, colours: u16, later: Reached<W>) -> Reached<W>
+        requires sixteen { length self.now.next.now ≡ 16 }
+        ensures { (pattern : List ℕ) (mask : ℕ) (all marked : ℕ → Bool)
+            → ArePatternSets W.width pattern (sets_of W.bits self.now)
+            → MovesBy W.width pattern mask (moves_of W.bits moves)
+            → AreReached pattern all marked (reached_of W.bits later)
+            → AreReached
+            pattern
+            (finish_step pattern mask all)
+            (finish_marked pattern mask colours all marked)
+            (reached_of W.bits result) }
+    {
+        Reached {
+            all: moves.back(later.all),
+            marked: moves
+                .back(later.marked)
+                .or(self.back_drawn(colours, later.all)),
         }
     }
-}
 
-// Gives each cell all sixteen colours where no line is marked then, from the first cell on.
-fn sweep<W: Word>(sets: &PatternSets<W>, drawn: &[u16], behind: &Behind<W>, left: &mut [u16])
-    requires sixteen { length sets.now.next.now ≡ 16 }
-    requires same_length { length drawn.now ≡ length left.old }
-    requires end { behind.now.end ≤ length left.old }
-    requires undrawn { IsUndrawn drawn.now behind.now.end }
-    requires plain_room { length left.old ≤ length behind.now.plain.now }
-    requires marked_room { length left.old ≤ length behind.now.marked.now }
-    ensures { SweptAll
-        W.width
-        (sets_of W.bits sets.now)
-        drawn.now
-        (map W.bits behind.now.plain.now)
-        (map W.bits behind.now.marked.now)
-        left.old
-        left.new
-        (length left.old) }
-{
-    let first = sweep_first(sets, drawn, behind, left);
-    let marked = sweep_drawn(sets, drawn, behind, left, first);
-    sweep_last(sets, drawn, behind, left, marked);
+    // Notes the states behind each cell that comes after the last drawn one. There no line is marked.
+    fn note_last(&self, drawn: &[u16], left: &[u16], plain: &mut [W], marked: &mut [W]) -> Edge<W>
+        requires sixteen { length self.now.next.now ≡ 16 }
+        requires same_length { length drawn.now ≡ length left.now }
+        requires plain_room { length left.now ≤ length plain.old }
+        requires marked_room { length left.now ≤ length marked.old }
+        ensures inside { result.at ≤ length left.now }
+        ensures undrawn { IsUndrawn drawn.now result.at }
+        ensures later { (pattern : List ℕ)
+            → ArePatternSets W.width pattern (sets_of W.bits self.now)
+            → AreReached
+            pattern
+            (finishes pattern (drop result.at left.now))
+            (finishes_marked pattern (drop result.at left.now) (drop result.at drawn.now))
+            (unmarked (W.bits result.states)) }
+        ensures noted { (pattern : List ℕ)
+            → ArePatternSets W.width pattern (sets_of W.bits self.now)
+            → (i : ℕ) → result.at ≤ i → i < length left.now
+            → AreBehind
+            pattern
+            left.now
+            drawn.now
+            (map W.bits plain.new)
+            (map W.bits marked.new)
+            i }
+    {
+        let mut states = self.last;
+        let mut cell = self.moves_by(u16::MAX);
+        let mut at = left.len();
+        'cells: while at > 0 && drawn[at - 1] == 0 {
+            at -= 1;
+            plain[at] = states;
+            marked[at] = W::low(0);
+            cell = self.moves_after(left[at], cell);
+            states = cell.back(states);
+        }
+        Edge { at, states }
+    }
+
+    /// Notes for each cell the states behind it from which lines, and marked lines, can go to the end, and answers the
+    /// place behind the last drawn cell.
+    fn note_behind(&self, drawn: &[u16], left: &[u16], plain: &mut [W], marked: &mut [W]) -> usize
+        requires sixteen { length self.now.next.now ≡ 16 }
+        requires same_length { length drawn.now ≡ length left.now }
+        requires plain_room { length left.now ≤ length plain.old }
+        requires marked_room { length left.now ≤ length marked.old }
+        ensures inside { result ≤ length left.now }
+        ensures undrawn { IsUndrawn drawn.now result }
+        ensures noted { (pattern : List ℕ)
+            → ArePatternSets W.width pattern (sets_of W.bits self.now)
+            → (i : ℕ) → i < length left.now
+            → AreBehind
+            pattern
+            left.now
+            drawn.now
+            (map W.bits plain.new)
+            (map W.bits marked.new)
+            i }
+    {
+        let last = self.note_last(drawn, left, plain, marked);
+        let mut later = Reached {
+            all: last.states,
+            marked: W::low(0),
+        };
+        let mut cell = self.moves_by(u16::MAX);
+        for i in (0..last.at).rev() {
+            plain[i] = later.all;
+            marked[i] = later.marked;
+            cell = self.moves_after(left[i], cell);
+            later = self.back(cell, left[i] & drawn[i], later);
+        }
+        last.at
+    }
+
+    // Gives the cells before the first drawn one all sixteen colours where no line is marked then. None is marked before
+    // them.
+    fn sweep_first(&self, drawn: &[u16], behind: &Behind<W>, left: &mut [u16]) -> Edge<W>
+        requires sixteen { length self.now.next.now ≡ 16 }
+        requires same_length { length drawn.now ≡ length left.old }
+        requires end { behind.now.end ≤ length left.old }
+        requires plain_room { length left.old ≤ length behind.now.plain.now }
+        requires marked_room { length left.old ≤ length behind.now.marked.now }
+        ensures inside { result.at ≤ behind.now.end }
+        ensures swept { SweptTo
+            W.width
+            (sets_of W.bits self.now)
+            drawn.now
+            (map W.bits behind.now.plain.now)
+            (map W.bits behind.now.marked.now)
+            left.old
+            left.new
+            (unmarked (W.bits result.states))
+            result.at }
+    {
+        let full = self.moves_by(u16::MAX);
+        let mut cell = full;
+        let mut states = W::low(1);
+        let mut at = 0;
+        'cells: while at < behind.end && drawn[at] == 0 {
+            let on = full.forward(states);
+            if on.and(behind.marked[at]).is_none() {
+                left[at] = u16::MAX;
+                states = on;
+            } else {
+                cell = self.moves_after(left[at], cell);
+                states = cell.forward(states);
+            }
+            at += 1;
+        }
+        Edge { at, states }
+    }
+
+    // The same for the cells up to the last drawn one, and answers the states behind it that marked lines come to.
+    fn sweep_drawn(&self, drawn: &[u16], behind: &Behind<W>, left: &mut [u16], first: Edge<W>) -> W
+        requires sixteen { length self.now.next.now ≡ 16 }
+        requires same_length { length drawn.now ≡ length left.old }
+        requires end { behind.now.end ≤ length left.old }
+        requires inside { first.at ≤ behind.now.end }
+        requires plain_room { length left.old ≤ length behind.now.plain.now }
+        requires marked_room { length left.old ≤ length behind.now.marked.now }
+        ensures { (old : List ℕ)
+            → SweptTo
+            W.width
+            (sets_of W.bits self.now)
+            drawn.now
+            (map W.bits behind.now.plain.now)
+            (map W.bits behind.now.marked.now)
+            old
+            left.old
+            (unmarked (W.bits first.states))
+            first.at
+            → SweptMarked
+            W.width
+            (sets_of W.bits self.now)
+            drawn.now
+            (map W.bits behind.now.plain.now)
+            (map W.bits behind.now.marked.now)
+            old
+            left.new
+            (W.bits result)
+            behind.now.end }
+    {
+        let full = self.moves_by(u16::MAX);
+        let mut cell = full;
+        let mut from = Reached {
+            all: first.states,
+            marked: W::low(0),
+        };
+        for i in first.at..behind.end {
+            let on = self.reach(full, u16::MAX & drawn[i], from);
+            if meets_marked(on, behind.plain[i], behind.marked[i]) {
+                cell = self.moves_after(left[i], cell);
+                from = self.reach(cell, left[i] & drawn[i], from);
+            } else {
+                left[i] = u16::MAX;
+                from = on;
+            }
+        }
+        from.marked
+    }
+
+    // The same for the cells behind the last drawn one, where only marked lines matter.
+    fn sweep_last(&self, drawn: &[u16], behind: &Behind<W>, left: &mut [u16], before: W)
+        requires sixteen { length self.now.next.now ≡ 16 }
+        requires same_length { length drawn.now ≡ length left.old }
+        requires end { behind.now.end ≤ length left.old }
+        requires undrawn { IsUndrawn drawn.now behind.now.end }
+        requires plain_room { length left.old ≤ length behind.now.plain.now }
+        requires marked_room { length left.old ≤ length behind.now.marked.now }
+        ensures { (old : List ℕ)
+            → SweptMarked
+            W.width
+            (sets_of W.bits self.now)
+            drawn.now
+            (map W.bits behind.now.plain.now)
+            (map W.bits behind.now.marked.now)
+            old
+            left.old
+            (W.bits before)
+            behind.now.end
+            → SweptAll
+            W.width
+            (sets_of W.bits self.now)
+            drawn.now
+            (map W.bits behind.now.plain.now)
+            (map W.bits behind.now.marked.now)
+            old
+            left.new
+            (length left.old) }
+    {
+        let full = self.moves_by(u16::MAX);
+        let mut cell = full;
+        let mut marked = before;
+        for place in behind.end..left.len() {
+            let on = full.forward(marked);
+            if on.and(behind.plain[place]).is_none() {
+                left[place] = u16::MAX;
+                marked = on;
+            } else {
+                cell = self.moves_after(left[place], cell);
+                marked = cell.forward(marked);
+            }
+        }
+    }
 }
 
 // Leaves out what a line with room for its blocks can do without, by sets of states in words.
@@ -438,13 +350,16 @@ fn leave_out_by<W: Word>(blocks: &[Block], drawn: &[u16], left: &mut [u16])
     let sets = PatternSets::of(blocks, &mut next);
     let mut plain = [W::low(0); MOST];
     let mut marked = [W::low(0); MOST];
-    let end = note_behind(&sets, drawn, left, &mut plain, &mut marked);
+    let end = sets.note_behind(drawn, left, &mut plain, &mut marked);
     let behind = Behind {
         plain: &plain,
         marked: &marked,
         end,
     };
-    sweep(&sets, drawn, &behind, left);
+    // Each cell gets all sixteen colours where no line is marked then, from the first cell on.
+    let first = sets.sweep_first(drawn, &behind, left);
+    let before = sets.sweep_drawn(drawn, &behind, left, first);
+    sets.sweep_last(drawn, &behind, left, before);
 }
 
 // Whether the states of a clue have room in 64 bits, where its blocks have room on a line of so many cells.

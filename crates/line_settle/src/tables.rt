@@ -18,6 +18,7 @@ ghost use Rattle.line_settle.specs.Spelling.{
 };
 
 use crate::pattern::{allows, waits};
+use crate::positions::with_colour;
 
 // Whether a cell with one of the mask's colours leads from state `q` to the next one, where `later` holds.
 fn advances(pattern: &[u8], mask: u16, later: &[bool], q: usize) -> bool
@@ -36,16 +37,6 @@ fn rests(pattern: &[u8], mask: u16, later: &[bool], q: usize) -> bool
     ensures { result ≡ rests pattern.now mask (truth_at later.now) q }
 {
     waits(pattern, q) && allows(mask, 0) && later[q]
-}
-
-// Whether state `q` finishes before a cell, where `later` says which states finish behind it.
-fn finishes_before(pattern: &[u8], mask: u16, later: &[bool], q: usize) -> bool
-    requires colours { All (λ colour. colour < 16) pattern.now }
-    requires row { length pattern.now ≤ length later.now }
-    requires state { q < length pattern.now }
-    ensures { result ≡ finish_step pattern.now mask (truth_at later.now) q }
-{
-    advances(pattern, mask, later, q) || rests(pattern, mask, later, q)
 }
 
 // Whether state `q` is reached behind a cell, where `before` says which states are reached before it.
@@ -67,7 +58,7 @@ fn step_back(pattern: &[u8], mask: u16, row: &mut [bool])
         → truth_at row.new q ≡ finish_step pattern.now mask (truth_at row.old) q }
 {
     for q in 0..pattern.len() {
-        row[q] = finishes_before(pattern, mask, row, q);
+        row[q] = advances(pattern, mask, row, q) || rests(pattern, mask, row, q);
     }
 }
 
@@ -82,15 +73,6 @@ fn step_forward(pattern: &[u8], mask: u16, row: &mut [bool])
     for q in (0..pattern.len()).rev() {
         row[q] = reached_behind(pattern, mask, row, q);
     }
-}
-
-#[tactic(auto, using(crate::proofs::BitLemmas::bits))]
-/// The mask of one colour where `set` says so, else no colour.
-pub fn colour_bit(set: bool, colour: u8) -> u16
-    requires { colour < 16 }
-    ensures { (k : ℕ) → allows result k ≡ (set && colour == k) }
-{
-    if set { 1 << colour } else { 0 }
 }
 
 #[tactic(auto, using(crate::proofs::BitLemmas::bits))]
@@ -111,8 +93,8 @@ fn colours_from(pattern: &[u8], mask: u16, before: &[bool], later: &[bool], q: u
     } else {
         0
     };
-    colour_bit(advances(pattern, mask, later, q), next)
-        | colour_bit(rests(pattern, mask, later, q), 0)
+    let passed = with_colour(0, false, advances(pattern, mask, later, q), next);
+    with_colour(passed, true, rests(pattern, mask, later, q), 0)
 }
 
 #[tactic(auto, using(crate::proofs::BitLemmas::bits))]

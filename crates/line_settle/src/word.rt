@@ -2,9 +2,7 @@
 
 ghost use Rattle.std.specs.Prelude.{◌≡◌, ℕ, ◌+◌, ◌-◌, ◌*◌, ◌/◌, ◌%◌, ◌^◌, ◌<◌, ◌≤◌, ◌==◌, ◌&&◌, ◌||◌, bit_and, bit_or, bit_xor};
 ghost use Rattle.std.proofs.Common.{lit≤};
-ghost use Rattle.line_settle.specs.Positions.{has, AreSpans, AreSpansOf};
-
-use crate::positions::{Spans, fill_near, near_spans};
+ghost use Rattle.line_settle.specs.Positions.{has};
 
 /// A set of positions, of which position i is bit i of a number. A line of fewer cells than the width fits in it, with the
 /// position behind its last cell.
@@ -13,10 +11,10 @@ pub trait Word: Copy + Drop {
 
     ghost width: { ℕ };
 
-    /// What filling downwards over a set of cells needs of it.
-    type Spans: Copy + Drop;
-
-    ghost are_spans: { ℕ → Self.Spans → Type 0 };
+    /// How many powers of two are below the width.
+    fn rounds() -> usize
+        ensures few { result ≤ 7 }
+        ensures width { 2 ^ result ≡ width };
 
     /// The set of the positions below 64 that are the bits of a number.
     fn low(places: u64) -> Self
@@ -65,21 +63,12 @@ pub trait Word: Copy + Drop {
 
     /// Whether the set is empty.
     fn is_none(self) -> bool
-        ensures { result ≡ (bits self == 0) };
+        ensures value { result ≡ (bits self == 0) }
+        ensures fits { bits self < 2 ^ width };
 
     /// The positions below 8.
     fn low_eight(self) -> u16
         ensures { result ≡ bit_and (bits self) 255 };
-
-    /// What filling downwards over these cells needs.
-    fn spans(self) -> Self::Spans
-        ensures { are_spans (bits self) result };
-
-    /// The positions from which the set can be reached, cell by cell upwards, over cells with these spans.
-    fn fill_down(self, spans: &Self::Spans) -> Self
-        ensures { (cells : ℕ) → are_spans cells spans.now
-            → (i : ℕ)
-            → has (bits result) i ≡ (has (bits self) i || (has cells i && has (bits result) (i + 1))) };
 
     ghost wide: { 64 ≤ width };
 
@@ -91,9 +80,10 @@ impl Word for u64 {
 
     ghost width = { 64 };
 
-    type Spans = [u64; 6];
-
-    ghost are_spans = { AreSpans };
+    #[inline]
+    fn rounds() -> usize {
+        6
+    }
 
     #[inline]
     fn low(places: u64) -> u64 {
@@ -155,14 +145,6 @@ impl Word for u64 {
         (self & 0xff) as u16
     }
 
-    fn spans(self) -> [u64; 6] {
-        near_spans(self)
-    }
-
-    fn fill_down(self, spans: &[u64; 6]) -> u64 {
-        fill_near(self, spans)
-    }
-
     ghost wide = { lit≤ tt };
 
     ghost narrow = { lit≤ tt };
@@ -173,9 +155,10 @@ impl Word for u128 {
 
     ghost width = { 128 };
 
-    type Spans = Spans;
-
-    ghost are_spans = { AreSpansOf };
+    #[inline]
+    fn rounds() -> usize {
+        7
+    }
 
     #[inline]
     fn low(places: u64) -> u128 {
@@ -235,14 +218,6 @@ impl Word for u128 {
     #[inline]
     fn low_eight(self) -> u16 {
         (self & 0xff) as u16
-    }
-
-    fn spans(self) -> Spans {
-        Spans::of(self)
-    }
-
-    fn fill_down(self, spans: &Spans) -> u128 {
-        spans.fill_down(self)
     }
 
     ghost wide = { lit≤ tt };

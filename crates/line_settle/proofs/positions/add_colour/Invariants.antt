@@ -1,9 +1,0 @@
-use Rattle.std.proofs.Common.{◌≡◌, ℕ, ◌+◌, ◌*◌}
-use Rattle.line_settle.specs.Positions.{has, IsColoured}
-use Rattle.line_settle.proofs.positions.add_colour.Given as goal
-
-abbrev pub invariant-loop-chunk : goal.invariant-loop-chunk
-invariant-loop-chunk g l = record {
-  left : (j : ℕ) → has (g.W.Word.bits l.rest) j ≡ has (g.W.Word.bits l.set) (8 * l.chunk + j);
-  coloured : IsColoured (g.W.Word.bits l.set) l.colour 0 (8 * l.chunk) l.initial.out l.out;
-}
