@@ -1,4 +1,3 @@
 pub mod ReadLemmas
 pub mod RoundTrip
-pub mod Sending
 pub mod WordLemmas

@@ -1,10 +1,10 @@
 -- A certificate read from the lines of a text.
-use Rattle.std.specs.Prelude.{◌≡◌, ℕ, ◌+◌, ◌-◌, ◌*◌, ◌<◌, Bool, true, false, List, [], ◌∷◌, length, codes, Option, None, Some, Result, Ok, Err, option_map, ◌==◌, nat_eq, nat_le, if◌then◌else◌, refl}
+use Rattle.std.specs.Prelude.{◌≡◌, ℕ, ◌+◌, ◌<◌, Bool, true, false, List, [], ◌∷◌, length, codes, Option, None, Some, Result, Ok, Err, option_map, ◌==◌, nat_eq, nat_le, if◌then◌else◌, refl}
 use Rattle.std.proofs.Common.{Vec, Global}
 use Rattle.std.specs.Borrow.{Bor}
-use Rattle.std.specs.Char.{is_ascii_digit}
 use Rattle.std.specs.Cmp.Lexicographic.{pointwise}
 use Rattle.std.specs.List.{slice_split}
+use Rattle.picture.specs.Numbers.{number_spelled, short_number, value_after}
 use Rattle.picture.specs.Reading.{◌>>=◌}
 use Rattle.picture.specs.declared.line_id.Axis.{Axis}
 use Rattle.picture.specs.declared.line_id.Axis.TheVariants.{Across, Down}
@@ -46,24 +46,12 @@ three_of _ = None
 
 -- ---- numbers of one to three digits, without leading zeros
 
-abbrev pub digit_of : ℕ → Option ℕ
-digit_of b = if is_ascii_digit b then Some (b - 48) else None
-
--- a number with one digit more
-abbrev pub with_digit : Option ℕ → ℕ → Option ℕ
-with_digit None b = None
-with_digit (Some n) b = option_map (λ d. n * 10 + d) (digit_of b)
-
--- the first of several digits
-abbrev pub leading_digit : ℕ → Option ℕ
-leading_digit b = if b == 48 then None else digit_of b
+abbrev pub has_leading_zero : List ℕ → Bool
+has_leading_zero (b ∷ c ∷ bytes) = b == 48
+has_leading_zero _ = false
 
 abbrev pub number_of : List ℕ → Option ℕ
-number_of [] = None
-number_of (a ∷ []) = digit_of a
-number_of (a ∷ b ∷ []) = with_digit (leading_digit a) b
-number_of (a ∷ b ∷ c ∷ []) = with_digit (with_digit (leading_digit a) b) c
-number_of (a ∷ b ∷ c ∷ d ∷ bytes) = None
+number_of bytes = if has_leading_zero bytes then None else short_number 3 bytes
 
 -- ---- places
 
@@ -185,17 +173,17 @@ givens_seen read = (read.0.items, lines_of read.1.now)
 -- ---- worked lines
 
 reads_line : cert_line (codes "line r 3") ≡ Some (Line (line_number Across 3))
-unfolding cert_line
+unfolding cert_line number_spelled value_after
 reads_line = refl
 
 refuses_leading_zero : cert_line (codes "line r 01") ≡ None
-unfolding cert_line
+unfolding cert_line number_spelled value_after
 refuses_leading_zero = refl
 
 takes_nought : cert_line (codes "line r 0") ≡ Some (Line (line_number Across 0))
-unfolding cert_line
+unfolding cert_line number_spelled value_after
 takes_nought = refl
 
 refuses_four_digits : cert_line (codes "line r 1000") ≡ None
-unfolding cert_line
+unfolding cert_line number_spelled value_after
 refuses_four_digits = refl

@@ -61,7 +61,7 @@ fn send_line<W: Write>(line: CertLine, writer: &mut W) -> Result<(), WriteFault>
     }
 }
 
-#[tactic(auto, using(crate::proofs::Sending::given_loop))]
+#[tactic(auto, using(picture::specs::SendingLaws::pieces))]
 // Writes the givens.
 fn send_givens<W: Write>(givens: &[CellNumber], writer: &mut W) -> Result<(), WriteFault>
     ensures ok { OnOk result
@@ -75,7 +75,7 @@ fn send_givens<W: Write>(givens: &[CellNumber], writer: &mut W) -> Result<(), Wr
     Ok(())
 }
 
-#[tactic(auto, using(crate::proofs::Sending::line_loop))]
+#[tactic(auto, using(picture::specs::SendingLaws::pieces))]
 // Writes the lines below the givens.
 fn send_lines<W: Write>(lines: &[CertLine], writer: &mut W) -> Result<(), WriteFault>
     ensures ok { OnOk result

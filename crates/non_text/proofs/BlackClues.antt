@@ -1,14 +1,16 @@
 -- The clues that are read name colour 1 alone, and so pictures with such clues have no colour above 1.
 use Rattle.std.proofs.Common.{◌≡◌, ℕ, zero, suc, ◌+◌, ◌<◌, ◌≤◌, Bool, true, false, cond, eqb, leb, List, [], ◌∷◌, length, get_or, map, take, Option, Some, None, Result, Ok, Err, refl, sym, ap, subst, ◌∙◌, arith, inl, inr, codes}
 use Rattle.std.specs.Option.{ok_or}
-use Rattle.std.specs.List.{slice_split, range_with_len}
+use Rattle.std.specs.List.{All, slice_split}
 use Rattle.std.proofs.lemmas.Bool.{eqb-true, cases_lt}
 use Rattle.std.proofs.lemmas.List.{get_or_past}
+use Rattle.std.proofs.lemmas.List.Elements.{All-cons, All-get_or, All-nil}
 use Rattle.picture.specs.declared.line_id.Axis.TheVariants.{Across}
 use Rattle.picture.specs.Reading.{◌>>=◌}
-use Rattle.picture.specs.Rows.{cell_at, line_along, row_at}
+use Rattle.picture.specs.Rows.{cell_at, row_at}
 use Rattle.clues.specs.declared.block.Block.{Block}
 use Rattle.clues.specs.Clue.{block, clue_of, longer}
+use Rattle.clues.specs.BookLaws.{get_or-first_clues, length-first_clues}
 use Rattle.clues.specs.ClueBook.{Clues, clues_from, clues_of, first_clues}
 use Rattle.non_text.specs.declared.non_puzzle.NonPuzzle.{NonPuzzle}
 use Rattle.non_text.specs.declared.fault.NonFault.{NonFault}
@@ -26,10 +28,6 @@ use Rattle.non_text.proofs.SectionLemmas.{bind_ok}
 abbrev pub AreBlack : List Block → Type 0
 AreBlack [] = Unit {0}
 AreBlack (b ∷ blocks) = (b.colour ≡ 1) × AreBlack blocks
-
-abbrev pub AreAllBlack : List (List Block) → Type 0
-AreAllBlack [] = Unit {0}
-AreAllBlack (clue ∷ clues) = AreBlack clue × AreAllBlack clues
 
 black_blocks : (lens : List ℕ) → AreBlack (map black lens)
 black_blocks [] = tt
@@ -53,25 +51,25 @@ black_clue cells line blocks e = by_test (is_blank_line line) e
     by_test true h = let is : [] ≡ blocks = cc in subst AreBlack is tt
     by_test false h = let numbers = bind_ok (numbers_in (slice_split (λ b. eqb b 44) line)) (λ numbers. clue_from cells numbers) blocks h in black_from cells numbers.0 blocks numbers.2
 
-black_clues : (cells : ℕ) (lines : List (List ℕ)) (clues : List (List Block)) → clues_in cells lines ≡ Ok clues → AreAllBlack clues
+black_clues : (cells : ℕ) (lines : List (List ℕ)) (clues : List (List Block)) → clues_in cells lines ≡ Ok clues → All AreBlack clues
 unfolding clues_in
-black_clues cells [] clues e = let is : [] ≡ clues = cc in subst AreAllBlack is tt
+black_clues cells [] clues e = let is : [] ≡ clues = cc in subst (All AreBlack) is (All-nil AreBlack)
 black_clues cells (line ∷ lines) clues e =
     let first = bind_ok (clue_in cells line) (λ clue. clues_in cells lines >>= λ later. Ok (clue ∷ later)) clues e in
     let later = bind_ok (clues_in cells lines) (λ later. Ok (first.0 ∷ later)) clues first.2 in
     let is : first.0 ∷ later.0 ≡ clues = let last = later.2 in cc in
-    subst AreAllBlack is (black_clue cells line first.0 first.1, black_clues cells lines later.0 later.1)
+    subst (All AreBlack) is (All-cons AreBlack first.0 later.0 (black_clue cells line first.0 first.1) (black_clues cells lines later.0 later.1))
 
-black_section : (n cells : ℕ) (lines : List (List ℕ)) (clues : List (List Block)) → section_clues n cells lines ≡ Ok clues → AreAllBlack clues
+black_section : (n cells : ℕ) (lines : List (List ℕ)) (clues : List (List Block)) → section_clues n cells lines ≡ Ok clues → All AreBlack clues
 black_section n cells lines clues e =
     let leaves = bind_ok (leaves_blanks n lines) (λ leaves. clues_in cells (take n (kept_lines leaves lines))) clues e in
     black_clues cells (take n (kept_lines leaves.0 lines)) clues leaves.2
 
-black_behind : (word : List ℕ) (n cells : ℕ) (lines : List (List ℕ)) (clues : List (List Block)) → clues_behind word n cells lines ≡ Ok clues → AreAllBlack clues
+black_behind : (word : List ℕ) (n cells : ℕ) (lines : List (List ℕ)) (clues : List (List Block)) → clues_behind word n cells lines ≡ Ok clues → All AreBlack clues
 unfolding clues_behind
 black_behind word n cells lines clues e = by_line (at_keyword word lines) e
   where
-    by_line : (found : Option (List ℕ × List (List ℕ))) → found_clues n cells found ≡ Ok clues → AreAllBlack clues
+    by_line : (found : Option (List ℕ × List (List ℕ))) → found_clues n cells found ≡ Ok clues → All AreBlack clues
     by_line None h = cc
     by_line (Some found) h = black_section n cells (section_of found.1) clues h
 
@@ -98,19 +96,12 @@ black_row (suc x ∷ y ∷ row) are j = by_test (eqb (suc x) y) refl (black_row 
     by_test false e later h zero = let is = h.0 in omega (arith, is)
     by_test false e later h (suc k) = later h.1 k
 
-black_at : (clue : ℕ → List Block) (a n i : ℕ) → AreAllBlack (map clue (range_with_len a n)) → i < n → AreBlack (clue (a + i))
-black_at clue a zero i are lt = absurd (omega (arith, lt))
-black_at clue a (suc n) zero are lt = let at : a ≡ a + 0 = omega arith in subst (λ k. AreBlack (clue k)) at are.0
-black_at clue a (suc n) (suc i) are lt =
-    let at : (a + 1) + i ≡ a + suc i = omega arith in
-    subst (λ k. AreBlack (clue k)) at (black_at clue (a + 1) n i are.1 (omega (arith, lt)))
-
-black_picture : (rows : List (List ℕ)) → AreAllBlack (first_clues Across rows (length rows)) → (i j : ℕ) → cell_at rows i j ≤ 1
-unfolding first_clues
+black_picture : (rows : List (List ℕ)) → All AreBlack (first_clues Across rows (length rows)) → (i j : ℕ) → cell_at rows i j ≤ 1
 black_picture rows are i j = elim (cases_lt i (length rows)) [
   | inl lt ↦
-      let at : 0 + i ≡ i = omega arith in
-      black_row (row_at rows i) (subst (λ k. AreBlack (clue_of (row_at rows k))) at (black_at (λ at. clue_of (line_along Across at rows)) 0 (length rows) i are lt)) j
+      let clues = first_clues Across rows (length rows) in
+      let black = All-get_or AreBlack clues i [] (omega (arith, lt, length-first_clues Across rows (length rows))) are in
+      black_row (row_at rows i) (subst AreBlack (get_or-first_clues Across rows (length rows) i [] lt) black) j
   | inr past ↦
       let none : row_at rows i ≡ [] = get_or_past rows i [] past in
       subst (λ (row : List ℕ). get_or row j 0 ≤ 1) (sym none) (black_row [] tt j)
@@ -167,7 +158,7 @@ two_colours_on width height lines puzzle e =
       goal_fits = λ picture h. agrees.fits picture h ∙ sym agrees.are;
       two_colours = λ picture h i j.
           let clues_are : rows.0 ≡ first_clues Across picture (length picture) = sym (ap (λ (c : Clues). c.rows) (h ∙ agrees.are)) in
-          black_picture picture (subst AreAllBlack clues_are are) i j;
+          black_picture picture (subst (All AreBlack) clues_are are) i j;
     }
 
 puzzle_in_two_colours : (lines : List (List ℕ)) (puzzle : NonPuzzle) → puzzle_of lines ≡ Ok puzzle → IsInTwoColours puzzle

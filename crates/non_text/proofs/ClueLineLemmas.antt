@@ -6,13 +6,14 @@ use Rattle.std.specs.Option.{ok_or}
 use Rattle.std.proofs.lemmas.List.{at_drop_more, at_drop_all, append_assoc, append-nil, length-map}
 use Rattle.std.proofs.lemmas.List.Sums.{sum_by-cons}
 use Rattle.std.proofs.lemmas.List.Elements.{All-nil, All-cons}
-use Rattle.std.proofs.lemmas.Bool.{lt-ltb, le-ltb, le-leb, lt-leb, eqb-false, ne_eqb, cases_lt, cases_eq}
+use Rattle.std.proofs.lemmas.Bool.{lt-ltb, le-ltb, le-leb, lt-leb, eqb-false, ne_eqb, cases_lt, cases_eq, or_parts}
 use Rattle.picture.specs.Reading.{◌>>=◌}
 use Rattle.clues.specs.declared.block.Block.{Block}
 use Rattle.clues.specs.Clue.{IsBlock, IsClue}
 use Rattle.non_text.specs.declared.fault.NonFault.{NonFault}
 use Rattle.non_text.specs.declared.fault.NonFault.TheVariants.{BadClue, ClueTooLong}
-use Rattle.non_text.specs.Bytes.{trimmed, number_of}
+use Rattle.non_text.specs.Bytes.{trimmed}
+use Rattle.picture.specs.Numbers.{number_spelled}
 use Rattle.non_text.specs.Lines.{is_blank_line}
 use Rattle.picture.specs.Reading.{pieces_behind}
 use Rattle.non_text.specs.Capped.{all_capped}
@@ -45,11 +46,11 @@ unfolding left_to_read
 left_none front = ap Ok (append-nil front)
 
 -- one place is read
-pub left_more : (front : List ℕ) (places : Bor (List ℕ)) (place : List ℕ) (behind : Option (Bor (List ℕ))) (number : ℕ) → slice_split (λ b. eqb b 44) places.now ≡ place ∷ pieces_behind 44 behind → option_map (min 255) (number_of (trimmed place)) ≡ Some number
+pub left_more : (front : List ℕ) (places : Bor (List ℕ)) (place : List ℕ) (behind : Option (Bor (List ℕ))) (number : ℕ) → slice_split (λ b. eqb b 44) places.now ≡ place ∷ pieces_behind 44 behind → option_map (min 255) (number_spelled (trimmed place)) ≡ Some number
     → left_to_read (front ++ number ∷ []) behind ≡ left_to_read front (Some places)
 unfolding left_to_read
 left_more front places place behind number split is =
-    sym (ap (λ pieces. behind_front front (all_capped (numbers_in pieces))) split ∙ by_number (number_of (trimmed place)) (numbers_in (pieces_behind 44 behind)) is)
+    sym (ap (λ pieces. behind_front front (all_capped (numbers_in pieces))) split ∙ by_number (number_spelled (trimmed place)) (numbers_in (pieces_behind 44 behind)) is)
   where
     by_number : (o : Option ℕ) (later : Result (List ℕ) NonFault) → option_map (min 255) o ≡ Some number → behind_front front (all_capped (ok_or o BadClue >>= λ n. later >>= λ ns. Ok (n ∷ ns))) ≡ behind_front (front ++ number ∷ []) (all_capped later)
     by_number None later e = cc
@@ -57,11 +58,11 @@ left_more front places place behind number split is =
     by_number (Some n) (Ok ns) e = let first : min 255 n ≡ number = cc in ap Ok (ap (λ k. front ++ k ∷ map (min 255) ns) first ∙ sym (append_assoc front (number ∷ []) (map (min 255) ns)))
 
 -- a place without a number
-pub left_bad : (front : List ℕ) (places : Bor (List ℕ)) (place : List ℕ) (behind : Option (Bor (List ℕ))) → slice_split (λ b. eqb b 44) places.now ≡ place ∷ pieces_behind 44 behind → option_map (min 255) (number_of (trimmed place)) ≡ None
+pub left_bad : (front : List ℕ) (places : Bor (List ℕ)) (place : List ℕ) (behind : Option (Bor (List ℕ))) → slice_split (λ b. eqb b 44) places.now ≡ place ∷ pieces_behind 44 behind → option_map (min 255) (number_spelled (trimmed place)) ≡ None
     → left_to_read front (Some places) ≡ Err BadClue
 unfolding left_to_read
 left_bad front places place behind split is =
-    ap (λ pieces. behind_front front (all_capped (numbers_in pieces))) split ∙ by_number (number_of (trimmed place)) (numbers_in (pieces_behind 44 behind)) is
+    ap (λ pieces. behind_front front (all_capped (numbers_in pieces))) split ∙ by_number (number_spelled (trimmed place)) (numbers_in (pieces_behind 44 behind)) is
   where
     by_number : (o : Option ℕ) (later : Result (List ℕ) NonFault) → option_map (min 255) o ≡ None → behind_front front (all_capped (ok_or o BadClue >>= λ n. later >>= λ ns. Ok (n ∷ ns))) ≡ Err BadClue
     by_number None later e = refl
@@ -117,14 +118,10 @@ pub ruleset room = (fits_in_less, fits_in_more, fits_in_all, fits_in_is)
 
 -- ---- what numbers stand for
 
-or_false : (s t : Bool) → (s || t) ≡ false → (s ≡ false) × (t ≡ false)
-or_false true t e = cc
-or_false false t e = (refl, e)
-
 pub black_clue : (numbers : List ℕ) → has_zero numbers ≡ false → IsClue (map black numbers)
 black_clue [] e = All-nil IsBlock
 black_clue (n ∷ numbers) e =
-    let parts = or_false (eqb n 0) (has_zero numbers) e in
+    let parts = or_parts (eqb n 0) (has_zero numbers) e in
     let some : n ≢ 0 = eqb-false n 0 parts.0 in
     All-cons IsBlock (black n) (map black numbers) (record { has_cells = omega arith; has_colour = omega arith; in_palette = omega arith }) (black_clue numbers parts.1)
 

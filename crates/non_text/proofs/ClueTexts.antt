@@ -16,11 +16,14 @@ use Rattle.clues.specs.declared.block.Block.{Block}
 use Rattle.clues.specs.Clue.{block, longer, clue_of}
 use Rattle.non_text.specs.declared.fault.NonFault.{NonFault}
 use Rattle.non_text.specs.declared.fault.NonFault.TheVariants.{BadClue, ClueTooLong}
-use Rattle.non_text.specs.Bytes.{is_empty, is_blank, past_blanks, before_blanks, first_word, value_after, number_of}
+use Rattle.non_text.specs.Bytes.{is_empty, is_blank, past_blanks, before_blanks, first_word}
+use Rattle.picture.specs.Numbers.{value_after, number_spelled}
 use Rattle.non_text.specs.Lines.{begins_comment, is_blank_line, is_comment, word_at, keyword_of}
 use Rattle.non_text.specs.ClueLine.{numbers_in, is_lone_zero, has_zero, cells_needed, black, clue_from, clue_in}
 use Rattle.non_text.specs.Written.{clue_text}
-use Rattle.non_text.proofs.DigitTexts.{digit_range, digit_not_blank, decimal_digits, number_of-trimmed}
+use Rattle.picture.specs.NumberLaws.{decimal_digits, decimal_lacks, digit_range}
+use Rattle.picture.specs.SplitLaws.{none_there}
+use Rattle.non_text.proofs.DigitTexts.{digit_not_blank, number_again}
 use Rattle.non_text.proofs.BytesLemmas.{past_blanks_other}
 
 abbrev pub lens_of : List Block → List ℕ
@@ -41,20 +44,16 @@ sum-cons n ns = sum_by-cons (λ k. k) n ns
 
 -- ---- the numbers
 
-no_comma : (digits : List ℕ) → all_ascii_digits digits ≡ true → All (λ b. eqb b 44 ≡ false) digits
-no_comma [] e = All-nil (λ b. eqb b 44 ≡ false)
-no_comma (d ∷ digits) e =
-    let parts = and_parts (is_ascii_digit d) (all_ascii_digits digits) e in
-    let range = digit_range d parts.0 in
-    All-cons (λ b. eqb b 44 ≡ false) d digits (ne_eqb d 44 (omega (arith, range.0))) (no_comma digits parts.1)
+no_comma : (n : ℕ) → n < 2 ^ 64 → All (λ b. eqb b 44 ≡ false) (decimal n)
+no_comma n small = none_there 44 (decimal n) (decimal_lacks 44 n (omega arith) small)
 
 -- the places between the commas are the numbers
 places_are : (b : Block) (blocks : List Block) → sum (lens_of (b ∷ blocks)) < 2 ^ 64 → slice_split (λ c. eqb c 44) (clue_text (b ∷ blocks)) ≡ map (λ (o : Block). decimal o.len) (b ∷ blocks)
 places_are b [] small =
-    slice_split_none (λ c. eqb c 44) (decimal b.len) (no_comma (decimal b.len) (decimal_digits b.len (omega (arith, small, sum-cons b.len []))))
+    slice_split_none (λ c. eqb c 44) (decimal b.len) (no_comma b.len (omega (arith, small, sum-cons b.len [])))
 places_are b (next ∷ blocks) small =
     let parts = sum-cons b.len (lens_of (next ∷ blocks)) in
-    slice_split_at (λ c. eqb c 44) (decimal b.len) 44 (clue_text (next ∷ blocks)) (no_comma (decimal b.len) (decimal_digits b.len (omega (arith, small, parts)))) refl
+    slice_split_at (λ c. eqb c 44) (decimal b.len) 44 (clue_text (next ∷ blocks)) (no_comma b.len (omega (arith, small, parts))) refl
     ∙ ap (λ (pieces : List (List ℕ)). decimal b.len ∷ pieces) (places_are next blocks (omega (arith, small, parts)))
 
 -- the number of a place, and then the others
@@ -65,7 +64,7 @@ numbers_are : (blocks : List Block) → sum (lens_of blocks) < 2 ^ 64 → number
 numbers_are [] small = refl
 numbers_are (b ∷ blocks) small =
     let parts = sum-cons b.len (lens_of blocks) in
-    ap (λ first. numbers_behind first (numbers_in (map (λ (o : Block). decimal o.len) blocks))) (number_of-trimmed b.len (omega (arith, small, parts)))
+    ap (λ first. numbers_behind first (numbers_in (map (λ (o : Block). decimal o.len) blocks))) (number_again b.len (omega (arith, small, parts)))
     ∙ ap (λ later. numbers_behind (Some b.len) later) (numbers_are blocks (omega (arith, small, parts)))
 
 none_zero : (blocks : List Block) → AreBlack blocks → has_zero (lens_of blocks) ≡ false
@@ -142,7 +141,7 @@ no_keyword (d ∷ line) begins =
 -- ---- a clue that is written is read again
 
 empty_clue : (cells : ℕ) → clue_in cells (48 ∷ []) ≡ Ok []
-unfolding clue_in is_blank_line past_blanks before_blanks is_blank number_of value_after clue_from
+unfolding clue_in is_blank_line past_blanks before_blanks is_blank number_spelled value_after clue_from
 empty_clue cells = refl
 
 some_clue : (cells : ℕ) (b : Block) (blocks : List Block) → IsWritable cells (b ∷ blocks) → sum (lens_of (b ∷ blocks)) < 2 ^ 64 → clue_in cells (clue_text (b ∷ blocks)) ≡ Ok (b ∷ blocks)

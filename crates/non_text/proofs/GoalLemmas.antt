@@ -2,12 +2,13 @@
 use Rattle.std.proofs.Common.{◌≡◌, ◌≢◌, ℕ, zero, suc, ◌-◌, ◌*◌, ◌<◌, Bool, true, false, cond, eqb, List, [], ◌∷◌, length, get_or, take, drop, map, Some, None, Ok, Err, refl, sym, ap, ◌∙◌, arith, inl, inr, ◌&&◌}
 use Rattle.std.specs.Option.{ok_or, option_and_then}
 use Rattle.std.specs.List.{slice_split, onto_first, list_all, join_with_byte}
-use Rattle.std.proofs.lemmas.Bool.{eq-eqb, eqb-true, ne_eqb, or_cases}
+use Rattle.std.proofs.lemmas.Bool.{cases_Bool, eq-eqb, eqb-true, false≢true, ne_eqb, or_cases}
 use Rattle.std.proofs.lemmas.List.{get_or_past, length-map, take_all}
 use Rattle.std.proofs.lemmas.List.Splits.{join_with_byte-slice_split}
 use Rattle.picture.specs.Rows.{rows_of}
 use Rattle.non_text.specs.declared.fault.NonFault.TheVariants.{BadGoal}
-use Rattle.non_text.specs.Bytes.{is_empty, is_blank, past_blanks}
+use Rattle.non_text.specs.Bytes.{is_empty, is_blank}
+use Rattle.non_text.proofs.BytesLemmas.{past_blanks_blank, past_blanks_other}
 use Rattle.non_text.specs.Lines.{is_blank_line}
 use Rattle.non_text.specs.Goal.{quoted, goal_digits, is_cell_digit, cell_of, goal_rows, goal_in}
 
@@ -21,12 +22,11 @@ no_quote b e = elim (or_cases (eqb b 32) (eqb b 9) e) [
 ]
 
 blank_parts : (b : ℕ) (bytes : List ℕ) → is_blank_line (b ∷ bytes) ≡ true → (is_blank b ≡ true) × (is_blank_line bytes ≡ true)
-unfolding is_blank_line past_blanks
-blank_parts b bytes e = by_test (is_blank b) e
-  where
-    by_test : (t : Bool) → is_empty (cond t (past_blanks bytes) (b ∷ bytes)) ≡ true → (t ≡ true) × (is_empty (past_blanks bytes) ≡ true)
-    by_test true h = (refl, h)
-    by_test false h = cc
+unfolding is_blank_line
+blank_parts b bytes e = elim (cases_Bool (is_blank b)) [
+  | inl h ↦ (h, sym (ap is_empty (past_blanks_blank b bytes h)) ∙ e)
+  | inr h ↦ absurd (false≢true (sym (ap is_empty (past_blanks_other b bytes h)) ∙ e))
+]
 
 -- a blank line has no quote
 blank_has_none : (bytes : List ℕ) → is_blank_line bytes ≡ true → slice_split (λ b. eqb b 34) bytes ≡ bytes ∷ []
@@ -36,22 +36,20 @@ blank_has_none (b ∷ bytes) e =
     ap (λ t. cond t ([] ∷ slice_split (λ b. eqb b 34) bytes) (onto_first b (slice_split (λ b. eqb b 34) bytes))) (no_quote b parts.0)
     ∙ ap (onto_first b) (blank_has_none bytes parts.1)
 
-pub quoted_blank : (bytes digits behind : List ℕ) → slice_split (λ b. eqb b 34) bytes ≡ digits ∷ slice_split (λ b. eqb b 34) behind → is_blank_line behind ≡ true → quoted (slice_split (λ b. eqb b 34) bytes) ≡ Some digits
-quoted_blank bytes digits behind split e =
-    ap quoted split ∙ ap (λ pieces. quoted (digits ∷ pieces)) (blank_has_none behind e) ∙ ap (λ t. cond t (Some digits) None) e
+quoted_by : (digits behind : List ℕ) (pieces : List (List ℕ)) (t : Bool) → is_blank_line behind ≡ t → join_with_byte 34 pieces ≡ behind → (t ≡ true → pieces ≡ behind ∷ []) → quoted (digits ∷ pieces) ≡ cond t (Some digits) None
+quoted_by digits behind pieces true e joined alone = ap (λ rest. quoted (digits ∷ rest)) (alone refl) ∙ ap (λ t. cond t (Some digits) None) e
+quoted_by digits behind [] false e joined alone = refl
+quoted_by digits behind (piece ∷ []) false e joined alone = ap (λ (rest : List ℕ). cond (is_blank_line rest) (Some digits) None) joined ∙ ap (λ t. cond t (Some digits) None) e
+quoted_by digits behind (piece ∷ next ∷ pieces) false e joined alone = refl
 
-pub quoted_other : (bytes digits behind : List ℕ) → slice_split (λ b. eqb b 34) bytes ≡ digits ∷ slice_split (λ b. eqb b 34) behind → is_blank_line behind ≡ false → quoted (slice_split (λ b. eqb b 34) bytes) ≡ None
-quoted_other bytes digits behind split e = ap quoted split ∙ by_pieces (slice_split (λ b. eqb b 34) behind) (join_with_byte-slice_split 34 behind)
-  where
-    by_pieces : (pieces : List (List ℕ)) → join_with_byte 34 pieces ≡ behind → quoted (digits ∷ pieces) ≡ None
-    by_pieces [] h = refl
-    by_pieces (piece ∷ []) h = ap (λ (rest : List ℕ). cond (is_blank_line rest) (Some digits) None) h ∙ ap (λ t. cond t (Some digits) None) e
-    by_pieces (piece ∷ next ∷ pieces) h = refl
+pub quoted_is : (bytes digits behind : List ℕ) → slice_split (λ b. eqb b 34) bytes ≡ digits ∷ slice_split (λ b. eqb b 34) behind → quoted (slice_split (λ b. eqb b 34) bytes) ≡ cond (is_blank_line behind) (Some digits) None
+quoted_is bytes digits behind split =
+    ap quoted split ∙ quoted_by digits behind (slice_split (λ b. eqb b 34) behind) (is_blank_line behind) refl (join_with_byte-slice_split 34 behind) (blank_has_none behind)
 
 pub quoted_none : (bytes digits : List ℕ) → slice_split (λ b. eqb b 34) bytes ≡ digits ∷ [] → quoted (slice_split (λ b. eqb b 34) bytes) ≡ None
 quoted_none bytes digits split = ap quoted split
 
-pub ruleset quotes = (quoted_blank, quoted_other, quoted_none)
+pub ruleset quotes = (quoted_is, quoted_none)
 
 -- ---- values
 

@@ -1,10 +1,10 @@
 -- The rows of a picture in two colours, and the clues of its lines.
-use Rattle.std.proofs.Common.{◌≡◌, ℕ, zero, suc, ◌+◌, ◌*◌, ◌<◌, ◌≤◌, Bool, true, false, cond, eqb, leb, List, [], ◌∷◌, ◌++◌, length, get_or, take, drop, map, refl, ap, subst, ◌∙◌, arith, ◌&&◌}
-use Rattle.std.specs.List.{flat_map, list_all, range_with_len, All}
-use Rattle.std.proofs.lemmas.Bool.{leb-true, and_parts}
+use Rattle.std.proofs.Common.{◌≡◌, ℕ, zero, suc, ◌+◌, ◌*◌, ◌<◌, ◌≤◌, Bool, true, cond, not, eqb, leb, List, [], ◌∷◌, ◌++◌, length, get_or, take, drop, map, refl, ap, subst, ◌∙◌, arith, ◌&&◌}
+use Rattle.std.specs.List.{flat_map, list_all, range_with_len}
+use Rattle.std.proofs.lemmas.Bool.{leb-true, and_from, and_parts, cond_both}
 use Rattle.std.proofs.lemmas.List.{length-append, length-map, map-append, get_or_past, take_at, drop_at}
-use Rattle.std.proofs.lemmas.List.Elements.{All-nil, All-cons, All-append}
-use Rattle.std.proofs.lemmas.List.FromFn.{length-map-range_with_len}
+use Rattle.std.proofs.lemmas.List.Folds.{list_all-append}
+use Rattle.picture.specs.SplitLaws.{lacks}
 use Rattle.picture.specs.Rows.{rows_of, row_at, line_along}
 use Rattle.picture.specs.declared.line_id.Axis.TheVariants.{Across, Down}
 use Rattle.clues.specs.declared.block.Block.{Block}
@@ -35,55 +35,27 @@ are_rows width (row ∷ rows) even e =
 
 -- ---- digits
 
-digit_is_cell : (cell : ℕ) → is_cell_digit (digit_of cell) ≡ true
-digit_is_cell cell = by_test (eqb cell 0)
-  where
-    by_test : (t : Bool) → is_cell_digit (cond t 48 49) ≡ true
-    by_test true = refl
-    by_test false = refl
-
-all_append : (p : ℕ → Bool) (xs ys : List ℕ) → list_all p xs ≡ true → list_all p ys ≡ true → list_all p (xs ++ ys) ≡ true
-all_append p [] ys ex ey = ey
-all_append p (x ∷ xs) ys ex ey =
-    let parts = and_parts (p x) (list_all p xs) ex in
-    ap (λ t. t && list_all p (xs ++ ys)) parts.0 ∙ all_append p xs ys parts.1 ey
+digit_by : (P : ℕ → Type 0) → P 48 → P 49 → (cell : ℕ) → P (digit_of cell)
+digit_by P nought one cell = cond_both (eqb cell 0) 48 49 P (λ _. nought) (λ _. one)
 
 row_digits : (p : ℕ → Bool) → ((cell : ℕ) → p (digit_of cell) ≡ true) → (row : List ℕ) → list_all p (map digit_of row) ≡ true
 row_digits p each [] = refl
 row_digits p each (cell ∷ row) = ap (λ t. t && list_all p (map digit_of row)) (each cell) ∙ row_digits p each row
 
 -- what holds of both digits holds of all
-pub all_digits : (p : ℕ → Bool) → ((cell : ℕ) → p (digit_of cell) ≡ true) → (rows : List (List ℕ)) → list_all p (flat_map (map digit_of) rows) ≡ true
+all_digits : (p : ℕ → Bool) → ((cell : ℕ) → p (digit_of cell) ≡ true) → (rows : List (List ℕ)) → list_all p (flat_map (map digit_of) rows) ≡ true
 all_digits p each [] = refl
-all_digits p each (row ∷ rows) = all_append p (map digit_of row) (flat_map (map digit_of) rows) (row_digits p each row) (all_digits p each rows)
+all_digits p each (row ∷ rows) =
+    list_all-append p (map digit_of row) (flat_map (map digit_of) rows) ∙ and_from (list_all p (map digit_of row)) (list_all p (flat_map (map digit_of) rows)) (row_digits p each row) (all_digits p each rows)
 
 pub cell_digits : (rows : List (List ℕ)) → list_all is_cell_digit (flat_map (map digit_of) rows) ≡ true
-cell_digits rows = all_digits is_cell_digit digit_is_cell rows
-
-digit_printed : (cell : ℕ) → leb 32 (digit_of cell) ≡ true
-digit_printed cell = by_test (eqb cell 0)
-  where
-    by_test : (t : Bool) → leb 32 (cond t 48 49) ≡ true
-    by_test true = refl
-    by_test false = refl
+cell_digits rows = all_digits is_cell_digit (digit_by (λ d. is_cell_digit d ≡ true) refl refl) rows
 
 pub digits_printed : (rows : List (List ℕ)) → list_all (λ b. leb 32 b) (flat_map (map digit_of) rows) ≡ true
-digits_printed rows = all_digits (λ b. leb 32 b) digit_printed rows
+digits_printed rows = all_digits (λ b. leb 32 b) (digit_by (λ d. leb 32 d ≡ true) refl refl) rows
 
-digit_no_quote : (cell : ℕ) → eqb (digit_of cell) 34 ≡ false
-digit_no_quote cell = by_test (eqb cell 0)
-  where
-    by_test : (t : Bool) → eqb (cond t 48 49) 34 ≡ false
-    by_test true = refl
-    by_test false = refl
-
-row_no_quote : (row : List ℕ) → All (λ b. eqb b 34 ≡ false) (map digit_of row)
-row_no_quote [] = All-nil (λ b. eqb b 34 ≡ false)
-row_no_quote (cell ∷ row) = All-cons (λ b. eqb b 34 ≡ false) (digit_of cell) (map digit_of row) (digit_no_quote cell) (row_no_quote row)
-
-pub no_quotes : (rows : List (List ℕ)) → All (λ b. eqb b 34 ≡ false) (flat_map (map digit_of) rows)
-no_quotes [] = All-nil (λ b. eqb b 34 ≡ false)
-no_quotes (row ∷ rows) = All-append (λ b. eqb b 34 ≡ false) (map digit_of row) (flat_map (map digit_of) rows) (row_no_quote row) (no_quotes rows)
+pub no_quotes : (rows : List (List ℕ)) → lacks 34 (flat_map (map digit_of) rows) ≡ true
+no_quotes rows = all_digits (λ b. not (eqb b 34)) (digit_by (λ d. not (eqb d 34) ≡ true) refl refl) rows
 
 pub length-digits : (width : ℕ) (rows : List (List ℕ)) → AreRows width rows → length (flat_map (map digit_of) rows) ≡ length rows * width
 length-digits width [] are = omega arith
@@ -146,11 +118,3 @@ rows_writable width rows are = range_writable (λ i. clue_of (line_along Across 
 pub columns_writable : (width n : ℕ) (rows : List (List ℕ)) → AreRows width rows → AreWritable (length rows) (first_clues Down rows n)
 unfolding first_clues
 columns_writable width n rows are = range_writable (λ j. clue_of (line_along Down j rows)) (length rows) 0 n (λ j lt. column_is width rows j are)
-
-pub length-rows_clues : (rows : List (List ℕ)) (n : ℕ) → length (first_clues Across rows n) ≡ n
-unfolding first_clues
-length-rows_clues rows n = length-map-range_with_len (λ i. clue_of (line_along Across i rows)) 0 n
-
-pub length-columns_clues : (rows : List (List ℕ)) (n : ℕ) → length (first_clues Down rows n) ≡ n
-unfolding first_clues
-length-columns_clues rows n = length-map-range_with_len (λ j. clue_of (line_along Down j rows)) 0 n

@@ -2,15 +2,17 @@
 use Rattle.std.proofs.Common.{◌≡◌, ℕ, ◌<◌, ◌≤◌, Bool, true, false, cond, eqb, leb, List, Option, Some, None, Result, Ok, Err, Decides, refl, ap, ◌∙◌, arith, ◌&&◌}
 use Rattle.std.specs.Option.{option_and_then}
 use Rattle.std.specs.Cmp.Lexicographic.{pointwise}
-use Rattle.std.proofs.lemmas.Bool.{leb-true, eqb-true, eq-eqb, and_parts, and_from}
+use Rattle.std.proofs.lemmas.Bool.{leb-true}
+use Rattle.std.proofs.lemmas.Bool.Decides.{Decides-and, Decides-eqb, Decides-like}
 use Rattle.std.proofs.lemmas.Slice.Eq.{slice_eq-Decides}
 use Rattle.picture.specs.declared.picture.TheConstants.{MAX_SIDE}
 use Rattle.clues.specs.declared.block.Block.{Block}
+use Rattle.clues.specs.Clue.{block}
 use Rattle.clues.specs.ClueBook.{Clues, clues_from, clues_of}
 use Rattle.non_text.specs.declared.non_puzzle.NonPuzzle.{NonPuzzle}
 use Rattle.non_text.specs.declared.fault.NonFault.{NonFault}
 use Rattle.non_text.specs.declared.fault.NonFault.TheVariants.{GoalDisagrees}
-use Rattle.non_text.specs.Bytes.{number_of}
+use Rattle.picture.specs.Numbers.{number_spelled}
 use Rattle.non_text.specs.Lines.{at_keyword, value_of}
 use Rattle.non_text.specs.Puzzle.{size_within, size_in, size_behind, same_block, same_clues, agreeing}
 use Rattle.non_text.proofs.SectionLemmas.{clues_count}
@@ -31,7 +33,7 @@ size_within_limits m n e = by_tests (leb 1 m) (leb m MAX_SIDE) refl refl e
 
 size_in_limits : (value : List ℕ) (n : ℕ) → size_in value ≡ Some n → (0 < n) × (n ≤ MAX_SIDE)
 unfolding size_in
-size_in_limits value n e = by_number (number_of value) e
+size_in_limits value n e = by_number (number_spelled value) e
   where
     by_number : (o : Option ℕ) → option_and_then size_within o ≡ Some n → (0 < n) × (n ≤ MAX_SIDE)
     by_number None h = cc
@@ -50,14 +52,9 @@ pub ruleset parts = (size_limits, clues_count)
 -- ---- the goal has the clues
 
 block_decides : (a b : Block) → Decides (same_block a b) (a ≡ b)
-block_decides a b = (
-  λ h.
-      let parts = and_parts (eqb a.len b.len) (eqb a.colour b.colour) h in
-      let len = eqb-true a.len b.len parts.0 in
-      let colour = eqb-true a.colour b.colour parts.1 in
-      ap (λ n. record { len = n; colour = a.colour }) len ∙ ap (λ n. record { len = b.len; colour = n }) colour,
-  λ e. and_from (eqb a.len b.len) (eqb a.colour b.colour) (eq-eqb a.len b.len (ap (λ (c : Block). c.len) e)) (eq-eqb a.colour b.colour (ap (λ (c : Block). c.colour) e)),
-)
+block_decides a b =
+    Decides-like _ (λ (e : (a.len ≡ b.len) × (a.colour ≡ b.colour)). let joined : block a.len a.colour ≡ block b.len b.colour = cc (e.0, e.1) in joined) (λ (e : a ≡ b). (ap (λ (x : Block). x.len) e, ap (λ (x : Block). x.colour) e))
+    (Decides-and _ _ (Decides-eqb a.len b.len) (Decides-eqb a.colour b.colour))
 
 clue_decides : (a b : List Block) → Decides (pointwise same_block a b) (a ≡ b)
 clue_decides a b = slice_eq-Decides block_decides a b _ refl
@@ -68,15 +65,8 @@ list_decides a b = slice_eq-Decides clue_decides a b _ refl
 pub clues_decides : (a b : Clues) → Decides (same_clues a b) (a ≡ b)
 unfolding same_clues
 clues_decides a b =
-    let same_rows = pointwise (pointwise same_block) a.rows b.rows in
-    let same_columns = pointwise (pointwise same_block) a.columns b.columns in (
-      λ h.
-          let parts = and_parts same_rows same_columns h in
-          let rows = (list_decides a.rows b.rows).0 parts.0 in
-          let columns = (list_decides a.columns b.columns).0 parts.1 in
-          ap (λ (r : List (List Block)). clues_from r a.columns) rows ∙ ap (clues_from b.rows) columns,
-      λ e. and_from same_rows same_columns ((list_decides a.rows b.rows).1 (ap (λ (c : Clues). c.rows) e)) ((list_decides a.columns b.columns).1 (ap (λ (c : Clues). c.columns) e)),
-    )
+    Decides-like _ (λ (e : (a.rows ≡ b.rows) × (a.columns ≡ b.columns)). let joined : clues_from a.rows a.columns ≡ clues_from b.rows b.columns = cc (e.0, e.1) in joined) (λ (e : a ≡ b). (ap (λ (x : Clues). x.rows) e, ap (λ (x : Clues). x.columns) e))
+    (Decides-and _ _ (list_decides a.rows b.rows) (list_decides a.columns b.columns))
 
 pub agreeing_none : (clues : Clues) → agreeing clues None ≡ Ok (record { clues = clues; goal = None })
 unfolding agreeing

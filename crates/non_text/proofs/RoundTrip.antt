@@ -7,17 +7,19 @@ use Rattle.std.specs.Str.{all_ascii_digits}
 use Rattle.std.specs.Char.{is_ascii_digit}
 use Rattle.std.specs.List.{flat_map}
 use Rattle.std.proofs.lemmas.Bool.{le-leb, and_parts}
-use Rattle.std.proofs.lemmas.List.Splits.{slice_split_at}
+use Rattle.picture.specs.SplitLaws.{split_at}
 use Rattle.picture.specs.declared.picture.TheConstants.{MAX_SIDE}
 use Rattle.picture.specs.Reading.{◌>>=◌}
 use Rattle.picture.specs.Rows.{width_of}
 use Rattle.picture.specs.Picture.{IsPicture}
 use Rattle.clues.specs.declared.block.Block.{Block}
+use Rattle.picture.specs.declared.line_id.Axis.TheVariants.{Across, Down}
+use Rattle.clues.specs.BookLaws.{length-first_clues}
 use Rattle.clues.specs.ClueBook.{clues_from, clues_of}
 use Rattle.non_text.specs.declared.seen.Seen.{Seen}
 use Rattle.non_text.specs.declared.non_puzzle.NonPuzzle.{NonPuzzle}
 use Rattle.non_text.specs.declared.fault.NonFault.TheVariants.{BadSize}
-use Rattle.non_text.specs.Bytes.{is_blank, past_blanks, first_word, past_word}
+use Rattle.non_text.specs.Bytes.{before_blanks, is_blank, past_blanks, first_word, past_word}
 use Rattle.non_text.specs.Lines.{is_blank_line, is_comment, lines_of, keyword_of, value_of, at_keyword}
 use Rattle.non_text.specs.Section.{section_clues, found_clues, clues_behind}
 use Rattle.non_text.specs.Goal.{quoted, goal_digits, goal_in}
@@ -25,15 +27,16 @@ use Rattle.non_text.specs.Puzzle.{size_within, size_in, first_fault, size_behind
 use Rattle.non_text.specs.RoundTrip.{IsReadAgain}
 use Rattle.non_text.specs.Writing.{is_two_colour}
 use Rattle.non_text.specs.Written.{clue_text, digit_of, goal_text, written_lines, non_text_of}
-use Rattle.non_text.proofs.BytesLemmas.{before_blanks_other}
-use Rattle.non_text.proofs.DigitTexts.{digit_range, trimmed_digits, decimal_digits, number_of-decimal}
+use Rattle.non_text.proofs.BytesLemmas.{before_blanks_other, past_blanks_blank}
+use Rattle.picture.specs.NumberLaws.{decimal_digits, digit_range, number_spelled-decimal}
+use Rattle.non_text.proofs.DigitTexts.{trimmed_digits}
 use Rattle.non_text.proofs.LinesLemmas.{at_keyword_found, at_keyword_later}
 use Rattle.non_text.proofs.GoalLemmas.{goal_is}
 use Rattle.non_text.proofs.SeenLemmas.{faults_first, faults_none}
 use Rattle.non_text.proofs.PuzzleLemmas.{agreeing_same}
 use Rattle.non_text.proofs.ClueTexts.{lens_of, small_sum, clue_text_begins, no_comment}
 use Rattle.non_text.proofs.WrittenLines.{is_printed, printed_append, IsShown, AreShown, lines_of-written, ArePlain, at_keyword-plain, section_of-plain, faults_step, faults-plain, AreWritable, plain_clues, section_clues-texts}
-use Rattle.non_text.proofs.PictureTexts.{AreRows, are_rows, cell_digits, digits_printed, no_quotes, length-digits, rows_again, rows_writable, columns_writable, length-rows_clues, length-columns_clues}
+use Rattle.non_text.proofs.PictureTexts.{AreRows, are_rows, cell_digits, digits_printed, no_quotes, length-digits, rows_again, rows_writable, columns_writable}
 
 -- ---- the steps of reading
 
@@ -47,7 +50,7 @@ puzzle_from lines width height rows columns picture puzzle good is_wide is_high 
 size_of-decimal : (n : ℕ) → 0 < n → n ≤ MAX_SIDE → size_in (decimal n) ≡ Some n
 unfolding size_in
 size_of-decimal n low high =
-    ap (option_and_then size_within) (number_of-decimal n (omega arith))
+    ap (option_and_then size_within) (number_spelled-decimal n (omega arith))
     ∙ ap (λ t. cond (t && leb n MAX_SIDE) (Some n) None) (le-leb 1 n (omega arith)) ∙ ap (λ t. cond t (Some n) None) (le-leb n MAX_SIDE high)
 
 abbrev width_line : ℕ → List ℕ
@@ -78,11 +81,11 @@ goal_keyword bytes = refl
 
 width_value : (n : ℕ) → n < 2 ^ 64 → value_of (width_line n) ≡ decimal n
 unfolding value_of past_blanks past_word is_blank
-width_value n small = trimmed_digits (decimal n) (decimal_digits n small)
+width_value n small = ap before_blanks (past_blanks_blank 32 (decimal n) refl) ∙ trimmed_digits (decimal n) (decimal_digits n small)
 
 height_value : (n : ℕ) → n < 2 ^ 64 → value_of (height_line n) ≡ decimal n
 unfolding value_of past_blanks past_word is_blank
-height_value n small = trimmed_digits (decimal n) (decimal_digits n small)
+height_value n small = ap before_blanks (past_blanks_blank 32 (decimal n) refl) ∙ trimmed_digits (decimal n) (decimal_digits n small)
 
 width_size : (n : ℕ) → 0 < n → n ≤ MAX_SIDE → size_in (value_of (width_line n)) ≡ Some n
 width_size n low high = ap size_in (width_value n (omega arith)) ∙ size_of-decimal n low high
@@ -129,7 +132,7 @@ module _ (width height : ℕ) (rows columns : List (List Block)) (goal : List �
 
   no_fault : first_fault [] (lines_from width height rows columns goal) ≡ None
   no_fault =
-      sym (faults_first (lines_from width height rows columns goal))
+      sym (faults_first (seen_as false false false false) (lines_from width height rows columns goal) refl refl refl refl)
       ∙ faults_step (seen_as false false false false) (seen_as true false false false) (codes "width") (width_line width) _ (width_keyword width) (ap (λ o. cond (is_none o) (Some BadSize) None) (width_size width are.wide are.wide_fits)) refl
       ∙ faults_step (seen_as true false false false) (seen_as true true false false) (codes "height") (height_line height) _ (height_keyword height) (ap (λ o. cond (is_none o) (Some BadSize) None) (height_size height are.high are.high_fits)) refl
       ∙ faults_step (seen_as true true false false) (seen_as true true true false) (codes "rows") (codes "rows") _ rows_keyword refl refl
@@ -192,7 +195,7 @@ goal_value digits = before_blanks_other (34 ∷ digits) 34 refl
 
 goal_digits-quoted : (rows : List (List ℕ)) → goal_digits (34 ∷ (flat_map (map digit_of) rows ++ 34 ∷ [])) ≡ Some (flat_map (map digit_of) rows)
 unfolding goal_digits is_blank_line past_blanks
-goal_digits-quoted rows = ap quoted (slice_split_at (λ c. eqb c 34) (flat_map (map digit_of) rows) 34 [] (no_quotes rows) refl)
+goal_digits-quoted rows = ap quoted (split_at 34 (flat_map (map digit_of) rows) [] (no_quotes rows))
 
 goal_again : (width : ℕ) (rows : List (List ℕ)) → AreRows width rows → goal_in (length rows) width (value_of (goal_text rows)) ≡ Ok rows
 goal_again width rows are =
@@ -255,9 +258,9 @@ parts_are rows picture are = record {
   high = picture.has_row;
   high_fits = picture.rows_fit;
   rows_are = rows_writable (width_of rows) rows are;
-  rows_count = length-rows_clues rows (length rows);
+  rows_count = length-first_clues Across rows (length rows);
   columns_are = columns_writable (width_of rows) (width_of rows) rows are;
-  columns_count = length-columns_clues rows (width_of rows);
+  columns_count = length-first_clues Down rows (width_of rows);
   goal_is = goal_keyword (34 ∷ (flat_map (map digit_of) rows ++ 34 ∷ []));
 }
 

@@ -3,9 +3,10 @@ use Rattle.std.proofs.Common.{◌≡◌, ◌≢◌, ℕ, zero, suc, ◌-◌, ◌
 use Rattle.std.specs.Cmp.Lexicographic.{pointwise}
 use Rattle.std.specs.List.{slice_split, flat_map, list_all, list_any, All}
 use Rattle.std.specs.Str.Lines.{strip_carriage_return}
-use Rattle.std.proofs.lemmas.Bool.{leb-true, ne_eqb, eq-eqb, and_parts}
+use Rattle.std.proofs.lemmas.Bool.{leb-true, ne_eqb, eq-eqb, and_from, and_parts}
 use Rattle.std.proofs.lemmas.List.{append_assoc, get_or_past, length-map, take_all}
 use Rattle.std.proofs.lemmas.List.Elements.{All-nil, All-cons}
+use Rattle.std.proofs.lemmas.List.Folds.{list_all-append}
 use Rattle.std.proofs.lemmas.List.Splits.{slice_split_at}
 use Rattle.picture.specs.declared.picture.TheConstants.{MAX_SIDE}
 use Rattle.picture.specs.Reading.{◌>>=◌}
@@ -30,10 +31,7 @@ abbrev pub is_printed : List ℕ → Bool
 is_printed line = list_all (λ b. leb 32 b) line
 
 pub printed_append : (xs ys : List ℕ) → is_printed xs ≡ true → is_printed ys ≡ true → is_printed (xs ++ ys) ≡ true
-printed_append [] ys ex ey = ey
-printed_append (x ∷ xs) ys ex ey =
-    let parts = and_parts (leb 32 x) (is_printed xs) ex in
-    ap (λ t. t && is_printed (xs ++ ys)) parts.0 ∙ printed_append xs ys parts.1 ey
+printed_append xs ys ex ey = list_all-append (λ b. leb 32 b) xs ys ∙ and_from (is_printed xs) (is_printed ys) ex ey
 
 no_feed : (line : List ℕ) → is_printed line ≡ true → All (λ b. eqb b 10 ≡ false) line
 no_feed [] e = All-nil (λ b. eqb b 10 ≡ false)

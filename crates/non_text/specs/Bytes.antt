@@ -1,7 +1,6 @@
 -- Bytes of a line: blanks, digits, words and numbers.
-use Rattle.std.specs.Prelude.{ℕ, ◌+◌, ◌-◌, ◌*◌, Bool, true, false, ◌&&◌, ◌||◌, not, List, [], ◌∷◌, Option, None, Some, nat_le, ◌==◌, if◌then◌else◌}
-use Rattle.std.specs.List.{list_all}
-use Rattle.std.specs.Str.{all_ascii_digits}
+use Rattle.std.specs.Prelude.{ℕ, Bool, true, false, not, ◌&&◌, ◌||◌, List, [], ◌∷◌, take, drop, nat_le, ◌==◌, if◌then◌else◌}
+use Rattle.std.specs.List.{list_all, position_or_len}
 
 -- a space or a TAB
 unfoldable pub is_blank : ℕ → Bool
@@ -14,10 +13,12 @@ abbrev pub is_empty : {X : Type 0} → List X → Bool
 is_empty [] = true
 is_empty (x ∷ xs) = false
 
+abbrev pub is_no_blank : ℕ → Bool
+is_no_blank b = not (is_blank b)
+
 -- the bytes without the blanks at the front
 unfoldable pub past_blanks : List ℕ → List ℕ
-past_blanks [] = []
-past_blanks (b ∷ bytes) = if is_blank b then past_blanks bytes else b ∷ bytes
+past_blanks bytes = drop (position_or_len is_no_blank bytes) bytes
 
 -- the bytes without the blanks at the end
 unfoldable pub before_blanks : List ℕ → List ℕ
@@ -30,19 +31,8 @@ trimmed bytes = before_blanks (past_blanks bytes)
 
 -- the bytes up to the first blank
 unfoldable pub first_word : List ℕ → List ℕ
-first_word [] = []
-first_word (b ∷ bytes) = if is_blank b then [] else b ∷ first_word bytes
+first_word bytes = take (position_or_len is_blank bytes) bytes
 
 -- what stands behind that word
 unfoldable pub past_word : List ℕ → List ℕ
-past_word [] = []
-past_word (b ∷ bytes) = if is_blank b then b ∷ bytes else past_word bytes
-
--- the value of digits that stand behind a number
-unfoldable pub value_after : ℕ → List ℕ → ℕ
-value_after n [] = n
-value_after n (d ∷ digits) = value_after (n * 10 + (d - 48)) digits
-
--- the value of digits alone, however many there are
-unfoldable pub number_of : List ℕ → Option ℕ
-number_of bytes = if not (is_empty bytes) && all_ascii_digits bytes then Some (value_after 0 bytes) else None
+past_word bytes = drop (position_or_len is_blank bytes) bytes

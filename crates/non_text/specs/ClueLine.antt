@@ -7,14 +7,15 @@ use Rattle.clues.specs.declared.block.Block.{Block}
 use Rattle.clues.specs.Clue.{block}
 use Rattle.non_text.specs.declared.fault.NonFault.{NonFault}
 use Rattle.non_text.specs.declared.fault.NonFault.TheVariants.{BadClue, ClueTooLong}
-use Rattle.non_text.specs.Bytes.{trimmed, number_of}
+use Rattle.non_text.specs.Bytes.{trimmed}
+use Rattle.picture.specs.Numbers.{number_spelled}
 use Rattle.non_text.specs.Lines.{is_blank_line}
 
 -- a number for each place
 abbrev pub numbers_in : List (List ℕ) → Result (List ℕ) NonFault
 numbers_in [] = Ok []
 numbers_in (place ∷ places) = do
-  n ← ok_or (number_of (trimmed place)) BadClue
+  n ← ok_or (number_spelled (trimmed place)) BadClue
   ns ← numbers_in places
   Ok (n ∷ ns)
 

@@ -10,7 +10,7 @@ use Rattle.clues.specs.ClueBook.{Clues, clues_from, clues_of}
 use Rattle.non_text.specs.declared.non_puzzle.NonPuzzle.{NonPuzzle}
 use Rattle.non_text.specs.declared.fault.NonFault.{NonFault}
 use Rattle.non_text.specs.declared.fault.NonFault.TheVariants.{MissingSize, BadSize, Repeated, GoalDisagrees}
-use Rattle.non_text.specs.Bytes.{number_of}
+use Rattle.picture.specs.Numbers.{number_spelled}
 use Rattle.non_text.specs.Lines.{lines_of, has_keyword, value_of, at_keyword}
 use Rattle.non_text.specs.Section.{clues_behind}
 use Rattle.non_text.specs.Goal.{goal_in}
@@ -21,7 +21,7 @@ size_within n = if nat_le 1 n && nat_le n MAX_SIDE then Some n else None
 
 -- the size that a value gives
 unfoldable pub size_in : List ℕ → Option ℕ
-size_in value = option_and_then size_within (number_of value)
+size_in value = option_and_then size_within (number_spelled value)
 
 abbrev pub is_size_line : List ℕ → Bool
 is_size_line line = has_keyword (codes "width") line || has_keyword (codes "height") line

@@ -1,44 +1,26 @@
 //! A clue as a line of numbers.
 
-ghost use Rattle.std.specs.Prelude.{◌≡◌, ◌+◌, ◌-◌, ◌*◌, ◌<◌, ◌≤◌, ◌==◌, length, map, min, option_map, IfOk, nat_le};
+ghost use Rattle.std.specs.Prelude.{◌≡◌, ◌<◌, ◌==◌, map, min, option_map, IfOk, nat_le};
 ghost use Rattle.std.specs.List.{slice_split};
+ghost use Rattle.picture.specs.Numbers.{number_spelled};
 ghost use Rattle.picture.specs.Reading.{Gives};
-ghost use Rattle.non_text.specs.Bytes.{number_of};
 ghost use Rattle.non_text.specs.ClueLine.{numbers_in, cells_needed, black, clue_from, clue_in};
 ghost use Rattle.non_text.specs.Capped.{all_capped};
 
 use crate::fault::{NonFault, Read};
 use crate::lines::{is_blank_line, trim};
 use clues::{Block, Clue};
-use picture::split_first;
+use picture::{number_in, split_first};
 use smallvec::SmallVec;
 use std::alloc::{AllocError, Global};
 
 #[tactic(auto, using(crate::proofs::NumberLemmas::numbers))]
 // The value of digits alone. A value above 255 counts as 255: no size and no length is as large.
 pub(crate) fn number(bytes: &[u8]) -> Option<u8>
-    ensures { result ≡ option_map (min 255) (number_of bytes.now) }
+    ensures { result ≡ option_map (min 255) (number_spelled bytes.now) }
 {
-    if bytes.is_empty() {
-        return None;
-    }
-    let mut value = 0;
-    for byte in bytes {
-        if !byte.is_ascii_digit() {
-            return None;
-        }
-        value = with_digit(value, *byte);
-    }
-    Some(value)
-}
-
-// A value with one digit more.
-fn with_digit(value: u8, digit: u8) -> u8
-    requires low { 48 ≤ digit }
-    requires high { digit ≤ 57 }
-    ensures { result ≡ min 255 (value * 10 + (digit - 48)) }
-{
-    (u16::from(value) * 10 + u16::from(digit - b'0')).min(255) as u8
+    let number = number_in(bytes)?;
+    Some(number.min(255) as u8)
 }
 
 #[tactic(auto, using(crate::proofs::ClueLineLemmas::places))]

@@ -2,10 +2,8 @@
 
 ghost use Rattle.std.specs.Prelude.{◌≡◌};
 ghost use Rattle.non_text.specs.Faults.{name_of};
-ghost use Rattle.non_text.specs.declared.fault.NonFault.TheVariants as reading;
-ghost use Rattle.non_text.specs.declared.fault.NonWriteFault.TheVariants as writing;
+ghost use Rattle.non_text.specs.declared.fault.NonFault.TheVariants.{Memory};
 
-use picture::WriteFault;
 use std::alloc::AllocError;
 use thiserror::Error;
 
@@ -64,7 +62,7 @@ impl NonFault {
 }
 
 impl From<AllocError> for NonFault {
-    ghost from_gives = { λ _ e. e ≡ reading.Memory };
+    ghost from_gives = { λ _ e. e ≡ Memory };
 
     fn from(_refused: AllocError) -> NonFault {
         NonFault::Memory
@@ -83,20 +81,4 @@ pub enum NonWriteFault {
     /// Memory ran out. Nothing was written.
     #[error("out of memory")]
     Memory,
-}
-
-impl From<AllocError> for NonWriteFault {
-    ghost from_gives = { λ _ e. e ≡ writing.Memory };
-
-    fn from(_refused: AllocError) -> NonWriteFault {
-        NonWriteFault::Memory
-    }
-}
-
-impl From<WriteFault> for NonWriteFault {
-    ghost from_gives = { λ _ e. e ≡ writing.Write };
-
-    fn from(_failed: WriteFault) -> NonWriteFault {
-        NonWriteFault::Write
-    }
 }

@@ -16,10 +16,10 @@ use std::alloc::{AllocError, Global};
 fn goal_digits(value: &[u8]) -> Option<&[u8]>
     ensures { option_copied result ≡ goal_digits value.now }
 {
-    if value.is_empty() || value[0] != b'"' {
-        return Some(value);
+    match value {
+        [b'"', rest @ ..] => quoted(rest),
+        _ => Some(value),
     }
-    quoted(&value[1..])
 }
 
 #[tactic(auto, using(crate::proofs::GoalLemmas::quotes))]
@@ -29,11 +29,7 @@ fn quoted(bytes: &[u8]) -> Option<&[u8]>
 {
     let (digits, behind) = split_first(bytes, b'"');
     let behind = behind?;
-    if is_blank_line(behind) {
-        Some(digits)
-    } else {
-        None
-    }
+    is_blank_line(behind).then_some(digits)
 }
 
 // Whether a goal may have these digits.

@@ -1,8 +1,8 @@
 //! The lines of a text, cut off one by one. Nothing is copied.
 
-ghost use Rattle.std.specs.Prelude.{◌≡◌, option_map};
+ghost use Rattle.std.specs.Prelude.{◌≡◌, option_map, position};
 ghost use Rattle.std.specs.Str.Lines.{strip_carriage_return};
-ghost use Rattle.non_text.specs.Bytes.{is_blank, past_blanks, before_blanks, trimmed, first_word, past_word};
+ghost use Rattle.non_text.specs.Bytes.{is_blank, is_no_blank, past_blanks, before_blanks, trimmed, first_word, past_word};
 ghost use Rattle.non_text.specs.Lines.{all_lines, is_blank_line, is_comment, lines_of, keyword_of, value_of, at_keyword};
 ghost use Rattle.non_text.specs.Cut.{IsFirstOf, section_lines, lines_found};
 
@@ -15,17 +15,29 @@ fn is_blank(byte: u8) -> bool
     byte == b' ' || byte == b'\t'
 }
 
-#[tactic(auto, using(crate::proofs::BytesLemmas::blanks))]
+// The place of the first blank.
+fn blank_place(bytes: &[u8]) -> Option<usize>
+    ensures { result ≡ position is_blank bytes.now }
+{
+    bytes.iter().position(|b| is_blank(*b))
+}
+
+// The place of the first byte that is no blank.
+fn word_place(bytes: &[u8]) -> Option<usize>
+    ensures { result ≡ position is_no_blank bytes.now }
+{
+    bytes.iter().position(|b| !is_blank(*b))
+}
+
+#[tactic(auto, using(crate::proofs::BytesLemmas::fronts))]
 // The bytes without the blanks at the front.
 fn past_blanks(bytes: &[u8]) -> &[u8]
     ensures { result.now ≡ past_blanks bytes.now }
 {
-    for (i, byte) in bytes.iter().enumerate() {
-        if !is_blank(*byte) {
-            return &bytes[i..];
-        }
+    match word_place(bytes) {
+        Some(start) => &bytes[start..],
+        None => &[],
     }
-    &[]
 }
 
 #[tactic(auto, using(crate::proofs::BytesLemmas::blanks))]
@@ -56,12 +68,10 @@ fn split_word(bytes: &[u8]) -> (&[u8], &[u8])
     ensures word { result.0.now ≡ first_word bytes.now }
     ensures rest { result.1.now ≡ past_word bytes.now }
 {
-    for (i, byte) in bytes.iter().enumerate() {
-        if is_blank(*byte) {
-            return bytes.split_at(i);
-        }
+    match blank_place(bytes) {
+        Some(end) => bytes.split_at(end),
+        None => (bytes, &[]),
     }
-    (bytes, &[])
 }
 
 // The piece without a carriage return at its end.
@@ -145,11 +155,7 @@ pub(crate) fn next_in_section(text: &[u8]) -> Option<(&[u8], &[u8])>
     ensures { IsFirstOf section_lines text.now result }
 {
     let (line, rest) = next_line(text)?;
-    if keyword(line).is_empty() {
-        Some((line, rest))
-    } else {
-        None
-    }
+    keyword(line).is_empty().then_some((line, rest))
 }
 
 #[tactic(auto, using(crate::proofs::LinesLemmas::finding))]

@@ -57,12 +57,10 @@ fn goal_behind(alloc: Global, text: &[u8], height: u8, width: u8) -> Read<Option
 fn agreeing(clues: ClueBook, goal: Option<Picture>) -> Read<NonPuzzle>
     ensures { result ≡ agreeing clues goal }
 {
-    match goal {
-        None => Ok(NonPuzzle { clues, goal: None }),
-        Some(picture) if clues.has_clues(&picture) => Ok(NonPuzzle {
-            clues,
-            goal: Some(picture),
-        }),
-        Some(_) => Err(NonFault::GoalDisagrees),
+    if let Some(picture) = &goal
+        && !clues.has_clues(picture)
+    {
+        return Err(NonFault::GoalDisagrees);
     }
+    Ok(NonPuzzle { clues, goal })
 }

@@ -11,7 +11,7 @@ use crate::lines::{find, keyword, next_line, value};
 use picture::MAX_SIDE;
 
 // Which keywords stand on the lines above.
-#[derive(Clone, Copy)]
+#[derive(Clone, Copy, Default)]
 struct Seen {
     width: bool,
     height: bool,
@@ -86,12 +86,7 @@ fn fault_below(seen: Seen, line: &[u8]) -> Option<NonFault>
 pub(crate) fn first_fault(text: &[u8]) -> Option<NonFault>
     ensures { result ≡ first_fault [] (lines_of text.now) }
 {
-    let mut seen = Seen {
-        width: false,
-        height: false,
-        rows: false,
-        columns: false,
-    };
+    let mut seen = Seen::default();
     let mut rest = text;
     while let Some((line, behind)) = next_line(rest) {
         if let Some(fault) = fault_below(seen, line) {

@@ -22,9 +22,8 @@ pub fn write_non<W: Write>(
     if !is_two_colour(picture) {
         return Err(NonWriteFault::TwoColoursOnly);
     }
-    let text = non_text_of(alloc, picture)?;
-    send(&text, writer)?;
-    Ok(())
+    let text = non_text_of(alloc, picture).map_err(|_| NonWriteFault::Memory)?;
+    send(&text, writer).map_err(|_| NonWriteFault::Write)
 }
 
 #[tactic(auto, using(crate::proofs::TextLemmas::rows))]

@@ -11,19 +11,7 @@ use Rattle.picture.specs.Rows.{rows_of, width_of, row_at, cell_at, line_along, l
 use Rattle.picture.specs.Picture.{IsPicture, AreCells}
 use Rattle.picture.specs.Line.{spaced}
 use Rattle.picture.proofs.LineLemmas.{length-spaced, get_or-spaced}
-use Rattle.picture.specs.FlatLaws.{length-rows_of, place_inside, length-row, cell_at-rows_of}
-
-pub cell_at_small : (height width : ℕ) (cells : List ℕ) (limit : ℕ) → length cells ≡ height * width → 0 < limit → ((k : ℕ) → get_or cells k 0 < limit) → (i j : ℕ) → cell_at (rows_of height width cells) i j < limit
-cell_at_small height width cells limit count some small i j =
-    elim (cases_lt i height) [
-      | inl in_rows ↦ elim (cases_lt j width) [
-        | inl in_row ↦ rw (cell_at-rows_of height width cells i j in_rows in_row) (small (i * width + j))
-        | inr past ↦ rw (get_or_past (row_at (rows_of height width cells) i) j 0 (omega (arith, length-row height width cells i count in_rows))) some
-      ]
-      | inr past ↦
-          let none : row_at (rows_of height width cells) i ≡ [] = get_or_past (rows_of height width cells) i [] (omega (arith, length-rows_of height width cells)) in
-          rw none some
-    ]
+use Rattle.picture.specs.FlatLaws.{length-rows_of, place_inside, length-row, cell_at-rows_of, cell_at_below}
 
 pub is_picture : (height width : ℕ) (cells : List ℕ) → AreCells height width cells → IsPicture (rows_of height width cells)
 is_picture height width cells is =
@@ -36,7 +24,7 @@ is_picture height width cells is =
       has_column = omega (arith, wide, is.has_column);
       columns_fit = omega (arith, wide, is.columns_fit);
       rectangular = λ i lt. length-row height width cells i is.count (omega (arith, tall, lt)) ∙ sym wide;
-      colours = cell_at_small height width cells 16 is.count (omega arith) is.colours;
+      colours = cell_at_below height width 16 cells (omega arith) is.colours;
     }
 
 -- what is known of rows that a flat list makes
@@ -70,8 +58,6 @@ column_is_spaced height width cells j in_row =
     let in_height : i < height = omega (arith, in_rows, length-spaced cells j width height) in
     get_or-spaced cells j width height i in_height ∙ ap (λ k. get_or cells k 0) (omega arith) ∙ sym (cell_at-rows_of height width cells i j in_height in_row)
     ∙ sym (get_or-map (λ (row : List ℕ). get_or row j 0) (rows_of height width cells) i [] 0 (omega (arith, length-rows_of height width cells))))
-
--- ---- one cell changed
 
 -- ---- all background, and equal rows
 

@@ -1,8 +1,10 @@
 -- Rows joined into one flat list, and edits of rows beside edits of the flat list.
 use Rattle.std.proofs.Common.{◌≡◌, ℕ, zero, suc, ◌+◌, ◌*◌, ◌-◌, ◌<◌, ◌≤◌, List, [], ◌∷◌, ◌++◌, length, get_or, set, take, drop, map, replicate, arith, refl, ap, ◌∙◌, sym, subst, inl, inr}
-use Rattle.std.specs.List.{AllByRecursion, concat, insert, remove, swap}
+use Rattle.std.specs.List.{All, concat, insert, remove, swap}
 use Rattle.std.proofs.lemmas.Bool.{cases_lt}
 use Rattle.std.proofs.lemmas.List.{append-nil, append_assoc, length-append, length-map, length-drop, length-set, length-replicate, length-take-le, take_at, drop_at, take_all, drop_all, take-append-drop, drop_more, map_more, get_or_past, get_or-append-add, get_or_append_left, set-append_left, set-append_right, nil_from_length}
+use Rattle.std.proofs.lemmas.List.Elements.{All-append, All-cons, All-drop, All-from_get_or, All-get_or, All-head, All-map, All-nil, All-replicate, All-set, All-tail, All-take, All-weaker}
+use Rattle.std.proofs.lemmas.List.Folds.{concat-append}
 use Rattle.std.proofs.lemmas.List.Edits.{swap_is, length-insert, length-remove, length-swap, remove-append_right, remove-append_left}
 use Rattle.picture.specs.declared.picture.TheConstants.{MAX_SIDE}
 use Rattle.picture.specs.Picture.{AreCells}
@@ -12,82 +14,49 @@ use Rattle.picture.specs.FlatLaws.{length-rows_of, row_at-rows_of}
 -- ---- what holds of each element
 
 module _ {X : Type 0} (P : X → Type 0) where
-  pub every_append : (xs ys : List X) → AllByRecursion P xs → AllByRecursion P ys → AllByRecursion P (xs ++ ys)
-  every_append [] ys all more = more
-  every_append (x ∷ xs) ys all more = (all.0, every_append xs ys all.1 more)
+  every_insert : (xs : List X) (i : ℕ) (x : X) → P x → All P xs → All P (insert xs i x)
+  every_insert xs i x is all = All-append P (take i xs) (x ∷ drop i xs) (All-take P i xs all) (All-cons P x (drop i xs) is (All-drop P i xs all))
 
-  every_take : (n : ℕ) (xs : List X) → AllByRecursion P xs → AllByRecursion P (take n xs)
-  every_take zero xs all = tt
-  every_take (suc n) [] all = tt
-  every_take (suc n) (x ∷ xs) all = (all.0, every_take n xs all.1)
+  every_remove : (xs : List X) (i : ℕ) → All P xs → All P (remove xs i)
+  every_remove xs i all = All-append P (take i xs) (drop (suc i) xs) (All-take P i xs all) (All-drop P (suc i) xs all)
 
-  every_drop : (n : ℕ) (xs : List X) → AllByRecursion P xs → AllByRecursion P (drop n xs)
-  every_drop zero xs all = all
-  every_drop (suc n) [] all = tt
-  every_drop (suc n) (x ∷ xs) all = every_drop n xs all.1
-
-  pub every_set : (xs : List X) (i : ℕ) (x : X) → P x → AllByRecursion P xs → AllByRecursion P (set xs i x)
-  every_set [] i x is all = all
-  every_set (y ∷ xs) zero x is all = (is, all.1)
-  every_set (y ∷ xs) (suc i) x is all = (all.0, every_set xs i x is all.1)
-
-  every_replicate : (n : ℕ) (x : X) → P x → AllByRecursion P (replicate n x)
-  every_replicate zero x is = tt
-  every_replicate (suc n) x is = (is, every_replicate n x is)
-
-  pub every_at : (xs : List X) (i : ℕ) (d : X) → i < length xs → AllByRecursion P xs → P (get_or xs i d)
-  every_at [] i d lt all = absurd (omega (arith, lt))
-  every_at (x ∷ xs) zero d lt all = all.0
-  every_at (x ∷ xs) (suc i) d lt all = every_at xs i d (omega (arith, lt)) all.1
-
-  every_insert : (xs : List X) (i : ℕ) (x : X) → P x → AllByRecursion P xs → AllByRecursion P (insert xs i x)
-  every_insert xs i x is all = every_append (take i xs) (x ∷ drop i xs) (every_take i xs all) (is, every_drop i xs all)
-
-  every_remove : (xs : List X) (i : ℕ) → AllByRecursion P xs → AllByRecursion P (remove xs i)
-  every_remove xs i all = every_append (take i xs) (drop (suc i) xs) (every_take i xs all) (every_drop (suc i) xs all)
-
-  every_swap : (xs : List X) (i j : ℕ) → i < length xs → j < length xs → AllByRecursion P xs → AllByRecursion P (swap xs i j)
+  every_swap : (xs : List X) (i j : ℕ) → i < length xs → j < length xs → All P xs → All P (swap xs i j)
   every_swap [] i j in_i in_j all = all
   every_swap (x ∷ xs) i j in_i in_j all =
       rw (← swap_is (x ∷ xs) i j x in_i in_j)
-      (every_set (set (x ∷ xs) i (get_or (x ∷ xs) j x)) j (get_or (x ∷ xs) i x) (every_at (x ∷ xs) i x in_i all) (every_set (x ∷ xs) i (get_or (x ∷ xs) j x) (every_at (x ∷ xs) j x in_j all) all))
+      (All-set P (set (x ∷ xs) i (get_or (x ∷ xs) j x)) j (get_or (x ∷ xs) i x) (All-get_or P (x ∷ xs) i x in_i all) (All-set P (x ∷ xs) i (get_or (x ∷ xs) j x) (All-get_or P (x ∷ xs) j x in_j all) all))
 
-pub every_map : {X Y : Type 0} (P : X → Type 0) (Q : Y → Type 0) (f : X → Y) → ((x : X) → P x → Q (f x)) → (xs : List X) → AllByRecursion P xs → AllByRecursion Q (map f xs)
-every_map P Q f keeps [] all = tt
-every_map P Q f keeps (x ∷ xs) all = (keeps x all.0, every_map P Q f keeps xs all.1)
+pub every_map : {X Y : Type 0} (P : X → Type 0) (Q : Y → Type 0) (f : X → Y) → ((x : X) → P x → Q (f x)) → (xs : List X) → All P xs → All Q (map f xs)
+every_map P Q f keeps xs all = All-map Q f xs (All-weaker P (λ x. Q (f x)) keeps xs all)
 
-pub every_at_all : (limit : ℕ) (xs : List ℕ) → 0 < limit → AllByRecursion (λ x. x < limit) xs → (k : ℕ) → get_or xs k 0 < limit
+pub every_at_all : (limit : ℕ) (xs : List ℕ) → 0 < limit → All (λ x. x < limit) xs → (k : ℕ) → get_or xs k 0 < limit
 every_at_all limit xs some all k = elim (cases_lt k (length xs)) [
-  | inl lt ↦ every_at (λ x. x < limit) xs k 0 lt all
+  | inl lt ↦ All-get_or (λ x. x < limit) xs k 0 lt all
   | inr past ↦ rw (get_or_past xs k 0 past) some
 ]
-
-pub all_of_each : (limit : ℕ) (xs : List ℕ) → ((k : ℕ) → get_or xs k 0 < limit) → AllByRecursion (λ x. x < limit) xs
-all_of_each limit [] each = tt
-all_of_each limit (x ∷ xs) each = (each 0, all_of_each limit xs (λ k. each (suc k)))
 
 -- ---- rows of one width, with cells below 16
 
 -- a row of a picture of this width
 pub record IsRow (width : ℕ) (row : List ℕ) : Type 0 where
   pub wide : length row ≡ width
-  pub small : AllByRecursion (λ x. x < 16) row
+  pub small : All (λ x. x < 16) row
 
 pub record IsGrid (height width : ℕ) (rows : List (List ℕ)) : Type 0 where
   pub tall : length rows ≡ height
-  pub each : AllByRecursion (IsRow width) rows
+  pub each : All (IsRow width) rows
 
-pub concat-append : (xss yss : List (List ℕ)) → concat (xss ++ yss) ≡ concat xss ++ concat yss
-concat-append [] yss = refl
-concat-append (xs ∷ xss) yss = ap (λ zs. xs ++ zs) (concat-append xss yss) ∙ sym (append_assoc xs (concat xss) (concat yss))
-
-length-concat : (width : ℕ) (rows : List (List ℕ)) → AllByRecursion (IsRow width) rows → length (concat rows) ≡ length rows * width
+length-concat : (width : ℕ) (rows : List (List ℕ)) → All (IsRow width) rows → length (concat rows) ≡ length rows * width
 length-concat width [] all = omega arith
-length-concat width (row ∷ rows) all = let rest = length-concat width rows all.1 in let wide = all.0.wide in let both = length-append row (concat rows) in omega arith
+length-concat width (row ∷ rows) all =
+    let rest = length-concat width rows (All-tail (IsRow width) row rows all) in
+    let wide = (All-head (IsRow width) row rows all).wide in
+    omega (arith, rest, wide, length-append row (concat rows))
 
-small-concat : (width : ℕ) (rows : List (List ℕ)) → AllByRecursion (IsRow width) rows → AllByRecursion (λ x. x < 16) (concat rows)
-small-concat width [] all = tt
-small-concat width (row ∷ rows) all = every_append (λ x. x < 16) row (concat rows) all.0.small (small-concat width rows all.1)
+small-concat : (width : ℕ) (rows : List (List ℕ)) → All (IsRow width) rows → All (λ x. x < 16) (concat rows)
+small-concat width [] all = All-nil (λ x. x < 16)
+small-concat width (row ∷ rows) all =
+    All-append (λ x. x < 16) row (concat rows) (All-head (IsRow width) row rows all).small (small-concat width rows (All-tail (IsRow width) row rows all))
 
 -- cutting and joining undo each other
 pub concat-rows_of : (height width : ℕ) (cells : List ℕ) → length cells ≡ height * width → concat (rows_of height width cells) ≡ cells
@@ -97,27 +66,29 @@ concat-rows_of (suc height) width cells count =
     let rest : length (drop width cells) ≡ height * width = omega arith in
     ap (λ xs. take width cells ++ xs) (concat-rows_of height width (drop width cells) rest) ∙ take-append-drop width cells
 
-rows_of-join : (width : ℕ) (rows : List (List ℕ)) → AllByRecursion (IsRow width) rows → rows_of (length rows) width (concat rows) ≡ rows
+rows_of-join : (width : ℕ) (rows : List (List ℕ)) → All (IsRow width) rows → rows_of (length rows) width (concat rows) ≡ rows
 rows_of-join width [] all = refl
 rows_of-join width (row ∷ rows) all =
-    rw (take_at row (concat rows) width all.0.wide, drop_at row (concat rows) width all.0.wide) (ap (λ rest. row ∷ rest) (rows_of-join width rows all.1))
+    let wide = (All-head (IsRow width) row rows all).wide in
+    rw (take_at row (concat rows) width wide, drop_at row (concat rows) width wide) (ap (λ rest. row ∷ rest) (rows_of-join width rows (All-tail (IsRow width) row rows all)))
 
 pub rows_of-concat : (height width : ℕ) (rows : List (List ℕ)) → IsGrid height width rows → rows_of height width (concat rows) ≡ rows
 rows_of-concat height width rows is = subst (λ h. rows_of h width (concat rows) ≡ rows) is.tall (rows_of-join width rows is.each)
 
-each-rows_of : (height width : ℕ) (cells : List ℕ) → length cells ≡ height * width → AllByRecursion (λ x. x < 16) cells → AllByRecursion (IsRow width) (rows_of height width cells)
-each-rows_of zero width cells count small = tt
+each-rows_of : (height width : ℕ) (cells : List ℕ) → length cells ≡ height * width → All (λ x. x < 16) cells → All (IsRow width) (rows_of height width cells)
+each-rows_of zero width cells count small = All-nil (IsRow width)
 each-rows_of (suc height) width cells count small =
     let less = length-drop width cells in
     let rest : length (drop width cells) ≡ height * width = omega arith in
     let front : length (take width cells) + length (drop width cells) ≡ length cells = sym (length-append (take width cells) (drop width cells)) ∙ ap length (take-append-drop width cells) in
     let wide : length (take width cells) ≡ width = omega arith in
-    (record { wide = wide; small = every_take (λ x. x < 16) width cells small }, each-rows_of height width (drop width cells) rest (every_drop (λ x. x < 16) width cells small))
+    All-cons (IsRow width) (take width cells) (rows_of height width (drop width cells)) (record { wide = wide; small = All-take (λ x. x < 16) width cells small })
+    (each-rows_of height width (drop width cells) rest (All-drop (λ x. x < 16) width cells small))
 
 pub grid_of : (height width : ℕ) (cells : List ℕ) → AreCells height width cells → IsGrid height width (rows_of height width cells)
 grid_of height width cells is = record {
   tall = length-rows_of height width cells;
-  each = each-rows_of height width cells is.count (all_of_each 16 cells is.colours);
+  each = each-rows_of height width cells is.count (All-from_get_or (λ x. x < 16) cells 0 (λ k _. is.colours k));
 }
 
 pub cells_of : (height width : ℕ) (rows : List (List ℕ)) → 0 < height → height ≤ MAX_SIDE → 0 < width → width ≤ MAX_SIDE → IsGrid height width rows → AreCells height width (concat rows)
@@ -133,7 +104,7 @@ cells_of height width rows some_rows rows_fit some_columns columns_fit is = reco
 -- ---- edits of rows
 
 blank_row : (width : ℕ) → IsRow width (replicate width 0)
-blank_row width = record { wide = length-replicate width 0; small = every_replicate (λ x. x < 16) width 0 (omega arith) }
+blank_row width = record { wide = length-replicate width 0; small = All-replicate (λ x. x < 16) width 0 (omega arith) }
 
 pub grid-row_inserted : (height width : ℕ) (rows : List (List ℕ)) (i : ℕ) → IsGrid height width rows → i ≤ height → IsGrid (height + 1) width (insert rows i (replicate width 0))
 grid-row_inserted height width rows i is place = record {
@@ -220,10 +191,10 @@ unfolding joined
 joined_more f n rows lt =
     ap concat (map_more f rows n [] lt) ∙ concat-append (map f (take n rows)) (f (get_or rows n []) ∷ []) ∙ ap (λ xs. concat (map f (take n rows)) ++ xs) (append-nil (f (get_or rows n [])))
 
-length-joined : (width wide : ℕ) (f : List ℕ → List ℕ) (n : ℕ) (rows : List (List ℕ)) → EditsRows width wide f → AllByRecursion (IsRow width) rows → n ≤ length rows → length (joined f n rows) ≡ n * wide
+length-joined : (width wide : ℕ) (f : List ℕ → List ℕ) (n : ℕ) (rows : List (List ℕ)) → EditsRows width wide f → All (IsRow width) rows → n ≤ length rows → length (joined f n rows) ≡ n * wide
 unfolding joined
 length-joined width wide f n rows edits all within =
-    length-concat wide (map f (take n rows)) (every_map (IsRow width) (IsRow wide) f edits.keeps (take n rows) (every_take (IsRow width) n rows all))
+    length-concat wide (map f (take n rows)) (every_map (IsRow width) (IsRow wide) f edits.keeps (take n rows) (All-take (IsRow width) n rows all))
     ∙ ap (λ k. k * wide) (length-map (take n rows) f ∙ length-take-le n rows within)
 
 edited_none : (f : List ℕ → List ℕ) (rows : List (List ℕ)) → edited f 0 rows ≡ concat rows
@@ -274,7 +245,7 @@ module _ (height width : ℕ) (old : List ℕ) (is : AreCells height width old) 
   abbrev rows : List (List ℕ)
   rows = rows_of height width old
 
-  all : AllByRecursion (IsRow width) rows
+  all : All (IsRow width) rows
   all = (grid_of height width old is).each
 
   tall : length rows ≡ height
@@ -294,7 +265,7 @@ module _ (height width : ℕ) (old : List ℕ) (is : AreCells height width old) 
       let f = without_cell at in
       let lt : n < length rows = omega (arith, tall, turn) in
       let row = get_or rows n [] in
-      let wide : length row ≡ width = (every_at (IsRow width) rows n [] lt all).wide in
+      let wide : length row ≡ width = (All-get_or (IsRow width) rows n [] lt all).wide in
       let front = length-joined width (width - 1) f n rows (removes_cell width at place) all (omega arith) in
       let here : n * (width - 1) + at - n * (width - 1) ≡ at = omega arith in
       ap (λ xs. remove xs (n * (width - 1) + at)) (so_far ∙ edited_here f n rows lt)
@@ -308,7 +279,7 @@ module _ (height width : ℕ) (old : List ℕ) (is : AreCells height width old) 
       let f = without_cell at in
       let lt : n < length rows = omega (arith, tall, turn) in
       let row = get_or rows n [] in
-      let wide : length row ≡ width = (every_at (IsRow width) rows n [] lt all).wide in
+      let wide : length row ≡ width = (All-get_or (IsRow width) rows n [] lt all).wide in
       let front = length-joined width (width - 1) f n rows (removes_cell width at place) all (omega arith) in
       let long : length cells ≡ length (joined f n rows) + (length row + length (concat (drop (n + 1) rows))) =
       ap length (so_far ∙ edited_here f n rows lt) ∙ length-append (joined f n rows) (row ++ concat (drop (n + 1) rows)) ∙ ap (λ k. length (joined f n rows) + k) (length-append row (concat (drop (n + 1) rows))) in
@@ -330,7 +301,7 @@ module _ (height width : ℕ) (old : List ℕ) (is : AreCells height width old) 
       let f = with_exchange i j in
       let lt : n < length rows = omega (arith, tall, turn) in
       let row = get_or rows n [] in
-      let wide : length row ≡ width = (every_at (IsRow width) rows n [] lt all).wide in
+      let wide : length row ≡ width = (All-get_or (IsRow width) rows n [] lt all).wide in
       let front = length-joined width width f n rows (swaps_cells width i j in_i in_j) all (omega arith) in
       ap (λ xs. swap xs (n * width + i) (n * width + j)) (so_far ∙ edited_here f n rows lt)
       ∙ swap-within (joined f n rows) row (concat (drop (n + 1) rows)) (n * width) i j front (omega arith) (omega arith)

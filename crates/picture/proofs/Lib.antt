@@ -8,9 +8,9 @@ pub mod GridLemmas
 pub mod LineEditLemmas
 pub mod LineLemmas
 pub mod LineSetLemmas
+pub mod NumberLemmas
 pub mod OrderLemmas
 pub mod PaletteLemmas
 pub mod RoomLemmas
 pub mod UnionLemmas
 pub mod WritingLemmas
-pub mod SplitLemmas

@@ -1,8 +1,11 @@
 -- What an edit of a picture's flat cells makes of its rows.
 use Rattle.std.proofs.Common.{◌≡◌, ℕ, zero, suc, ◌+◌, ◌*◌, ◌-◌, ◌<◌, ◌≤◌, List, [], ◌∷◌, ◌++◌, length, set, take, drop, replicate, arith, refl, ap, ◌∙◌, sym, subst}
-use Rattle.std.specs.List.{AllByRecursion, concat, insert, remove, swap}
+use Rattle.std.specs.List.{All, concat, insert, remove, swap}
 use Rattle.std.proofs.lemmas.List.{append_assoc, length-set, drop_at}
 use Rattle.std.proofs.lemmas.List.Edits.{swap_is}
+use Rattle.std.proofs.lemmas.List.Elements.{All-get_or, All-head, All-set, All-tail}
+use Rattle.std.proofs.lemmas.List.Folds.{concat-append}
+use Rattle.std.proofs.Math.Seq.{take-append-add, drop-append-add}
 use Rattle.picture.specs.declared.picture.TheConstants.{MAX_SIDE}
 use Rattle.picture.specs.declared.line_id.Axis.{Axis}
 use Rattle.picture.specs.declared.line_id.Axis.TheVariants.{Across, Down}
@@ -11,43 +14,39 @@ use Rattle.picture.specs.Picture.{AreCells, part, with_part}
 use Rattle.picture.specs.Rows.{rows_of, width_of, row_at, lines_along, with_line, without_line, line_inserted, line_deleted, lines_swapped}
 use Rattle.picture.specs.FlatLaws.{length-rows_of, row_at-rows_of}
 use Rattle.picture.proofs.FlatLemmas.{facts}
-use Rattle.picture.proofs.GridLemmas.{IsRow, IsGrid, every_set, every_at, concat-append, concat-rows_of, rows_of-concat, grid_of, cells_of, grid-row_inserted, grid-row_removed, grid-rows_swapped, grid-mapped, inserts_cell, removes_cell, swaps_cells, with_gap, without_cell, with_exchange}
+use Rattle.picture.proofs.GridLemmas.{IsRow, IsGrid, concat-rows_of, rows_of-concat, grid_of, cells_of, grid-row_inserted, grid-row_removed, grid-rows_swapped, grid-mapped, inserts_cell, removes_cell, swaps_cells, with_gap, without_cell, with_exchange}
 
 -- ---- whole rows in the flat list
 
 take_past : (xs ys : List ℕ) (n k : ℕ) → k ≡ length xs + n → take k (xs ++ ys) ≡ xs ++ take n ys
-take_past [] ys n k e = ap (λ m. take m ys) (e ∙ omega arith)
-take_past (x ∷ xs) ys n zero e = absurd (omega (arith, e))
-take_past (x ∷ xs) ys n (suc k) e = ap (λ zs. x ∷ zs) (take_past xs ys n k (omega (arith, e)))
+take_past xs ys n k e = rw e (take-append-add xs ys n)
 
 drop_past : (xs ys : List ℕ) (n k : ℕ) → k ≡ length xs + n → drop k (xs ++ ys) ≡ drop n ys
-drop_past [] ys n k e = ap (λ m. drop m ys) (e ∙ omega arith)
-drop_past (x ∷ xs) ys n zero e = absurd (omega (arith, e))
-drop_past (x ∷ xs) ys n (suc k) e = drop_past xs ys n k (omega (arith, e))
+drop_past xs ys n k e = rw e (drop-append-add xs ys n)
 
-take-concat : (width n : ℕ) (rows : List (List ℕ)) → AllByRecursion (IsRow width) rows → n ≤ length rows → take (n * width) (concat rows) ≡ concat (take n rows)
+take-concat : (width n : ℕ) (rows : List (List ℕ)) → All (IsRow width) rows → n ≤ length rows → take (n * width) (concat rows) ≡ concat (take n rows)
 take-concat width zero rows all within = let none : 0 * width ≡ 0 = omega arith in rw none refl
 take-concat width (suc n) [] all within = absurd (omega (arith, within))
 take-concat width (suc n) (row ∷ rows) all within =
-    let wide = all.0.wide in
-    take_past row (concat rows) (n * width) (suc n * width) (omega arith) ∙ ap (λ xs. row ++ xs) (take-concat width n rows all.1 (omega (arith, within)))
+    let wide = (All-head (IsRow width) row rows all).wide in
+    take_past row (concat rows) (n * width) (suc n * width) (omega arith) ∙ ap (λ xs. row ++ xs) (take-concat width n rows (All-tail (IsRow width) row rows all) (omega (arith, within)))
 
-drop-concat : (width n : ℕ) (rows : List (List ℕ)) → AllByRecursion (IsRow width) rows → n ≤ length rows → drop (n * width) (concat rows) ≡ concat (drop n rows)
+drop-concat : (width n : ℕ) (rows : List (List ℕ)) → All (IsRow width) rows → n ≤ length rows → drop (n * width) (concat rows) ≡ concat (drop n rows)
 drop-concat width zero rows all within = let none : 0 * width ≡ 0 = omega arith in rw none refl
 drop-concat width (suc n) [] all within = absurd (omega (arith, within))
 drop-concat width (suc n) (row ∷ rows) all within =
-    let wide = all.0.wide in
-    drop_past row (concat rows) (n * width) (suc n * width) (omega arith) ∙ drop-concat width n rows all.1 (omega (arith, within))
+    let wide = (All-head (IsRow width) row rows all).wide in
+    drop_past row (concat rows) (n * width) (suc n * width) (omega arith) ∙ drop-concat width n rows (All-tail (IsRow width) row rows all) (omega (arith, within))
 
-concat-set : (width : ℕ) (rows : List (List ℕ)) (i : ℕ) (row : List ℕ) → AllByRecursion (IsRow width) rows → length row ≡ width → i < length rows → concat (set rows i row) ≡ with_part (concat rows) (i * width) row
+concat-set : (width : ℕ) (rows : List (List ℕ)) (i : ℕ) (row : List ℕ) → All (IsRow width) rows → length row ≡ width → i < length rows → concat (set rows i row) ≡ with_part (concat rows) (i * width) row
 concat-set width [] i row all wide lt = absurd (omega (arith, lt))
 concat-set width (first ∷ rows) zero row all wide lt =
     let none : 0 * width ≡ 0 = omega arith in
     let long : 0 + length row ≡ width = omega arith in
-    rw (none, long) (ap (λ xs. row ++ xs) (sym (drop_at first (concat rows) width all.0.wide)))
+    rw (none, long) (ap (λ xs. row ++ xs) (sym (drop_at first (concat rows) width (All-head (IsRow width) first rows all).wide)))
 concat-set width (first ∷ rows) (suc i) row all wide lt =
-    let first_wide = all.0.wide in
-    ap (λ xs. first ++ xs) (concat-set width rows i row all.1 wide (omega (arith, lt)))
+    let first_wide = (All-head (IsRow width) first rows all).wide in
+    ap (λ xs. first ++ xs) (concat-set width rows i row (All-tail (IsRow width) first rows all) wide (omega (arith, lt)))
     ∙ sym (append_assoc first (take (i * width) (concat rows)) (row ++ drop (i * width + length row) (concat rows)))
     ∙ ap (λ xs. xs ++ (row ++ drop (i * width + length row) (concat rows))) (sym (take_past first (concat rows) (i * width) (suc i * width) (omega arith)))
     ∙ ap (λ xs. take (suc i * width) (first ++ concat rows) ++ (row ++ xs)) (sym (drop_past first (concat rows) (i * width + length row) (suc i * width + length row) (omega arith)))
@@ -58,7 +57,7 @@ module _ (height width : ℕ) (old : List ℕ) (is : AreCells height width old) 
   abbrev rows : List (List ℕ)
   rows = rows_of height width old
 
-  all : AllByRecursion (IsRow width) rows
+  all : All (IsRow width) rows
   all = (grid_of height width old is).each
 
   tall : length rows ≡ height
@@ -92,13 +91,13 @@ module _ (height width : ℕ) (old : List ℕ) (is : AreCells height width old) 
       let row_j = row_at rows j in
       let lt_i : i < length rows = omega (arith, tall, in_i) in
       let lt_j : j < length rows = omega (arith, tall, in_j) in
-      let is_i = every_at (IsRow width) rows i [] lt_i all in
-      let is_j = every_at (IsRow width) rows j [] lt_j all in
+      let is_i = All-get_or (IsRow width) rows i [] lt_i all in
+      let is_j = All-get_or (IsRow width) rows j [] lt_j all in
       ap (λ row. with_part (with_part old (i * width) row) (j * width) (part old (i * width) width)) (sym (row_at-rows_of height width old j in_j))
       ∙ ap (λ row. with_part (with_part old (i * width) row_j) (j * width) row) (sym (row_at-rows_of height width old i in_i))
       ∙ ap (λ xs. with_part (with_part xs (i * width) row_j) (j * width) row_i) (sym whole)
       ∙ ap (λ xs. with_part xs (j * width) row_i) (sym (concat-set width rows i row_j all is_j.wide lt_i))
-      ∙ sym (concat-set width (set rows i row_j) j row_i (every_set (IsRow width) rows i row_j is_j all) is_i.wide (omega (arith, length-set rows i row_j, lt_j)))
+      ∙ sym (concat-set width (set rows i row_j) j row_i (All-set (IsRow width) rows i row_j is_j all) is_i.wide (omega (arith, length-set rows i row_j, lt_j)))
       ∙ ap concat (swap_is rows i j [] lt_i lt_j)
 
 -- cells that lie as these rows

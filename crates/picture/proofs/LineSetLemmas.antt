@@ -1,5 +1,5 @@
 -- A name put into a set of names or taken out, and the table of the set.
-use Rattle.std.proofs.Common.{◌≡◌, ℕ, ◌*◌, ◌%◌, ◌^◌, ◌<◌, refl, sym, ap, ◌∙◌, inl, inr, IsBitSet, ◌⊎◌, ◌↔◌, bit_and, bit_or}
+use Rattle.std.proofs.Common.{◌≡◌, ℕ, ◌*◌, ◌%◌, ◌^◌, ◌<◌, refl, sym, subst, ap, inl, inr, bit_and, bit_or}
 use Rattle.std.specs.Int.{w128, bit_not}
 use Rattle.picture.specs.declared.picture.TheConstants.{MAX_SIDE}
 use Rattle.picture.specs.declared.line_id.Axis.{Axis}
@@ -7,80 +7,73 @@ use Rattle.picture.specs.declared.line_id.Axis.TheVariants.{Across, Down}
 use Rattle.picture.specs.declared.line_id.LineId.{LineId}
 use Rattle.picture.specs.LineSet.{Lines, IsLineSet, mask_along, PutsName, TakesOutName}
 use Rattle.picture.proofs.BitLemmas.{cleared, raised, raised_small, cleared_small}
-use Rattle.picture.specs.LineSetLaws.{same_name}
+use Rattle.picture.specs.LineSetLaws.{same_axis, same_name, small_along}
 
-abbrev bit_out : ℕ → ℕ → ℕ
-bit_out mask k = bit_and mask (bit_not w128 (1 * 2 ^ k % 2 ^ 128))
+-- ---- one axis has another mask
 
-along_across : (lines : Lines) (k : ℕ) → IsLineSet lines → k < MAX_SIDE → (axis : Axis) (n : ℕ)
-    → IsBitSet (mask_along axis (record { rows = bit_out lines.rows k; columns = lines.columns })) n ↔ (IsBitSet (mask_along axis lines) n × ((axis ≡ Across) × (n ≡ k) → ⊥))
-along_across lines k is inside Across n =
-    let by = cleared lines.rows k n is.rows_within inside in
-    ((λ h. let b = by.0 h in (b.0, λ at. b.1 at.1)), (λ both. by.1 (both.0, λ e. both.1 (refl, e))))
-along_across lines k is inside Down n = ((λ h. (h, λ at. let e = at.0 in absurd (cc))), (λ both. both.0))
+abbrev pub with_mask : Axis → Lines → ℕ → Lines
+with_mask Across lines mask = record { rows = mask; columns = lines.columns }
+with_mask Down lines mask = record { rows = lines.rows; columns = mask }
 
-along_down : (lines : Lines) (k : ℕ) → IsLineSet lines → k < MAX_SIDE → (axis : Axis) (n : ℕ)
-    → IsBitSet (mask_along axis (record { rows = lines.rows; columns = bit_out lines.columns k })) n ↔ (IsBitSet (mask_along axis lines) n × ((axis ≡ Down) × (n ≡ k) → ⊥))
-along_down lines k is inside Across n = ((λ h. (h, λ at. let e = at.0 in absurd (cc))), (λ both. both.0))
-along_down lines k is inside Down n =
-    let by = cleared lines.columns k n is.columns_within inside in
-    ((λ h. let b = by.0 h in (b.0, λ at. b.1 at.1)), (λ both. by.1 (both.0, λ e. both.1 (refl, e))))
+its_mask : (axis : Axis) (lines : Lines) (mask : ℕ) → mask_along axis (with_mask axis lines mask) ≡ mask
+its_mask Across lines mask = refl
+its_mask Down lines mask = refl
 
-pub row_out : (lines : Lines) (line : LineId) → IsLineSet lines → line.at < MAX_SIDE → line.axis ≡ Across → TakesOutName lines (record { rows = bit_out lines.rows line.at; columns = lines.columns }) line
-row_out lines line is inside across other =
-    let by = along_across lines line.at is inside other.axis other.at in (
-      (λ h. let b = by.0 h in (b.0, λ e. b.1 (ap (λ l. l.axis) e ∙ across, ap (λ l. l.at) e))),
-      (λ both. by.1 (both.0, λ p. both.1 (same_name other line (p.0 ∙ sym across) p.1))),
-    )
+other_mask : (axis other : Axis) (lines : Lines) (mask : ℕ) → ¬ (other ≡ axis) → mask_along other (with_mask axis lines mask) ≡ mask_along other lines
+other_mask Across Across lines mask differs = absurd (differs refl)
+other_mask Across Down lines mask differs = refl
+other_mask Down Across lines mask differs = refl
+other_mask Down Down lines mask differs = absurd (differs refl)
 
-pub column_out : (lines : Lines) (line : LineId) → IsLineSet lines → line.at < MAX_SIDE → line.axis ≡ Down → TakesOutName lines (record { rows = lines.rows; columns = bit_out lines.columns line.at }) line
-column_out lines line is inside down other =
-    let by = along_down lines line.at is inside other.axis other.at in (
-      (λ h. let b = by.0 h in (b.0, λ e. b.1 (ap (λ l. l.axis) e ∙ down, ap (λ l. l.at) e))),
-      (λ both. by.1 (both.0, λ p. both.1 (same_name other line (p.0 ∙ sym down) p.1))),
-    )
+table_with : (axis : Axis) (lines : Lines) (mask : ℕ) → IsLineSet lines → mask < 2 ^ MAX_SIDE → IsLineSet (with_mask axis lines mask)
+table_with Across lines mask is small = record { rows_within = small; columns_within = is.columns_within }
+table_with Down lines mask is small = record { rows_within = is.rows_within; columns_within = small }
 
-abbrev bit_in : ℕ → ℕ → ℕ
+-- ---- one name
+
+abbrev pub bit_in : ℕ → ℕ → ℕ
 bit_in mask k = bit_or mask (1 * 2 ^ k % 2 ^ 128)
 
-in_across : (lines : Lines) (k : ℕ) → k < MAX_SIDE → (axis : Axis) (n : ℕ)
-    → IsBitSet (mask_along axis (record { rows = bit_in lines.rows k; columns = lines.columns })) n ↔ (IsBitSet (mask_along axis lines) n ⊎ ((axis ≡ Across) × (n ≡ k)))
-in_across lines k inside Across n =
-    let by = raised lines.rows k n inside in
-    ((λ h. elim (by.0 h) [ inl had ↦ inl had | inr e ↦ inr (refl, e) ]), (λ either. elim either [ inl had ↦ by.1 (inl had) | inr at ↦ by.1 (inr at.1) ]))
-in_across lines k inside Down n = ((λ h. inl h), (λ either. elim either [ inl had ↦ had | inr at ↦ let e = at.0 in absurd (cc) ]))
+abbrev pub bit_out : ℕ → ℕ → ℕ
+bit_out mask k = bit_and mask (bit_not w128 (1 * 2 ^ k % 2 ^ 128))
 
-in_down : (lines : Lines) (k : ℕ) → k < MAX_SIDE → (axis : Axis) (n : ℕ)
-    → IsBitSet (mask_along axis (record { rows = lines.rows; columns = bit_in lines.columns k })) n ↔ (IsBitSet (mask_along axis lines) n ⊎ ((axis ≡ Down) × (n ≡ k)))
-in_down lines k inside Across n = ((λ h. inl h), (λ either. elim either [ inl had ↦ had | inr at ↦ let e = at.0 in absurd (cc) ]))
-in_down lines k inside Down n =
-    let by = raised lines.columns k n inside in
-    ((λ h. elim (by.0 h) [ inl had ↦ inl had | inr e ↦ inr (refl, e) ]), (λ either. elim either [ inl had ↦ by.1 (inl had) | inr at ↦ by.1 (inr at.1) ]))
+module _ (axis : Axis) (lines : Lines) (at : ℕ) (is : IsLineSet lines) (inside : at < MAX_SIDE) where
+  abbrev mask : ℕ
+  mask = mask_along axis lines
 
-pub row_in : (lines : Lines) (line : LineId) → line.at < MAX_SIDE → line.axis ≡ Across → PutsName lines (record { rows = bit_in lines.rows line.at; columns = lines.columns }) line
-row_in lines line inside across other =
-    let by = in_across lines line.at inside other.axis other.at in (
-      (λ h. elim (by.0 h) [ inl had ↦ inl had | inr p ↦ inr (same_name other line (p.0 ∙ sym across) p.1) ]),
-      (λ either. elim either [ inl had ↦ by.1 (inl had) | inr e ↦ by.1 (inr (ap (λ l. l.axis) e ∙ across, ap (λ l. l.at) e)) ]),
-    )
+  name_in : PutsName lines (with_mask axis lines (bit_in mask at)) (record { axis = axis; at = at })
+  name_in other = elim (same_axis other.axis axis) [
+    | inl e ↦
+        let by = raised mask at other.at inside in
+        rw (e, its_mask axis lines (bit_in mask at))
+        ((λ has. elim (by.0 has) [ inl had ↦ inl had | inr same ↦ inr (ap (λ n. record { axis = axis; at = n }) same) ]), (λ either. elim either [ inl had ↦ by.1 (inl had) | inr same ↦ by.1 (inr (ap (λ l. l.at) same)) ]))
+    | inr differs ↦
+        rw (other_mask axis other.axis lines (bit_in mask at) differs)
+        ((λ has. inl has), (λ either. elim either [ inl had ↦ had | inr same ↦ absurd (differs (ap (λ l. l.axis) same)) ]))
+  ]
 
-pub column_in : (lines : Lines) (line : LineId) → line.at < MAX_SIDE → line.axis ≡ Down → PutsName lines (record { rows = lines.rows; columns = bit_in lines.columns line.at }) line
-column_in lines line inside down other =
-    let by = in_down lines line.at inside other.axis other.at in (
-      (λ h. elim (by.0 h) [ inl had ↦ inl had | inr p ↦ inr (same_name other line (p.0 ∙ sym down) p.1) ]),
-      (λ either. elim either [ inl had ↦ by.1 (inl had) | inr e ↦ by.1 (inr (ap (λ l. l.axis) e ∙ down, ap (λ l. l.at) e)) ]),
-    )
+  name_out : TakesOutName lines (with_mask axis lines (bit_out mask at)) (record { axis = axis; at = at })
+  name_out other = elim (same_axis other.axis axis) [
+    | inl e ↦
+        let by = cleared mask at other.at (small_along lines is axis) inside in
+        rw (e, its_mask axis lines (bit_out mask at))
+        ((λ has. let both = by.0 has in (both.0, λ same. both.1 (ap (λ l. l.at) same))), (λ both. by.1 (both.0, λ same. both.1 (ap (λ n. record { axis = axis; at = n }) same))))
+    | inr differs ↦
+        rw (other_mask axis other.axis lines (bit_out mask at) differs) ((λ has. (has, λ same. differs (ap (λ l. l.axis) same))), (λ both. both.0))
+  ]
 
--- either way the set keeps its table
-module _ (lines : Lines) (k : ℕ) (is : IsLineSet lines) where
-  pub row_in_table : k < MAX_SIDE → IsLineSet (record { rows = bit_in lines.rows k; columns = lines.columns })
-  row_in_table inside = record { rows_within = raised_small lines.rows k is.rows_within inside; columns_within = is.columns_within }
+module _ (axis : Axis) (lines : Lines) (line : LineId) (is : IsLineSet lines) (inside : line.at < MAX_SIDE) (along : line.axis ≡ axis) where
+  named : record { axis = axis; at = line.at } ≡ line
+  named = same_name (record { axis = axis; at = line.at }) line (sym along) refl
 
-  pub column_in_table : k < MAX_SIDE → IsLineSet (record { rows = lines.rows; columns = bit_in lines.columns k })
-  column_in_table inside = record { rows_within = is.rows_within; columns_within = raised_small lines.columns k is.columns_within inside }
+  pub puts : PutsName lines (with_mask axis lines (bit_in (mask_along axis lines) line.at)) line
+  puts = subst (PutsName lines (with_mask axis lines (bit_in (mask_along axis lines) line.at))) named (name_in axis lines line.at is inside)
 
-  pub row_out_table : IsLineSet (record { rows = bit_out lines.rows k; columns = lines.columns })
-  row_out_table = record { rows_within = cleared_small lines.rows k is.rows_within; columns_within = is.columns_within }
+  pub puts_table : IsLineSet (with_mask axis lines (bit_in (mask_along axis lines) line.at))
+  puts_table = table_with axis lines _ is (raised_small (mask_along axis lines) line.at (small_along lines is axis) inside)
 
-  pub column_out_table : IsLineSet (record { rows = lines.rows; columns = bit_out lines.columns k })
-  column_out_table = record { rows_within = is.rows_within; columns_within = cleared_small lines.columns k is.columns_within }
+  pub takes_out : TakesOutName lines (with_mask axis lines (bit_out (mask_along axis lines) line.at)) line
+  takes_out = subst (TakesOutName lines (with_mask axis lines (bit_out (mask_along axis lines) line.at))) named (name_out axis lines line.at is inside)
+
+  pub takes_table : IsLineSet (with_mask axis lines (bit_out (mask_along axis lines) line.at))
+  takes_table = table_with axis lines _ is (cleared_small (mask_along axis lines) line.at (small_along lines is axis))

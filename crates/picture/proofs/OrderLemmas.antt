@@ -1,9 +1,9 @@
 -- Colours added to a list as they come, and their numbers in it.
 use Rattle.std.proofs.Common.{◌≡◌, ℕ, zero, suc, ◌+◌, ◌*◌, ◌<◌, true, false, ◌||◌, List, [], ◌∷◌, ◌++◌, length, get_or, take, drop, map, Option, Some, None, refl, ap, ◌∙◌, sym, subst, inl, inr, arith, unwrap_or, slice_get}
-use Rattle.std.specs.List.{list_any, AllByRecursion, concat, flat_map}
+use Rattle.std.specs.List.{list_any, All, AllByRecursion, concat, flat_map}
 use Rattle.std.specs.Option.{option_map}
-use Rattle.std.proofs.lemmas.Bool.{eq-eqb, cases_Bool, false≢true}
-use Rattle.std.proofs.lemmas.List.Folds.{list_any-append}
+use Rattle.std.proofs.lemmas.Bool.{cases_Bool, false≢true}
+use Rattle.std.proofs.lemmas.List.Elements.{All-append, All-from_get_or, All-from_recursion, All-nil}
 use Rattle.std.proofs.lemmas.List.{append-nil, append_assoc, map-append, map_more, take-map, drop-map, length-map}
 use Rattle.std.proofs.lemmas.Option.{get_or_from_slice_get}
 use Rattle.picture.specs.declared.rgb.Rgb.{Rgb}
@@ -11,114 +11,15 @@ use Rattle.picture.specs.Palette.{Colours, rgb_eq, place_of, IsPalette}
 use Rattle.picture.specs.Document.{seen_after, with_seen, rows_shown, number_among, triples_of, first_of, renumbered_rows}
 use Rattle.picture.specs.Picture.{AreCells}
 use Rattle.picture.specs.Rows.{rows_of, cell_at}
-use Rattle.picture.proofs.PaletteLemmas.{same_rgb}
-use Rattle.picture.proofs.FlatLemmas.{cell_at_small}
-use Rattle.picture.proofs.GridLemmas.{every_append, every_map, every_at_all, all_of_each, concat-rows_of}
-
-pub same : (t : Rgb) → rgb_eq t t ≡ true
-same t = rw (eq-eqb t.r t.r refl, eq-eqb t.g t.g refl, eq-eqb t.b t.b refl) refl
-
-any_front : (t : Rgb) (xs ys : List Rgb) → list_any (rgb_eq t) xs ≡ true → list_any (rgb_eq t) (xs ++ ys) ≡ true
-any_front t xs ys has = list_any-append (rgb_eq t) xs ys ∙ ap (λ b. b || list_any (rgb_eq t) ys) has
-
-any_last : (t : Rgb) (xs : List Rgb) → list_any (rgb_eq t) (xs ++ t ∷ []) ≡ true
-any_last t [] = rw (same t) refl
-any_last t (x ∷ xs) = elim (cases_Bool (rgb_eq t x)) [
-  | inl e ↦ rw e refl
-  | inr e ↦ rw e (any_last t xs)
-]
-
--- ---- numbers
-
-pub place-front : (t : Rgb) (xs ys : List Rgb) → list_any (rgb_eq t) xs ≡ true → place_of t (xs ++ ys) ≡ place_of t xs
-place-front t [] ys has = absurd (cc)
-place-front t (x ∷ xs) ys has = elim (cases_Bool (rgb_eq t x)) [
-  | inl e ↦ rw e refl
-  | inr e ↦ rw e (ap (option_map (λ k. k + 1)) (place-front t xs ys (rw e at has)))
-]
-
-pub place-last : (t : Rgb) (xs : List Rgb) → list_any (rgb_eq t) xs ≡ false → place_of t (xs ++ t ∷ []) ≡ Some (length xs)
-place-last t [] none = rw (same t) refl
-place-last t (x ∷ xs) none = elim (cases_Bool (rgb_eq t x)) [
-  | inl e ↦ absurd (false≢true (sym (rw e at none)))
-  | inr e ↦ rw e (ap (option_map (λ k. k + 1)) (place-last t xs (rw e at none)) ∙ ap Some (omega arith))
-]
-
-later : (n : ℕ) (place : Option ℕ) → unwrap_or place 0 < n → unwrap_or (option_map (λ k. k + 1) place) 0 < suc n
-later n (Some k) lt = omega (arith, lt)
-later n None lt = omega arith
-
-pub number_small : (t : Rgb) (xs : List Rgb) → list_any (rgb_eq t) xs ≡ true → number_among xs t < length xs
-number_small t [] has = absurd (cc)
-number_small t (x ∷ xs) has = elim (cases_Bool (rgb_eq t x)) [
-  | inl e ↦ rw e (omega arith)
-  | inr e ↦ rw e (later (length xs) (place_of t xs) (number_small t xs (rw e at has)))
-]
-
--- a colour without a place is not in the list
-pub unplaced : (t : Rgb) (xs : List Rgb) → list_any (rgb_eq t) xs ≡ false → place_of t xs ≡ None
-unplaced t [] none = refl
-unplaced t (x ∷ xs) none = elim (cases_Bool (rgb_eq t x)) [
-  | inl e ↦ absurd (false≢true (sym (rw e at none)))
-  | inr e ↦ rw e (ap (option_map (λ k. k + 1)) (unplaced t xs (rw e at none)))
-]
-
-pub placed : (t : Rgb) (xs : List Rgb) (k : ℕ) → Some k ≡ place_of t xs → list_any (rgb_eq t) xs ≡ true
-placed t xs k at = elim (cases_Bool (list_any (rgb_eq t) xs)) [
-  | inl e ↦ e
-  | inr e ↦ let none = unplaced t xs e in absurd (cc)
-]
-
--- ---- colours seen
-
-pub seen-append : (known xs ys : List Rgb) → seen_after known (xs ++ ys) ≡ seen_after (seen_after known xs) ys
-seen-append known [] ys = refl
-seen-append known (x ∷ xs) ys = elim (cases_Bool (list_any (rgb_eq x) known)) [
-  | inl e ↦ rw e (seen-append known xs ys)
-  | inr e ↦ rw e (seen-append (known ++ x ∷ []) xs ys)
-]
-
--- what was known stays in front
-seen-front : (known xs : List Rgb) → (more : List Rgb) × (seen_after known xs ≡ known ++ more)
-seen-front known [] = ([], sym (append-nil known))
-seen-front known (x ∷ xs) = elim (cases_Bool (list_any (rgb_eq x) known)) [
-  | inl e ↦ rw e (seen-front known xs)
-  | inr e ↦ let rest = seen-front (known ++ x ∷ []) xs in rw e (x ∷ rest.0, rest.1 ∙ append_assoc known (x ∷ []) rest.0)
-]
-
-keeps : (t : Rgb) (known xs : List Rgb) → list_any (rgb_eq t) known ≡ true → list_any (rgb_eq t) (seen_after known xs) ≡ true
-keeps t known xs has = let front = seen-front known xs in rw front.1 (any_front t known front.0 has)
-
-seen-known : (known xs : List Rgb) (x : Rgb) → list_any (rgb_eq x) known ≡ true → seen_after known (x ∷ xs) ≡ seen_after known xs
-seen-known known xs x e = rw e refl
-
-seen-new : (known xs : List Rgb) (x : Rgb) → list_any (rgb_eq x) known ≡ false → seen_after known (x ∷ xs) ≡ seen_after (known ++ x ∷ []) xs
-seen-new known xs x e = rw e refl
-
-pub seen-all : (known xs : List Rgb) → AllByRecursion (λ t. list_any (rgb_eq t) (seen_after known xs) ≡ true) xs
-seen-all known [] = tt
-seen-all known (x ∷ xs) = elim (cases_Bool (list_any (rgb_eq x) known)) [
-  | inl e ↦ subst (λ all. AllByRecursion (λ t. list_any (rgb_eq t) all ≡ true) (x ∷ xs)) (sym (seen-known known xs x e)) (keeps x known xs e, seen-all known xs)
-  | inr e ↦
-      subst (λ all. AllByRecursion (λ t. list_any (rgb_eq t) all ≡ true) (x ∷ xs)) (sym (seen-new known xs x e))
-      (keeps x (known ++ x ∷ []) xs (any_last x known), seen-all (known ++ x ∷ []) xs)
-]
+use Rattle.picture.specs.FlatLaws.{cell_at_below}
+use Rattle.picture.specs.ColourLaws.{same_rgb, place-front, place-last, number_small, placed, absent, seen-append, seen-front, seen-known, seen-all}
+use Rattle.picture.proofs.PaletteLemmas.{every_front}
+use Rattle.picture.proofs.GridLemmas.{every_map, every_at_all, concat-rows_of}
 
 -- ---- one colour more
 
 pub known_stays : (colours : Colours) (t : Rgb) (k : ℕ) → Some k ≡ place_of t colours.triples → colours ≡ with_seen colours (t ∷ [])
 known_stays colours t k at = ap (λ triples. record { maxval = colours.maxval; triples = triples }) (sym (seen-known colours.triples [] t (placed t colours.triples k at)))
-
-none_before : (place : Option ℕ) → None ≡ option_map (λ k. k + 1) place → None ≡ place
-none_before (Some k) none = absurd (cc)
-none_before None none = refl
-
-pub absent : (t : Rgb) (xs : List Rgb) → None ≡ place_of t xs → list_any (rgb_eq t) xs ≡ false
-absent t [] none = refl
-absent t (x ∷ xs) none = elim (cases_Bool (rgb_eq t x)) [
-  | inl e ↦ let some = rw e at none in absurd (cc)
-  | inr e ↦ rw e (absent t xs (none_before (place_of t xs) (rw e at none)))
-]
 
 pub number_added : (t : Rgb) (xs : List Rgb) → None ≡ place_of t xs → number_among (xs ++ t ∷ []) t ≡ length xs
 number_added t xs none = ap (λ place. unwrap_or place 0) (place-last t xs (absent t xs none))
@@ -147,9 +48,9 @@ triples_more triples cells i t lt at =
 
 -- ---- whole pictures
 
-rows_coloured : (limit : ℕ) (rows : List (List ℕ)) → ((i j : ℕ) → cell_at rows i j < limit) → AllByRecursion (λ x. x < limit) (concat rows)
-rows_coloured limit [] each = tt
-rows_coloured limit (row ∷ rows) each = every_append (λ x. x < limit) row (concat rows) (all_of_each limit row (each 0)) (rows_coloured limit rows (λ i. each (suc i)))
+rows_coloured : (limit : ℕ) (rows : List (List ℕ)) → ((i j : ℕ) → cell_at rows i j < limit) → All (λ x. x < limit) (concat rows)
+rows_coloured limit [] each = All-nil (λ x. x < limit)
+rows_coloured limit (row ∷ rows) each = All-append (λ x. x < limit) row (concat rows) (All-from_get_or (λ x. x < limit) row 0 (λ k _. each 0 k)) (rows_coloured limit rows (λ i. each (suc i)))
 
 concat-triples : (triples : List Rgb) (rows : List (List ℕ)) → triples_of triples (concat rows) ≡ flat_map (triples_of triples) rows
 concat-triples triples [] = refl
@@ -162,8 +63,8 @@ rows_of-renumbered among triples (suc height) width cells =
     rw (take-map (number_among among) width (triples_of triples cells), take-map f width cells, drop-map (number_among among) width (triples_of triples cells), drop-map f width cells)
     (ap (λ rows. map (number_among among) (triples_of triples (take width cells)) ∷ rows) (rows_of-renumbered among triples height width (drop width cells)))
 
-numbers_below : (among ts : List Rgb) → AllByRecursion (λ t. list_any (rgb_eq t) among ≡ true) ts → AllByRecursion (λ n. n < length among) (map (number_among among) ts)
-numbers_below among ts all = every_map (λ t. list_any (rgb_eq t) among ≡ true) (λ n. n < length among) (number_among among) (λ t. number_small t among) ts all
+numbers_below : (among ts : List Rgb) → AllByRecursion (λ t. list_any (rgb_eq t) among ≡ true) ts → All (λ n. n < length among) (map (number_among among) ts)
+numbers_below among ts all = every_map (λ t. list_any (rgb_eq t) among ≡ true) (λ n. n < length among) (number_among among) (λ t. number_small t among) ts (All-from_recursion (λ t. list_any (rgb_eq t) among ≡ true) ts all)
 
 module _ (height width : ℕ) (cells : List ℕ) (now : List (List ℕ)) (reads : rows_of height width cells ≡ now) (is : AreCells height width cells) (triples : List Rgb) where
   whole : cells ≡ concat now
@@ -203,7 +104,7 @@ module _ (height width : ℕ) (cells : List ℕ) (now : List (List ℕ)) (reads 
         ∙ ap (renumbered_rows new.triples triples) reads
 
     pub numbers_coloured : (result : List (List ℕ)) → result ≡ rows_of height width numbers → (i j : ℕ) → cell_at result i j < length new.triples
-    numbers_coloured result is_result i j = rw is_result (cell_at_small height width numbers (length new.triples) as_many palette.has_background below i j)
+    numbers_coloured result is_result i j = rw is_result (cell_at_below height width (length new.triples) numbers palette.has_background below i j)
 
 -- ---- no cell's colour changes
 
@@ -222,10 +123,6 @@ shown_back : (among ts : List Rgb) → AllByRecursion (λ t. list_any (rgb_eq t)
 shown_back among [] all = refl
 shown_back among (t ∷ ts) all = rw (number_finds t (first_of among) among all.0, shown_back among ts all.1) refl
 
-every_left : (P : Rgb → Type 0) (xs ys : List Rgb) → AllByRecursion P (xs ++ ys) → AllByRecursion P xs
-every_left P [] ys all = tt
-every_left P (x ∷ xs) ys all = (all.0, every_left P xs ys all.1)
-
 every_right : (P : Rgb → Type 0) (xs ys : List Rgb) → AllByRecursion P (xs ++ ys) → AllByRecursion P ys
 every_right P [] ys all = all
 every_right P (x ∷ xs) ys all = every_right P xs ys all.1
@@ -233,7 +130,7 @@ every_right P (x ∷ xs) ys all = every_right P xs ys all.1
 rows_shown_back : (among triples : List Rgb) (rows : List (List ℕ)) → AllByRecursion (λ t. list_any (rgb_eq t) among ≡ true) (flat_map (triples_of triples) rows) → rows_shown among (renumbered_rows among triples rows) ≡ rows_shown triples rows
 rows_shown_back among triples [] all = refl
 rows_shown_back among triples (row ∷ rows) all =
-    rw (shown_back among (triples_of triples row) (every_left (λ t. list_any (rgb_eq t) among ≡ true) (triples_of triples row) (flat_map (triples_of triples) rows) all))
+    rw (shown_back among (triples_of triples row) (every_front (λ t. list_any (rgb_eq t) among ≡ true) (triples_of triples row) (flat_map (triples_of triples) rows) all))
     (ap (λ rest. triples_of triples row ∷ rest) (rows_shown_back among triples rows (every_right (λ t. list_any (rgb_eq t) among ≡ true) (triples_of triples row) (flat_map (triples_of triples) rows) all)))
 
 -- what the renumbered picture shows is what the picture showed

@@ -2,13 +2,15 @@
 use Rattle.std.proofs.Common.{◌≡◌, ℕ, zero, suc, ◌+◌, ◌-◌, ◌<◌, ◌≤◌, Bool, true, false, cond, ltb, eqb, not, ◌&&◌, ◌||◌, List, [], ◌∷◌, ◌++◌, length, get_or, set, Option, Some, None, refl, sym, subst, ap, ◌∙◌, inl, inr, arith, position, nat_le, slice_get, IfSome, option_to_list}
 use Rattle.std.specs.Option.{option_map}
 use Rattle.std.specs.List.{list_any, position_or_len, AllByRecursion, IsDistinct, swap_remove, remove}
-use Rattle.std.proofs.lemmas.Bool.{cases_lt, lt-ltb, le-ltb, false≢true, eqb-true}
+use Rattle.std.proofs.lemmas.Bool.{cases_lt, lt-ltb, le-ltb, not-true, not-false}
 use Rattle.std.proofs.lemmas.Option.{get_or_from_slice_get, slice_get_within, slice_get-get_or}
 use Rattle.std.proofs.lemmas.Map.Keys.{IsDistinct-head, IsDistinct-tail}
 use Rattle.std.proofs.lemmas.List.{length_push, get_or_push, length-set, length-append, set-append_left, set-get_or, take_at}
+use Rattle.std.proofs.lemmas.List.Elements.{All-from_recursion, All-get_or, All-set, recursion_from_All}
 use Rattle.std.proofs.lemmas.Bool.Decides.{nat_tests}
 use Rattle.picture.specs.declared.rgb.Rgb.{Rgb}
 use Rattle.picture.specs.declared.palette.PaletteFault.TheVariants.{Duplicate, SampleOver}
+use Rattle.picture.specs.ColourLaws.{same_rgb, rgb_eq-sym}
 use Rattle.picture.specs.Palette.{Colours, rgb_eq, fits, place_of, add_fault, with_triple, stands_elsewhere, IsPalette}
 
 later : (k n : ℕ) → cond (ltb (1 + k) (suc n)) (Some (1 + k)) None ≡ option_map (λ j. j + 1) (cond (ltb k n) (Some k) None)
@@ -40,33 +42,13 @@ is_over colours rgb room there over = rw (not_full (length colours.triples) room
 
 -- ---- a colour in place of another
 
-pub same_rgb : (a b : Rgb) → rgb_eq a b ≡ true → a ≡ b
-same_rgb a b e = by (eqb a.r b.r) refl (eqb a.g b.g) refl (eqb a.b b.b) refl e
-  where
-    by : (x : Bool) → eqb a.r b.r ≡ x → (y : Bool) → eqb a.g b.g ≡ y → (z : Bool) → eqb a.b b.b ≡ z → (x && (y && z)) ≡ true → a ≡ b
-    by true p true q true r _ = let rs = eqb-true _ _ p in let gs = eqb-true _ _ q in let bs = eqb-true _ _ r in λ i. record { r = rs i; g = gs i; b = bs i }
-    by true p true q false r isnt = absurd (false≢true isnt)
-    by true p false q z r isnt = absurd (false≢true isnt)
-    by false p y q z r isnt = absurd (false≢true isnt)
-
-pub rgb_eq-sym : (a b : Rgb) → rgb_eq a b ≡ false → rgb_eq b a ≡ false
-rgb_eq-sym a b isnt = by (rgb_eq b a) refl
-  where
-    by : (x : Bool) → rgb_eq b a ≡ x → x ≡ false
-    by false e = refl
-    by true e = let same = same_rgb b a e in absurd (false≢true (sym isnt ∙ subst (λ t. rgb_eq t b ≡ true) same (subst (λ t. rgb_eq b t ≡ true) (sym same) e)))
-
 pub at_each : (P : Rgb → Type 0) (triples : List Rgb) (k : ℕ) (d : Rgb) → k < length triples → AllByRecursion P triples → P (get_or triples k d)
-at_each P [] k d lt all = absurd (omega (arith, lt))
-at_each P (t ∷ triples) zero d lt all = all.0
-at_each P (t ∷ triples) (suc k) d lt all = at_each P triples k d (omega (arith, lt)) all.1
+at_each P triples k d lt all = All-get_or P triples k d lt (All-from_recursion P triples all)
 
 every_set : (P : Rgb → Type 0) (triples : List Rgb) (k : ℕ) (t : Rgb) → P t → AllByRecursion P triples → AllByRecursion P (set triples k t)
-every_set P [] k t is all = all
-every_set P (x ∷ triples) zero t is all = (is, all.1)
-every_set P (x ∷ triples) (suc k) t is all = (all.0, every_set P triples k t is all.1)
+every_set P triples k t is all = recursion_from_All P (set triples k t) (All-set P triples k t is (All-from_recursion P triples all))
 
-every_front : (P : Rgb → Type 0) (xs ys : List Rgb) → AllByRecursion P (xs ++ ys) → AllByRecursion P xs
+pub every_front : (P : Rgb → Type 0) (xs ys : List Rgb) → AllByRecursion P (xs ++ ys) → AllByRecursion P xs
 every_front P [] ys all = tt
 every_front P (x ∷ xs) ys all = (all.0, every_front P xs ys all.1)
 
@@ -128,21 +110,13 @@ popped maxval triples new gone is e some distinct =
       samples_fit = every_front _ new (option_to_list gone) (rw e at is.samples_fit);
     }
 
-not_true : (b ne : Bool) → ne ≡ not b → ne ≡ true → b ≡ false
-not_true true ne is isnt = absurd (false≢true (sym is ∙ isnt))
-not_true false ne is isnt = refl
-
-not_false : (b ne : Bool) → ne ≡ not b → ne ≡ false → b ≡ true
-not_false true ne is isnt = refl
-not_false false ne is isnt = absurd (false≢true (sym isnt ∙ is))
-
 -- what two tests tell of the other numbers: `shown` is how the list was read
 module _ (rgb d : Rgb) (triples shown : List Rgb) (k : ℕ) (ne : Bool) (read : shown ≡ triples) (lt : k < length triples) (is : ne ≡ not (rgb_eq (get_or shown k d) rgb)) where
   pub stands_if_differs : ne ≡ true → list_any (rgb_eq rgb) triples ≡ stands_elsewhere triples k rgb
-  stands_if_differs holds = sym (at_others rgb d triples k lt (subst (λ xs. rgb_eq (get_or xs k d) rgb ≡ false) read (not_true _ ne is holds)))
+  stands_if_differs holds = sym (at_others rgb d triples k lt (subst (λ xs. rgb_eq (get_or xs k d) rgb ≡ false) read (not-true _ (sym is ∙ holds))))
 
   pub stands_if_same : IsDistinct rgb_eq triples → ne ≡ false → ne ≡ stands_elsewhere triples k rgb
-  stands_if_same distinct isnt = isnt ∙ sym (at_no_other rgb d triples k lt distinct (subst (λ xs. rgb_eq (get_or xs k d) rgb ≡ true) read (not_false _ ne is isnt)))
+  stands_if_same distinct isnt = isnt ∙ sym (at_no_other rgb d triples k lt distinct (subst (λ xs. rgb_eq (get_or xs k d) rgb ≡ true) read (not-false _ (sym is ∙ isnt))))
 
 pub stands_nowhere : (rgb t : Rgb) (triples : List Rgb) (k : ℕ) (eq : Bool) → slice_get triples k ≡ Some t → eq ≡ rgb_eq t rgb → eq ≡ false → stands_elsewhere triples k rgb ≡ false → list_any (rgb_eq rgb) triples ≡ false
 stands_nowhere rgb t triples k eq at is isnt nowhere =

@@ -1,6 +1,7 @@
 -- Laws of rows that lie in one flat list.
-use Rattle.std.proofs.Common.{◌≡◌, ℕ, zero, suc, ◌+◌, ◌*◌, ◌<◌, ◌≤◌, List, ◌∷◌, length, get_or, set, take, drop, arith, refl, ap, ◌∙◌}
-use Rattle.std.proofs.lemmas.List.{length-take, length-drop, get_or-take, get_or-drop, drop-drop, take-set-le, drop-set-lt, drop-set-add}
+use Rattle.std.proofs.Common.{◌≡◌, ℕ, zero, suc, ◌+◌, ◌*◌, ◌<◌, ◌≤◌, List, ◌∷◌, length, get_or, set, take, drop, inl, inr, arith, refl, ap, ◌∙◌}
+use Rattle.std.proofs.lemmas.Bool.{cases_lt}
+use Rattle.std.proofs.lemmas.List.{get_or_past, length-take, length-drop, get_or-take, get_or-drop, drop-drop, take-set-le, drop-set-lt, drop-set-add}
 use Rattle.std.proofs.Math.Seq.{take-set-lt}
 use Rattle.picture.specs.Rows.{rows_of, row_at, cell_at, with_cell}
 
@@ -47,3 +48,12 @@ rows_of-set (suc height) width cells (suc i) j x lt in_row =
     let later : width ≤ width + (i * width + j) = omega arith in
     rw (at, take-set-le width cells (width + (i * width + j)) x later, drop-set-add width cells (i * width + j) x)
     (ap (λ (rows : List (List ℕ)). take width cells ∷ rows) (rows_of-set height width (drop width cells) i j x (omega (arith, lt)) in_row))
+
+-- cells cut into rows stay below what they were below
+pub cell_at_below : (height width n : ℕ) (cells : List ℕ) → 0 < n → ((k : ℕ) → get_or cells k 0 < n) → (i j : ℕ) → cell_at (rows_of height width cells) i j < n
+cell_at_below zero width n cells some below i j = some
+cell_at_below (suc height) width n cells some below zero j = elim (cases_lt j width) [
+  | inl lt ↦ rw (get_or-take width cells j 0 lt) (below j)
+  | inr le ↦ rw (get_or_past (take width cells) j 0 (omega (arith, length-take width cells))) some
+]
+cell_at_below (suc height) width n cells some below (suc i) j = cell_at_below height width n (drop width cells) some (λ k. rw get_or-drop (below (width + k))) i j

@@ -5,12 +5,16 @@ pub mod Document
 pub mod Laws
 pub mod Line
 pub mod LineSet
+pub mod Numbers
 pub mod Palette
 pub mod Picture
 pub mod Reading
 pub mod Rows
 pub mod Writing
 pub mod BitLaws
+pub mod ColourLaws
 pub mod FlatLaws
 pub mod LineSetLaws
+pub mod NumberLaws
 pub mod SendingLaws
+pub mod SplitLaws

@@ -31,7 +31,7 @@ same_names one other is_one is_other same =
     same_masks one other (same_bits_below MAX_SIDE one.rows other.rows is_one.rows_within is_other.rows_within (λ k. same (across k)))
     (same_bits_below MAX_SIDE one.columns other.columns is_one.columns_within is_other.columns_within (λ k. same (down k)))
 
-small_along : (lines : Lines) → IsLineSet lines → (axis : Axis) → mask_along axis lines < 2 ^ MAX_SIDE
+pub small_along : (lines : Lines) → IsLineSet lines → (axis : Axis) → mask_along axis lines < 2 ^ MAX_SIDE
 small_along lines is Across = is.rows_within
 small_along lines is Down = is.columns_within
 
@@ -59,7 +59,7 @@ members = record {
   counted = λ lines. (none_when_zero lines, λ e. ap name_count e ∙ no_names_counted);
 }
 
-same_axis : (a b : Axis) → (a ≡ b) ⊎ ¬ (a ≡ b)
+pub same_axis : (a b : Axis) → (a ≡ b) ⊎ ¬ (a ≡ b)
 same_axis Across Across = inl refl
 same_axis Across Down = inr (λ e. cc)
 same_axis Down Across = inr (λ e. cc)

@@ -1,12 +1,12 @@
 -- Laws of what two writes after each other have appended.
-use Rattle.std.proofs.Common.{◌≡◌, ℕ, ◌+◌, ◌<◌, List, [], ◌∷◌, ◌++◌, take, drop, get_or, length, Option, sym, ap, ◌∙◌, subst, arith, inl, inr, Result, OnErr}
+use Rattle.std.proofs.Common.{◌≡◌, ℕ, ◌+◌, ◌<◌, ◌≤◌, List, [], ◌∷◌, ◌++◌, take, drop, get_or, length, Option, sym, ap, ◌∙◌, subst, arith, inl, inr, Result, OnErr}
 use Rattle.std.proofs.lemmas.Bool.{cases_lt}
 use Rattle.std.proofs.lemmas.List.{take-append-le, take_all, take_more, take-append-drop, append-nil}
 use Rattle.std.proofs.lemmas.Result.{on_err_weaker}
 use Rattle.std.proofs.Math.Seq.{take-append_seam, take-append-add}
 use Rattle.std.specs.List.{flat_map}
 use Rattle.std.proofs.lemmas.List.Concat.{flat_map-append}
-use Rattle.std.proofs.KnownBytes.{Appends-trans}
+use Rattle.std.proofs.KnownBytes.{Appends-nil, Appends-trans}
 use Rattle.std.specs.Io.KnownBytes.{Appends}
 use Rattle.picture.specs.Writing.{AppendsFront}
 
@@ -50,3 +50,12 @@ module _ (a b c : Option (List ℕ)) where
   piece_cut piece xs i d lt before now =
       let front : AppendsFront a c (flat_map piece (take (i + 1) xs)) = rw (pieces_more piece xs i d lt) (second_front a b c (flat_map piece (take i xs)) (piece (get_or xs i d)) before now) in
       rw (pieces_parts piece xs (i + 1)) (first_front a c (flat_map piece (take (i + 1) xs)) (flat_map piece (drop (i + 1) xs)) front)
+
+-- all the pieces, and none
+pub pieces_sent : {X : Type 0} (a b : Option (List ℕ)) (piece : X → List ℕ) (xs : List X) (i : ℕ) → length xs ≤ i → Appends a b (flat_map piece (take i xs)) → Appends a b (flat_map piece xs)
+pieces_sent a b piece xs i le h = subst (λ ys. Appends a b (flat_map piece ys)) (take_all i xs le) h
+
+pub no_piece_sent : {X : Type 0} (a : Option (List ℕ)) (piece : X → List ℕ) (xs : List X) → Appends a a (flat_map piece (take 0 xs))
+no_piece_sent a piece xs = Appends-nil a
+
+pub ruleset pieces = (piece_sent, pieces_sent, no_piece_sent)

@@ -4,7 +4,6 @@ ghost use Rattle.std.specs.Prelude.{◌≡◌, ◌<◌, ◌==◌, ◌∷◌, len
 ghost use Rattle.std.specs.List.{slice_split};
 ghost use Rattle.picture.specs.Reading.{pieces_behind};
 
-#[tactic(auto, using(crate::proofs::SplitLemmas::splitting))]
 /// The bytes up to the first separator, and what stands behind it, where there is one.
 pub fn split_first(bytes: &[u8], separator: u8) -> (&[u8], Option<&[u8]>)
     ensures pieces { slice_split (λ b. b == separator) bytes.now

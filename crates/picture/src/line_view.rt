@@ -1,6 +1,6 @@
 //! A row or a column, borrowed from a picture. Nothing is copied.
 
-ghost use Rattle.std.specs.Prelude.{◌≡◌, ℕ, ◌+◌, ◌*◌, ◌-◌, ◌<◌, List, length, slice_index, IsFalse};
+ghost use Rattle.std.specs.Prelude.{◌≡◌, ℕ, ◌+◌, ◌*◌, ◌-◌, ◌<◌, List, length, slice_index};
 ghost use Rattle.std.specs.Iterator.{YieldsFirst, YieldsLast, item_count};
 ghost use Rattle.picture.specs.Line.{spaced, IsLine, IsSpaced};
 
@@ -53,13 +53,6 @@ impl<'a> LineView<'a> {
         ensures line { IsLine self.now }
     {
         self.line.count
-    }
-
-    /// Whether the line has no cell, which is never so.
-    pub fn is_empty(&self) -> bool
-        ensures { IsFalse result }
-    {
-        self.line.count == 0
     }
 
     /// The colour of the cell at a place from 0.

@@ -1,6 +1,6 @@
 //! The colours of a picture, by their numbers.
 
-ghost use Rattle.std.specs.Prelude.{◌≡◌, ◌<◌, [], ◌∷◌, true, false, length, slice_get, IfOk, IfErr, IsOk, OnOk, OnErr, IsFalse};
+ghost use Rattle.std.specs.Prelude.{◌≡◌, ◌<◌, [], ◌∷◌, true, false, length, slice_get, IfOk, IfErr, IsOk, OnOk, OnErr};
 ghost use Rattle.std.specs.List.{list_any};
 ghost use Rattle.picture.specs.declared.palette.PaletteFault.TheVariants.{Memory};
 ghost use Rattle.picture.specs.Palette.{first_of, triple_at, place_of, with_colour, with_triple, without_last, only_background, start_fault, add_fault, set_fault, stands_elsewhere, rgb_eq, fits, IsPalette, HasPlaceFor};
@@ -88,13 +88,6 @@ impl Palette {
         ensures palette { IsPalette self.now }
     {
         self.colours.len() as u8
-    }
-
-    /// Whether there is no colour, which is never so.
-    pub fn is_empty(&self) -> bool
-        ensures { IsFalse result }
-    {
-        self.colours.is_empty()
     }
 
     /// The colour with a number.

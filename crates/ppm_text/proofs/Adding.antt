@@ -1,13 +1,13 @@
 -- A new triple with lawful samples is refused where the palette is full, and else only for want of memory.
-use Rattle.std.proofs.Common.{◌≡◌, ℕ, ◌+◌, Bool, true, false, ◌||◌, cond, ltb, leb, List, [], ◌∷◌, length, Option, Some, None, Result, Ok, Err, refl, ap, ◌∙◌, arith, ◌⊎◌, inl, inr}
+use Rattle.std.proofs.Common.{◌≡◌, ℕ, ◌+◌, Bool, true, false, ◌||◌, cond, ltb, leb, List, [], ◌∷◌, length, Option, Some, None, Result, Ok, Err, refl, sym, ap, ◌∙◌, arith, ◌⊎◌, inl, inr}
 use Rattle.std.specs.Option.{option_map}
 use Rattle.std.specs.List.{list_any}
-use Rattle.std.proofs.lemmas.Bool.{cases_lt}
-use Rattle.std.proofs.lemmas.Bool.Decides.{nat_tests}
+use Rattle.std.proofs.lemmas.Bool.{cases_lt, le-leb, le-ltb, lt-leb, lt-ltb}
 use Rattle.picture.specs.declared.rgb.Rgb.{Rgb}
 use Rattle.picture.specs.declared.palette.PaletteFault.{PaletteFault}
 use Rattle.picture.specs.declared.palette.PaletteFault.TheVariants as palette
 use Rattle.picture.specs.declared.picture.TheConstants.{MAX_COLOURS}
+use Rattle.picture.specs.ColourLaws.{absent}
 use Rattle.picture.specs.Palette.{Colours, rgb_eq, fits, place_of, with_colour, add_fault}
 use Rattle.ppm_text.specs.declared.fault.PpmFault.{PpmFault}
 use Rattle.ppm_text.specs.declared.fault.PpmFault.TheVariants.{Memory, TooManyColours}
@@ -15,48 +15,27 @@ use Rattle.ppm_text.specs.declared.fields.Triple.{Triple}
 use Rattle.ppm_text.specs.Ppm.{numbered, numbered_by}
 use Rattle.ppm_text.specs.Adding.{adding_fault}
 
-none_by : (here others : Bool) (o : Option ℕ) → (o ≡ None → others ≡ false) → cond here (Some 0) (option_map (λ j. j + 1) o) ≡ None → (here || others) ≡ false
-none_by true others o h e = absurd cc
-none_by false others None h e = h refl
-none_by false others (Some j) h e = absurd cc
-
--- a colour with no number stands nowhere in the list
-pub stands_nowhere : (rgb : Rgb) (triples : List Rgb) → place_of rgb triples ≡ None → list_any (rgb_eq rgb) triples ≡ false
-stands_nowhere rgb [] e = refl
-stands_nowhere rgb (t ∷ triples) e = none_by (rgb_eq rgb t) (list_any (rgb_eq rgb) triples) (place_of rgb triples) (stands_nowhere rgb triples) e
-
 abbrev IsRefused : PaletteFault → Option PaletteFault → Type 0
 IsRefused e fault = (fault ≡ Some e) ⊎ ((fault ≡ None) × (e ≡ palette.Memory))
 
 by_room : (full : Bool) (place : ℕ) (e : PaletteFault) (room : Result (ℕ × Colours) PpmFault) → IsRefused e (cond full (Some palette.Full) None)
     → (adding_fault e place ≡ Memory) ⊎ (cond full (Err (TooManyColours place)) room ≡ Err (adding_fault e place))
-by_room full place palette.Memory room h = inl refl
-by_room true place palette.Full room h = inr refl
-by_room true place palette.Duplicate room h = inr refl
-by_room true place palette.SampleOver room h = inr refl
-by_room true place palette.Background room h = inr refl
-by_room false place palette.Full room h = elim h [ inl p ↦ absurd cc | inr p ↦ absurd cc ]
-by_room false place palette.Duplicate room h = elim h [ inl p ↦ absurd cc | inr p ↦ absurd cc ]
-by_room false place palette.SampleOver room h = elim h [ inl p ↦ absurd cc | inr p ↦ absurd cc ]
-by_room false place palette.Background room h = elim h [ inl p ↦ absurd cc | inr p ↦ absurd cc ]
+by_room true place e room h = elim h [
+  | inl p ↦ let is : palette.Full ≡ e = cc in inr (rw (← is) refl)
+  | inr p ↦ absurd cc
+]
+by_room false place e room h = elim h [ inl p ↦ absurd cc | inr p ↦ inl (rw p.1 refl) ]
 
 pub refused : (colours : Colours) (triple : Triple) (e : PaletteFault) → place_of triple.colour colours.triples ≡ None → fits colours.maxval triple.colour ≡ true
     → IsRefused e (add_fault colours triple.colour) → (adding_fault e triple.place ≡ Memory) ⊎ (numbered colours triple ≡ Err (adding_fault e triple.place))
 refused colours triple e new lawful h =
     let n = length colours.triples in
     let room : Result (ℕ × Colours) PpmFault = Ok (n, with_colour colours triple.colour) in
-    let tests : add_fault colours triple.colour ≡ cond (leb MAX_COLOURS n) (Some palette.Full) None = rw (stands_nowhere triple.colour colours.triples new, lawful) refl in
+    let tests : add_fault colours triple.colour ≡ cond (leb MAX_COLOURS n) (Some palette.Full) None = rw (absent triple.colour colours.triples (sym new), lawful) refl in
     let full : numbered colours triple ≡ cond (leb MAX_COLOURS n) (Err (TooManyColours triple.place)) room = ap (λ (o : Option ℕ). numbered_by o colours triple) new ∙ other_way n triple.place room in
     rw full (by_room (leb MAX_COLOURS n) triple.place e room (rw tests at h)) where
       other_way : (n place : ℕ) (room : Result (ℕ × Colours) PpmFault) → cond (ltb n MAX_COLOURS) room (Err (TooManyColours place)) ≡ cond (leb MAX_COLOURS n) (Err (TooManyColours place)) room
-      other_way n place room =
-          elim (cases_lt n MAX_COLOURS) [
-            | inl lt ↦
-                let a : ltb n MAX_COLOURS ≡ true = grind (arith, nat_tests) in
-                let b : leb MAX_COLOURS n ≡ false = grind (arith, nat_tests) in
-                rw (a, b) refl
-            | inr le ↦
-                let a : ltb n MAX_COLOURS ≡ false = grind (arith, nat_tests) in
-                let b : leb MAX_COLOURS n ≡ true = grind (arith, nat_tests) in
-                rw (a, b) refl
-          ]
+      other_way n place room = elim (cases_lt n MAX_COLOURS) [
+        | inl lt ↦ rw (lt-ltb n MAX_COLOURS lt, lt-leb MAX_COLOURS n lt) refl
+        | inr le ↦ rw (le-ltb n MAX_COLOURS le, le-leb MAX_COLOURS n le) refl
+      ]

@@ -1,6 +1,7 @@
 -- A whole written text is read again.
 use Rattle.std.proofs.Common.{◌≡◌, ℕ, suc, ◌*◌, ◌<◌, ◌≤◌, Bool, true, false, ◌||◌, cond, eqb, List, [], ◌∷◌, ◌++◌, length, map, take, drop, get_or, Option, Some, Result, Ok, Err, refl, sym, ap, ◌∙◌, append_assoc, length-append, arith, codes}
 use Rattle.std.specs.List.{flat_map, AllByRecursion}
+use Rattle.std.proofs.lemmas.Bool.{or_right}
 use Rattle.std.proofs.lemmas.List.{append-nil, map-append, length-map}
 use Rattle.std.proofs.lemmas.List.Concat.{flat_map-append}
 use Rattle.std.proofs.Math.Seq.{take-append_seam, drop-append_seam}
@@ -22,7 +23,8 @@ use Rattle.ppm_text.specs.RoundTrip.{IsUngiven, IsReadAgain}
 use Rattle.ppm_text.proofs.Binds.{bind_is}
 use Rattle.ppm_text.proofs.Spelled.{text_tokens, behind, space_closes, line_end_closes, side_again, palette_again}
 use Rattle.ppm_text.proofs.Numbering.{AreLawful, cells_again}
-use Rattle.ppm_text.proofs.Seen.{room, rows_among, all_lawful, one_lawful, first_among}
+use Rattle.ppm_text.proofs.Seen.{rows_among, all_lawful, first_among}
+use Rattle.picture.specs.ColourLaws.{few_seen, fits_there}
 
 -- ---- the text of the rows is that of their triples
 
@@ -73,12 +75,8 @@ rows_again final triples width (row ∷ rows) wide =
 
 -- ---- the whole text
 
-or_true : (b : Bool) → (b || true) ≡ true
-or_true true = refl
-or_true false = refl
-
 magic_again : (body : List ℕ) → magic_of (codes "P3\n" ++ body) ≡ Ok (record { end = length (codes "P3\n" ++ body); tokens = text_tokens 3 body })
-magic_again body = ap (λ b. cond b (Ok (record { end = length (codes "P3\n" ++ body); tokens = text_tokens 3 body })) (Err (NotP3 0))) (or_true (eqb (length (codes "P3\n" ++ body)) 2))
+magic_again body = ap (λ b. cond b (Ok (record { end = length (codes "P3\n" ++ body); tokens = text_tokens 3 body })) (Err (NotP3 0))) (or_right (eqb (length (codes "P3\n" ++ body)) 2) true refl)
 
 -- the steps of reading, each with what follows it
 abbrev with_cells : Header → List ℕ × Colours × List Token → Result Content PpmFault
@@ -156,8 +154,8 @@ is_read_again d u =
     let wide = wide_by (width_of rows) rows u.picture.rectangular in
     let among = rows_among triples rows u.palette.has_background in
     let lawful = all_lawful d.colours.maxval triples ts u.palette.samples_fit among in
-    let few : length final ≤ 16 = omega (arith, room triples ts u.palette.has_background among, u.palette.colours_fit) in
-    let first_fits : fits d.colours.maxval (first_of triples) ≡ true = one_lawful d.colours.maxval triples (first_of triples) u.palette.samples_fit (first_among triples u.palette.has_background) in
+    let few : length final ≤ 16 = omega (arith, few_seen triples ts (first_of triples) (first_among triples u.palette.has_background) among, u.palette.colours_fit) in
+    let first_fits : fits d.colours.maxval (first_of triples) ≡ true = fits_there d.colours.maxval (first_of triples) triples u.palette.samples_fit (first_among triples u.palette.has_background) in
     ap (λ (text : List ℕ). ppm_of text (Some (first_of triples))) (written_so d)
     ∙ read_steps (width_of rows) (length rows) d.colours.maxval (first_of triples) ts final u.picture.has_column u.picture.columns_fit u.picture.has_row u.picture.rows_fit u.palette.has_maxval u.palette.maxval_fits first_fits
     (count_triples triples (width_of rows) rows wide) lawful refl few

@@ -6,6 +6,7 @@ use Rattle.std.proofs.lemmas.Bool.{cases_lt}
 use Rattle.picture.specs.Reading.{◌>>=◌}
 use Rattle.picture.specs.declared.rgb.Rgb.{Rgb}
 use Rattle.picture.specs.declared.picture.TheConstants.{MAX_COLOURS}
+use Rattle.picture.specs.ColourLaws.{number_small, placed}
 use Rattle.picture.specs.Palette.{Colours, rgb_eq, place_of, with_colour}
 use Rattle.ppm_text.specs.declared.fault.PpmFault.{PpmFault}
 use Rattle.ppm_text.specs.declared.fault.PpmFault.TheVariants.{Memory, TooManyColours}
@@ -60,24 +61,8 @@ pub ruleset cell_loop = (cells_go_on, cells_stop, cells_end)
 
 -- ---- what is true of cells that were read
 
-above_some : (k : ℕ) (o : Option ℕ) (n : ℕ) → ((j : ℕ) → o ≡ Some j → j < n) → option_map (λ j. j + 1) o ≡ Some k → k < n + 1
-above_some k None n h e = absurd cc
-above_some k (Some j) n h e =
-    let same : j + 1 ≡ k = cc in
-    let below = h j refl in
-    omega arith
-
-place_by : (k n : ℕ) (here : Bool) (o : Option ℕ) → ((j : ℕ) → o ≡ Some j → j < n) → cond here (Some 0) (option_map (λ j. j + 1) o) ≡ Some k → k < suc n
-place_by k n true o h e =
-    let same : 0 ≡ k = cc in
-    omega arith
-place_by k n false o h e =
-    let below = above_some k o n h e in
-    omega arith
-
-pub place_below : (rgb : Rgb) (triples : List Rgb) (k : ℕ) → place_of rgb triples ≡ Some k → k < length triples
-place_below rgb [] k e = absurd cc
-place_below rgb (t ∷ triples) k e = place_by k (length triples) (rgb_eq rgb t) (place_of rgb triples) (λ j h. place_below rgb triples j h) e
+place_below : (rgb : Rgb) (triples : List Rgb) (k : ℕ) → place_of rgb triples ≡ Some k → k < length triples
+place_below rgb triples k e = let below = number_small rgb triples (placed rgb triples k (sym e)) in rw e at below
 
 -- a palette grows by colours at its end, and not past 16
 pub record Grows (old new : Colours) : Type 0 where

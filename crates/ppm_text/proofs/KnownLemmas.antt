@@ -10,7 +10,8 @@ use Rattle.ppm_text.specs.declared.known.Known.{Known}
 use Rattle.ppm_text.specs.Known.{AreKnown}
 use Rattle.ppm_text.specs.Ppm.{numbered, numbered_by}
 use Rattle.ppm_text.proofs.Binds.{test_ok, ok_is}
-use Rattle.ppm_text.proofs.Numbering.{rgb_eq-refl, place_stays, place_new}
+use Rattle.ppm_text.proofs.Numbering.{place_stays, place_new}
+use Rattle.picture.specs.ColourLaws.{same}
 
 abbrev IsKnown : List Rgb → Known → Type 0
 IsKnown triples k = place_of k.colour triples ≡ Some k.number
@@ -55,8 +56,8 @@ pub ruleset knowing = (known_number, known_after)
 first_place : (triples : List Rgb) (colour : Rgb) → slice_get triples 0 ≡ Some colour → place_of colour triples ≡ Some 0
 first_place [] colour e = absurd cc
 first_place (t ∷ triples) colour e =
-    let same : t ≡ colour = cc in
-    subst (λ (c : Rgb). place_of colour (c ∷ triples) ≡ Some 0) {x = colour} (sym same) (rw (rgb_eq-refl colour) refl)
+    let is : t ≡ colour = cc in
+    subst (λ (c : Rgb). place_of colour (c ∷ triples) ≡ Some 0) {x = colour} (sym is) (rw (same colour) refl)
 
 -- the background is known at each slot
 pub background_known : (triples : List Rgb) (colour : Rgb) (slots : ℕ) → slice_get triples 0 ≡ Some colour → AreKnown triples (replicate slots (record { colour = colour; number = 0 }))

@@ -7,7 +7,6 @@ pub mod Sending
 pub mod Binds
 pub mod Cells
 pub mod Adding
-pub mod Pictures
 pub mod Spelled
 pub mod Numbering
 pub mod KnownLemmas

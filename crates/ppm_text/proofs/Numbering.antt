@@ -4,6 +4,7 @@ use Rattle.std.specs.Option.{option_map}
 use Rattle.std.specs.List.{list_any, flat_map, AllByRecursion}
 use Rattle.std.proofs.lemmas.Bool.Decides.{nat_tests}
 use Rattle.std.proofs.lemmas.List.{append-nil}
+use Rattle.picture.specs.ColourLaws.{absent, any_last, place-front, place-last, placed, seen-front}
 use Rattle.picture.specs.Reading.{◌>>=◌}
 use Rattle.picture.specs.declared.rgb.Rgb.{Rgb}
 use Rattle.picture.specs.declared.picture.TheConstants.{MAX_COLOURS}
@@ -15,57 +16,16 @@ use Rattle.ppm_text.specs.Samples.{triple_at}
 use Rattle.ppm_text.specs.Ppm.{numbered, numbered_by, cell_at, cells_at}
 use Rattle.ppm_text.specs.Text.{triple_text}
 use Rattle.ppm_text.proofs.Binds.{bind_is}
-use Rattle.ppm_text.proofs.Adding.{stands_nowhere}
 use Rattle.ppm_text.proofs.Spelled.{text_tokens, behind_triple, triple_again}
-
-pub rgb_eq-refl : (t : Rgb) → rgb_eq t t ≡ true
-rgb_eq-refl t = grind (arith, nat_tests)
-
-abbrev later : Option ℕ → Option ℕ
-later o = option_map (λ k. k + 1) o
 
 -- ---- a colour's place stays where colours are added at the end
 
-known_by : (here : Bool) (o p : Option ℕ) (k : ℕ) → ((j : ℕ) → o ≡ Some j → p ≡ Some j) → cond here (Some 0) (later o) ≡ Some k → cond here (Some 0) (later p) ≡ Some k
-known_by true o p k h e = e
-known_by false None p k h e = absurd cc
-known_by false (Some j) p k h e = ap later (h j refl) ∙ e
-
 pub place_stays : (t : Rgb) (known more : List Rgb) (k : ℕ) → place_of t known ≡ Some k → place_of t (known ++ more) ≡ Some k
-place_stays t [] more k e = absurd cc
-place_stays t (x ∷ known) more k e = known_by (rgb_eq t x) (place_of t known) (place_of t (known ++ more)) k (λ j h. place_stays t known more j h) e
-
-new_by : (here : Bool) (o p : Option ℕ) (n : ℕ) → (o ≡ None → p ≡ Some n) → cond here (Some 0) (later o) ≡ None → cond here (Some 0) (later p) ≡ Some (suc n)
-new_by true o p n h e = absurd cc
-new_by false None p n h e = ap later (h refl) ∙ ap (λ (k : ℕ). Some k) (omega arith)
-new_by false (Some j) p n h e = absurd cc
+place_stays t known more k e = place-front t known more (placed t known k (sym e)) ∙ e
 
 pub place_new : (t : Rgb) (known more : List Rgb) → place_of t known ≡ None → place_of t (known ++ t ∷ more) ≡ Some (length known)
-place_new t [] more e = ap (λ b. cond b (Some 0) (later (place_of t more))) (rgb_eq-refl t)
-place_new t (x ∷ known) more e = new_by (rgb_eq t x) (place_of t known) (place_of t (known ++ t ∷ more)) (length known) (place_new t known more) e
-
-some_by : (here others : Bool) (o : Option ℕ) (k : ℕ) → ((j : ℕ) → o ≡ Some j → others ≡ true) → cond here (Some 0) (later o) ≡ Some k → (here || others) ≡ true
-some_by true others o k h e = refl
-some_by false others None k h e = absurd cc
-some_by false others (Some j) k h e = h j refl
-
-stands_somewhere : (t : Rgb) (known : List Rgb) (k : ℕ) → place_of t known ≡ Some k → list_any (rgb_eq t) known ≡ true
-stands_somewhere t [] k e = absurd cc
-stands_somewhere t (x ∷ known) k e = some_by (rgb_eq t x) (list_any (rgb_eq t) known) (place_of t known) k (λ j h. stands_somewhere t known j h) e
-
--- ---- what is seen after other colours begins with them
-
-abbrev Extends : List Rgb → List Rgb → Type 0
-Extends known final = (more : List Rgb) × (final ≡ known ++ more)
-
-extends_by : (known : List Rgb) (t : Rgb) (seen : Bool) (old new : List Rgb) → Extends known old → Extends (known ++ t ∷ []) new → Extends known (cond seen old new)
-extends_by known t true old new p q = p
-extends_by known t false old new p q = (t ∷ q.0, q.1 ∙ append_assoc known (t ∷ []) q.0)
-
-seen_extends : (known ts : List Rgb) → Extends known (seen_after known ts)
-seen_extends known [] = ([], sym (append-nil known))
-seen_extends known (t ∷ ts) =
-    extends_by known t (list_any (rgb_eq t) known) (seen_after known ts) (seen_after (known ++ t ∷ []) ts) (seen_extends known ts) (seen_extends (known ++ t ∷ []) ts)
+place_new t known more e =
+    ap (place_of t) (sym (append_assoc known (t ∷ []) more)) ∙ place-front t (known ++ t ∷ []) more (any_last t known) ∙ place-last t known (absent t known (sym e))
 
 -- ---- one triple and then all of them
 
@@ -79,14 +39,14 @@ IsNumbered maxval place known t ts final =
 
 by_place : (maxval place : ℕ) (known : List Rgb) (t : Rgb) (ts final : List Rgb) (o : Option ℕ) → place_of t known ≡ o → seen_after known (t ∷ ts) ≡ final → length final ≤ MAX_COLOURS → IsNumbered maxval place known t ts final
 by_place maxval place known t ts final (Some k) e seen room =
-    let stays : seen_after known ts ≡ final = ap (λ b. cond b (seen_after known ts) (seen_after (known ++ t ∷ []) ts)) (sym (stands_somewhere t known k e)) ∙ seen in
-    let ext = seen_extends known ts in
+    let stays : seen_after known ts ≡ final = ap (λ b. cond b (seen_after known ts) (seen_after (known ++ t ∷ []) ts)) (sym (placed t known k (sym e))) ∙ seen in
+    let ext = seen-front known ts in
     let number : number_among final t ≡ k = ap (λ (xs : List Rgb). number_among xs t) (sym stays ∙ ext.1) ∙ ap (λ (p : Option ℕ). unwrap_or p 0) (place_stays t known ext.0 k e) in
     (known, ap (λ (p : Option ℕ). numbered_by p (palette_of maxval known) (record { place = place; colour = t })) e ∙ ap (λ (n : ℕ). Ok (n, palette_of maxval known)) (sym number), stays)
 by_place maxval place known t ts final None e seen room =
     let now = known ++ t ∷ [] in
-    let grows : seen_after now ts ≡ final = ap (λ b. cond b (seen_after known ts) (seen_after now ts)) (sym (stands_nowhere t known e)) ∙ seen in
-    let ext = seen_extends now ts in
+    let grows : seen_after now ts ≡ final = ap (λ b. cond b (seen_after known ts) (seen_after now ts)) (sym (absent t known (sym e))) ∙ seen in
+    let ext = seen-front now ts in
     let all : final ≡ known ++ t ∷ ext.0 = sym grows ∙ ext.1 ∙ append_assoc known (t ∷ []) ext.0 in
     let number : number_among final t ≡ length known = ap (λ (xs : List Rgb). number_among xs t) all ∙ ap (λ (p : Option ℕ). unwrap_or p 0) (place_new t known ext.0 e) in
     let count : length final ≡ length known + suc (length ext.0) = ap length all ∙ length-append known (t ∷ ext.0) in

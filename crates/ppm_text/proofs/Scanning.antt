@@ -2,6 +2,7 @@
 use Rattle.std.proofs.Common.{◌≡◌, ◌≢◌, ℕ, ◌+◌, ◌<◌, ◌≤◌, Bool, true, false, not, ◌&&◌, ◌||◌, cond, eqb, List, [], ◌∷◌, length, get_or, drop, refl, sym, ap, ◌∙◌, add-one, arith}
 use Rattle.std.specs.Char.{is_ascii_digit}
 use Rattle.std.specs.List.{take_while}
+use Rattle.std.proofs.lemmas.Bool.{or_parts}
 use Rattle.std.proofs.lemmas.Bool.Decides.{nat_tests}
 use Rattle.std.proofs.lemmas.List.{at_drop_more, at_drop_all}
 use Rattle.std.proofs.lemmas.List.Sums.{take_while-cons}
@@ -77,10 +78,7 @@ pub ruleset scanning = (nat_tests, no_gap, space_skipped, comment_opens, comment
 
 -- outside of comments and gaps a byte is left as it is
 pub gap_parts : (b : ℕ) → is_gap b ≡ false → (is_space b ≡ false) × (eqb b 35 ≡ false)
-gap_parts b h = or_parts (is_space b) (eqb b 35) h where
-  or_parts : (x y : Bool) → (x || y) ≡ false → (x ≡ false) × (y ≡ false)
-  or_parts true y e = absurd cc
-  or_parts false y e = (refl, e)
+gap_parts b h = or_parts (is_space b) (eqb b 35) h
 
 pub no_comment : (b : ℕ) → is_gap b ≡ false → in_comment false b ≡ false
 no_comment b h = rw (gap_parts b h).1 refl

@@ -1,12 +1,8 @@
--- What a picture's cells and rows, one by one, have appended.
-use Rattle.std.proofs.Common.{◌≡◌, ℕ, ◌+◌, ◌<◌, ◌≤◌, List, [], ◌++◌, take, get_or, length, Option, subst, Result, Ok, Err, OnErr, OnOk, codes}
-use Rattle.std.proofs.lemmas.List.{take_all}
-use Rattle.std.proofs.lemmas.Result.{on_ok_weaker}
-use Rattle.picture.specs.declared.rgb.Rgb.{Rgb}
+-- What the sizes, one by one, have appended.
+use Rattle.std.proofs.Common.{◌≡◌, ℕ, List, ◌++◌, Option, subst, Result, Ok, Err, OnErr, OnOk, codes}
 use Rattle.picture.specs.Writing.{AppendsFront, number_text}
-use Rattle.picture.specs.SendingLaws.{both_sent, first_front, last_front, middle_front, second_front, piece_sent, piece_cut}
-use Rattle.ppm_text.specs.Text.{cell_text, header_text, row_text, rows_text, sizes_text}
-use Rattle.std.proofs.KnownBytes.{Appends-nil}
+use Rattle.picture.specs.SendingLaws.{both_sent, first_front, last_front, middle_front}
+use Rattle.ppm_text.specs.Text.{sizes_text}
 use Rattle.std.specs.Io.KnownBytes.{Appends}
 
 -- the sizes, in three writes
@@ -33,54 +29,11 @@ sizes_sent_ok (Err e) a b c d width height maxval first second third = tt
 
 pub ruleset sizes = (sizes_sent_ok, width_cut, maxval_cut)
 
-module _ (a b c : Option (List ℕ)) where
-  pub cell_sent : (triples : List Rgb) (row : List ℕ) (col : ℕ) → col < length row
-      → Appends a b (row_text triples (take col row)) → Appends b c (cell_text triples (get_or row col 0)) → Appends a c (row_text triples (take (col + 1) row))
-  cell_sent triples row col lt before now = piece_sent a b c (cell_text triples) row col 0 lt before now
+-- the magic, the sizes and the rows
+pub magic_cut : (a b : Option (List ℕ)) (x : List ℕ) → AppendsFront a b (codes "P3\n") → AppendsFront a b (codes "P3\n" ++ x)
+magic_cut a b x h = first_front a b (codes "P3\n") x h
 
-  pub cell_cut : (triples : List Rgb) (row : List ℕ) (col : ℕ) → col < length row
-      → Appends a b (row_text triples (take col row)) → AppendsFront b c (cell_text triples (get_or row col 0)) → AppendsFront a c (row_text triples row)
-  cell_cut triples row col lt before now = piece_cut a b c (cell_text triples) row col 0 lt before now
+pub rows_cut : {T E : Type 0} (r : Result T E) (a b c d : Option (List ℕ)) (x y : List ℕ) → Appends a b (codes "P3\n") → Appends b c x → OnErr r (AppendsFront c d y) → OnErr r (AppendsFront a d (codes "P3\n" ++ (x ++ y)))
+rows_cut r a b c d x y first second h = last_front r a b d (codes "P3\n") (x ++ y) first (last_front r b c d x y second h)
 
-  pub row_sent : (triples : List Rgb) (rows : List (List ℕ)) (i : ℕ) → i < length rows
-      → Appends a b (rows_text triples (take i rows)) → Appends b c (row_text triples (get_or rows i [])) → Appends a c (rows_text triples (take (i + 1) rows))
-  row_sent triples rows i lt before now = piece_sent a b c (row_text triples) rows i [] lt before now
-
-  pub row_cut : (triples : List Rgb) (rows : List (List ℕ)) (i : ℕ) → i < length rows
-      → Appends a b (rows_text triples (take i rows)) → AppendsFront b c (row_text triples (get_or rows i [])) → AppendsFront a c (rows_text triples rows)
-  row_cut triples rows i lt before now = piece_cut a b c (row_text triples) rows i [] lt before now
-
-pub cells_sent : (a b : Option (List ℕ)) (triples : List Rgb) (row : List ℕ) (col : ℕ) → length row ≤ col → Appends a b (row_text triples (take col row)) → Appends a b (row_text triples row)
-cells_sent a b triples row col le h = subst (λ (x : List ℕ). Appends a b (row_text triples x)) (take_all col row le) h
-
-pub rows_sent : (a b : Option (List ℕ)) (triples : List Rgb) (rows : List (List ℕ)) (i : ℕ) → length rows ≤ i → Appends a b (rows_text triples (take i rows)) → Appends a b (rows_text triples rows)
-rows_sent a b triples rows i le h = subst (λ (x : List (List ℕ)). Appends a b (rows_text triples x)) (take_all i rows le) h
-
-pub no_cell_sent : (a : Option (List ℕ)) (triples : List Rgb) (row : List ℕ) → Appends a a (row_text triples (take 0 row))
-no_cell_sent a triples row = Appends-nil a
-
-pub no_row_sent : (a : Option (List ℕ)) (triples : List Rgb) (rows : List (List ℕ)) → Appends a a (rows_text triples (take 0 rows))
-no_row_sent a triples rows = Appends-nil a
-
-pub ruleset row_loop = (cell_sent, cells_sent, no_cell_sent)
-
-pub ruleset rows_loop = (row_sent, rows_sent, no_row_sent)
-
--- the magic, the sizes, and the rows behind them
-pub magic_cut : (a b : Option (List ℕ)) (width height maxval : ℕ) (x : List ℕ) → AppendsFront a b (codes "P3\n") → AppendsFront a b (header_text width height maxval ++ x)
-magic_cut a b width height maxval x h = first_front a b (header_text width height maxval) x (first_front a b (codes "P3\n") (sizes_text width height maxval) h)
-
-pub sizes_cut : (a b c : Option (List ℕ)) (width height maxval : ℕ) (x : List ℕ) → Appends a b (codes "P3\n") → AppendsFront b c (sizes_text width height maxval) → AppendsFront a c (header_text width height maxval ++ x)
-sizes_cut a b c width height maxval x first h = first_front a c (header_text width height maxval) x (second_front a b c (codes "P3\n") (sizes_text width height maxval) first h)
-
-module _ {T E : Type 0} (r : Result T E) (a b c d : Option (List ℕ)) (width height maxval : ℕ) (x : List ℕ) (first : Appends a b (codes "P3\n")) (second : Appends b c (sizes_text width height maxval)) where
-  before_rows : Appends a c (header_text width height maxval)
-  before_rows = both_sent a b c (codes "P3\n") (sizes_text width height maxval) first second
-
-  pub all_sent : OnOk r (Appends c d x) → OnOk r (Appends a d (header_text width height maxval ++ x))
-  all_sent h = on_ok_weaker r (both_sent a c d (header_text width height maxval) x before_rows) h
-
-  pub rows_cut : OnErr r (AppendsFront c d x) → OnErr r (AppendsFront a d (header_text width height maxval ++ x))
-  rows_cut h = last_front r a c d (header_text width height maxval) x before_rows h
-
-pub ruleset whole = (magic_cut, sizes_cut, all_sent, rows_cut)
+pub ruleset whole = (both_sent, magic_cut, rows_cut)

@@ -5,7 +5,7 @@ use Rattle.std.specs.Str.{all_ascii_digits}
 use Rattle.std.specs.Str.Parse.{digits_value, digits_value_after}
 use Rattle.std.specs.List.{take_while}
 use Rattle.std.proofs.lemmas.Bool.Decides.{nat_tests}
-use Rattle.std.proofs.lemmas.Bool.{leb-true}
+use Rattle.std.proofs.lemmas.Bool.{and_parts, leb-true}
 use Rattle.std.proofs.lemmas.List.Sums.{take_while-cons}
 use Rattle.std.proofs.lemmas.Str.Parse.{IsNumeralModel, numerals_by_fold}
 use Rattle.std.proofs.lemmas.Fmt.{digits_decimal, digits_value-decimal, decimal_nonempty}
@@ -23,24 +23,17 @@ use Rattle.ppm_text.specs.Ppm.{palette_at}
 use Rattle.picture.specs.Writing.{number_text}
 use Rattle.ppm_text.specs.Text.{triple_text}
 use Rattle.ppm_text.proofs.Binds.{bind_is}
-use Rattle.ppm_text.proofs.Scanning.{no_comment, gap_parts}
+use Rattle.ppm_text.proofs.Scanning.{no_comment, no_gap, gap_parts}
 
 -- the tokens of a text that begins at a place
 abbrev pub text_tokens : ℕ → List ℕ → List Token
 text_tokens place text = tokens_from false place (without_comments false text)
 
-both_true : (x y : Bool) → (x && y) ≡ true → (x ≡ true) × (y ≡ true)
-both_true true y h = (refl, h)
-both_true false y h = absurd cc
-
-digit_no_gap : (b : ℕ) → is_ascii_digit b ≡ true → is_gap b ≡ false
-digit_no_gap b h = grind (arith, nat_tests)
-
 digits_kept : (ds rest : List ℕ) → all_ascii_digits ds ≡ true → without_comments false (ds ++ rest) ≡ ds ++ without_comments false rest
 digits_kept [] rest h = refl
 digits_kept (d ∷ ds) rest h =
-    let p = both_true (is_ascii_digit d) (all_ascii_digits ds) h in
-    ap (λ t. cond t 32 d ∷ without_comments t (ds ++ rest)) (no_comment d (digit_no_gap d p.0)) ∙ ap (λ (xs : List ℕ). d ∷ xs) (digits_kept ds rest p.1)
+    let p = and_parts (is_ascii_digit d) (all_ascii_digits ds) h in
+    ap (λ t. cond t 32 d ∷ without_comments t (ds ++ rest)) (no_comment d (no_gap d p.0)) ∙ ap (λ (xs : List ℕ). d ∷ xs) (digits_kept ds rest p.1)
 
 -- what closes a number: a space or a line end
 pub record Closes (close : ℕ) : Type 0 where
@@ -58,25 +51,25 @@ digits_over [] ys place close h space =
     let count : suc place ≡ place + 0 + 1 = omega arith in
     ap (λ t. cond t (tokens_from false (suc place) ys) (tokens_from true (suc place) ys)) space ∙ ap (λ (n : ℕ). tokens_from false n ys) count
 digits_over (d ∷ ds) ys place close h space =
-    let p = both_true (is_ascii_digit d) (all_ascii_digits ds) h in
+    let p = and_parts (is_ascii_digit d) (all_ascii_digits ds) h in
     let count : suc place + length ds + 1 ≡ place + suc (length ds) + 1 = omega arith in
-    ap (λ t. cond t (tokens_from false (suc place) (ds ++ close ∷ ys)) (tokens_from true (suc place) (ds ++ close ∷ ys))) (gap_parts d (digit_no_gap d p.0)).0 ∙ digits_over ds ys (suc place) close p.1 space ∙ ap (λ (n : ℕ). tokens_from false n ys) count
+    ap (λ t. cond t (tokens_from false (suc place) (ds ++ close ∷ ys)) (tokens_from true (suc place) (ds ++ close ∷ ys))) (gap_parts d (no_gap d p.0)).0 ∙ digits_over ds ys (suc place) close p.1 space ∙ ap (λ (n : ℕ). tokens_from false n ys) count
 
 digits_taken : (ds ys : List ℕ) (close : ℕ) → all_ascii_digits ds ≡ true → is_space close ≡ true → take_while (λ x. not (is_space x)) (ds ++ close ∷ ys) ≡ ds
 digits_taken [] ys close h space =
     take_while-cons (λ x. not (is_space x)) close ys ∙ ap (λ t. cond (not t) (close ∷ take_while (λ x. not (is_space x)) ys) []) space
 digits_taken (d ∷ ds) ys close h space =
-    let p = both_true (is_ascii_digit d) (all_ascii_digits ds) h in
-    take_while-cons (λ x. not (is_space x)) d (ds ++ close ∷ ys) ∙ ap (λ t. cond (not t) (d ∷ take_while (λ x. not (is_space x)) (ds ++ close ∷ ys)) []) (gap_parts d (digit_no_gap d p.0)).0 ∙ ap (λ (xs : List ℕ). d ∷ xs) (digits_taken ds ys close p.1 space)
+    let p = and_parts (is_ascii_digit d) (all_ascii_digits ds) h in
+    take_while-cons (λ x. not (is_space x)) d (ds ++ close ∷ ys) ∙ ap (λ t. cond (not t) (d ∷ take_while (λ x. not (is_space x)) (ds ++ close ∷ ys)) []) (gap_parts d (no_gap d p.0)).0 ∙ ap (λ (xs : List ℕ). d ∷ xs) (digits_taken ds ys close p.1 space)
 
 first_digit : (ds ys : List ℕ) (place close : ℕ) → 0 < length ds → all_ascii_digits ds ≡ true → is_space close ≡ true
     → tokens_from false place (ds ++ close ∷ ys) ≡ record { place = place; bytes = ds } ∷ tokens_from false (place + length ds + 1) ys
 first_digit [] ys place close some h space = absurd (omega arith)
 first_digit (d ∷ ds) ys place close some h space =
-    let p = both_true (is_ascii_digit d) (all_ascii_digits ds) h in
+    let p = and_parts (is_ascii_digit d) (all_ascii_digits ds) h in
     let count : suc place + length ds + 1 ≡ place + suc (length ds) + 1 = omega arith in
     let token : List ℕ → Token = λ bs. record { place = place; bytes = bs } in
-    ap (λ t. cond t (tokens_from false (suc place) (ds ++ close ∷ ys)) (token (take_while (λ x. not (is_space x)) (d ∷ (ds ++ close ∷ ys))) ∷ tokens_from true (suc place) (ds ++ close ∷ ys))) (gap_parts d (digit_no_gap d p.0)).0
+    ap (λ t. cond t (tokens_from false (suc place) (ds ++ close ∷ ys)) (token (take_while (λ x. not (is_space x)) (d ∷ (ds ++ close ∷ ys))) ∷ tokens_from true (suc place) (ds ++ close ∷ ys))) (gap_parts d (no_gap d p.0)).0
     ∙ ap (λ (bs : List ℕ). token bs ∷ tokens_from true (suc place) (ds ++ close ∷ ys)) (digits_taken (d ∷ ds) ys close h space)
     ∙ ap (λ (ts : List Token). token (d ∷ ds) ∷ ts) (digits_over ds ys (suc place) close p.1 space ∙ ap (λ (n : ℕ). tokens_from false n ys) count)
 
@@ -127,8 +120,8 @@ sample_again end maxval place n close rest below most closes =
 
 fits_parts : (maxval : ℕ) (rgb : Rgb) → fits maxval rgb ≡ true → (rgb.r ≤ maxval) × (rgb.g ≤ maxval) × (rgb.b ≤ maxval)
 fits_parts maxval rgb h =
-    let p = both_true (leb rgb.r maxval) (leb rgb.g maxval && leb rgb.b maxval) h in
-    let q = both_true (leb rgb.g maxval) (leb rgb.b maxval) p.1 in
+    let p = and_parts (leb rgb.r maxval) (leb rgb.g maxval && leb rgb.b maxval) h in
+    let q = and_parts (leb rgb.g maxval) (leb rgb.b maxval) p.1 in
     (leb-true rgb.r maxval p.0, leb-true rgb.g maxval q.0, leb-true rgb.b maxval q.1)
 
 -- where the text goes on behind a triple

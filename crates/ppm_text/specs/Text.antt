@@ -27,10 +27,6 @@ rows_text triples rows = flat_map (row_text triples) rows
 abbrev pub sizes_text : ℕ → ℕ → ℕ → List ℕ
 sizes_text width height maxval = number_text width 32 ++ (number_text height 10 ++ number_text maxval 10)
 
--- the magic on a line, and the sizes
-abbrev pub header_text : ℕ → ℕ → ℕ → List ℕ
-header_text width height maxval = codes "P3\n" ++ sizes_text width height maxval
-
--- the header and the rows
+-- the magic on a line, the sizes and the rows
 abbrev pub ppm_text : Content → List ℕ
-ppm_text d = header_text (width_of d.rows) (length d.rows) d.colours.maxval ++ rows_text d.colours.triples d.rows
+ppm_text d = codes "P3\n" ++ (sizes_text (width_of d.rows) (length d.rows) d.colours.maxval ++ rows_text d.colours.triples d.rows)

@@ -86,7 +86,7 @@ fn read_cells(
     Ok(cells)
 }
 
-#[tactic(auto, using(crate::proofs::Pictures::coloured_rows))]
+#[tactic(auto, using(picture::specs::FlatLaws::cell_at_below))]
 // The document of these cells, which has no given.
 fn document_of(palette: Palette, height: u8, width: u8, cells: Vec<u8>) -> Document
     requires has_row { 0 < height }

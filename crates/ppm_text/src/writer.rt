@@ -42,7 +42,7 @@ fn send_cell<W: Write>(
     send_triple(document.palette.rgb(number), writer)
 }
 
-#[tactic(auto, using(crate::proofs::Sending::row_loop))]
+#[tactic(auto, using(picture::specs::SendingLaws::pieces))]
 // Writes a row.
 fn send_row<W: Write>(document: &Document, row: u8, writer: &mut W) -> Result<(), WriteFault>
     requires { row < length document.now.picture }
@@ -86,7 +86,7 @@ pub fn write_ppm<W: Write>(document: &Document, writer: &mut W) -> Result<(), Wr
     send_rows(document, writer)
 }
 
-#[tactic(auto, using(crate::proofs::Sending::rows_loop))]
+#[tactic(auto, using(picture::specs::SendingLaws::pieces))]
 // Writes all the rows.
 fn send_rows<W: Write>(document: &Document, writer: &mut W) -> Result<(), WriteFault>
     ensures ok { OnOk result (Appends (W.contents writer.old) (W.contents writer.new)

@@ -1,15 +1,19 @@
-use Rattle.std.proofs.Common.{◌∷◌, Option, List, ℕ, sym, ◌∙◌, ap}
+use Rattle.std.proofs.Common.{◌≡◌, ◌∷◌, Bool, true, false, cond, Option, Some, None, List, ℕ, refl, sym, ◌∙◌, ap}
+use Rattle.std.specs.Bool.{then_some}
 use Rattle.std.specs.Borrow.{Bor}
+use Rattle.std.specs.Option.{option_copied}
 use Rattle.picture.specs.Reading.{pieces_behind}
-use Rattle.non_text.proofs.GoalLemmas.{quoted_blank, quoted_other}
+use Rattle.non_text.specs.Lines.{is_blank_line}
+use Rattle.non_text.proofs.GoalLemmas.{quoted_is}
 use Rattle.non_text.proofs.goal.quoted.Goals as goal
 
-pub returns-then-is_blank_line : goal.returns-then-is_blank_line
-returns-then-is_blank_line c =
-    let digits = c.split_first.result.0.now in
-    sym (quoted_blank c.args.bytes.now digits c.in_ok-behind.behind.now (c.split_first.ensures.pieces ∙ ap (λ (rest : Option (Bor (List ℕ))). digits ∷ pieces_behind 34 rest) c.in_ok-behind.was) (sym c.if-is_blank_line.ensures))
+copied : (t : Bool) (digits : Bor (List ℕ)) → option_copied (then_some t digits) ≡ cond t (Some digits.now) None
+copied true digits = refl
+copied false digits = refl
 
-pub returns-else-is_blank_line : goal.returns-else-is_blank_line
-returns-else-is_blank_line c =
-    let digits = c.split_first.result.0.now in
-    sym (quoted_other c.args.bytes.now digits c.in_ok-behind.behind.now (c.split_first.ensures.pieces ∙ ap (λ (rest : Option (Bor (List ℕ))). digits ∷ pieces_behind 34 rest) c.in_ok-behind.was) (sym c.if-is_blank_line.ensures))
+pub returns : goal.returns
+returns c =
+    let digits = c.split_first.result.0 in
+    let behind = c.in_ok-behind.behind.now in
+    ap option_copied (c.then_some.ensures ∙ ap (λ t. then_some t digits) c.is_blank_line.ensures) ∙ copied (is_blank_line behind) digits
+    ∙ sym (quoted_is c.args.bytes.now digits.now behind (c.split_first.ensures.pieces ∙ ap (λ (rest : Option (Bor (List ℕ))). digits.now ∷ pieces_behind 34 rest) c.in_ok-behind.was))

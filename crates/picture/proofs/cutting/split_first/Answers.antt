@@ -1,9 +1,9 @@
-use Rattle.std.proofs.Common.{sym}
-use Rattle.picture.proofs.SplitLemmas.{split_found, split_none}
+use Rattle.std.proofs.Common.{eqb, sym}
+use Rattle.picture.specs.SplitLaws.{split_found, split_none}
 use Rattle.picture.proofs.cutting.split_first.Goals as goal
 
 pub returns-in-Some-clause-pieces : goal.returns-in-Some-clause-pieces
-returns-in-Some-clause-pieces c = split_found c.args.separator c.args.bytes.now c.in-Some.end (sym c.in-Some.ensures)
+returns-in-Some-clause-pieces c = split_found (λ b. eqb b c.args.separator) c.args.bytes.now c.in-Some.end (sym c.in-Some.ensures)
 
 pub returns-in-None-clause-pieces : goal.returns-in-None-clause-pieces
-returns-in-None-clause-pieces c = split_none c.args.separator c.args.bytes.now (sym c.in-None.ensures)
+returns-in-None-clause-pieces c = split_none (λ b. eqb b c.args.separator) c.args.bytes.now (sym c.in-None.ensures)
