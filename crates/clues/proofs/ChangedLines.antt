@@ -1,7 +1,6 @@
 -- Lines of a new picture that are no old lines, and those that are.
-use Rattle.std.proofs.Common.{◌≡◌, ◌≢◌, ℕ, ◌^◌, ◌<◌, ◌⊎◌, inl, inr, Option, Some, None, option_map, List, [], ◌∷◌, length, get_or, refl, sym, ap, subst, ◌∙◌, arith, IsBitSet}
+use Rattle.std.proofs.Common.{◌≡◌, ◌≢◌, ℕ, ◌^◌, ◌<◌, ◌⊎◌, inl, inr, Option, Some, None, option_map, List, length, get_or, refl, sym, ap, subst, ◌∙◌, arith, IsBitSet}
 use Rattle.std.specs.Int.Bits.{and_zero_l}
-use Rattle.std.proofs.lemmas.Bool.{cases_eq}
 use Rattle.std.proofs.lemmas.Bool.Decides.{nat_tests}
 use Rattle.std.proofs.lemmas.List.{length-map}
 use Rattle.picture.specs.declared.line_id.Axis.{Axis}
@@ -95,21 +94,6 @@ touches_changed moves are old new old_is new_is sizes line has touched is =
 
 pub only_changed : (change : Changes) (moves : Moves) → change ≡ record { moves = moves; marked = no_names } → AreMoves change.moves → (old new : List (List ℕ)) → IsPicture old → IsPicture new → HaveSizes change.moves old new → TouchesChanged change old new
 only_changed change moves is are old new old_is new_is sizes = rw is (touches_changed moves (rw is at are) old new old_is new_is (rw is at sizes))
-
--- lists of numbers are equal or not
-pub list_eq_or_not : (xs ys : List ℕ) → (xs ≡ ys) ⊎ (xs ≡ ys → ⊥)
-list_eq_or_not [] [] = inl refl
-list_eq_or_not [] (y ∷ ys) = inr (λ e. omega (arith, ap length e))
-list_eq_or_not (x ∷ xs) [] = inr (λ e. omega (arith, ap length e))
-list_eq_or_not (x ∷ xs) (y ∷ ys) =
-    elim (cases_eq x y) [
-      | inr differ ↦ inr (λ e. differ (ap (λ zs. get_or zs 0 0) e))
-      | inl same ↦
-          elim (list_eq_or_not xs ys) [
-            | inl rest ↦ inl (ap (λ z. z ∷ xs) same ∙ ap (λ zs. y ∷ zs) rest)
-            | inr differ ↦ inr (λ e. differ (cc e))
-          ]
-    ]
 
 -- where no line moves
 image_of-still : (height width : ℕ) (axis : Axis) (at : ℕ) → image_of (still height width) (line_at axis at) ≡ Some (line_at axis at)

@@ -25,7 +25,7 @@ edited (Inserted place) new xs = insert xs place new
 edited (Deleted place) new xs = remove xs place
 edited (Swapped first second) new xs = swap xs first second
 
-length-edited : {X : Type 0} (places : Places) (new : X) (xs : List X) → AreAmong places (length xs) → length (edited places new xs) ≡ count_after places (length xs)
+pub length-edited : {X : Type 0} (places : Places) (new : X) (xs : List X) → AreAmong places (length xs) → length (edited places new xs) ≡ count_after places (length xs)
 length-edited Kept new xs among = refl
 length-edited (Inserted place) new xs among = length-insert xs place new among
 length-edited (Deleted place) new xs among = omega (arith, length-remove xs place among)
@@ -56,7 +56,7 @@ exchanged-second first second = grind (arith, nat_tests)
 exchanged-other : (first second at : ℕ) → at ≢ first → at ≢ second → exchanged first second at ≡ at
 exchanged-other first second at f s = grind (arith, nat_tests)
 
-get_or-swap : {X : Type 0} (xs : List X) (first second at : ℕ) (d : X) → first < length xs → second < length xs → get_or (swap xs first second) (exchanged first second at) d ≡ get_or xs at d
+pub get_or-swap : {X : Type 0} (xs : List X) (first second at : ℕ) (d : X) → first < length xs → second < length xs → get_or (swap xs first second) (exchanged first second at) d ≡ get_or xs at d
 get_or-swap xs first second at d in_first in_second =
     let swapped = swapped_from_swap xs (swap xs first second) first second d in_first in_second refl in
     elim (cases_eq at first) [
@@ -69,7 +69,7 @@ get_or-swap xs first second at d in_first in_second =
     ]
 
 -- an item is found at its new place
-get_or-edited : {X : Type 0} (places : Places) (new d : X) (xs : List X) (from to : ℕ) → AreAmong places (length xs) → from < length xs → new_place places from ≡ Some to → get_or (edited places new xs) to d ≡ get_or xs from d
+pub get_or-edited : {X : Type 0} (places : Places) (new d : X) (xs : List X) (from to : ℕ) → AreAmong places (length xs) → from < length xs → new_place places from ≡ Some to → get_or (edited places new xs) to d ≡ get_or xs from d
 get_or-edited Kept new d xs from to among within e = let same : to ≡ from = cc e in rw same refl
 get_or-edited (Inserted place) new d xs from to among within e =
     elim (cases_lt from place) [
@@ -92,7 +92,7 @@ get_or-edited (Swapped first second) new d xs from to among within e =
 exchanged-within : (first second count at : ℕ) → first < count → second < count → at < count → exchanged first second at < count
 exchanged-within first second count at f s h = grind (arith, nat_tests)
 
-exchanged-exchanged : (first second at : ℕ) → exchanged first second (exchanged first second at) ≡ at
+pub exchanged-exchanged : (first second at : ℕ) → exchanged first second (exchanged first second at) ≡ at
 exchanged-exchanged first second at = grind (arith, nat_tests)
 
 pub origin : (places : Places) (count at : ℕ) → AreAmong places count → at < count_after places count → (IsNewAt places at → ⊥) → (from : ℕ) × (from < count) × (new_place places from ≡ Some at)
@@ -138,7 +138,7 @@ new_or_old (Inserted place) at = cases_eq at place
 new_or_old (Deleted place) at = inr (λ h. h)
 new_or_old (Swapped first second) at = inr (λ h. h)
 
-get_or-edited_new : {X : Type 0} (places : Places) (new d : X) (xs : List X) (at : ℕ) → AreAmong places (length xs) → IsNewAt places at → get_or (edited places new xs) at d ≡ new
+pub get_or-edited_new : {X : Type 0} (places : Places) (new d : X) (xs : List X) (at : ℕ) → AreAmong places (length xs) → IsNewAt places at → get_or (edited places new xs) at d ≡ new
 get_or-edited_new Kept new d xs at among n = absurd n
 get_or-edited_new (Inserted place) new d xs at among n = rw n (get_or-insert_at xs place new d among)
 get_or-edited_new (Deleted place) new d xs at among n = absurd n
@@ -169,12 +169,12 @@ crossing-crossing Across = refl
 crossing-crossing Down = refl
 
 -- a line that crosses two that are exchanged
-swap-same : (xs : List ℕ) (first second : ℕ) → first < length xs → second < length xs → get_or xs first 0 ≡ get_or xs second 0 → swap xs first second ≡ xs
-swap-same xs first second in_first in_second same =
-    sym (swap_is xs first second 0 in_first in_second)
-    ∙ (ap (λ x. set (set xs first x) second (get_or xs first 0)) (sym same)
-    ∙ (ap (λ ys. set ys second (get_or xs first 0)) (set-get_or xs first 0)
-    ∙ (ap (λ x. set xs second x) same ∙ set-get_or xs second 0)))
+pub swap-same : {X : Type 0} (xs : List X) (first second : ℕ) (d : X) → first < length xs → second < length xs → get_or xs first d ≡ get_or xs second d → swap xs first second ≡ xs
+swap-same xs first second d in_first in_second same =
+    sym (swap_is xs first second d in_first in_second)
+    ∙ (ap (λ x. set (set xs first x) second (get_or xs first d)) (sym same)
+    ∙ (ap (λ ys. set ys second (get_or xs first d)) (set-get_or xs first d)
+    ∙ (ap (λ x. set xs second x) same ∙ set-get_or xs second d)))
 
 map-swap : {X : Type 0} (f : X → ℕ) (xs : List X) (first second : ℕ) (d : X) → first < length xs → second < length xs → map f (swap xs first second) ≡ swap (map f xs) first second
 map-swap f xs first second d in_first in_second =
@@ -194,7 +194,7 @@ crossing_line : (axis : Axis) (first second : ℕ) (picture : List (List ℕ)) (
 crossing_line axis first second picture at is in_first in_second within same =
     let long : length (line_along (crossing axis) at picture) ≡ lines_along axis picture = length-line_along (crossing axis) at picture is within ∙ ap (λ along. lines_along along picture) (crossing-crossing axis) in
     crossing_swapped axis first second picture at in_first in_second within
-    ∙ swap-same (line_along (crossing axis) at picture) first second (rw long in_first) (rw long in_second) same
+    ∙ swap-same (line_along (crossing axis) at picture) first second 0 (rw long in_first) (rw long in_second) same
 
 crossing_alike : (axis : Axis) (first second : ℕ) (picture : List (List ℕ)) (at : ℕ) → IsPicture picture → first < lines_along axis picture → second < lines_along axis picture → at < lines_along (crossing axis) picture → line_along (crossing axis) at (edited_picture axis (Swapped first second) picture) ≡ line_along (crossing axis) at picture → get_or (line_along (crossing axis) at picture) first 0 ≡ get_or (line_along (crossing axis) at picture) second 0
 crossing_alike axis first second picture at is in_first in_second within same =

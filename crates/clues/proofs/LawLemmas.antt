@@ -64,7 +64,7 @@ going_back = record {
 }
 
 -- a line inserted and deleted again
-remove-insert : {X : Type 0} (xs : List X) (i : ℕ) (y : X) → i ≤ length xs → remove (insert xs i y) i ≡ xs
+pub remove-insert : {X : Type 0} (xs : List X) (i : ℕ) (y : X) → i ≤ length xs → remove (insert xs i y) i ≡ xs
 remove-insert [] zero y within = refl
 remove-insert (x ∷ xs) zero y within = refl
 remove-insert [] (suc i) y within = absurd (omega (arith, within))

@@ -114,10 +114,6 @@ pub record Follows (change : Changes) (old new : List (List ℕ)) : Type 0 where
   pub sizes : (axis : Axis) → lines_along axis new ≡ lines_after axis change.moves
   pub untouched : (line : LineId) → HasLine new line → (IsTouched change line → ⊥) → IsOldLine change.moves old new line
 
--- a line of the new picture was not there, or has other cells than the old line that it is
-abbrev pub IsChanged : Moves → List (List ℕ) → List (List ℕ) → LineId → Type 0
-IsChanged moves old new line = HasLine new line × (IsOldLine moves old new line → ⊥)
-
 -- no line is touched that has the cells of the old line that it is
 abbrev pub TouchesChanged : Changes → List (List ℕ) → List (List ℕ) → Type 0
 TouchesChanged change old new =

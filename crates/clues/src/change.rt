@@ -4,15 +4,15 @@ ghost use Rattle.std.specs.Prelude.{◌≡◌, ℕ, ◌<◌, ◌≤◌, ◌⊎�
 ghost use Rattle.picture.specs.declared.line_id.LineId.{LineId};
 ghost use Rattle.picture.specs.LineSet.{no_names};
 ghost use Rattle.picture.specs.Picture.{IsPicture};
-ghost use Rattle.picture.specs.Rows.{HasLine, line_deleted, line_inserted, lines_swapped};
+ghost use Rattle.picture.specs.Rows.{line_deleted, line_inserted, lines_swapped};
 ghost use Rattle.clues.specs.Change.{AgreesOff, AreMoves, Follows, FollowsCells, FollowsSwap, HasSize, HaveSizes};
-ghost use Rattle.clues.specs.Change.{IsChanged, IsChangeOf, IsSize, IsTouched, Stays, TouchesChanged};
+ghost use Rattle.clues.specs.Change.{IsChangeOf, IsSize, IsTouched, Stays, TouchesChanged};
 ghost use Rattle.clues.specs.Change.{image_of, lines_after, lines_before, moved_along, origin_of};
 ghost use Rattle.picture.specs.Crossing.{crossing};
 ghost use Rattle.clues.specs.Change.{places_along, still};
 
 use crate::places::Places;
-use picture::{Axis, LineId, LineSet, LineView, MAX_SIDE, Picture};
+use picture::{Axis, LineId, LineSet, MAX_SIDE};
 use std::marker::Model;
 
 /// Which lines of a picture an edit moves, and which lines of the new picture it touches. A line is touched where
@@ -139,50 +139,6 @@ impl Change {
         self.marked.put(line);
     }
 
-    /// Touches each line of the new picture that was not there, or whose cells are not those of the old line that it
-    /// is. No memory is taken.
-    pub fn touch_changed(&mut self, old: &Picture, new: &Picture)
-        requires { HaveSizes self.old.moves old.now new.now }
-        ensures moves { self.new.moves ≡ self.old.moves }
-        ensures touched { (line : LineId) → IsTouched self.new line
-            ↔ (IsTouched self.old line ⊎ IsChanged self.old.moves old.now new.now line) }
-        ensures follows { Follows self.new old.now new.now }
-        ensures exact { TouchesChanged self.old old.now new.now
-            → IsChangeOf self.new old.now new.now }
-    {
-        let _ = self.places(Axis::Across);
-        self.touch_along(old, new, Axis::Across);
-        self.touch_along(old, new, Axis::Down);
-    }
-
-    // Touches the changed lines along an axis.
-    fn touch_along(&mut self, old: &Picture, new: &Picture, axis: Axis)
-        requires { HaveSizes self.old.moves old.now new.now }
-        ensures moves { self.new.moves ≡ self.old.moves }
-        ensures touched { (line : LineId) → IsTouched self.new line
-            ↔ (IsTouched self.old line ⊎ ((line.axis ≡ axis) × IsChanged self.old.moves old.now new.now line)) }
-    {
-        for at in 0..new.line_count(axis) {
-            self.touch_if_changed(old, new, LineId { axis, at });
-        }
-    }
-
-    // Touches a line if it is changed.
-    fn touch_if_changed(&mut self, old: &Picture, new: &Picture, line: LineId)
-        requires sizes { HaveSizes self.old.moves old.now new.now }
-        requires line { HasLine new.now line }
-        ensures moves { self.new.moves ≡ self.old.moves }
-        ensures touched { (other : LineId) → IsTouched self.new other
-            ↔ (IsTouched self.old other ⊎ ((other ≡ line) × IsChanged self.old.moves old.now new.now other)) }
-    {
-        let Some(from) = self.kept_from(line) else {
-            return;
-        };
-        if !same_cells(old.line(from), new.line(line)) {
-            self.touch(line);
-        }
-    }
-
     /// Which line of the new picture a line of the old one is, if it is still there. No two lines are the same one.
     pub fn image(&self, line: LineId) -> Option<LineId>
         requires { line.at < lines_before line.axis self.now.moves }
@@ -252,19 +208,4 @@ impl Change {
             Axis::Down => self.columns,
         }
     }
-}
-
-// Whether two lines have the same cells.
-fn same_cells(one: LineView<'_>, other: LineView<'_>) -> bool
-    ensures { IsTrue result ↔ (one.entry ≡ other.entry) }
-{
-    if one.len() != other.len() {
-        return false;
-    }
-    for at in 0..one.len() {
-        if one.get(at) != other.get(at) {
-            return false;
-        }
-    }
-    true
 }

@@ -10,6 +10,7 @@ use Rattle.picture.specs.declared.rgb.Rgb.{Rgb}
 use Rattle.picture.specs.Palette.{Colours}
 use Rattle.picture.specs.Document.{AreColoured}
 use Rattle.picture.specs.Rows.{cell_at, width_of, lines_along, line_inserted, line_deleted, lines_swapped}
+use Rattle.clues.specs.declared.places.Places.TheVariants.{Inserted, Deleted, Swapped}
 use Rattle.edits.specs.declared.edit.Edit.{Edit}
 use Rattle.edits.specs.declared.edit.Edit.TheVariants.{Paint, Fill, Recolour, InsertLine, DeleteLine, SwapLines}
 use Rattle.edits.specs.Design.{Design, design, IsDesign}
@@ -19,7 +20,7 @@ use Rattle.edits.specs.Note.{Cell, IsCellIn, cells_kept, changed_cells, repainte
 use Rattle.edits.proofs.CellLemmas.{all_has, changed_from, has_from_map, paints_cells}
 use Rattle.edits.proofs.GridLemmas.{cell_at-grid, cell_at-past_rows, cell_at-past_columns, grid_is_grid, length-grid}
 use Rattle.edits.proofs.FaultLemmas.{IsLawful}
-use Rattle.edits.proofs.ShiftLemmas.{inserted_below_bound, deleted_below_bound, swapped_below_bound}
+use Rattle.edits.proofs.ShiftLemmas.{edited_below, deleted_is, inserted_is, swapped_is}
 
 -- edits that paint cells and do nothing else
 pub record Paints (e : Edit) : Type 0 where
@@ -28,23 +29,14 @@ pub record Paints (e : Edit) : Type 0 where
   pub back : (d : Design) (cells : List Cell) (triple : Option Rgb) (givens : List (ℕ × ℕ)) → design (colours_before e triple d.colours) (rows_before e cells d.rows) (marks_before e givens d.marks) ≡ design d.colours (with_cells d.rows cells) d.marks
   pub fits : (colours : Colours) (i j x : ℕ) → lacks_colour colours e ≡ false → x < length colours.triples → colour_after e i j x < length colours.triples
 
-paint_fits : (colours : Colours) (row col colour i j x : ℕ) → lacks_colour colours (Paint row col colour) ≡ false → x < length colours.triples → colour_after (Paint row col colour) i j x < length colours.triples
-paint_fits colours row col colour i j x has small = grind (arith, nat_tests)
+pub paint_paints : (row col colour : ℕ) → Paints (Paint row col colour)
+paint_paints row col colour = record { kept = λ rows. refl; gives = λ d. refl; back = λ d cells triple givens. refl; fits = λ colours i j x has small. grind (arith, nat_tests) }
 
-fill_fits : (colours : Colours) (top left bottom right colour i j x : ℕ) → lacks_colour colours (Fill top left bottom right colour) ≡ false → x < length colours.triples → colour_after (Fill top left bottom right colour) i j x < length colours.triples
-fill_fits colours top left bottom right colour i j x has small = grind (arith, nat_tests)
+pub fill_paints : (top left bottom right colour : ℕ) → Paints (Fill top left bottom right colour)
+fill_paints top left bottom right colour = record { kept = λ rows. refl; gives = λ d. refl; back = λ d cells triple givens. refl; fits = λ colours i j x has small. grind (arith, nat_tests) }
 
-recolour_fits : (colours : Colours) (source target i j x : ℕ) → lacks_colour colours (Recolour source target) ≡ false → x < length colours.triples → colour_after (Recolour source target) i j x < length colours.triples
-recolour_fits colours source target i j x has small = grind (arith, nat_tests)
-
-paint_paints : (row col colour : ℕ) → Paints (Paint row col colour)
-paint_paints row col colour = record { kept = λ rows. refl; gives = λ d. refl; back = λ d cells triple givens. refl; fits = λ colours i j x has small. paint_fits colours row col colour i j x has small }
-
-fill_paints : (top left bottom right colour : ℕ) → Paints (Fill top left bottom right colour)
-fill_paints top left bottom right colour = record { kept = λ rows. refl; gives = λ d. refl; back = λ d cells triple givens. refl; fits = λ colours i j x has small. fill_fits colours top left bottom right colour i j x has small }
-
-recolour_paints : (source target : ℕ) → Paints (Recolour source target)
-recolour_paints source target = record { kept = λ rows. refl; gives = λ d. refl; back = λ d cells triple givens. refl; fits = λ colours i j x has small. recolour_fits colours source target i j x has small }
+pub recolour_paints : (source target : ℕ) → Paints (Recolour source target)
+recolour_paints source target = record { kept = λ rows. refl; gives = λ d. refl; back = λ d cells triple givens. refl; fits = λ colours i j x has small. grind (arith, nat_tests) }
 
 pub paints : (e : Edit) → ((row : ℕ) × (col : ℕ) × (colour : ℕ) × (e ≡ Paint row col colour)) ⊎ (((top : ℕ) × (left : ℕ) × (bottom : ℕ) × (right : ℕ) × (colour : ℕ) × (e ≡ Fill top left bottom right colour)) ⊎ ((source : ℕ) × (target : ℕ) × (e ≡ Recolour source target))) → Paints e
 paints e (inl p) = subst Paints (sym p.3) (paint_paints p.0 p.1 p.2)
@@ -84,15 +76,15 @@ module _ (d : Design) (e : Edit) (is : IsDesign d) (is_lawful : IsLawful d e) wh
 pub insert_fits : (d : Design) (line : LineId) → IsDesign d → IsLawful d (InsertLine line) → (line.at ≤ lines_along line.axis d.rows) × (lines_along line.axis d.rows < MAX_SIDE) × AreColoured (line_inserted d.rows line) d.colours
 insert_fits d line is is_lawful =
     let place : line.at ≤ lines_along line.axis d.rows = grind (arith, nat_tests, is_lawful.inside) in
-    (place, grind (arith, nat_tests, is_lawful.room), inserted_below_bound line.axis line.at (length d.colours.triples) d.rows is.is_picture place is.is_palette.has_background is.is_coloured)
+    (place, grind (arith, nat_tests, is_lawful.room), rw (inserted_is line.axis line.at d.rows) (edited_below line.axis (Inserted line.at) (length d.colours.triples) d.rows is.is_picture place is.is_palette.has_background is.is_coloured))
 
 pub delete_fits : (d : Design) (line : LineId) → IsDesign d → IsLawful d (DeleteLine line) → (line.at < lines_along line.axis d.rows) × (1 < lines_along line.axis d.rows) × AreColoured (line_deleted d.rows line) d.colours
 delete_fits d line is is_lawful =
     let place : line.at < lines_along line.axis d.rows = grind (arith, nat_tests, is_lawful.inside) in
-    (place, grind (arith, nat_tests, is_lawful.others), deleted_below_bound line.axis line.at (length d.colours.triples) d.rows is.is_picture place is.is_palette.has_background is.is_coloured)
+    (place, grind (arith, nat_tests, is_lawful.others), rw (deleted_is line.axis line.at d.rows) (edited_below line.axis (Deleted line.at) (length d.colours.triples) d.rows is.is_picture place is.is_palette.has_background is.is_coloured))
 
 pub swap_fits : (d : Design) (axis : Axis) (first second : ℕ) → IsDesign d → IsLawful d (SwapLines axis first second) → (first < lines_along axis d.rows) × (second < lines_along axis d.rows) × AreColoured (lines_swapped axis first second d.rows) d.colours
 swap_fits d axis first second is is_lawful =
     let f : first < lines_along axis d.rows = grind (arith, nat_tests, is_lawful.inside) in
     let s : second < lines_along axis d.rows = grind (arith, nat_tests, is_lawful.inside) in
-    (f, s, swapped_below_bound axis first second (length d.colours.triples) d.rows is.is_picture f s is.is_palette.has_background is.is_coloured)
+    (f, s, rw (swapped_is axis first second d.rows) (edited_below axis (Swapped first second) (length d.colours.triples) d.rows is.is_picture (f, s) is.is_palette.has_background is.is_coloured))

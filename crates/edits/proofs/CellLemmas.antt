@@ -1,6 +1,6 @@
 -- Lists of cells: those that an edit changes, and a grid with cells of a list changed.
 use Rattle.std.proofs.Common.{◌≡◌, ◌≢◌, ℕ, zero, suc, ◌+◌, ◌<◌, ◌≤◌, ◌⊎◌, inl, inr, Bool, true, false, cond, ◌==◌, List, [], ◌∷◌, ◌++◌, length, get_or, map, take, refl, sym, ap, subst, ◌∙◌, arith, add-one}
-use Rattle.std.proofs.lemmas.Bool.{cases_lt, cases_eq, eqb-false, ne_eqb, eq-eqb, cond-false}
+use Rattle.std.proofs.lemmas.Bool.{cases_lt, cases_eq, eqb-false, ne_eqb, eq-eqb, cond-true, cond-false}
 use Rattle.std.specs.List.{All}
 use Rattle.std.proofs.lemmas.List.{append-nil, take_more, get_or-map, length-map}
 use Rattle.std.proofs.lemmas.List.Elements.{All-head, All-tail, All-take, All-weaker}
@@ -10,7 +10,7 @@ use Rattle.edits.specs.declared.edit.Edit.{Edit}
 use Rattle.edits.specs.Design.{IsGrid}
 use Rattle.edits.specs.Edit.{colour_after, painted}
 use Rattle.edits.specs.Note.{Cell, IsCellIn, repainted, joined, with_cells, changed_cell, changed_cells, changed_in_row}
-use Rattle.edits.proofs.GridLemmas.{same_grid, grid_same, picture_is_grid, grid_is_grid, cell_at-grid, cell_at-with_same, cell_at-with_row, cell_at-with_column, with_cell_is_grid}
+use Rattle.edits.proofs.GridLemmas.{same_grid, grid_same, picture_is_grid, grid_is_grid, cell_at-grid, cell_at-with_other, cell_at-with_same, place_cases, with_cell_is_grid}
 
 -- x is in the list
 abbrev pub Has : {X : Type 0} → List X → X → Type 0
@@ -75,20 +75,12 @@ joined_gap f a (suc b) le none =
 -- a cell that is as it is to be, or is still to be changed, once the first of the cells is changed
 still_right : (h w : ℕ) (c : Cell) (cells : List Cell) (old new : List (List ℕ)) (i j : ℕ) → IsGrid h w old → (c.0 < h) × (c.1 < w) × (cell_at new c.0 c.1 ≡ c.2) → (cell_at old i j ≡ cell_at new i j) ⊎ Has (c ∷ cells) (i, j, cell_at new i j) → (cell_at (with_cell old c.0 c.1 c.2) i j ≡ cell_at new i j) ⊎ Has cells (i, j, cell_at new i j)
 still_right h w c cells old new i j is here was =
-    elim (cases_eq i c.0) [
-      | inl row ↦
-          elim (cases_eq j c.1) [
-            | inl column ↦ inl (rw (row, column) (cell_at-with_same h w old c.0 c.1 c.2 is here.0 here.1 ∙ sym here.2))
-            | inr other ↦
-                elim was [
-                  | inl same ↦ inl (ap (λ k. cell_at (with_cell old c.0 c.1 c.2) k j) row ∙ (cell_at-with_column h w old c.0 c.1 c.2 j is here.0 other ∙ (ap (λ k. cell_at old k j) (sym row) ∙ same)))
-                  | inr has ↦ elim has [ inl e ↦ absurd (other (sym (ap (λ (d : Cell). d.1) e))) | inr rest ↦ inr rest ]
-                ]
-          ]
+    elim (place_cases i j c.0 c.1) [
+      | inl at ↦ inl (rw (at.0, at.1) (cell_at-with_same h w old c.0 c.1 c.2 is here.0 here.1 ∙ sym here.2))
       | inr other ↦
           elim was [
-            | inl same ↦ inl (cell_at-with_row old c.0 c.1 c.2 i j other ∙ same)
-            | inr has ↦ elim has [ inl e ↦ absurd (other (sym (ap (λ (d : Cell). d.0) e))) | inr rest ↦ inr rest ]
+            | inl same ↦ inl (cell_at-with_other h w old c.0 c.1 c.2 i j is here.0 other ∙ same)
+            | inr has ↦ elim has [ inl e ↦ absurd (other (sym (ap (λ (d : Cell). d.0) e), sym (ap (λ (d : Cell). d.1) e))) | inr rest ↦ inr rest ]
           ]
     ]
 
@@ -103,17 +95,13 @@ with_cells_give h w (c ∷ cells) old new is_old is_new right all =
     (λ i j in_rows in_columns. still_right h w c cells old new i j is_old here (all i j in_rows in_columns))
 
 -- the cells that an edit changes
-has_unless : (b : Bool) (d c : Cell) → Has (cond b [] (d ∷ [])) c → (b ≡ false) × (d ≡ c)
+pub has_unless : {X : Type 0} (b : Bool) (d c : X) → Has (cond b [] (d ∷ [])) c → (b ≡ false) × (d ≡ c)
 has_unless true d c h = absurd h
 has_unless false d c h = (refl, elim h [ inl e ↦ e | inr none ↦ absurd none ])
 
-unless_has : (b : Bool) (d : Cell) → b ≡ false → Has (cond b [] (d ∷ [])) d
+pub unless_has : {X : Type 0} (b : Bool) (d : X) → b ≡ false → Has (cond b [] (d ∷ [])) d
 unless_has true d e = absurd (cc e)
 unless_has false d e = inl refl
-
-unless_none : (b : Bool) (d : Cell) → b ≡ true → cond b [] (d ∷ []) ≡ []
-unless_none true d e = refl
-unless_none false d e = absurd (cc e)
 
 pub changed_from : (e : Edit) (rows : List (List ℕ)) (c : Cell) → Has (changed_cells e rows) c → (c.0 < length rows) × (c.1 < width_of rows) × (cell_at rows c.0 c.1 ≡ c.2) × (colour_after e c.0 c.1 c.2 ≢ c.2)
 changed_from e rows c h =
@@ -134,7 +122,7 @@ changed_has e rows i j in_rows in_columns changes =
     (unless_has (colour_after e i j x == x) (i, j, x) (ne_eqb (colour_after e i j x) x changes)))
 
 pub unchanged_cell : (e : Edit) (rows : List (List ℕ)) (i j : ℕ) → colour_after e i j (cell_at rows i j) ≡ cell_at rows i j → changed_cell e rows i j ≡ []
-unchanged_cell e rows i j same = unless_none (colour_after e i j (cell_at rows i j) == cell_at rows i j) (i, j, cell_at rows i j) (eq-eqb (colour_after e i j (cell_at rows i j)) (cell_at rows i j) same)
+unchanged_cell e rows i j same = cond-true (colour_after e i j (cell_at rows i j) == cell_at rows i j) [] ((i, j, cell_at rows i j) ∷ []) (eq-eqb (colour_after e i j (cell_at rows i j)) (cell_at rows i j) same)
 
 pub changed_cell_is : (e : Edit) (rows : List (List ℕ)) (i j : ℕ) → colour_after e i j (cell_at rows i j) ≢ cell_at rows i j → changed_cell e rows i j ≡ (i, j, cell_at rows i j) ∷ []
 changed_cell_is e rows i j other = cond-false (colour_after e i j (cell_at rows i j) == cell_at rows i j) [] ((i, j, cell_at rows i j) ∷ []) (ne_eqb (colour_after e i j (cell_at rows i j)) (cell_at rows i j) other)
@@ -160,11 +148,11 @@ unchanged_painted e rows same =
     ∙ joined_none (changed_cell e rows i))
     ∙ joined_none (changed_in_row e rows)
 
-pub has_map : (f : Cell → Cell) (cells : List Cell) (c : Cell) → Has cells c → Has (map f cells) (f c)
+pub has_map : {X Y : Type 0} (f : X → Y) (cells : List X) (c : X) → Has cells c → Has (map f cells) (f c)
 has_map f [] c h = absurd h
 has_map f (d ∷ cells) c h = elim h [ inl e ↦ inl (ap f e) | inr rest ↦ inr (has_map f cells c rest) ]
 
-pub has_from_map : (f : Cell → Cell) (cells : List Cell) (c : Cell) → Has (map f cells) c → (d : Cell) × Has cells d × (f d ≡ c)
+pub has_from_map : {X Y : Type 0} (f : X → Y) (cells : List X) (c : Y) → Has (map f cells) c → (d : X) × Has cells d × (f d ≡ c)
 has_from_map f [] c h = absurd h
 has_from_map f (d ∷ cells) c h =
     elim h [

@@ -1,30 +1,31 @@
 -- Which lines have other cells after an edit.
-use Rattle.std.proofs.Common.{◌≡◌, ◌≢◌, ℕ, zero, suc, ◌<◌, inl, inr, List, [], ◌∷◌, length, get_or, map, refl, sym, ap, subst, ◌∙◌, arith, ◌↔◌}
+use Rattle.std.proofs.Common.{◌≡◌, ◌≢◌, ℕ, zero, suc, ◌<◌, inl, inr, None, List, [], ◌∷◌, length, get_or, map, refl, sym, ap, subst, ◌∙◌, arith, ◌↔◌}
 use Rattle.std.proofs.lemmas.Bool.{cases_eq}
 use Rattle.std.proofs.lemmas.List.{ext_get_or, length-map, get_or-map}
 use Rattle.picture.specs.declared.line_id.Axis.{Axis}
 use Rattle.picture.specs.declared.line_id.Axis.TheVariants.{Across, Down}
 use Rattle.picture.specs.declared.line_id.LineId.{LineId}
 use Rattle.picture.specs.Picture.{IsPicture}
-use Rattle.picture.specs.Rows.{width_of, cell_at, line_along, line_deleted, line_of, lines_along, lines_swapped}
-use Rattle.clues.specs.declared.places.Places.TheVariants.{Swapped}
-use Rattle.clues.specs.Change.{AgreesOff, Changes, FollowsCells, FollowsSwap, IsChangeOf, IsTouched, back, moved_along}
+use Rattle.picture.specs.Rows.{width_of, cell_at, line_along, line_of, lines_along, lines_swapped}
+use Rattle.clues.specs.declared.places.Places.{Places}
+use Rattle.clues.specs.declared.places.Places.TheVariants.{Kept, Inserted, Deleted, Swapped}
+use Rattle.clues.specs.Places.{count_after, reversed}
+use Rattle.clues.specs.Change.{AgreesOff, AreMoves, Changes, FollowsCells, FollowsSwap, HaveSizes, IsChangeOf, IsTouched, back, moved_along}
 use Rattle.picture.specs.Crossing.{crossing}
 use Rattle.clues.specs.Laws.{IsAtPlace, IsOnLine}
 use Rattle.edits.specs.declared.edit.Edit.{Edit}
-use Rattle.edits.specs.declared.edit.Edit.TheVariants.{InsertLine, SwapLines}
-use Rattle.edits.specs.Change.{CrossesApart, DifferIn, IsCrossed, nth_cell}
+use Rattle.edits.specs.declared.edit.Edit.TheVariants.{Paint, Fill, Recolour, InsertLine, DeleteLine, SwapLines, AddColour, SetColour, Pin, Unpin}
+use Rattle.edits.specs.Change.{CrossesApart, DifferIn, IsCrossed, Leads, moves_of, nth_cell, reversed_edit}
 use Rattle.edits.specs.Design.{Design, IsDesign}
 use Rattle.edits.specs.Edit.{colour_after, edited, painted}
-use Rattle.edits.specs.Note.{Cell, IsStep, Note, cells_along, changed_cells, place_on, rows_before}
-use Rattle.edits.proofs.ApplyLemmas.{Paints, insert_fits, swap_fits}
+use Rattle.edits.specs.Fault.{edit_fault}
+use Rattle.edits.specs.Note.{Cell, IsStep, cells_along, cells_kept, changed_cells, note_for, place_on}
+use Rattle.edits.proofs.ApplyLemmas.{Paints, delete_fits, fill_paints, insert_fits, paint_paints, recolour_paints, swap_fits}
 use Rattle.edits.proofs.CellLemmas.{Has, all_has, changed_from, changed_has}
 use Rattle.edits.proofs.FaultLemmas.{lawful}
-use Rattle.edits.proofs.GridLemmas.{cell_at-grid, length-grid, picture_is_grid, width_of-grid}
-use Rattle.edits.proofs.LineLemmas.{delete_insert}
-use Rattle.edits.proofs.RevertLemmas.{size_of_lines}
+use Rattle.edits.proofs.GridLemmas.{cell_at-grid, length-grid, width_of-grid}
 use Rattle.edits.proofs.ShiftLemmas.{swapped_sizes}
-use Rattle.edits.proofs.StepLemmas.{reinsert_fits, step_reverts}
+use Rattle.edits.proofs.StepLemmas.{redelete_fits, reinsert_fits, reswap_fits, step_reverts}
 
 -- where along a line a cell stands
 abbrev position_of : Axis → ℕ → ℕ → ℕ
@@ -125,7 +126,7 @@ has_place (d ∷ cells) c h =
     ]
 
 -- the pictures before and after an edit that paints
-pub painted_differ : (b d : Design) (e : Edit) → IsDesign b → Paints e → edited b e ≡ d → DifferIn (changed_cells e b.rows) b.rows d.rows
+painted_differ : (b d : Design) (e : Edit) → IsDesign b → Paints e → edited b e ≡ d → DifferIn (changed_cells e b.rows) b.rows d.rows
 painted_differ b d e is p gives =
     let old = b.rows in
     let cells = changed_cells e old in
@@ -146,7 +147,7 @@ painted_differ b d e is p gives =
           (at.0, at.1, ap (λ (c : Cell). c.0) at.2, ap (λ (c : Cell). c.1) at.2);
     }
 
-pub differ_back : (cells : List Cell) (old new : List (List ℕ)) → DifferIn cells old new → DifferIn cells new old
+differ_back : (cells : List Cell) (old new : List (List ℕ)) → DifferIn cells old new → DifferIn cells new old
 differ_back cells old new differ = record {
   row_count = sym differ.row_count;
   column_count = sym differ.column_count;
@@ -155,33 +156,86 @@ differ_back cells old new differ = record {
   only = λ i j in_rows in_columns other. differ.only i j (omega (arith, differ.row_count)) (omega (arith, differ.column_count)) (λ same. other (sym same));
 }
 
--- the pictures before and after an edit that moves lines
-pub insertion_agrees : (b d : Design) (n : Note) (line : LineId) → IsStep b n d → n.edit ≡ InsertLine line → AgreesOff line b.rows d.rows
-insertion_agrees b d n line step is =
-    let is_lawful = lawful b (InsertLine line) (rw is at step.lawful) in
-    let gives : edited b (InsertLine line) ≡ d = rw is at step.gives in
-    let design = step.is_design in
-    let fits = insert_fits b line design is_lawful in
-    record {
-      has_line = (reinsert_fits b d design line is_lawful gives).0;
-      off_line = ap (λ (x : Design). line_deleted x.rows line) (sym gives) ∙ delete_insert line.axis line.at (length b.rows) (width_of b.rows) b.rows (picture_is_grid b.rows design.is_picture) (rw (← size_of_lines line.axis b.rows) fits.0);
-    }
+none_differ : (rows : List (List ℕ)) → DifferIn [] rows rows
+none_differ rows = record {
+  row_count = refl;
+  column_count = refl;
+  inside = λ k within. absurd (omega arith);
+  differ = λ k within. absurd (omega arith);
+  only = λ i j _ _ other. absurd (other refl);
+}
 
-pub swap_returns : (b d : Design) (n : Note) (axis : Axis) (first second : ℕ) → IsStep b n d → n.edit ≡ SwapLines axis first second → b.rows ≡ lines_swapped axis first second d.rows
-swap_returns b d n axis first second step is =
-    let before : b.rows ≡ rows_before n.edit n.cells d.rows = ap (λ (x : Design). x.rows) (sym (step_reverts b n d step)) in
-    rw is at before
+-- the pictures before and after an edit, and the way back
+module _ (b d : Design) (is : IsDesign b) where
+  step_from : (e : Edit) → edit_fault b e ≡ None → edited b e ≡ d → IsStep b (note_for b e) d
+  step_from e none gives = record { is_design = is; lawful = none; kept = refl; gives = gives }
 
-swaps_back : (axis : Axis) (first second : ℕ) (old new : List (List ℕ)) → lines_along axis new ≡ lines_along axis old → cells_along axis new ≡ cells_along axis old → moved_along axis (Swapped first second) (length new) (width_of new) ≡ back (moved_along axis (Swapped first second) (length old) (width_of old))
-swaps_back Across first second old new count wide = ap (λ h. moved_along Across (Swapped first second) h (width_of new)) count ∙ ap (λ w. moved_along Across (Swapped first second) (length old) w) wide
-swaps_back Down first second old new count high = ap (λ h. moved_along Down (Swapped first second) h (width_of new)) high ∙ ap (λ w. moved_along Down (Swapped first second) (length old) w) count
+  insertion_agrees : (line : LineId) → edit_fault b (InsertLine line) ≡ None → edited b (InsertLine line) ≡ d → AgreesOff line b.rows d.rows
+  insertion_agrees line none gives = record {
+    has_line = (reinsert_fits b d is line (lawful b (InsertLine line) none) gives).0;
+    off_line = ap (λ (x : Design). x.rows) (step_reverts b (note_for b (InsertLine line)) d (step_from (InsertLine line) none gives));
+  }
 
-pub swap_moves_back : (b d : Design) (n : Note) (axis : Axis) (first second : ℕ) → IsStep b n d → n.edit ≡ SwapLines axis first second → moved_along axis (Swapped first second) (length d.rows) (width_of d.rows) ≡ back (moved_along axis (Swapped first second) (length b.rows) (width_of b.rows))
-swap_moves_back b d n axis first second step is =
-    let is_lawful = lawful b (SwapLines axis first second) (rw is at step.lawful) in
-    let gives : edited b (SwapLines axis first second) ≡ d = rw is at step.gives in
-    let fits = swap_fits b axis first second step.is_design is_lawful in
-    let sizes = swapped_sizes axis first second b.rows step.is_design.is_picture fits.0 fits.1 in
-    swaps_back axis first second b.rows d.rows
-    (ap (λ (x : Design). lines_along axis x.rows) (sym gives) ∙ sizes.0)
-    (ap (λ (x : Design). cells_along axis x.rows) (sym gives) ∙ sizes.1)
+  pub leads : (e : Edit) → edit_fault b e ≡ None → edited b e ≡ d → Leads e (cells_kept b.rows e) b.rows d.rows
+  leads (Paint row col colour) none gives = painted_differ b d (Paint row col colour) is (paint_paints row col colour) gives
+  leads (Fill top left bottom right colour) none gives = painted_differ b d (Fill top left bottom right colour) is (fill_paints top left bottom right colour) gives
+  leads (Recolour source target) none gives = painted_differ b d (Recolour source target) is (recolour_paints source target) gives
+  leads (InsertLine line) none gives =
+      let fits = insert_fits b line is (lawful b (InsertLine line) none) in
+      (fits.0, fits.1, insertion_agrees line none gives)
+  leads (DeleteLine line) none gives =
+      let fits = delete_fits b line is (lawful b (DeleteLine line) none) in
+      (fits.0, fits.1, ap (λ (x : Design). x.rows) (sym gives))
+  leads (SwapLines axis first second) none gives =
+      let fits = swap_fits b axis first second is (lawful b (SwapLines axis first second) none) in
+      (fits.0, fits.1, ap (λ (x : Design). x.rows) (sym gives))
+  leads (AddColour rgb) none gives = subst (λ (x : Design). DifferIn [] b.rows x.rows) gives (none_differ b.rows)
+  leads (SetColour colour rgb) none gives = subst (λ (x : Design). DifferIn [] b.rows x.rows) gives (none_differ b.rows)
+  leads (Pin row col) none gives = subst (λ (x : Design). DifferIn [] b.rows x.rows) gives (none_differ b.rows)
+  leads (Unpin row col) none gives = subst (λ (x : Design). DifferIn [] b.rows x.rows) gives (none_differ b.rows)
+
+  pub leads_back : (e : Edit) → edit_fault b e ≡ None → edited b e ≡ d → Leads (reversed_edit e) (cells_kept b.rows e) d.rows b.rows
+  leads_back (InsertLine line) none gives =
+      let fits = reinsert_fits b d is line (lawful b (InsertLine line) none) gives in
+      (fits.0, fits.1, sym (insertion_agrees line none gives).off_line)
+  leads_back (DeleteLine line) none gives =
+      let is_lawful = lawful b (DeleteLine line) none in
+      let fits = redelete_fits b d is line is_lawful gives in
+      (fits.0, fits.1, record { has_line = (delete_fits b line is is_lawful).0; off_line = ap (λ (x : Design). x.rows) gives })
+  leads_back (SwapLines axis first second) none gives =
+      let fits = reswap_fits b d is axis first second (lawful b (SwapLines axis first second) none) gives in
+      (fits.0, fits.1, ap (λ (x : Design). x.rows) (sym (step_reverts b (note_for b (SwapLines axis first second)) d (step_from (SwapLines axis first second) none gives))))
+  leads_back (Paint row col colour) none gives = differ_back _ b.rows d.rows (leads (Paint row col colour) none gives)
+  leads_back (Fill top left bottom right colour) none gives = differ_back _ b.rows d.rows (leads (Fill top left bottom right colour) none gives)
+  leads_back (Recolour source target) none gives = differ_back _ b.rows d.rows (leads (Recolour source target) none gives)
+  leads_back (AddColour rgb) none gives = differ_back [] b.rows d.rows (leads (AddColour rgb) none gives)
+  leads_back (SetColour colour rgb) none gives = differ_back [] b.rows d.rows (leads (SetColour colour rgb) none gives)
+  leads_back (Pin row col) none gives = differ_back [] b.rows d.rows (leads (Pin row col) none gives)
+  leads_back (Unpin row col) none gives = differ_back [] b.rows d.rows (leads (Unpin row col) none gives)
+
+-- the moves of the reversed edit are those back
+count_back : (places : Places) (n m : ℕ) → 0 < m → n ≡ count_after (reversed places) m → m ≡ count_after places n
+count_back Kept n m some e = sym e
+count_back (Inserted at) n m some e = omega arith
+count_back (Deleted at) n m some e = omega arith
+count_back (Swapped first second) n m some e = sym e
+
+moved_back : (axis : Axis) (places : Places) (old new : List (List ℕ)) → AreMoves (moved_along axis (reversed places) (length new) (width_of new)) → HaveSizes (moved_along axis (reversed places) (length new) (width_of new)) new old → moved_along axis (reversed places) (length new) (width_of new) ≡ back (moved_along axis places (length old) (width_of old))
+moved_back Across places old new are sizes =
+    ap (λ h. moved_along Across (reversed places) h (width_of new)) (count_back places (length old) (length new) (are.some_before Across) (sizes.after Across))
+    ∙ ap (λ w. moved_along Across (reversed places) (count_after places (length old)) w) (sym (sizes.after Down))
+moved_back Down places old new are sizes =
+    ap (λ h. moved_along Down (reversed places) h (width_of new)) (sym (sizes.after Across))
+    ∙ ap (λ w. moved_along Down (reversed places) (length old) w) (count_back places (width_of old) (width_of new) (are.some_before Down) (sizes.after Down))
+
+pub moves_back : (e : Edit) (old new : List (List ℕ)) → AreMoves (moves_of (reversed_edit e) new) → HaveSizes (moves_of (reversed_edit e) new) new old → moves_of (reversed_edit e) new ≡ back (moves_of e old)
+moves_back (InsertLine line) old new are sizes = moved_back line.axis (Inserted line.at) old new are sizes
+moves_back (DeleteLine line) old new are sizes = moved_back line.axis (Deleted line.at) old new are sizes
+moves_back (SwapLines axis first second) old new are sizes = moved_back axis (Swapped first second) old new are sizes
+moves_back (Paint row col colour) old new are sizes = moved_back Across Kept old new are sizes
+moves_back (Fill top left bottom right colour) old new are sizes = moved_back Across Kept old new are sizes
+moves_back (Recolour source target) old new are sizes = moved_back Across Kept old new are sizes
+moves_back (AddColour rgb) old new are sizes = moved_back Across Kept old new are sizes
+moves_back (SetColour colour rgb) old new are sizes = moved_back Across Kept old new are sizes
+moves_back (Pin row col) old new are sizes = moved_back Across Kept old new are sizes
+moves_back (Unpin row col) old new are sizes = moved_back Across Kept old new are sizes

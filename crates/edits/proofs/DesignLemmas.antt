@@ -8,7 +8,7 @@ use Rattle.picture.specs.Document.{AreColoured}
 use Rattle.picture.specs.Rows.{cell_at, width_of, with_cell}
 use Rattle.edits.specs.Design.{IsDesign, design, mark_at, marks_of}
 use Rattle.edits.specs.Laws.{MarksAreGivens}
-use Rattle.edits.proofs.GridLemmas.{grid_is_grid, grid_same, with_cell_is_grid, cell_at-with_same, cell_at-with_row, cell_at-with_column, cell_at-grid, cell_at-past_rows, cell_at-past_columns, length-grid}
+use Rattle.edits.proofs.GridLemmas.{grid_is_grid, grid_same, with_cell_is_grid, cell_at-with_other, cell_at-with_same, place_cases, cell_at-grid, cell_at-past_rows, cell_at-past_columns, length-grid}
 
 pub mark_small : (b : Bool) → cond b 0 1 < 2
 mark_small true = omega arith
@@ -81,35 +81,25 @@ mark_same old new i j alike =
     ]
 
 -- a given more, or less
+cell_marked : (h w : ℕ) (old new : List ℕ) (row col x : ℕ) → row < h → col < w → mark_at new row col ≡ x → ((i j : ℕ) → ((i ≡ row) × (j ≡ col) → ⊥) → HasCell new i j ↔ HasCell old i j) → marks_of h w new ≡ with_cell (marks_of h w old) row col x
+cell_marked h w old new row col x in_rows in_columns marked alike =
+    let is = grid_is_grid h w (mark_at old) in
+    grid_same h w (mark_at new) (with_cell (marks_of h w old) row col x) (with_cell_is_grid h w (marks_of h w old) row col x is in_rows)
+    (λ i j i_in j_in.
+    elim (place_cases i j row col) [
+      | inl at ↦ rw (at.0, at.1) (marked ∙ sym (cell_at-with_same h w (marks_of h w old) row col x is in_rows in_columns))
+      | inr other ↦ mark_same old new i j (alike i j other) ∙ sym (cell_at-with_other h w (marks_of h w old) row col x i j is in_rows other ∙ cell_at-grid h w (mark_at old) i j i_in j_in)
+    ])
+
 pub pinned_marks : (h w : ℕ) (old new : List ℕ) (row col : ℕ) → row < h → col < w → PutsCell old new row col → marks_of h w new ≡ with_cell (marks_of h w old) row col 1
 pinned_marks h w old new row col in_rows in_columns puts =
-    let is = grid_is_grid h w (mark_at old) in
-    grid_same h w (mark_at new) (with_cell (marks_of h w old) row col 1) (with_cell_is_grid h w (marks_of h w old) row col 1 is in_rows)
-    (λ i j i_in j_in.
-    let off = λ (other : (i ≡ row) × (j ≡ col) → ⊥). mark_same old new i j ((λ has. elim ((puts i j).0 has) [ inl had ↦ had | inr at ↦ absurd (other at) ]), (λ had. (puts i j).1 (inl had))) in
-    elim (cases_eq i row) [
-      | inl e ↦
-          elim (cases_eq j col) [
-            | inl f ↦ mark_has new i j ((puts i j).1 (inr (e, f))) ∙ sym (ap (λ a. cell_at (with_cell (marks_of h w old) row col 1) a j) e ∙ (ap (cell_at (with_cell (marks_of h w old) row col 1) row) f ∙ cell_at-with_same h w (marks_of h w old) row col 1 is in_rows in_columns))
-            | inr g ↦ off (λ at. g at.1) ∙ sym (ap (λ a. cell_at (with_cell (marks_of h w old) row col 1) a j) e ∙ (cell_at-with_column h w (marks_of h w old) row col 1 j is in_rows g ∙ (ap (λ a. cell_at (marks_of h w old) a j) (sym e) ∙ cell_at-grid h w (mark_at old) i j i_in j_in)))
-          ]
-      | inr g ↦ off (λ at. g at.0) ∙ sym (cell_at-with_row (marks_of h w old) row col 1 i j g ∙ cell_at-grid h w (mark_at old) i j i_in j_in)
-    ])
+    cell_marked h w old new row col 1 in_rows in_columns (mark_has new row col ((puts row col).1 (inr (refl, refl))))
+    (λ i j other. ((λ has. elim ((puts i j).0 has) [ inl had ↦ had | inr at ↦ absurd (other at) ]), (λ had. (puts i j).1 (inl had))))
 
 pub unpinned_marks : (h w : ℕ) (old new : List ℕ) (row col : ℕ) → row < h → col < w → TakesOutCell old new row col → marks_of h w new ≡ with_cell (marks_of h w old) row col 0
 unpinned_marks h w old new row col in_rows in_columns takes =
-    let is = grid_is_grid h w (mark_at old) in
-    grid_same h w (mark_at new) (with_cell (marks_of h w old) row col 0) (with_cell_is_grid h w (marks_of h w old) row col 0 is in_rows)
-    (λ i j i_in j_in.
-    let off = λ (other : (i ≡ row) × (j ≡ col) → ⊥). mark_same old new i j ((λ has. ((takes i j).0 has).0), (λ had. (takes i j).1 (had, other))) in
-    elim (cases_eq i row) [
-      | inl e ↦
-          elim (cases_eq j col) [
-            | inl f ↦ mark_none new i j (λ has. ((takes i j).0 has).1 (e, f)) ∙ sym (ap (λ a. cell_at (with_cell (marks_of h w old) row col 0) a j) e ∙ (ap (cell_at (with_cell (marks_of h w old) row col 0) row) f ∙ cell_at-with_same h w (marks_of h w old) row col 0 is in_rows in_columns))
-            | inr g ↦ off (λ at. g at.1) ∙ sym (ap (λ a. cell_at (with_cell (marks_of h w old) row col 0) a j) e ∙ (cell_at-with_column h w (marks_of h w old) row col 0 j is in_rows g ∙ (ap (λ a. cell_at (marks_of h w old) a j) (sym e) ∙ cell_at-grid h w (mark_at old) i j i_in j_in)))
-          ]
-      | inr g ↦ off (λ at. g at.0) ∙ sym (cell_at-with_row (marks_of h w old) row col 0 i j g ∙ cell_at-grid h w (mark_at old) i j i_in j_in)
-    ])
+    cell_marked h w old new row col 0 in_rows in_columns (mark_none new row col (λ has. ((takes row col).0 has).1 (refl, refl)))
+    (λ i j other. ((λ has. ((takes i j).0 has).0), (λ had. (takes i j).1 (had, other))))
 
 -- a document from its parts
 pub assembled : (p p' : Colours) (r r' : List (List ℕ)) (g : List ℕ) (m : List (List ℕ)) → p' ≡ p → r' ≡ r → marks_of (length r) (width_of r) g ≡ m → design p' r' (marks_of (length r') (width_of r') g) ≡ design p r m

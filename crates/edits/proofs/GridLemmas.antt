@@ -1,5 +1,5 @@
 -- Grids cell by cell: what a grid made from a function has, and when two grids are the same.
-use Rattle.std.proofs.Common.{◌≡◌, ◌≢◌, ℕ, ◌<◌, ◌≤◌, inl, inr, List, [], length, get_or, set, map, refl, sym, ap, ◌∙◌, arith}
+use Rattle.std.proofs.Common.{◌≡◌, ℕ, ◌<◌, ◌≤◌, ◌⊎◌, inl, inr, List, [], length, get_or, set, map, refl, sym, ap, ◌∙◌, arith}
 use Rattle.std.specs.List.{range_with_len}
 use Rattle.std.proofs.lemmas.Bool.{cases_lt, cases_eq}
 use Rattle.std.proofs.lemmas.List.{ext_get_or, length-set, get_or-set_same, get_or-set_other, get_or_past}
@@ -62,13 +62,22 @@ cell_at-with_same h w rows i j x is in_rows in_columns =
     ap (λ row. get_or row j 0) (get_or-set_same rows i (set (get_or rows i []) j x) [] (omega (arith, is.row_count)))
     ∙ get_or-set_same (get_or rows i []) j x 0 (omega (arith, is.row_lengths i in_rows))
 
-pub cell_at-with_row : (rows : List (List ℕ)) (i j x a b : ℕ) → a ≢ i → cell_at (with_cell rows i j x) a b ≡ cell_at rows a b
-cell_at-with_row rows i j x a b other = ap (λ row. get_or row b 0) (get_or-set_other rows i a (set (get_or rows i []) j x) [] other)
+pub place_cases : (i j a b : ℕ) → ((i ≡ a) × (j ≡ b)) ⊎ ((i ≡ a) × (j ≡ b) → ⊥)
+place_cases i j a b =
+    elim (cases_eq i a) [
+      | inl row ↦ elim (cases_eq j b) [ inl column ↦ inl (row, column) | inr other ↦ inr (λ at. other at.1) ]
+      | inr other ↦ inr (λ at. other at.0)
+    ]
 
-pub cell_at-with_column : (h w : ℕ) (rows : List (List ℕ)) (i j x b : ℕ) → IsGrid h w rows → i < h → b ≢ j → cell_at (with_cell rows i j x) i b ≡ cell_at rows i b
-cell_at-with_column h w rows i j x b is in_rows other =
-    ap (λ row. get_or row b 0) (get_or-set_same rows i (set (get_or rows i []) j x) [] (omega (arith, is.row_count)))
-    ∙ get_or-set_other (get_or rows i []) j b x 0 other
+pub cell_at-with_other : (h w : ℕ) (rows : List (List ℕ)) (i j x a b : ℕ) → IsGrid h w rows → i < h → ((a ≡ i) × (b ≡ j) → ⊥) → cell_at (with_cell rows i j x) a b ≡ cell_at rows a b
+cell_at-with_other h w rows i j x a b is in_rows other =
+    elim (cases_eq a i) [
+      | inl e ↦
+          rw e
+          (ap (λ row. get_or row b 0) (get_or-set_same rows i (set (get_or rows i []) j x) [] (omega (arith, is.row_count)))
+          ∙ get_or-set_other (get_or rows i []) j b x 0 (λ f. other (e, f)))
+      | inr off ↦ ap (λ row. get_or row b 0) (get_or-set_other rows i a (set (get_or rows i []) j x) [] off)
+    ]
 
 pub with_cell_is_grid : (h w : ℕ) (rows : List (List ℕ)) (i j x : ℕ) → IsGrid h w rows → i < h → IsGrid h w (with_cell rows i j x)
 with_cell_is_grid h w rows i j x is in_rows = record {

@@ -7,7 +7,7 @@ use Rattle.edits.specs.Design.{Design}
 use Rattle.edits.specs.Edit.{edited}
 use Rattle.edits.specs.Note.{Note, IsStep, IsEntry, reverted}
 use Rattle.edits.specs.History.{Turn, turn, before_all, past_from, future_from, ArePast}
-use Rattle.edits.proofs.RevertLemmas.{reverted-edited}
+use Rattle.edits.proofs.StepLemmas.{step_reverts}
 
 -- the last item, apart from those before it
 pub split_last : {X : Type 0} (xs : List X) (x : X) → slice_get xs (length xs - 1) ≡ Some x → xs ≡ take (length xs - 1) xs ++ x ∷ []
@@ -31,12 +31,7 @@ pub length-future_from : (d : Design) (ns : List Note) → length (future_from d
 length-future_from d [] = refl
 length-future_from d (n ∷ ns) = ap suc (length-future_from (edited d n.edit) ns)
 
--- an edit taken back
-pub step_back : (d d' : Design) (n : Note) → IsStep d n d' → reverted d' n ≡ d
-step_back d d' n step =
-    ap (λ (x : Design). reverted x n) (sym step.gives)
-    ∙ (ap (λ (m : Note). reverted (edited d n.edit) m) step.kept ∙ reverted-edited d step.is_design n.edit step.lawful)
-
+-- steps
 pub step_entry : (d d' : Design) (n : Note) → IsStep d n d' → IsEntry d n
 step_entry d d' n step = record { is_design = step.is_design; lawful = step.lawful; kept = step.kept }
 
@@ -56,12 +51,12 @@ past_from-last d (m ∷ ns) n =
 
 pub past_from-push : (d d' : Design) (ns : List Note) (n : Note) → IsStep d n d' → past_from d' (ns ++ n ∷ []) ≡ past_from d ns ++ turn d n.edit ∷ []
 past_from-push d d' ns n step =
-    past_from-last d' ns n ∙ ap (λ (x : Design). past_from x ns ++ turn x n.edit ∷ []) (step_back d d' n step)
+    past_from-last d' ns n ∙ ap (λ (x : Design). past_from x ns ++ turn x n.edit ∷ []) (step_reverts d n d' step)
 
 pub ArePast-push : (d d' : Design) (ns : List Note) (n : Note) → IsStep d n d' → ArePast d ns → ArePast d' (ns ++ n ∷ [])
-ArePast-push d d' [] n step are = (subst (λ (x : Design). IsStep x n d') (sym (step_back d d' n step)) step, tt)
+ArePast-push d d' [] n step are = (subst (λ (x : Design). IsStep x n d') (sym (step_reverts d n d' step)) step, tt)
 ArePast-push d d' (m ∷ ns) n step are =
-    let same : before_all d' (ns ++ n ∷ []) ≡ before_all d ns = before_all-push d' ns n ∙ ap (λ (x : Design). before_all x ns) (step_back d d' n step) in
+    let same : before_all d' (ns ++ n ∷ []) ≡ before_all d ns = before_all-push d' ns n ∙ ap (λ (x : Design). before_all x ns) (step_reverts d n d' step) in
     (subst (λ (x : Design). IsStep (reverted x m) m x) (sym same) are.0, ArePast-push d d' ns n step are.1)
 
 -- the oldest ones left out

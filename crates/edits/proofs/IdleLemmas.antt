@@ -1,21 +1,21 @@
 -- Edits that leave a document as it is.
-use Rattle.std.proofs.Common.{◌≡◌, ◌≢◌, ℕ, ◌+◌, ◌<◌, ◌≤◌, inl, inr, Bool, true, false, if◌then◌else◌, ◌||◌, not, Option, Some, None, is_some, option_map, List, [], ◌∷◌, length, get_or, set, map, replicate, refl, sym, ap, ◌∙◌, arith, slice_get, IsTrue, ◌↔◌}
+use Rattle.std.proofs.Common.{◌≡◌, ◌≢◌, ℕ, ◌+◌, ◌<◌, inl, inr, Bool, true, false, if◌then◌else◌, ◌||◌, not, Option, Some, None, is_some, option_map, List, [], ◌∷◌, length, get_or, set, map, refl, sym, ap, ◌∙◌, arith, slice_get, IsTrue, ◌↔◌}
 use Rattle.std.specs.Bool.{MatchBool}
-use Rattle.std.specs.List.{insert, remove, swap, list_any}
+use Rattle.std.specs.List.{swap, list_any}
 use Rattle.std.proofs.lemmas.Bool.{cases_eq}
 use Rattle.std.proofs.lemmas.List.{ext_get_or, length-map, get_or-map, set-get_or, get_or-set_same}
-use Rattle.std.proofs.lemmas.List.Edits.{length-insert, length-remove, length-swap, swapped_from_swap}
+use Rattle.std.proofs.lemmas.List.Edits.{swapped_from_swap}
 use Rattle.std.proofs.lemmas.Option.{get_or_from_slice_get}
 use Rattle.picture.specs.declared.line_id.Axis.{Axis}
 use Rattle.picture.specs.declared.line_id.Axis.TheVariants.{Across, Down}
 use Rattle.picture.specs.declared.rgb.Rgb.{Rgb}
 use Rattle.picture.specs.Palette.{place_of, rgb_eq, with_triple}
 use Rattle.picture.specs.Picture.{IsPicture}
-use Rattle.picture.specs.Rows.{cell_at, width_of, with_cell, with_line, without_line, lines_along, lines_swapped}
+use Rattle.picture.specs.Rows.{cell_at, width_of, with_cell, lines_along, lines_swapped}
+use Rattle.clues.proofs.EditedPictures.{swap-same}
 use Rattle.edits.specs.declared.edit.Edit.{Edit}
 use Rattle.edits.specs.Design.{Design, design, IsGrid, IsDesign}
-use Rattle.edits.specs.declared.edit.Edit.TheVariants.{Paint, Fill, Recolour}
-use Rattle.edits.specs.Edit.{edited, painted}
+use Rattle.edits.specs.Edit.{painted}
 use Rattle.edits.specs.Fault.{same_design}
 use Rattle.edits.specs.Note.{changed_cells, cells_along, place_on}
 use Rattle.edits.specs.Painting.{AreAlike, SameAt}
@@ -39,46 +39,14 @@ place_is_some rgb [] = refl
 place_is_some rgb (t ∷ triples) = first_or_later (rgb_eq rgb t) (place_of rgb triples) (list_any (rgb_eq rgb) triples) (place_is_some rgb triples)
 
 -- paints
-pub edited_paint : (d : Design) (e : Edit) (row col colour : ℕ) → e ≡ Paint row col colour → edited d e ≡ design d.colours (painted e d.rows) d.marks
-edited_paint d e row col colour is = rw is refl
-
-pub edited_fill : (d : Design) (e : Edit) (top left bottom right colour : ℕ) → e ≡ Fill top left bottom right colour → edited d e ≡ design d.colours (painted e d.rows) d.marks
-edited_fill d e top left bottom right colour is = rw is refl
-
-pub edited_recolour : (d : Design) (e : Edit) (source target : ℕ) → e ≡ Recolour source target → edited d e ≡ design d.colours (painted e d.rows) d.marks
-edited_recolour d e source target is = rw is refl
-
 pub paint_idle : (d : Design) (e : Edit) (b : Bool) → IsPicture d.rows → MatchBool b (changed_cells e d.rows ≢ []) (changed_cells e d.rows ≡ []) → not b ≡ same_design (design d.colours (painted e d.rows) d.marks) d
 paint_idle d e true is some = sym (other_when _ d (λ same. some (unchanged_painted e d.rows (ap (λ (x : Design). x.rows) same))))
 paint_idle d e false is none = sym (same_when _ d (ap (λ r. design d.colours r d.marks) (painted_unchanged e d.rows is none)))
 
--- lines inserted and deleted
-width_of-map : (f : List ℕ → List ℕ) (rows : List (List ℕ)) → 0 < length rows → width_of (map f rows) ≡ length (f (get_or rows 0 []))
-width_of-map f rows some = ap length (get_or-map f rows 0 [] [] some)
-
-pub lines_along-inserted : (axis : Axis) (at h w : ℕ) (rows : List (List ℕ)) → IsGrid h w rows → 0 < h → at ≤ size_along axis h w → lines_along axis (with_line axis at rows) ≡ lines_along axis rows + 1
-lines_along-inserted Across at h w rows is some le = length-insert rows at (replicate (width_of rows) 0) (omega (arith, is.row_count))
-lines_along-inserted Down at h w rows is some le = width_of-map (λ row. insert row at 0) rows (omega (arith, is.row_count)) ∙ length-insert (get_or rows 0 []) at 0 (omega (arith, is.row_lengths 0 some))
-
-pub lines_along-deleted : (axis : Axis) (at h w : ℕ) (rows : List (List ℕ)) → IsGrid h w rows → 0 < h → at < size_along axis h w → lines_along axis (without_line axis at rows) + 1 ≡ lines_along axis rows
-lines_along-deleted Across at h w rows is some lt = length-remove rows at (omega (arith, is.row_count))
-lines_along-deleted Down at h w rows is some lt =
-    ap (λ n. n + 1) (width_of-map (λ row. remove row at) rows (omega (arith, is.row_count))) ∙ length-remove (get_or rows 0 []) at (omega (arith, is.row_lengths 0 some))
-
 -- lines exchanged
-swap_same : {X : Type 0} (xs : List X) (i j : ℕ) (d : X) → i < length xs → j < length xs → get_or xs i d ≡ get_or xs j d → swap xs i j ≡ xs
-swap_same xs i j d in_i in_j same =
-    let is = swapped_from_swap xs (swap xs i j) i j d in_i in_j refl in
-    ext_get_or d (swap xs i j) xs (length-swap xs i j)
-    (λ k within.
-    elim (cases_eq k i) [
-      | inl e ↦ rw e (is.0 ∙ sym same)
-      | inr not_i ↦ elim (cases_eq k j) [ inl e ↦ rw e (is.1 ∙ same) | inr not_j ↦ is.2 k not_i not_j ]
-    ])
-
 pub alike_swapped : (axis : Axis) (first second h w : ℕ) (rows : List (List ℕ)) → IsGrid h w rows → 0 < h → first < size_along axis h w → second < size_along axis h w → ((k : ℕ) → k < cells_along axis rows → SameAt axis first second rows k) → lines_swapped axis first second rows ≡ rows
 alike_swapped Across first second h w rows is some f s alike =
-    swap_same rows first second [] (omega (arith, is.row_count)) (omega (arith, is.row_count))
+    swap-same rows first second [] (omega (arith, is.row_count)) (omega (arith, is.row_count))
     (ext_get_or 0 (get_or rows first []) (get_or rows second []) (is.row_lengths first f ∙ sym (is.row_lengths second s))
     (λ k within. alike k (omega (arith, is.row_lengths first f, is.row_lengths 0 some))))
 alike_swapped Down first second h w rows is some f s alike =
@@ -87,7 +55,7 @@ alike_swapped Down first second h w rows is some f s alike =
     let in_rows : k < length rows = omega (arith, length-map rows (λ row. swap row first second)) in
     let wide = is.row_lengths k (omega (arith, is.row_count)) in
     get_or-map (λ row. swap row first second) rows k [] [] in_rows
-    ∙ swap_same (get_or rows k []) first second 0 (omega (arith, wide)) (omega (arith, wide)) (alike k in_rows))
+    ∙ swap-same (get_or rows k []) first second 0 (omega (arith, wide)) (omega (arith, wide)) (alike k in_rows))
 
 swapped_cell : (axis : Axis) (first second h w : ℕ) (rows : List (List ℕ)) (k : ℕ) → IsGrid h w rows → 0 < h → first < size_along axis h w → second < size_along axis h w → k < cells_along axis rows → cell_at (lines_swapped axis first second rows) (place_on axis first k).0 (place_on axis first k).1 ≡ cell_at rows (place_on axis second k).0 (place_on axis second k).1
 swapped_cell Across first second h w rows k is some f s within =

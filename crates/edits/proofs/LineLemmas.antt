@@ -1,24 +1,22 @@
 -- Lines inserted, deleted and exchanged, and all of it taken back.
-use Rattle.std.proofs.Common.{◌≡◌, ◌≢◌, ℕ, zero, suc, ◌+◌, ◌<◌, ◌≤◌, inl, inr, Bool, true, false, cond, ◌==◌, List, [], ◌∷◌, length, get_or, set, map, replicate, refl, sym, ap, subst, ◌∙◌, arith}
+use Rattle.std.proofs.Common.{◌≡◌, ◌≢◌, ℕ, zero, suc, ◌+◌, ◌<◌, ◌≤◌, inl, inr, ◌==◌, List, [], ◌∷◌, length, get_or, set, map, replicate, refl, sym, ap, subst, ◌∙◌, arith}
 use Rattle.std.specs.List.{insert, remove, swap}
 use Rattle.std.proofs.lemmas.Bool.{cases_lt, cases_eq, ne_eqb, eqb-false}
-use Rattle.std.proofs.lemmas.List.{ext_get_or, length-map, length-set, length-replicate, get_or-map, get_or-replicate, get_or-set_same, get_or-set_other}
-use Rattle.std.proofs.lemmas.List.Edits.{length-swap, get_or-remove_below, get_or-remove_above, swapped_from_swap}
+use Rattle.std.proofs.lemmas.List.{ext_get_or, length-map, length-set, length-replicate, map-id, get_or-map, get_or-replicate, get_or-set_same, get_or-set_other}
+use Rattle.std.proofs.lemmas.List.Edits.{length-swap, get_or-remove_below, get_or-remove_above}
 use Rattle.picture.specs.declared.line_id.Axis.{Axis}
 use Rattle.picture.specs.declared.line_id.Axis.TheVariants.{Across, Down}
 use Rattle.picture.specs.Rows.{width_of, cell_at, with_line, without_line, lines_swapped}
 use Rattle.clues.specs.Change.{line_at}
+use Rattle.clues.specs.Places.{exchanged}
+use Rattle.clues.proofs.EditedPictures.{exchanged-exchanged, get_or-swap}
+use Rattle.clues.proofs.LawLemmas.{remove-insert}
 use Rattle.picture.specs.Crossing.{crossing}
 use Rattle.edits.specs.Design.{IsGrid}
 use Rattle.edits.specs.Note.{Cell, with_cells, cells_of_line, givens_of_line, cells_along, cell_on, given_on, place_on, as_mark}
-use Rattle.edits.proofs.CellLemmas.{Has, joined_has, joined_from, with_cells_give}
+use Rattle.edits.proofs.CellLemmas.{Has, has_from_map, has_map, has_unless, joined_from, joined_has, unless_has, with_cells_give}
 
 -- lists
-remove-insert : {X : Type 0} (xs : List X) (i : ℕ) (y : X) → i ≤ length xs → remove (insert xs i y) i ≡ xs
-remove-insert xs zero y le = refl
-remove-insert [] (suc i) y le = absurd (omega arith)
-remove-insert (x ∷ xs) (suc i) y le = ap (λ r. x ∷ r) (remove-insert xs i y (omega arith))
-
 insert-remove : {X : Type 0} (xs : List X) (i : ℕ) (y : X) → i < length xs → insert (remove xs i) i y ≡ set xs i y
 insert-remove [] i y lt = absurd (omega arith)
 insert-remove (x ∷ xs) zero y lt = refl
@@ -27,30 +25,19 @@ insert-remove (x ∷ xs) (suc i) y lt = ap (λ r. x ∷ r) (insert-remove xs i y
 swap-swap : {X : Type 0} (xs : List X) (i j : ℕ) (d : X) → i < length xs → j < length xs → swap (swap xs i j) i j ≡ xs
 swap-swap xs i j d in_i in_j =
     let ys = swap xs i j in
-    let once = swapped_from_swap xs ys i j d in_i in_j refl in
-    let twice = swapped_from_swap ys (swap ys i j) i j d (omega (arith, length-swap xs i j)) (omega (arith, length-swap xs i j)) refl in
     ext_get_or d (swap ys i j) xs (length-swap ys i j ∙ length-swap xs i j)
-    (λ k within.
-    elim (cases_eq k i) [
-      | inl e ↦ rw e (twice.0 ∙ once.1)
-      | inr not_i ↦
-          elim (cases_eq k j) [
-            | inl e ↦ rw e (twice.1 ∙ once.0)
-            | inr not_j ↦ twice.2 k not_i not_j ∙ once.2 k not_i not_j
-          ]
-    ])
-
-map_back : (f g : List ℕ → List ℕ) (width : ℕ) → ((row : List ℕ) → length row ≡ width → f (g row) ≡ row) → (rows : List (List ℕ)) → ((i : ℕ) → i < length rows → length (get_or rows i []) ≡ width) → map f (map g rows) ≡ rows
-map_back f g width back [] equal = refl
-map_back f g width back (row ∷ rows) equal =
-    ap (λ x. x ∷ map f (map g rows)) (back row (equal 0 (omega arith)))
-    ∙ ap (λ xs. row ∷ xs) (map_back f g width back rows (λ i h. equal (suc i) (omega (arith, h))))
+    (λ k _.
+    ap (λ n. get_or (swap ys i j) n d) (sym (exchanged-exchanged i j k))
+    ∙ (get_or-swap ys i j (exchanged i j k) d (omega (arith, length-swap xs i j)) (omega (arith, length-swap xs i j)) ∙ get_or-swap xs i j k d in_i in_j))
 
 map_after : (f g k : List ℕ → List ℕ) (width : ℕ) → ((row : List ℕ) → length row ≡ width → f (g row) ≡ k row) → (rows : List (List ℕ)) → ((i : ℕ) → i < length rows → length (get_or rows i []) ≡ width) → map f (map g rows) ≡ map k rows
 map_after f g k width after [] equal = refl
 map_after f g k width after (row ∷ rows) equal =
     ap (λ x. x ∷ map f (map g rows)) (after row (equal 0 (omega arith)))
     ∙ ap (λ xs. k row ∷ xs) (map_after f g k width after rows (λ i h. equal (suc i) (omega (arith, h))))
+
+map_back : (f g : List ℕ → List ℕ) (width : ℕ) → ((row : List ℕ) → length row ≡ width → f (g row) ≡ row) → (rows : List (List ℕ)) → ((i : ℕ) → i < length rows → length (get_or rows i []) ≡ width) → map f (map g rows) ≡ rows
+map_back f g width back rows equal = map_after f g (λ row. row) width back rows equal ∙ map-id rows
 
 rows_wide : (h w : ℕ) (rows : List (List ℕ)) → IsGrid h w rows → (i : ℕ) → i < length rows → length (get_or rows i []) ≡ w
 rows_wide h w rows is = λ i within. is.row_lengths i (omega (arith, is.row_count))
@@ -170,31 +157,11 @@ gives_line_back axis at h w rows is some within more =
     ]))
 
 -- its givens given back
-has_as_mark : (places : List (ℕ × ℕ)) (place : ℕ × ℕ) → Has places place → Has (map as_mark places) (as_mark place)
-has_as_mark [] place h = absurd h
-has_as_mark (p ∷ places) place h = elim h [ inl e ↦ inl (ap as_mark e) | inr rest ↦ inr (has_as_mark places place rest) ]
-
-from_as_mark : (places : List (ℕ × ℕ)) (c : Cell) → Has (map as_mark places) c → (place : ℕ × ℕ) × Has places place × (as_mark place ≡ c)
-from_as_mark [] c h = absurd h
-from_as_mark (p ∷ places) c h =
-    elim h [
-      | inl e ↦ (p, inl refl, e)
-      | inr rest ↦ let is = from_as_mark places c rest in (is.0, inr is.1, is.2)
-    ]
-
-given_from : (b : Bool) (place found : ℕ × ℕ) → Has (cond b [] (place ∷ [])) found → (b ≡ false) × (place ≡ found)
-given_from true place found h = absurd h
-given_from false place found h = (refl, elim h [ inl e ↦ e | inr none ↦ absurd none ])
-
-given_has : (b : Bool) (place : ℕ × ℕ) → b ≡ false → Has (cond b [] (place ∷ [])) place
-given_has true place e = absurd (cc e)
-given_has false place e = inl refl
-
 pub given_of_line : (axis : Axis) (at h w : ℕ) (marks : List (List ℕ)) → IsGrid h w marks → 0 < h → at < size_along axis h w → (p : ℕ × ℕ) → Has (givens_of_line marks (line_at axis at)) p → (p.0 < h) × (p.1 < w) × (cell_at marks p.0 p.1 ≢ 0)
 given_of_line axis at h w marks is some within = λ found has.
     let from = joined_from (λ k. given_on marks (place_on axis at k)) (cells_along axis marks) found has in
     let p = place_on axis at from.0 in
-    let given = given_from (cell_at marks p.0 p.1 == 0) p found from.2 in
+    let given = has_unless (cell_at marks p.0 p.1 == 0) p found from.2 in
     let inside = place_on_line axis at h w from.0 within (omega (arith, from.1, cells_along_is axis h w marks is some)) in
     subst (λ (q : ℕ × ℕ). (q.0 < h) × (q.1 < w) × (cell_at marks q.0 q.1 ≢ 0)) given.1 (inside.0, inside.1, eqb-false (cell_at marks p.0 p.1) 0 given.0)
 
@@ -203,7 +170,7 @@ gives_givens_back axis at h w marks is are some within more =
     rw (insert_delete axis at h w marks is within more)
     (with_cells_give h w (map as_mark (givens_of_line marks (line_at axis at))) (blanked axis at w marks) marks (blanked_is_grid axis at h w marks is within) is
     (λ c has.
-    let of = from_as_mark (givens_of_line marks (line_at axis at)) c has in
+    let of = has_from_map as_mark (givens_of_line marks (line_at axis at)) c has in
     let p = of.0 in
     let is_given = given_of_line axis at h w marks is some within p of.1 in
     let one : cell_at marks p.0 p.1 ≡ 1 = omega (arith, are p.0 p.1, is_given.2) in
@@ -218,9 +185,9 @@ gives_givens_back axis at h w marks is are some within more =
                 let within_line : k < cells_along axis marks = omega (arith, cells_along_is axis h w marks is some, position_within axis h w i j in_rows in_columns) in
                 let place = place_on_position axis at i j on in
                 let one : cell_at marks i j ≡ 1 = omega (arith, are i j, some_here) in
-                let here : Has (given_on marks (i, j)) (i, j) = given_has (cell_at marks i j == 0) (i, j) (ne_eqb (cell_at marks i j) 0 some_here) in
+                let here : Has (given_on marks (i, j)) (i, j) = unless_has (cell_at marks i j == 0) (i, j) (ne_eqb (cell_at marks i j) 0 some_here) in
                 let there : Has (given_on marks (place_on axis at k)) (i, j) = subst (λ (p : ℕ × ℕ). Has (given_on marks p) (i, j)) (sym place) here in
-                inr (rw one (has_as_mark (givens_of_line marks (line_at axis at)) (i, j) (joined_has (λ k. given_on marks (place_on axis at k)) (cells_along axis marks) k (i, j) within_line there)))
+                inr (rw one (has_map as_mark (givens_of_line marks (line_at axis at)) (i, j) (joined_has (λ k. given_on marks (place_on axis at k)) (cells_along axis marks) k (i, j) within_line there)))
           ]
       | inr off ↦ inl (blanked_off axis at h w marks i j is in_rows off)
     ]))

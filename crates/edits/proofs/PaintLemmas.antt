@@ -61,7 +61,7 @@ pub ruleset areas = (paint_inside, fill_inside, paint_area, fill_area, whole_are
 
 module _ (e : Edit) (rows : List (List ℕ)) (top below left beyond : ℕ) (is : IsArea e rows top below left beyond) where
   -- along a row
-  row_before : (i : ℕ) → i < length rows → joined (changed_cell e rows i) left ≡ []
+  pub row_before : (i : ℕ) → i < length rows → joined (changed_cell e rows i) left ≡ []
   row_before i in_rows =
       joined_gap (changed_cell e rows i) 0 left (omega arith)
       (λ j _ low. unchanged_cell e rows i j (is.other_columns i j in_rows (omega (arith, is.columns_fit, is.columns_ordered)) (inl low)))
@@ -77,9 +77,6 @@ module _ (e : Edit) (rows : List (List ℕ)) (top below left beyond : ℕ) (is :
 
   pub row_ends : (i n : ℕ) (cells start : List Cell) → i < length rows → n ≡ beyond → cells ≡ start ++ joined (changed_cell e rows i) n → cells ≡ start ++ changed_in_row e rows i
   row_ends i n cells start in_rows end same = rw (row_behind i in_rows, ← end) same
-
-  pub row_begins_none : (i : ℕ) → i < length rows → joined (changed_cell e rows i) left ≡ []
-  row_begins_none i in_rows = row_before i in_rows
 
   pub row_ends_none : (i n : ℕ) → i < length rows → n ≡ beyond → joined (changed_cell e rows i) n ≡ [] → changed_in_row e rows i ≡ []
   row_ends_none i n in_rows end none = row_behind i in_rows ∙ (ap (joined (changed_cell e rows i)) (sym end) ∙ none)
@@ -137,4 +134,4 @@ some_row e rows i in_rows some =
     let h = cons_has (changed_in_row e rows i) some in
     has_some (changed_cells e rows) h.0 (joined_has (changed_in_row e rows) (length rows) i h.0 in_rows h.1)
 
-pub ruleset painting = (row_begins, row_ends, row_begins_none, row_ends_none, rows_begin, rows_end, cell_more, cell_same, none_more, row_some, row_more, row_none_more, some_row)
+pub ruleset painting = (row_begins, row_ends, row_before, row_ends_none, rows_begin, rows_end, cell_more, cell_same, none_more, row_some, row_more, row_none_more, some_row)

@@ -7,8 +7,10 @@ use Rattle.picture.specs.declared.line_id.Axis.TheVariants.{Across, Down}
 use Rattle.picture.specs.Palette.{Colours}
 use Rattle.picture.specs.Picture.{IsPicture}
 use Rattle.picture.specs.Document.{AreInside}
-use Rattle.picture.specs.Rows.{width_of, lines_along, with_line, without_line, lines_swapped}
-use Rattle.clues.specs.declared.places.Places.TheVariants.{Inserted, Deleted, Swapped}
+use Rattle.picture.specs.Rows.{width_of, lines_along}
+use Rattle.clues.specs.declared.places.Places.{Places}
+use Rattle.clues.specs.Places.{AreAmong, count_after, reversed}
+use Rattle.clues.proofs.EditedPictures.{edited_picture}
 use Rattle.clues.specs.Change.{Moves, moved_along}
 use Rattle.picture.specs.declared.document.Document.{Document}
 use Rattle.edits.specs.Design.{Design, design, design_of, marks_of}
@@ -16,26 +18,19 @@ use Rattle.edits.specs.Moving.{AreMoved}
 use Rattle.edits.specs.Note.{Cell, IsCellIn, as_mark, with_cells}
 use Rattle.edits.proofs.CellLemmas.{with_cells_sizes}
 use Rattle.edits.proofs.DesignLemmas.{assembled}
-use Rattle.edits.proofs.ShiftLemmas.{inserted_marks, deleted_marks, swapped_marks}
+use Rattle.edits.proofs.ShiftLemmas.{edited_marks}
 
 pub some_lines : (axis : Axis) (rows : List (List ℕ)) → IsPicture rows → (0 < lines_along axis rows) × (lines_along axis rows ≤ MAX_SIDE)
 some_lines Across rows is = (is.has_row, is.rows_fit)
 some_lines Down rows is = (is.has_column, is.columns_fit)
 
-pub inserted_document : (axis : Axis) (at height width : ℕ) (rows now : List (List ℕ)) (givens new : List ℕ) (moves : Moves) (p p' : Colours) → IsPicture rows → at ≤ lines_along axis rows → p' ≡ p → now ≡ with_line axis at rows → height ≡ length now → width ≡ width_of now → moves ≡ moved_along axis (Deleted at) height width → AreMoved givens new moves height width → design p' now (marks_of (length now) (width_of now) new) ≡ design p (with_line axis at rows) (with_line axis at (marks_of (length rows) (width_of rows) givens))
-inserted_document axis at height width rows now givens new moves p p' is le palette same h w leads moved =
-    let there : AreMoved givens new (moved_along axis (Deleted at) height width) (length (with_line axis at rows)) (width_of (with_line axis at rows)) = rw (← leads, ← same, ← h, ← w) moved in
-    assembled p p' (with_line axis at rows) now new (with_line axis at (marks_of (length rows) (width_of rows) givens)) palette same (inserted_marks axis at height width rows givens new is le there)
-
-pub deleted_document : (axis : Axis) (at height width : ℕ) (rows now : List (List ℕ)) (givens new : List ℕ) (moves : Moves) (p p' : Colours) → IsPicture rows → at < lines_along axis rows → 1 < lines_along axis rows → p' ≡ p → now ≡ without_line axis at rows → height ≡ length now → width ≡ width_of now → moves ≡ moved_along axis (Inserted at) height width → AreMoved givens new moves height width → design p' now (marks_of (length now) (width_of now) new) ≡ design p (without_line axis at rows) (without_line axis at (marks_of (length rows) (width_of rows) givens))
-deleted_document axis at height width rows now givens new moves p p' is lt more palette same h w leads moved =
-    let there : AreMoved givens new (moved_along axis (Inserted at) height width) (length (without_line axis at rows)) (width_of (without_line axis at rows)) = rw (← leads, ← same, ← h, ← w) moved in
-    assembled p p' (without_line axis at rows) now new (without_line axis at (marks_of (length rows) (width_of rows) givens)) palette same (deleted_marks axis at height width rows givens new is lt more there)
-
-pub swapped_document : (axis : Axis) (first second height width : ℕ) (rows now : List (List ℕ)) (givens new : List ℕ) (moves : Moves) (p p' : Colours) → IsPicture rows → first < lines_along axis rows → second < lines_along axis rows → p' ≡ p → now ≡ lines_swapped axis first second rows → height ≡ length now → width ≡ width_of now → moves ≡ moved_along axis (Swapped first second) height width → AreMoved givens new moves height width → design p' now (marks_of (length now) (width_of now) new) ≡ design p (lines_swapped axis first second rows) (lines_swapped axis first second (marks_of (length rows) (width_of rows) givens))
-swapped_document axis first second height width rows now givens new moves p p' is f s palette same h w leads moved =
-    let there : AreMoved givens new (moved_along axis (Swapped first second) height width) (length (lines_swapped axis first second rows)) (width_of (lines_swapped axis first second rows)) = rw (← leads, ← same, ← h, ← w) moved in
-    assembled p p' (lines_swapped axis first second rows) now new (lines_swapped axis first second (marks_of (length rows) (width_of rows) givens)) palette same (swapped_marks axis first second height width rows givens new is f s there)
+-- lines that have moved: `shift` is what the edit does to a picture and to its marks
+pub moved_document : (axis : Axis) (places : Places) (shift : List (List ℕ) → List (List ℕ)) → ((rows : List (List ℕ)) → shift rows ≡ edited_picture axis places rows) → (height width : ℕ) (rows now : List (List ℕ)) (givens new : List ℕ) (moves : Moves) (p p' : Colours) → IsPicture rows → AreAmong places (lines_along axis rows) → 0 < count_after places (lines_along axis rows) → p' ≡ p → now ≡ shift rows → height ≡ length now → width ≡ width_of now → moves ≡ moved_along axis (reversed places) height width → AreMoved givens new moves height width → design p' now (marks_of (length now) (width_of now) new) ≡ design p (shift rows) (shift (marks_of (length rows) (width_of rows) givens))
+moved_document axis places shift is_edited height width rows now givens new moves p p' is among some palette same h w leads moved =
+    let now_is : now ≡ edited_picture axis places rows = same ∙ is_edited rows in
+    let there : AreMoved givens new (moved_along axis (reversed places) height width) (length (edited_picture axis places rows)) (width_of (edited_picture axis places rows)) = rw (← leads, ← now_is, ← h, ← w) moved in
+    assembled p p' (shift rows) now new (shift (marks_of (length rows) (width_of rows) givens)) palette same
+    (rw (is_edited rows, is_edited (marks_of (length rows) (width_of rows) givens)) (edited_marks axis places height width rows givens new is among some there))
 
 -- cells changed leave the size
 pub changed_document : (rows now : List (List ℕ)) (cells : List Cell) (givens : List ℕ) (p p' : Colours) → IsPicture rows → All (IsCellIn rows) cells → p' ≡ p → now ≡ with_cells rows cells → design p' now (marks_of (length now) (width_of now) givens) ≡ design p (with_cells rows cells) (marks_of (length rows) (width_of rows) givens)

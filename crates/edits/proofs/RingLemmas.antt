@@ -1,5 +1,5 @@
 -- The history that two rings of entries give, before a step and after it.
-use Rattle.std.proofs.Common.{◌≡◌, ℕ, ◌+◌, ◌-◌, ◌<◌, ◌≤◌, ◌⊎◌, inl, inr, Some, None, List, [], ◌∷◌, ◌++◌, length, take, drop, refl, sym, ap, subst, ◌∙◌, arith, slice_get, option_map}
+use Rattle.std.proofs.Common.{◌≡◌, ℕ, ◌+◌, ◌-◌, ◌<◌, ◌⊎◌, inl, inr, Some, None, List, [], ◌∷◌, ◌++◌, length, take, drop, refl, sym, ap, subst, ◌∙◌, arith, slice_get, option_map}
 use Rattle.std.proofs.lemmas.List.{length-append, length-map, length-drop, length-take-le, map-append, drop-map, take_all}
 use Rattle.std.proofs.lemmas.Option.{slice_get_within, slice_get_cases}
 use Rattle.circular_buffer.specs.Buffer.{Buffer, buffer, keep_last, last_item}
@@ -53,14 +53,6 @@ first_step d es x e are = subst (λ (ys : List Entry). AreFuture d (notes_of ys)
 pub future_split : (d : Design) (es : List Entry) (x : Entry) → slice_get es 0 ≡ Some x → future_from d (notes_of es) ≡ turn (edited d x.edit) x.edit ∷ future_from (edited d x.edit) (notes_of (drop 1 es))
 future_split d es x e = ap (λ (ys : List Entry). future_from d (notes_of ys)) (first_split es x e)
 
-pub first_alone : (es : List Entry) (x : Entry) (c : ℕ) → length es + 1 ≤ c → take c (x ∷ es) ≡ x ∷ es
-first_alone es x c room = take_all c (x ∷ es) (omega (arith, room))
-
-pub all_kept : (es : List Entry) (x : Entry) (c : ℕ) → length es + 1 ≤ c → keep_last c (es ++ x ∷ []) ≡ es ++ x ∷ []
-all_kept es x c room =
-    let none : length (es ++ x ∷ []) - c ≡ 0 = omega (arith, length-append es (x ∷ [])) in
-    ap (λ (k : ℕ). drop k (es ++ x ∷ [])) none
-
 -- a history after an edit
 module _ (d d' : Design) (past future : Buffer Entry) (x : Entry) (is : IsDesign d) (are : AreRings d past future) where
   pub made : (k : Changes) → IsPlanFor (history_from d past future) (plan (ByEdit (note_of x)) d' k) → IsStep d (note_of x) d'
@@ -99,12 +91,11 @@ module _ (d : Design) (past future : Buffer Entry) (x : Entry) (last : last_item
       let at = undo_at (history_from d past future) _ _ (past_split d past.items x last) in
       record { lawful = at.0; kept = tt; gives = sym (ap (λ (h : History). h.document) at.1) }
 
-  undo_room : length future.items + 1 ≤ future.capacity
-  undo_room = omega (arith, are.room, are.same_room, slice_get_within past.items (length past.items - 1) x last)
-
   first_put : future_after Undo past future ≡ buffer (x ∷ future.items) future.capacity
   first_put =
-      ap (with_first future) last ∙ ap (λ (es : List Entry). buffer es future.capacity) (first_alone future.items x future.capacity undo_room)
+      ap (with_first future) last
+      ∙ ap (λ (es : List Entry). buffer es future.capacity)
+      (take_all future.capacity (x ∷ future.items) (omega (arith, are.room, are.same_room, slice_get_within past.items (length past.items - 1) x last)))
 
   pub undo_rings : AreRings (reverted d (note_of x)) (past_after Undo past future) (future_after Undo past future)
   undo_rings =
@@ -136,12 +127,10 @@ module _ (d : Design) (past future : Buffer Entry) (x : Entry) (first : slice_ge
       let at = redo_at (history_from d past future) _ _ (future_split d future.items x first) in
       record { lawful = at.0; kept = tt; gives = sym (ap (λ (h : History). h.document) at.1) }
 
-  redo_room : length past.items + 1 ≤ past.capacity
-  redo_room = omega (arith, are.room, slice_get_within future.items 0 x first)
-
   last_put : past_after Redo past future ≡ buffer (past.items ++ x ∷ []) past.capacity
   last_put =
-      ap (with_last past) first ∙ ap (λ (es : List Entry). buffer es past.capacity) (all_kept past.items x past.capacity redo_room)
+      let all : length (past.items ++ x ∷ []) - past.capacity ≡ 0 = omega (arith, length-append past.items (x ∷ []), are.room, slice_get_within future.items 0 x first) in
+      ap (with_last past) first ∙ ap (λ (k : ℕ). buffer (drop k (past.items ++ x ∷ [])) past.capacity) all
 
   pub redo_rings : AreRings (edited d x.edit) (past_after Redo past future) (future_after Redo past future)
   redo_rings =

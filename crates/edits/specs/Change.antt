@@ -1,10 +1,11 @@
 -- What an edit changes: where it moves the lines of a picture, and in which cells two pictures differ.
-use Rattle.std.specs.Prelude.{◌≡◌, ◌≢◌, ℕ, ◌<◌, List, length, slice_index_or}
+use Rattle.std.specs.Prelude.{◌≡◌, ◌≢◌, ℕ, ◌<◌, ◌≤◌, List, length, slice_index_or}
 use Rattle.picture.specs.declared.line_id.Axis.{Axis}
 use Rattle.picture.specs.declared.line_id.LineId.{LineId}
-use Rattle.picture.specs.Rows.{width_of, cell_at}
+use Rattle.picture.specs.declared.picture.TheConstants.{MAX_SIDE}
+use Rattle.picture.specs.Rows.{width_of, cell_at, lines_along, line_deleted, lines_swapped}
 use Rattle.clues.specs.declared.places.Places.TheVariants.{Inserted, Deleted, Swapped}
-use Rattle.clues.specs.Change.{Moves, moved_along, still}
+use Rattle.clues.specs.Change.{AgreesOff, Moves, moved_along, still}
 use Rattle.picture.specs.Crossing.{crossing}
 use Rattle.clues.specs.Laws.{IsOnLine}
 use Rattle.edits.specs.declared.edit.Edit.{Edit}
@@ -18,6 +19,12 @@ moves_of (InsertLine line) rows = moved_along line.axis (Inserted line.at) (leng
 moves_of (DeleteLine line) rows = moved_along line.axis (Deleted line.at) (length rows) (width_of rows)
 moves_of (SwapLines axis first second) rows = moved_along axis (Swapped first second) (length rows) (width_of rows)
 moves_of e rows = still (length rows) (width_of rows)
+
+-- the edit that moves lines back
+abbrev pub reversed_edit : Edit → Edit
+reversed_edit (InsertLine line) = DeleteLine line
+reversed_edit (DeleteLine line) = InsertLine line
+reversed_edit e = e
 
 abbrev pub nth_cell : List Cell → ℕ → Cell
 nth_cell cells k = slice_index_or cells k (0, 0, 0)
@@ -38,3 +45,10 @@ pub record DifferIn (cells : List Cell) (old new : List (List ℕ)) : Type 0 whe
 abbrev pub CrossesApart : ℕ → Axis → ℕ → ℕ → List (List ℕ) → LineId → Type 0
 CrossesApart n axis first second rows line =
     (line.axis ≡ crossing axis) × (line.at < n) × (SameAt axis first second rows line.at → ⊥)
+
+-- an edit leads from one picture to the other; where it moves no line, they differ in the cells
+abbrev pub Leads : Edit → List Cell → List (List ℕ) → List (List ℕ) → Type 0
+Leads (InsertLine line) cells old new = (line.at ≤ lines_along line.axis old) × (lines_along line.axis old < MAX_SIDE) × AgreesOff line old new
+Leads (DeleteLine line) cells old new = (line.at < lines_along line.axis old) × (1 < lines_along line.axis old) × (new ≡ line_deleted old line)
+Leads (SwapLines axis first second) cells old new = (first < lines_along axis old) × (second < lines_along axis old) × (new ≡ lines_swapped axis first second old)
+Leads e cells old new = DifferIn cells old new

@@ -29,23 +29,16 @@ rows_after (Recolour source target) rows = painted (Recolour source target) rows
 rows_after (InsertLine line) rows = line_inserted rows line
 rows_after (DeleteLine line) rows = line_deleted rows line
 rows_after (SwapLines axis first second) rows = lines_swapped axis first second rows
-rows_after (AddColour rgb) rows = rows
-rows_after (SetColour colour rgb) rows = rows
-rows_after (Pin row col) rows = rows
-rows_after (Unpin row col) rows = rows
+rows_after e rows = rows
 
 -- the givens move with the lines, and a new line has none
 abbrev pub marks_after : Edit → List (List ℕ) → List (List ℕ)
-marks_after (Paint row col colour) marks = marks
-marks_after (Fill top left bottom right colour) marks = marks
-marks_after (Recolour source target) marks = marks
 marks_after (InsertLine line) marks = line_inserted marks line
 marks_after (DeleteLine line) marks = line_deleted marks line
 marks_after (SwapLines axis first second) marks = lines_swapped axis first second marks
-marks_after (AddColour rgb) marks = marks
-marks_after (SetColour colour rgb) marks = marks
 marks_after (Pin row col) marks = with_cell marks row col 1
 marks_after (Unpin row col) marks = with_cell marks row col 0
+marks_after e marks = marks
 
 abbrev pub colours_after : Edit → Colours → Colours
 colours_after (AddColour rgb) colours = with_colour colours rgb

@@ -34,27 +34,20 @@ has_cell rows row col = nat_lt row (length rows) && nat_lt col (width_of rows)
 abbrev pub is_outside : List (List ℕ) → Edit → Bool
 is_outside rows (Paint row col colour) = not (has_cell rows row col)
 is_outside rows (Fill top left bottom right colour) = not (has_cell rows bottom right && (nat_le top bottom && nat_le left right))
-is_outside rows (Recolour source target) = false
 is_outside rows (InsertLine line) = nat_lt (lines_along line.axis rows) line.at
 is_outside rows (DeleteLine line) = nat_le (lines_along line.axis rows) line.at
 is_outside rows (SwapLines axis first second) = nat_le (lines_along axis rows) first || nat_le (lines_along axis rows) second
-is_outside rows (AddColour rgb) = false
-is_outside rows (SetColour colour rgb) = false
 is_outside rows (Pin row col) = not (has_cell rows row col)
 is_outside rows (Unpin row col) = not (has_cell rows row col)
+is_outside rows e = false
 
 -- the palette lacks a colour that is named
 abbrev pub lacks_colour : Colours → Edit → Bool
 lacks_colour colours (Paint row col colour) = nat_le (length colours.triples) colour
 lacks_colour colours (Fill top left bottom right colour) = nat_le (length colours.triples) colour
 lacks_colour colours (Recolour source target) = nat_le (length colours.triples) source || nat_le (length colours.triples) target
-lacks_colour colours (InsertLine line) = false
-lacks_colour colours (DeleteLine line) = false
-lacks_colour colours (SwapLines axis first second) = false
-lacks_colour colours (AddColour rgb) = false
 lacks_colour colours (SetColour colour rgb) = nat_le (length colours.triples) colour
-lacks_colour colours (Pin row col) = false
-lacks_colour colours (Unpin row col) = false
+lacks_colour colours e = false
 
 -- a line is to be inserted where there are as many as there may be
 abbrev pub has_no_room : List (List ℕ) → Edit → Bool

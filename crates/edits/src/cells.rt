@@ -2,6 +2,7 @@
 
 ghost use Rattle.std.specs.Prelude.{◌≡◌, length, map};
 ghost use Rattle.picture.specs.Document.{AreInside};
+ghost use Rattle.picture.specs.Picture.{IsPicture};
 ghost use Rattle.picture.specs.Rows.{width_of};
 ghost use Rattle.edits.specs.Design.{marks_of};
 ghost use Rattle.std.specs.List.{All};
@@ -15,10 +16,10 @@ pub type Cell = (u8, u8, u8);
 
 /// Gives each of the cells its colour.
 pub(crate) fn put_cells(picture: &mut Picture, cells: &[Cell])
-    requires { All (IsCellIn picture.old) cells.now }
+    requires picture { IsPicture picture.old }
+    requires cells { All (IsCellIn picture.old) cells.now }
     ensures { picture.new ≡ with_cells picture.old cells.now }
 {
-    let _ = picture.height();
     for cell in cells {
         let (row, col, colour) = *cell;
         picture.set(row, col, colour);
@@ -27,10 +28,10 @@ pub(crate) fn put_cells(picture: &mut Picture, cells: &[Cell])
 
 /// Gives each of the cells the colour that an edit makes of its old one.
 pub(crate) fn paint_cells(picture: &mut Picture, edit: &Edit, cells: &[Cell])
-    requires { All (IsCellIn picture.old) (map (repainted edit.now) cells.now) }
+    requires picture { IsPicture picture.old }
+    requires cells { All (IsCellIn picture.old) (map (repainted edit.now) cells.now) }
     ensures { picture.new ≡ with_cells picture.old (map (repainted edit.now) cells.now) }
 {
-    let _ = picture.height();
     for cell in cells {
         let (row, col, old) = *cell;
         picture.set(row, col, edit.colour_after(row, col, old));
@@ -39,13 +40,13 @@ pub(crate) fn paint_cells(picture: &mut Picture, edit: &Edit, cells: &[Cell])
 
 /// Makes each of the cells a given.
 pub(crate) fn put_givens(givens: &mut CellSet, picture: &Picture, places: &[(u8, u8)])
+    requires picture { IsPicture picture.now }
     requires places { All (IsPlaceIn picture.now) places.now }
     requires inside { AreInside givens.old picture.now }
     ensures marks { marks_of (length picture.now) (width_of picture.now) givens.new
         ≡ with_cells (marks_of (length picture.now) (width_of picture.now) givens.old) (map as_mark places.now) }
     ensures inside { AreInside givens.new picture.now }
 {
-    let _ = picture.height();
     for place in places {
         let (row, col) = *place;
         givens.put(row, col);

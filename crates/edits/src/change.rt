@@ -1,25 +1,24 @@
 //! What an edit changes: which lines it moves, and which lines have other cells afterwards.
 
-ghost use Rattle.std.specs.Prelude.{◌≡◌, ◌<◌, ◌≤◌, ◌⊎◌, ◌↔◌, length, MatchBool};
+ghost use Rattle.std.specs.Prelude.{◌≡◌, ◌<◌, ◌⊎◌, ◌↔◌, length, MatchBool};
 ghost use Rattle.picture.specs.declared.line_id.LineId.{LineId};
-ghost use Rattle.picture.specs.Rows.{line_deleted, lines_along, lines_swapped, width_of};
-ghost use Rattle.clues.specs.Change.{AgreesOff, AreMoves, IsChangeOf, IsTouched, lines_after, moved_along, still};
+ghost use Rattle.picture.specs.Picture.{IsPicture};
+ghost use Rattle.picture.specs.Rows.{lines_along, lines_swapped, width_of};
+ghost use Rattle.clues.specs.Change.{AreMoves, IsChangeOf, IsTouched, lines_after, moved_along, still};
 ghost use Rattle.clues.specs.Laws.{IsOnLine};
-ghost use Rattle.edits.specs.Change.{DifferIn};
+ghost use Rattle.edits.specs.Change.{DifferIn, Leads, moves_of, reversed_edit};
 ghost use Rattle.edits.specs.Note.{cells_along};
 ghost use Rattle.edits.specs.Painting.{SameAt};
 
 use crate::cells::Cell;
 use crate::edit::Edit;
 use crate::entry::Entry;
-use crate::facts::know;
 use crate::places::{line_length, place_on};
 use clues::{Change, Places};
-use picture::{Axis, Document, LineId, MAX_SIDE, Picture};
+use picture::{Axis, Document, LineId, Picture};
 
 impl Entry {
     ghost use Rattle.clues.specs.Change.{back};
-    ghost use Rattle.edits.specs.Change.{moves_of};
     ghost use Rattle.edits.specs.Design.{design_of};
     ghost use Rattle.edits.specs.Note.{IsStep, note_of};
 
@@ -31,24 +30,7 @@ impl Entry {
         ensures are_moves { AreMoves result.moves }
         ensures exact { IsChangeOf result before.now.picture after.now.picture }
     {
-        know(before);
-        let (old, new) = (&before.picture, &after.picture);
-        match self.edit {
-            Edit::Paint { .. } | Edit::Fill { .. } | Edit::Recolour { .. } => {
-                of_cells(old, new, &self.cells)
-            }
-            Edit::InsertLine { line } => of_insertion(old, new, line),
-            Edit::DeleteLine { line } => of_deletion(old, new, line),
-            Edit::SwapLines {
-                axis,
-                first,
-                second,
-            } => of_swap(old, new, axis, first, second),
-            Edit::AddColour { .. }
-            | Edit::SetColour { .. }
-            | Edit::Pin { .. }
-            | Edit::Unpin { .. } => of_cells(old, new, &[]),
-        }
+        change_by(self.edit, &self.cells, &before.picture, &after.picture)
     }
 
     /// What taking the edit back changes. The entry is that of the edit that makes the document `after` of the document
@@ -59,36 +41,52 @@ impl Entry {
         ensures are_moves { AreMoves result.moves }
         ensures exact { IsChangeOf result after.now.picture before.now.picture }
     {
-        know(before);
-        know(after);
-        let (old, new) = (&after.picture, &before.picture);
-        match self.edit {
-            Edit::Paint { .. } | Edit::Fill { .. } | Edit::Recolour { .. } => {
-                of_cells(old, new, &self.cells)
-            }
-            Edit::InsertLine { line } => of_deletion(old, new, line),
-            Edit::DeleteLine { line } => of_insertion(old, new, line),
-            Edit::SwapLines {
-                axis,
-                first,
-                second,
-            } => of_swap(old, new, axis, first, second),
-            Edit::AddColour { .. }
-            | Edit::SetColour { .. }
-            | Edit::Pin { .. }
-            | Edit::Unpin { .. } => of_cells(old, new, &[]),
-        }
+        let edit = reversed_edit(self.edit);
+        change_by(edit, &self.cells, &after.picture, &before.picture)
+    }
+}
+
+// The edit that moves lines back.
+fn reversed_edit(edit: Edit) -> Edit
+    ensures { result ≡ reversed_edit edit }
+{
+    match edit {
+        Edit::InsertLine { line } => Edit::DeleteLine { line },
+        Edit::DeleteLine { line } => Edit::InsertLine { line },
+        _ => edit,
+    }
+}
+
+// The change between two pictures of which an edit leads from one to the other. Where it moves no line, they differ in
+// the cells.
+fn change_by(edit: Edit, cells: &[Cell], old: &Picture, new: &Picture) -> Change
+    requires { Leads edit cells.now old.now new.now }
+    ensures moves { result.moves ≡ moves_of edit old.now }
+    ensures are_moves { AreMoves result.moves }
+    ensures exact { IsChangeOf result old.now new.now }
+{
+    let _ = new.height();
+    let (height, width) = (old.height(), old.width());
+    match edit {
+        Edit::InsertLine { line } => Change::insert(height, width, line),
+        Edit::DeleteLine { line } => Change::delete(height, width, line),
+        Edit::SwapLines {
+            axis,
+            first,
+            second,
+        } => of_swap(old, new, axis, first, second),
+        _ => of_cells(old, new, cells),
     }
 }
 
 // The change between two pictures of one size. The cells are those in which they differ.
 fn of_cells(old: &Picture, new: &Picture, cells: &[Cell]) -> Change
-    requires { DifferIn cells.now old.now new.now }
+    requires picture { IsPicture new.now }
+    requires differ { DifferIn cells.now old.now new.now }
     ensures moves { result.moves ≡ still (length old.now) (width_of old.now) }
     ensures are_moves { AreMoves result.moves }
     ensures exact { IsChangeOf result old.now new.now }
 {
-    let _ = new.height();
     let mut change = Change::cells(old.height(), old.width());
     for cell in cells {
         let (row, col, _) = *cell;
@@ -115,36 +113,9 @@ fn touch_cell(change: &mut Change, row: u8, col: u8)
     });
 }
 
-// The change between a picture and the one with a line inserted.
-fn of_insertion(old: &Picture, new: &Picture, line: LineId) -> Change
-    requires place { line.at ≤ lines_along line.axis old.now }
-    requires room { lines_along line.axis old.now < MAX_SIDE }
-    requires agrees { AgreesOff line old.now new.now }
-    ensures moves { result.moves
-        ≡ moved_along line.axis (Places.Inserted line.at) (length old.now) (width_of old.now) }
-    ensures are_moves { AreMoves result.moves }
-    ensures exact { IsChangeOf result old.now new.now }
-{
-    let _ = new.height();
-    Change::insert(old.height(), old.width(), line)
-}
-
-// The change between a picture and the one with a line deleted.
-fn of_deletion(old: &Picture, new: &Picture, line: LineId) -> Change
-    requires place { line.at < lines_along line.axis old.now }
-    requires others { 1 < lines_along line.axis old.now }
-    requires deleted { new.now ≡ line_deleted old.now line }
-    ensures moves { result.moves
-        ≡ moved_along line.axis (Places.Deleted line.at) (length old.now) (width_of old.now) }
-    ensures are_moves { AreMoves result.moves }
-    ensures exact { IsChangeOf result old.now new.now }
-{
-    let _ = new.height();
-    Change::delete(old.height(), old.width(), line)
-}
-
 // The change between a picture and the one with two lines exchanged.
 fn of_swap(old: &Picture, new: &Picture, axis: Axis, first: u8, second: u8) -> Change
+    requires picture { IsPicture new.now }
     requires first_in { first < lines_along axis old.now }
     requires second_in { second < lines_along axis old.now }
     requires swapped { new.now ≡ lines_swapped axis first second old.now }
@@ -153,7 +124,6 @@ fn of_swap(old: &Picture, new: &Picture, axis: Axis, first: u8, second: u8) -> C
     ensures are_moves { AreMoves result.moves }
     ensures exact { IsChangeOf result old.now new.now }
 {
-    let _ = new.height();
     let mut change = Change::swap(old.height(), old.width(), axis, first, second);
     for at in 0..line_length(old, axis) {
         if !is_same_at(old, axis, first, second, at) {

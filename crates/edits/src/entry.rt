@@ -7,7 +7,7 @@ use crate::facts::know;
 use crate::kept::{kept_cells, kept_givens, kept_triple};
 use crate::parts::{
     added, deleted, inserted, painted, pinned, recoloured, restored, swapped, unpinned, with_cells,
-    with_old, without_last,
+    without_last,
 };
 use picture::{Document, Rgb};
 use std::alloc::{AllocError, Global};
@@ -57,7 +57,6 @@ impl Entry {
         requires { IsEntry (design_of document.now) (note_of self.now) }
         ensures { IfOk result (λ d. design_of d ≡ edited (design_of document.now) self.now.edit) }
     {
-        know(document);
         match self.edit {
             Edit::Paint { .. } | Edit::Fill { .. } | Edit::Recolour { .. } => {
                 painted(document, &self.edit, &self.cells)
@@ -96,7 +95,10 @@ impl Entry {
                 second,
             } => swapped(document, axis, first, second),
             Edit::AddColour { .. } => without_last(document),
-            Edit::SetColour { colour, .. } => with_old(document, colour, self.triple),
+            Edit::SetColour { colour, .. } => match self.triple {
+                Some(rgb) => recoloured(document, colour, rgb),
+                None => document.copy(),
+            },
             Edit::Pin { row, col } => unpinned(document, row, col),
             Edit::Unpin { row, col } => pinned(document, row, col),
         }

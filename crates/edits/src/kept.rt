@@ -23,9 +23,9 @@ pub fn kept_cells(alloc: Global, picture: &Picture, edit: &Edit) -> Result<Vec<C
     ensures { IfOk result (λ cells. cells.items ≡ cells_kept picture.now edit.now) }
 {
     match *edit {
-        Edit::Paint { .. } => changed_cells(alloc, picture, edit),
-        Edit::Fill { .. } => changed_cells(alloc, picture, edit),
-        Edit::Recolour { .. } => changed_cells(alloc, picture, edit),
+        Edit::Paint { .. } | Edit::Fill { .. } | Edit::Recolour { .. } => {
+            changed_cells(alloc, picture, edit)
+        }
         Edit::DeleteLine { line } => cells_of_line(alloc, picture, line),
         _ => Ok(Vec::new(alloc)),
     }

@@ -21,6 +21,19 @@ struct Area {
     beyond: u8,
 }
 
+impl Area {
+    fn of(top: u8, below: u8, left: u8, beyond: u8) -> Area
+        ensures { result ≡ record { top = top; below = below; left = left; beyond = beyond } }
+    {
+        Area {
+            top,
+            below,
+            left,
+            beyond,
+        }
+    }
+}
+
 impl Edit {
     /// The colour that a cell has afterwards where the edit moves no line.
     pub(crate) fn colour_after(&self, row: u8, col: u8, old: u8) -> u8
@@ -52,36 +65,15 @@ impl Edit {
     {
         let (height, width) = (picture.height(), picture.width());
         match *self {
-            Edit::Paint { row, col, .. } => Area {
-                top: row,
-                below: row + 1,
-                left: col,
-                beyond: col + 1,
-            },
+            Edit::Paint { row, col, .. } => Area::of(row, row + 1, col, col + 1),
             Edit::Fill {
                 top,
                 left,
                 bottom,
                 right,
                 ..
-            } => Area {
-                top,
-                below: bottom + 1,
-                left,
-                beyond: right + 1,
-            },
-            Edit::Recolour { .. } => Area {
-                top: 0,
-                below: height,
-                left: 0,
-                beyond: width,
-            },
-            _ => Area {
-                top: 0,
-                below: 0,
-                left: 0,
-                beyond: 0,
-            },
+            } => Area::of(top, bottom + 1, left, right + 1),
+            _ => Area::of(0, height, 0, width),
         }
     }
 }

@@ -3,12 +3,13 @@
 ghost use Rattle.std.specs.Prelude.{◌≡◌, ◌<◌, ◌≤◌, length, map, IfOk};
 ghost use Rattle.std.specs.List.{All};
 ghost use Rattle.picture.specs.Document.{AreColoured};
+ghost use Rattle.picture.specs.Picture.{IsPicture};
 ghost use Rattle.picture.specs.Palette.{with_colour, with_triple, without_last};
 ghost use Rattle.picture.specs.Rows.{line_deleted, line_inserted, lines_along, lines_swapped, width_of, with_cell};
 ghost use Rattle.clues.specs.Change.{lines_before};
 ghost use Rattle.edits.specs.Design.{design, design_of};
 ghost use Rattle.edits.specs.Moving.{AreMoved};
-ghost use Rattle.edits.specs.Note.{IsCellIn, IsPlaceIn, as_mark, repainted, with_cells, with_old};
+ghost use Rattle.edits.specs.Note.{IsCellIn, IsPlaceIn, as_mark, repainted, with_cells};
 
 use crate::cells::{Cell, paint_cells, put_cells, put_givens};
 use crate::edit::Edit;
@@ -19,13 +20,13 @@ use std::alloc::AllocError;
 
 /// The document with the cells of a list painted.
 pub fn painted(document: &Document, edit: &Edit, cells: &[Cell]) -> Result<Document, AllocError>
+    requires picture { IsPicture document.now.picture }
     requires cells { All (IsCellIn document.now.picture) (map (repainted edit.now) cells.now) }
     requires coloured { AreColoured (with_cells document.now.picture
         (map (repainted edit.now) cells.now)) document.now.palette }
     ensures { IfOk result (λ d. design_of d
         ≡ design document.now.palette (with_cells document.now.picture (map (repainted edit.now) cells.now)) (design_of document.now).marks) }
 {
-    let _ = document.picture.height();
     let mut after = document.copy()?;
     paint_cells(&mut after.picture, edit, cells);
     Ok(after)
@@ -33,13 +34,13 @@ pub fn painted(document: &Document, edit: &Edit, cells: &[Cell]) -> Result<Docum
 
 /// The document with the cells of a list given back.
 pub fn with_cells(document: &Document, cells: &[Cell]) -> Result<Document, AllocError>
+    requires picture { IsPicture document.now.picture }
     requires cells { All (IsCellIn document.now.picture) cells.now }
     requires coloured { AreColoured (with_cells document.now.picture cells.now)
         document.now.palette }
     ensures { IfOk result (λ d. design_of d
         ≡ design document.now.palette (with_cells document.now.picture cells.now) (design_of document.now).marks) }
 {
-    let _ = document.picture.height();
     let mut after = document.copy()?;
     put_cells(&mut after.picture, cells);
     Ok(after)
@@ -67,13 +68,13 @@ fn moved(document: &Document, picture: Picture, back: &Change) -> Result<Documen
 
 /// The document with a line of background inserted.
 pub fn inserted(document: &Document, line: LineId) -> Result<Document, AllocError>
+    requires picture { IsPicture document.now.picture }
     requires place { line.at ≤ lines_along line.axis document.now.picture }
     requires room { lines_along line.axis document.now.picture < MAX_SIDE }
     requires coloured { AreColoured (line_inserted document.now.picture line) document.now.palette }
     ensures { IfOk result (λ d. design_of d
         ≡ design document.now.palette (line_inserted document.now.picture line) (line_inserted (design_of document.now).marks line)) }
 {
-    let _ = document.picture.height();
     let mut picture = document.picture.copy()?;
     picture.insert_line(line)?;
     let back = Change::delete(picture.height(), picture.width(), line);
@@ -82,13 +83,13 @@ pub fn inserted(document: &Document, line: LineId) -> Result<Document, AllocErro
 
 /// The document with a line deleted.
 pub fn deleted(document: &Document, line: LineId) -> Result<Document, AllocError>
+    requires picture { IsPicture document.now.picture }
     requires place { line.at < lines_along line.axis document.now.picture }
     requires others { 1 < lines_along line.axis document.now.picture }
     requires coloured { AreColoured (line_deleted document.now.picture line) document.now.palette }
     ensures { IfOk result (λ d. design_of d
         ≡ design document.now.palette (line_deleted document.now.picture line) (line_deleted (design_of document.now).marks line)) }
 {
-    let _ = document.picture.height();
     let mut picture = document.picture.copy()?;
     picture.delete_line(line);
     let back = Change::insert(picture.height(), picture.width(), line);
@@ -102,6 +103,7 @@ pub fn swapped(
     first: u8,
     second: u8,
 ) -> Result<Document, AllocError>
+    requires picture { IsPicture document.now.picture }
     requires first_in { first < lines_along axis document.now.picture }
     requires second_in { second < lines_along axis document.now.picture }
     requires coloured { AreColoured (lines_swapped axis first second document.now.picture)
@@ -109,7 +111,6 @@ pub fn swapped(
     ensures { IfOk result (λ d. design_of d
         ≡ design document.now.palette (lines_swapped axis first second document.now.picture) (lines_swapped axis first second (design_of document.now).marks)) }
 {
-    let _ = document.picture.height();
     let mut picture = document.picture.copy()?;
     picture.swap_lines(axis, first, second);
     let back = Change::swap(picture.height(), picture.width(), axis, first, second);
@@ -118,26 +119,26 @@ pub fn swapped(
 
 /// The document with a cell that is a given.
 pub fn pinned(document: &Document, row: u8, col: u8) -> Result<Document, AllocError>
+    requires picture { IsPicture document.now.picture }
     requires in_rows { row < length document.now.picture }
     requires in_columns { col < width_of document.now.picture }
     ensures { IfOk result (λ d. design_of d
         ≡ design document.now.palette document.now.picture (with_cell (design_of document.now).marks row col 1)) }
 {
     let mut after = document.copy()?;
-    let _ = after.picture.height();
     after.givens.put(row, col);
     Ok(after)
 }
 
 /// The document with a cell that is no given.
 pub fn unpinned(document: &Document, row: u8, col: u8) -> Result<Document, AllocError>
+    requires picture { IsPicture document.now.picture }
     requires in_rows { row < length document.now.picture }
     requires in_columns { col < width_of document.now.picture }
     ensures { IfOk result (λ d. design_of d
         ≡ design document.now.palette document.now.picture (with_cell (design_of document.now).marks row col 0)) }
 {
     let mut after = document.copy()?;
-    let _ = after.picture.height();
     after.givens.take_out(row, col);
     Ok(after)
 }
@@ -181,22 +182,6 @@ pub fn without_last(document: &Document) -> Result<Document, AllocError>
     Ok(after)
 }
 
-/// The document with a number's old colour.
-pub fn with_old(
-    document: &Document,
-    colour: u8,
-    triple: Option<Rgb>,
-) -> Result<Document, AllocError>
-    requires { colour < length document.now.palette.triples }
-    ensures { IfOk result (λ d. design_of d
-        ≡ design (with_old document.now.palette colour triple) document.now.picture (design_of document.now).marks) }
-{
-    match triple {
-        Some(rgb) => recoloured(document, colour, rgb),
-        None => document.copy(),
-    }
-}
-
 /// The document with a deleted line given back.
 pub fn restored(
     document: &Document,
@@ -204,6 +189,7 @@ pub fn restored(
     cells: &[Cell],
     givens: &[(u8, u8)],
 ) -> Result<Document, AllocError>
+    requires picture { IsPicture document.now.picture }
     requires place { line.at ≤ lines_along line.axis document.now.picture }
     requires room { lines_along line.axis document.now.picture < MAX_SIDE }
     requires blank { AreColoured (line_inserted document.now.picture line) document.now.palette }

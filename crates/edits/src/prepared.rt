@@ -72,12 +72,10 @@ pub fn edit_of(alloc: Global, document: &Document, edit: &Edit) -> Result<Prepar
         return Err(fault);
     }
     let entry = Entry::of(alloc, document, edit)?;
-    let after = entry.apply(document)?;
-    let change = entry.change(document, &after);
+    let made = redo_of(document, &entry)?;
     Ok(Prepared {
-        document: after,
         step: Step::Edit(entry),
-        change,
+        ..made
     })
 }
 

@@ -89,20 +89,14 @@ fn lacks_colour(palette: &Palette, edit: &Edit) -> bool
 fn has_no_room(picture: &Picture, edit: &Edit) -> bool
     ensures { result ≡ has_no_room picture.now edit.now }
 {
-    match *edit {
-        Edit::InsertLine { line } => picture.line_count(line.axis) >= MAX_SIDE,
-        _ => false,
-    }
+    matches!(*edit, Edit::InsertLine { line } if picture.line_count(line.axis) >= MAX_SIDE)
 }
 
 // The only line of its axis is to be deleted.
 fn deletes_last(picture: &Picture, edit: &Edit) -> bool
     ensures { result ≡ deletes_last picture.now edit.now }
 {
-    match *edit {
-        Edit::DeleteLine { line } => picture.line_count(line.axis) <= 1,
-        _ => false,
-    }
+    matches!(*edit, Edit::DeleteLine { line } if picture.line_count(line.axis) <= 1)
 }
 
 // A sample is above the maxval.
@@ -122,10 +116,7 @@ fn is_over(palette: &Palette, edit: &Edit) -> bool
 fn is_full(palette: &Palette, edit: &Edit) -> bool
     ensures { result ≡ is_full palette.now edit.now }
 {
-    match *edit {
-        Edit::AddColour { .. } => palette.len() >= MAX_COLOURS,
-        _ => false,
-    }
+    matches!(*edit, Edit::AddColour { .. } if palette.len() >= MAX_COLOURS)
 }
 
 // The colour stands at another number.
@@ -135,7 +126,7 @@ fn is_there(palette: &Palette, edit: &Edit) -> bool
 {
     match *edit {
         Edit::AddColour { rgb } => palette.number_of(rgb).is_some(),
-        Edit::SetColour { colour, rgb } => { palette.stands_elsewhere(colour, rgb) }
+        Edit::SetColour { colour, rgb } => palette.stands_elsewhere(colour, rgb),
         _ => false,
     }
 }

@@ -164,27 +164,15 @@ fn go_on(past: &mut HeapCircularBuffer<Entry>, future: &mut HeapCircularBuffer<E
             let _ = past.push_back(entry);
             future.clear();
         }
-        Step::Undo => move_back(past, future),
-        Step::Redo => move_forth(past, future),
-    }
-}
-
-// Moves the last entry of the past to the front of the future.
-fn move_back(past: &mut HeapCircularBuffer<Entry>, future: &mut HeapCircularBuffer<Entry>)
-    ensures past { past.new ≡ without_last past.old }
-    ensures future { future.new ≡ with_first future.old (last_item past.old.items) }
-{
-    if let Some(entry) = past.pop_back() {
-        let _ = future.push_front(entry);
-    }
-}
-
-// Moves the first entry of the future to the end of the past.
-fn move_forth(past: &mut HeapCircularBuffer<Entry>, future: &mut HeapCircularBuffer<Entry>)
-    ensures past { past.new ≡ with_last past.old (slice_get future.old.items 0) }
-    ensures future { future.new ≡ without_first future.old }
-{
-    if let Some(entry) = future.pop_front() {
-        let _ = past.push_back(entry);
+        Step::Undo => {
+            if let Some(entry) = past.pop_back() {
+                let _ = future.push_front(entry);
+            }
+        }
+        Step::Redo => {
+            if let Some(entry) = future.pop_front() {
+                let _ = past.push_back(entry);
+            }
+        }
     }
 }

@@ -10,14 +10,14 @@ pub returns-clause-exact : goal.returns-clause-exact
 returns-clause-exact c =
     let old = c.args.old.now in
     let new = c.args.new.now in
-    let high = c.height-2.ensures.value in
+    let high = c.height.ensures.value in
     let wide = c.width.ensures.value in
     let start : c.cells-change.result.moves ≡ still (length old) (width_of old) = c.cells-change.ensures.moves ∙ (ap (λ (h : ℕ). still h c.width.result) high ∙ ap (λ (w : ℕ). still (length old) w) wide) in
     let follows : FollowsCells c.cells-change.result.moves old new =
     c.cells-change.ensures.lines old new
     (record { is_picture = c.width.ensures.picture; row_count = sym high; column_count = sym wide })
-    (record { is_picture = c.height.ensures.picture; row_count = c.requires.row_count ∙ sym high; column_count = c.requires.column_count ∙ sym wide }) in
+    (record { is_picture = c.requires.picture; row_count = c.requires.differ.row_count ∙ sym high; column_count = c.requires.differ.column_count ∙ sym wide }) in
     let all : c.loop-cell.cell-index ≡ length c.args.cells.now = omega arith in
-    cells_exact c.loop-cell.change old new c.args.cells.now c.width.ensures.picture c.height.ensures.picture c.requires
+    cells_exact c.loop-cell.change old new c.args.cells.now c.width.ensures.picture c.requires.picture c.requires.differ
     (subst (λ (m : Moves). FollowsCells m old new) (start ∙ sym c.loop-cell.invariant.moves) follows)
     (subst (λ (n : ℕ). (line : LineId) → IsTouched c.loop-cell.change line ↔ IsCrossed n c.args.cells.now line) all c.loop-cell.invariant.touched)

@@ -1,23 +1,18 @@
-use Rattle.std.proofs.Common.{ap, sym, ◌∙◌, arith, ◌<◌, length, inl, inr}
+use Rattle.std.proofs.Common.{ap, sym, ◌∙◌, arith, ◌<◌, length}
 use Rattle.std.proofs.lemmas.Bool.Decides.{nat_tests}
 use Rattle.picture.specs.Rows.{lines_along}
 use Rattle.edits.specs.Design.{design_of}
 use Rattle.edits.specs.Fault.{same_design}
-use Rattle.edits.proofs.IdleLemmas.{edited_paint, edited_fill, edited_recolour, paint_idle, swap_idle, set_idle, pin_idle, unpin_idle}
+use Rattle.edits.proofs.IdleLemmas.{paint_idle, swap_idle, set_idle, pin_idle, unpin_idle}
+use Rattle.edits.proofs.ApplyLemmas.{paints}
 use Rattle.edits.proofs.RevertLemmas.{not_in}
 use Rattle.edits.proofs.idle.changes_nothing.Goals as goal
 
 pub returns-in-Paint : goal.returns-in-Paint
 returns-in-Paint c =
     let d = design_of c.args.document.now in
-    let idle = paint_idle d c.args.edit.now c.changes_cells.result c.know.ensures.is_picture c.changes_cells.ensures in
-    idle ∙ ap (λ x. same_design x d) (sym (elim c.in-Paint.is [
-      | inl p ↦ edited_paint d c.args.edit.now p.0 p.1 p.2 p.3
-      | inr o ↦ elim o [
-        | inl f ↦ edited_fill d c.args.edit.now f.0 f.1 f.2 f.3 f.4 f.5
-        | inr r ↦ edited_recolour d c.args.edit.now r.0 r.1 r.2
-      ]
-    ]))
+    paint_idle d c.args.edit.now c.changes_cells.result c.know.ensures.is_picture c.changes_cells.ensures
+    ∙ ap (λ x. same_design x d) (sym ((paints c.args.edit.now c.in-Paint.is).gives d))
 
 pub returns-in-SwapLines : goal.returns-in-SwapLines
 returns-in-SwapLines c =

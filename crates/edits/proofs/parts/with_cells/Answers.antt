@@ -10,11 +10,11 @@ invariant_of-after c =
     let same : c.put_cells.new.picture ≡ with_cells d.picture c.args.cells.now = c.put_cells.ensures ∙ ap (λ (r : List (List ℕ)). with_cells r c.args.cells.now) e.picture in
     record {
       coloured = rw (same, e.palette) c.requires.coloured;
-      inside = rw e.givens (changed_inside d.picture c.put_cells.new.picture c.args.cells.now d.givens c.height.ensures.picture c.requires.cells same d.inside);
+      inside = rw e.givens (changed_inside d.picture c.put_cells.new.picture c.args.cells.now d.givens c.requires.picture c.requires.cells same d.inside);
     }
 
 pub returns : goal.returns
 returns c =
     let d = c.args.document.now in
     let e = c.in_ok-after.ensures in
-    rw e.givens (changed_document d.picture c.put_cells.new.picture c.args.cells.now d.givens d.palette c.in_ok-after.after.palette c.height.ensures.picture c.requires.cells e.palette (c.put_cells.ensures ∙ ap (λ (r : List (List ℕ)). with_cells r c.args.cells.now) e.picture))
+    rw e.givens (changed_document d.picture c.put_cells.new.picture c.args.cells.now d.givens d.palette c.in_ok-after.after.palette c.requires.picture c.requires.cells e.palette (c.put_cells.ensures ∙ ap (λ (r : List (List ℕ)). with_cells r c.args.cells.now) e.picture))

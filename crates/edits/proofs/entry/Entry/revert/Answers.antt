@@ -1,11 +1,13 @@
-use Rattle.std.proofs.Common.{◌≡◌, ℕ, ap, sym, refl, subst, ◌∙◌, map, List, length}
+use Rattle.std.proofs.Common.{◌≡◌, ℕ, rules, ap, sym, refl, subst, ◌∙◌, map, List, length}
 use Rattle.picture.specs.Document.{AreColoured}
+use Rattle.picture.specs.Palette.{with_triple}
 use Rattle.picture.specs.Rows.{with_cell, line_inserted, line_deleted, lines_swapped}
+use Rattle.clues.specs.declared.places.Places.TheVariants.{Inserted}
 use Rattle.edits.specs.Design.{Design, design, design_of}
-use Rattle.edits.specs.Note.{Cell, Note, as_mark, cells_of_line, givens_of_line, note_of, with_cells, with_old}
+use Rattle.edits.specs.Note.{Cell, Note, as_mark, cells_of_line, givens_of_line, note_of, with_cells}
 use Rattle.edits.proofs.FaultLemmas.{lawful}
 use Rattle.edits.proofs.ApplyLemmas.{paints}
-use Rattle.edits.proofs.ShiftLemmas.{inserted_below_bound}
+use Rattle.edits.proofs.ShiftLemmas.{edited_below, inserted_is}
 use Rattle.edits.proofs.StepLemmas.{step_coloured, gives_before, repaint_fits, reinsert_fits, redelete_fits, line_cells_fit, line_givens_fit, reswap_fits}
 use Rattle.edits.proofs.entry.Entry.revert.Goals as goal
 
@@ -26,7 +28,7 @@ pub deleted-requires : goal.deleted-requires
 deleted-requires c =
     let d = design_of c.args.document.now in
     let fits = reinsert_fits c.requires.0 d c.requires.1.is_design c.in-InsertLine.line (lawful c.requires.0 _ (rw c.in-InsertLine.is at c.requires.1.lawful)) (rw c.in-InsertLine.is at c.requires.1.gives) in
-    record { place = fits.0; others = fits.1; coloured = rw c.in-InsertLine.is at (step_coloured c.requires.0 (note_of c.args.self.now) d c.requires.1) }
+    record { picture = c.know.ensures.is_picture; place = fits.0; others = fits.1; coloured = rw c.in-InsertLine.is at (step_coloured c.requires.0 (note_of c.args.self.now) d c.requires.1) }
 
 pub restored-requires : goal.restored-requires
 restored-requires c =
@@ -41,9 +43,10 @@ restored-requires c =
     let cells : n.cells ≡ cells_of_line b.rows line = rw c.in-DeleteLine.is at (ap (λ (m : Note). m.cells) c.requires.1.kept) in
     let givens : n.givens ≡ givens_of_line b.marks line = rw c.in-DeleteLine.is at (ap (λ (m : Note). m.givens) c.requires.1.kept) in
     record {
+      picture = known.is_picture;
       place = fits.0;
       room = fits.1;
-      blank = inserted_below_bound line.axis line.at (length d.colours.triples) d.rows known.is_picture fits.0 known.is_palette.has_background known.is_coloured;
+      blank = rw (inserted_is line.axis line.at d.rows) (edited_below line.axis (Inserted line.at) (length d.colours.triples) d.rows known.is_picture fits.0 known.is_palette.has_background known.is_coloured);
       cells = rw (c.deref-in-DeleteLine.ensures.value, cells) (line_cells_fit b d c.requires.1.is_design line is_lawful gives);
       givens = rw (c.deref-in-DeleteLine-2.ensures.value, givens) (line_givens_fit b d c.requires.1.is_design line is_lawful gives);
       coloured = rw (c.deref-in-DeleteLine.ensures.value) (rw c.in-DeleteLine.is at (step_coloured b n d c.requires.1));
@@ -53,7 +56,7 @@ pub swapped-requires : goal.swapped-requires
 swapped-requires c =
     let d = design_of c.args.document.now in
     let fits = reswap_fits c.requires.0 d c.requires.1.is_design c.in-SwapLines.axis c.in-SwapLines.first c.in-SwapLines.second (lawful c.requires.0 _ (rw c.in-SwapLines.is at c.requires.1.lawful)) (rw c.in-SwapLines.is at c.requires.1.gives) in
-    record { first_in = fits.0; second_in = fits.1; coloured = rw c.in-SwapLines.is at (step_coloured c.requires.0 (note_of c.args.self.now) d c.requires.1) }
+    record { picture = c.know.ensures.is_picture; first_in = fits.0; second_in = fits.1; coloured = rw c.in-SwapLines.is at (step_coloured c.requires.0 (note_of c.args.self.now) d c.requires.1) }
 
 pub returns-in-Paint : goal.returns-in-Paint
 returns-in-Paint c =
@@ -74,10 +77,15 @@ returns-in-SwapLines c =
     let axis = c.in-SwapLines.axis in
     gives_before c.swapped.result (design d.colours (lines_swapped axis c.in-SwapLines.first c.in-SwapLines.second d.rows) (lines_swapped axis c.in-SwapLines.first c.in-SwapLines.second d.marks)) d (note_of c.args.self.now) (rw c.in-SwapLines.is refl) c.swapped.ensures
 
-pub returns-in-SetColour : goal.returns-in-SetColour
-returns-in-SetColour c =
+pub returns-in-Some : goal.returns-in-Some
+returns-in-Some c =
     let d = design_of c.args.document.now in
-    gives_before c.with_old.result (design (with_old d.colours c.in-SetColour.colour c.args.self.now.triple) d.rows d.marks) d (note_of c.args.self.now) (rw c.in-SetColour.is refl) c.with_old.ensures
+    gives_before c.recoloured.result (design (with_triple d.colours c.in-SetColour.colour c.in-Some.rgb) d.rows d.marks) d (note_of c.args.self.now) (rw (c.in-SetColour.is, c.in-Some.is) refl) c.recoloured.ensures
+
+pub returns-in-None : goal.returns-in-None
+returns-in-None c =
+    let d = design_of c.args.document.now in
+    gives_before c.copy.result d d (note_of c.args.self.now) (rw (c.in-SetColour.is, c.in-None.is) refl) (search rules)
 
 pub returns-in-Pin : goal.returns-in-Pin
 returns-in-Pin c =
