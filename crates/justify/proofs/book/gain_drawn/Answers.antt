@@ -26,8 +26,7 @@ returns c =
     let items = c.as_slice-premise-items.result.now in
     let e : items ≡ step.drawn = c.as_slice-premise-items.ensures.value in
     let n = c.loop-premise.premise-index in
-    let P : List Premise → Type 0 = λ ps. Gaining step.line ps n c.args.facts.now c.loop-premise.facts in
     let past = c.loop-premise-test.false in
     let within = c.loop-premise.auto.premise-index-end in
     let len : length items ≡ n = omega arith in
-    gaining_all step n c.args.facts.now c.loop-premise.facts (ap length (sym e) ∙ len) (subst P e c.loop-premise.invariant)
+    gaining_all step n c.args.facts.now c.loop-premise.facts (ap length (sym e) ∙ len) (subst (λ (ps : List Premise). Gaining step.line ps n c.args.facts.now c.loop-premise.facts) e c.loop-premise.invariant)

@@ -11,13 +11,11 @@ loop-chunk-init c = gathered_none _ _
 
 pub loop-chunk-preserved : goal.loop-chunk-preserved
 loop-chunk-preserved c =
-    let P : ℕ → Type 0 = λ n. Gathered c.args.masks.now n c.gather_eight-count.new.found c.gather_eight-count.result in
-    subst P (omega arith) c.gather_eight-count.ensures
+    subst (λ (n : ℕ). Gathered c.args.masks.now n c.gather_eight-count.new.found c.gather_eight-count.result) (omega arith) c.gather_eight-count.ensures
 
 pub loop-place-init : goal.loop-place-init
 loop-place-init c =
-    let P : ℕ → Type 0 = λ n. Gathered c.args.masks.now n c.loop-chunk.found c.loop-chunk.count in
-    subst P (let e : 8 * c.loop-chunk.chunk ≡ length c.args.masks.now / 8 * 8 = (let a = c.loop-chunk.auto in omega arith) in e) c.loop-chunk.invariant
+    subst (λ (n : ℕ). Gathered c.args.masks.now n c.loop-chunk.found c.loop-chunk.count) (let e : 8 * c.loop-chunk.chunk ≡ length c.args.masks.now / 8 * 8 = (let a = c.loop-chunk.auto in omega arith) in e) c.loop-chunk.invariant
 
 pub loop-place-preserved : goal.loop-place-preserved
 loop-place-preserved c =
