@@ -53,16 +53,13 @@ module _ (base : List (List ℕ)) (steps : List Step) (step : Step) (old new : L
   drawn_where : (row col k : ℕ) → IsDrawnBefore (steps ++ step ∷ []) (length steps + 1) row col k → IsDrawnBefore steps (length steps) row col k ⊎ Draws step row col k
   drawn_where row col k d = elim (cases_eq d.which (length steps)) [
     | inl e ↦
-        let P : Step → Type 0 = λ s. Draws s row col k in
-        let Q : ℕ → Type 0 = λ j. Draws (step_at (steps ++ step ∷ []) j) row col k in
-        inr (subst P (step_last steps step) (subst Q e d.draws))
+        inr (subst (λ (s : Step). Draws s row col k) (step_last steps step) (subst (λ (j : ℕ). Draws (step_at (steps ++ step ∷ []) j) row col k) e d.draws))
     | inr other ↦ inl (drawn_fewer steps step (length steps) (omega arith) row col k (record { which = d.which; before = (let l = d.before in omega arith); draws = d.draws }))
   ]
 
   pub behind_more : AreFactsBehind base (steps ++ step ∷ []) (length (steps ++ step ∷ [])) new
   behind_more =
-      let P : ℕ → Type 0 = λ n. AreFactsBehind base (steps ++ step ∷ []) n new in
-      subst P (sym (one_longer steps step)) (record {
+      subst (λ (n : ℕ). AreFactsBehind base (steps ++ step ∷ []) n new) (sym (one_longer steps step)) (record {
         same_shape = shape_trans b.same_shape g.same_shape;
         leaves = λ row col k. (
           (λ s.
@@ -78,14 +75,12 @@ account_more base steps old new step is can g = record {
   base_facts = is.base_facts;
   follows = λ n l. elim (cases_eq n (length steps)) [
     | inl e ↦
-        let P : ℕ → Type 0 = λ m. CanFollow base (steps ++ step ∷ []) m (step_at (steps ++ step ∷ []) m) in
         let Q : Step → Type 0 = λ s. CanFollow base (steps ++ step ∷ []) (length steps) s in
-        subst P (sym e) (subst Q (sym (step_last steps step)) (follows_more base steps step (length steps) step (omega arith) can))
+        subst (λ (m : ℕ). CanFollow base (steps ++ step ∷ []) m (step_at (steps ++ step ∷ []) m)) (sym e) (subst Q (sym (step_last steps step)) (follows_more base steps step (length steps) step (omega arith) can))
     | inr other ↦
         let len = one_longer steps step in
         let m : n < length steps = omega arith in
-        let Q : Step → Type 0 = λ s. CanFollow base (steps ++ step ∷ []) n s in
-        subst Q (sym (step_before steps step n m)) (follows_more base steps step n (step_at steps n) (omega arith) (is.follows n m))
+        subst (λ (s : Step). CanFollow base (steps ++ step ∷ []) n s) (sym (step_before steps step n m)) (follows_more base steps step n (step_at steps n) (omega arith) (is.follows n m))
   ];
   behind = behind_more base steps step old new is.behind g;
 }
@@ -102,14 +97,14 @@ pub found_last : (steps items : List Step) (step found : Step) (n : ℕ) → n �
 found_last steps items step found n at e here =
     here ∙ (ap (λ m. get_or items m found) at ∙ (ap (λ (xs : List Step). get_or xs (length steps) found) e ∙ get_or-append_seam steps step [] found))
 
--- a step that is read from a list
-pub step_found : (steps : List Step) (n : ℕ) (step : Step) → n < length steps → step ≡ get_or steps n step → step ≡ step_at steps n
-step_found steps n step l here = get_or_read steps n step l here _
+-- a step that was read from the list of a book's steps
+pub record IsRead (book : Account) (n : ℕ) (step : Step) : Type 0 where
+  pub within : n < length book.steps
+  pub same : step ≡ step_at book.steps n
+  pub follows : CanFollow book.base book.steps n step
 
-pub follows_at : (book : Account) (steps : List Step) (n : ℕ) (step : Step) → IsAccount book → steps ≡ book.steps → n < length steps → step ≡ get_or steps n step → CanFollow book.base book.steps n step
-follows_at book steps n step is e l here =
-    let P : Step → Type 0 = λ s. CanFollow book.base book.steps n s in
-    let Q : List Step → Type 0 = λ s. step_at s n ≡ step in
-    let same = subst Q e (sym (step_found steps n step l here)) in
-    let R : List Step → Type 0 = λ s. n < length s in
-    subst P same (is.follows n (subst R e l))
+pub step_read : (book : Account) (steps : List Step) (n : ℕ) (step : Step) → IsAccount book → steps ≡ book.steps → n < length steps → step ≡ get_or steps n step → IsRead book n step
+step_read book steps n step is e l here =
+    let within : n < length book.steps = subst (λ s. n < length s) e l in
+    let same : step ≡ step_at book.steps n = subst (λ s. step ≡ step_at s n) e (get_or_read steps n step l here _) in
+    record { within = within; same = same; follows = subst (CanFollow book.base book.steps n) (sym same) (is.follows n within) }

@@ -43,16 +43,12 @@ module _ (masks : List ℕ) (n : ℕ) (found : List Premise) (count : ℕ) (new 
         some = by (λ p. 0 < p.colours) g.some some;
         rising = λ m p a b.
             let s : m < count = omega arith in
-            let P : Premise → Type 0 = λ x. x.at < (premise_at (set found count new) p).at in
-            subst P (sym (kept m s)) (elim (cases_eq p count) [
+            subst (λ (x : Premise). x.at < (premise_at (set found count new) p).at) (sym (kept m s)) (elim (cases_eq p count) [
               | inl e ↦
-                  let Q : ℕ → Type 0 = λ j. (premise_at found m).at < (premise_at (set found count new) j).at in
-                  let R : Premise → Type 0 = λ x. (premise_at found m).at < x.at in
-                  subst Q (sym e) (subst R (sym here) (let b = g.before m s in omega arith))
+                  subst (λ (j : ℕ). (premise_at found m).at < (premise_at (set found count new) j).at) (sym e) (subst (λ (x : Premise). (premise_at found m).at < x.at) (sym here) (let b = g.before m s in omega arith))
               | inr other ↦
                   let t : p < count = omega arith in
-                  let R : Premise → Type 0 = λ x. (premise_at found m).at < x.at in
-                  subst R (sym (kept p t)) (g.rising m p a t)
+                  subst (λ (x : Premise). (premise_at found m).at < x.at) (sym (kept p t)) (g.rising m p a t)
             ]);
         each = λ i l s. elim (cases_eq i n) [
           | inl e ↦ (count, omega arith, ap (λ (p : Premise). p.at) here ∙ (at ∙ sym e))
@@ -73,18 +69,13 @@ gathered_all masks n found count all room small g =
         rising = λ m p a b.
             let t : p < count = omega arith in
             let s : m < count = omega arith in
-            let P : Premise → Type 0 = λ x. x.at < (premise_at (take count found) p).at in
-            let R : Premise → Type 0 = λ x. (premise_at found m).at < x.at in
-            subst P (sym (front m s)) (subst R (sym (front p t)) (g.rising m p a t));
+            subst (λ (x : Premise). x.at < (premise_at (take count found) p).at) (sym (front m s)) (subst (λ (x : Premise). (premise_at found m).at < x.at) (sym (front p t)) (g.rising m p a t));
         some = by (λ p. 0 < p.colours) g.some;
         small = λ m. elim (cases_lt m count) [
           | inl l ↦
-              let P : Premise → Type 0 = λ p. p.colours < 2 ^ 16 in
-              let Q : ℕ → Type 0 = λ c. c < 2 ^ 16 in
-              subst P (sym (front m l)) (subst Q (sym (g.colours m l)) (small (premise_at found m).at))
+              subst (λ (p : Premise). p.colours < 2 ^ 16) (sym (front m l)) (subst (λ (c : ℕ). c < 2 ^ 16) (sym (g.colours m l)) (small (premise_at found m).at))
           | inr past ↦
-              let P : Premise → Type 0 = λ p. p.colours < 2 ^ 16 in
-              subst P (sym (get_or_past (take count found) m (premise 0 0) (omega arith))) (omega arith)
+              subst (λ (p : Premise). p.colours < 2 ^ 16) (sym (get_or_past (take count found) m (premise 0 0) (omega arith))) (omega arith)
         ];
       };
       says = λ i k. (
@@ -92,8 +83,7 @@ gathered_all masks n found count all room small g =
             let l : s.which < count = (let w = s.within in omega arith) in
             let e = front s.which l in
             let at : (premise_at found s.which).at ≡ i = ap (λ (p : Premise). p.at) (sym e) ∙ s.here in
-            let P : ℕ → Type 0 = λ c. IsBitSet c k in
-            subst P (ap (λ (p : Premise). p.colours) e ∙ (g.colours s.which l ∙ ap (λ j. get_or masks j 0) at)) s.colour),
+            subst (λ (c : ℕ). IsBitSet c k) (ap (λ (p : Premise). p.colours) e ∙ (g.colours s.which l ∙ ap (λ j. get_or masks j 0) at)) s.colour),
         (λ bit.
             let some : 0 < get_or masks i 0 = (elim (cases_eq (get_or masks i 0) 0) [
               | inl e ↦ absurd (no_bit k (let P : ℕ → Type 0 = λ c. IsBitSet c k in subst P e bit))
@@ -104,12 +94,11 @@ gathered_all masks n found count all room small g =
               | inr past ↦ absurd (let z = get_or_past masks i 0 past in omega arith)
             ]) in
             let w = g.each i in_line some in
-            let P : ℕ → Type 0 = λ c. IsBitSet c k in
             record {
               which = w.0;
               within = (let l = w.1 in omega arith);
               here = ap (λ (p : Premise). p.at) (front w.0 w.1) ∙ w.2;
-              colour = subst P (sym (ap (λ (p : Premise). p.colours) (front w.0 w.1) ∙ (g.colours w.0 w.1 ∙ ap (λ j. get_or masks j 0) w.2))) bit;
+              colour = subst (λ (c : ℕ). IsBitSet c k) (sym (ap (λ (p : Premise). p.colours) (front w.0 w.1) ∙ (g.colours w.0 w.1 ∙ ap (λ j. get_or masks j 0) w.2))) bit;
             }),
       );
     }
@@ -135,30 +124,24 @@ bit_down : (s n j : ℕ) → bit_at (n / 2 ^ s) j ≡ bit_at n (s + j)
 bit_down s n j = ap (λ m. m % 2) (div-div-eq-div-mul n (2 ^ s) (2 ^ j) ∙ ap (λ p. n / p) (sym (pow-add 2 s j)))
 
 module _ (masks : List ℕ) (place end bits : ℕ) (are : AreColoured masks place end bits) where
-  -- without bits there are no colours up to the end
-  pub none_coloured : bits ≡ 0 → (i : ℕ) → place ≤ i → i < end → get_or masks i 0 ≡ 0
-  none_coloured none i past l = elim (cases_eq (get_or masks i 0) 0) [
+  -- a cell whose bit is not set has no colours
+  blank : (i : ℕ) → place ≤ i → i < end → bit_at bits (i - place) ≡ 0 → get_or masks i 0 ≡ 0
+  blank i past l none = elim (cases_eq (get_or masks i 0) 0) [
     | inl e ↦ e
     | inr other ↦
         let at : place + (i - place) ≡ i = omega arith in
-        let some : 0 < get_or masks (place + (i - place)) 0 = (let P : ℕ → Type 0 = λ n. 0 < get_or masks n 0 in subst P (sym at) (omega arith)) in
+        let some : 0 < get_or masks (place + (i - place)) 0 = subst (λ (n : ℕ). 0 < get_or masks n 0) (sym at) (omega arith) in
         let one = (are.each (i - place)).1 (omega arith, some) in
-        let zero_bit : bit_at bits (i - place) ≡ 0 = ap (λ b. bit_at b (i - place)) none ∙ bit_at-zero (i - place) in
         absurd (omega arith)
   ]
 
+  -- without bits there are no colours up to the end
+  pub none_coloured : bits ≡ 0 → (i : ℕ) → place ≤ i → i < end → get_or masks i 0 ≡ 0
+  none_coloured none i past l = blank i past l (ap (λ b. bit_at b (i - place)) none ∙ bit_at-zero (i - place))
+
   -- up to the lowest bit there are no colours
   pub none_below : (s : ℕ) → ((j : ℕ) → j < s → bit_at bits j ≡ 0) → bit_at bits s ≡ 1 → (i : ℕ) → place ≤ i → i < place + s → get_or masks i 0 ≡ 0
-  none_below s low one i past l = elim (cases_eq (get_or masks i 0) 0) [
-    | inl e ↦ e
-    | inr other ↦
-        let at : place + (i - place) ≡ i = omega arith in
-        let inside = ((are.each s).0 one).0 in
-        let some : 0 < get_or masks (place + (i - place)) 0 = (let P : ℕ → Type 0 = λ n. 0 < get_or masks n 0 in subst P (sym at) (omega arith)) in
-        let is = (are.each (i - place)).1 (omega arith, some) in
-        let isnt = low (i - place) (omega arith) in
-        absurd (omega arith)
-  ]
+  none_below s low one i past l = let inside = ((are.each s).0 one).0 in blank i past (omega arith) (low (i - place) (omega arith))
 
   -- the bits behind one are those of the cells behind its cell
   pub coloured_behind : (s : ℕ) → AreColoured masks (place + s + 1) end (bits / 2 ^ s / 2)
@@ -166,9 +149,8 @@ module _ (masks : List ℕ) (place end bits : ℕ) (are : AreColoured masks plac
     each = λ j.
         let e : bit_at (bits / 2 ^ s / 2) j ≡ bit_at bits (s + (1 + j)) = bit_down 1 (bits / 2 ^ s) j ∙ bit_down s bits (1 + j) in
         let at : place + (s + (1 + j)) ≡ place + s + 1 + j = omega arith in
-        let P : ℕ → Type 0 = λ n. (bit_at bits (s + (1 + j)) ≡ 1) ↔ ((n < end) × (0 < get_or masks n 0)) in
         let Q : ℕ → Type 0 = λ b. (b ≡ 1) ↔ ((place + s + 1 + j < end) × (0 < get_or masks (place + s + 1 + j) 0)) in
-        subst Q (sym e) (subst P at (are.each (s + (1 + j))));
+        subst Q (sym e) (subst (λ (n : ℕ). (bit_at bits (s + (1 + j)) ≡ 1) ↔ ((n < end) × (0 < get_or masks n 0))) at (are.each (s + (1 + j))));
   }
 
 abbrev some : ℕ → Bool

@@ -68,8 +68,7 @@ can_add_own book clue step is has n =
 
 can_add : (book : Account) (clue : List Block) (line : LineId) (step : Step) → IsAccount book → HasLine book.facts line → IsNewStep clue line (line_of book.facts line) step → CanAdd book step
 can_add book clue line step is has n =
-    let P : LineId → Type 0 = λ l. HasLine book.facts l → IsNewStep clue l (line_of book.facts l) step → CanAdd book step in
-    subst P n.of_line (can_add_own book clue step is) has n
+    subst (λ (l : LineId). HasLine book.facts l → IsNewStep clue l (line_of book.facts l) step → CanAdd book step) n.of_line (can_add_own book clue step is) has n
 
 module _ (clue : List Block) (step : Step) (old new : List (List ℕ)) (n : IsNewStep clue step.line (line_of old step.line) step) (g : GainDrawn step old new) where
   still_left : (i k : ℕ) → IsBitSet (get_or (line_of new step.line) i 0) k → CanHave clue (line_of old step.line) i k
@@ -109,13 +108,11 @@ module _ (clue : List Block) (step : Step) (old new : List (List ℕ)) (n : IsNe
 
 gains_new : (old new : Account) (clue : List Block) (line : LineId) (step : Step) → Adds old step new → HasLine old.facts line → IsNewStep clue line (line_of old.facts line) step → Gains clue line old.facts new.facts Narrowed
 gains_new old new clue line step a has n =
-    let P : LineId → Type 0 = λ l. IsNewStep clue l (line_of old.facts l) step → Gains clue l old.facts new.facts Narrowed in
-    subst P n.of_line (λ m. gains_own clue step old.facts new.facts m a.facts) n
+    subst (λ (l : LineId). IsNewStep clue l (line_of old.facts l) step → Gains clue l old.facts new.facts Narrowed) n.of_line (λ m. gains_own clue step old.facts new.facts m a.facts) n
 
 closes_new : (old new : Account) (clue : List Block) (line : LineId) (step : Step) → Adds old step new → HasLine old.facts line → IsNewStep clue line (line_of old.facts line) step → IsClosedLine clue (line_of new.facts line)
 closes_new old new clue line step a has n =
-    let P : LineId → Type 0 = λ l. IsNewStep clue l (line_of old.facts l) step → IsClosedLine clue (line_of new.facts l) in
-    subst P n.of_line (λ m. closes_own clue step old.facts new.facts m a.facts) n
+    subst (λ (l : LineId). IsNewStep clue l (line_of old.facts l) step → IsClosedLine clue (line_of new.facts l)) n.of_line (λ m. closes_own clue step old.facts new.facts m a.facts) n
 
 pub new_follow : NewStepsFollow
 new_follow = record { can_add = can_add; gains = gains_new; closes = closes_new }
@@ -123,16 +120,12 @@ new_follow = record { can_add = can_add; gains = gains_new; closes = closes_new 
 forced_new : (clues : Clues) (book : Account) (line : LineId) (step : Step) → IsAccount book → IsNewStep (clue_at clues line) line (line_of book.facts line) step → IsForced (clue_at clues step.line) (length (line_of book.base step.line)) step
 forced_new clues book line step is n =
     let len = same_line_length book.base book.facts line is.behind.same_shape in
-    let P : ℕ → Type 0 = λ cells. IsForced (clue_at clues line) cells step in
-    let Q : LineId → Type 0 = λ l. IsForced (clue_at clues l) (length (line_of book.base l)) step in
-    subst Q (sym n.of_line) (subst P len n.forced)
+    subst (λ (l : LineId). IsForced (clue_at clues l) (length (line_of book.base l)) step) (sym n.of_line) (subst (λ (cells : ℕ). IsForced (clue_at clues line) cells step) len n.forced)
 
 trimmed_new : (clues : Clues) (book : Account) (line : LineId) (step : Step) → IsAccount book → IsNewStep (clue_at clues line) line (line_of book.facts line) step → IsTrimmed (clue_at clues step.line) (length (line_of book.base step.line)) step
 trimmed_new clues book line step is n =
     let len = same_line_length book.base book.facts line is.behind.same_shape in
-    let P : ℕ → Type 0 = λ cells. IsTrimmed (clue_at clues line) cells step in
-    let Q : LineId → Type 0 = λ l. IsTrimmed (clue_at clues l) (length (line_of book.base l)) step in
-    subst Q (sym n.of_line) (subst P len n.trimmed)
+    subst (λ (l : LineId). IsTrimmed (clue_at clues l) (length (line_of book.base l)) step) (sym n.of_line) (subst (λ (cells : ℕ). IsTrimmed (clue_at clues line) cells step) len n.trimmed)
 
 pub new_derive : NewStepsDerive
 new_derive = record { forced = forced_new; trimmed = trimmed_new }
@@ -151,8 +144,7 @@ each_more R old step before now n l = elim (cases_eq n (length old)) [
 
 each_added : (R : Step → Type 0) (old new : Account) (step : Step) → new.steps ≡ old.steps ++ step ∷ [] → ((n : ℕ) → n < length old.steps → R (step_at old.steps n)) → R step → (n : ℕ) → n < length new.steps → R (step_at new.steps n)
 each_added R old new step e before now =
-    let P : List Step → Type 0 = λ steps. (n : ℕ) → n < length steps → R (step_at steps n) in
-    subst P (sym e) (each_more R old.steps step before now)
+    subst (λ (steps : List Step). (n : ℕ) → n < length steps → R (step_at steps n)) (sym e) (each_more R old.steps step before now)
 
 derives_more : (clues : Clues) (old new : Account) (step : Step) → IsAccount old → Adds old step new → IsForced (clue_at clues step.line) (length (line_of old.base step.line)) step → IsDerivation clues old → IsDerivation clues new
 derives_more clues old new step is a forced d = record {

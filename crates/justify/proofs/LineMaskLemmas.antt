@@ -75,8 +75,7 @@ lost_kept before old new n len same all small_before small done = record {
   same_length = len;
   colours = λ i k. elim (cases_lt i (length old)) [
     | inl l ↦
-        let P : ℕ → Type 0 = λ m. IsBitSet m k ↔ (IsBitSet (get_or before i 0) k × (IsBitSet (get_or old i 0) k → ⊥)) in
-        subst P (sym (done i (omega arith))) (without_bit (get_or before i 0) (get_or old i 0) k (small_before i) (small i))
+        subst (λ (m : ℕ). IsBitSet m k ↔ (IsBitSet (get_or before i 0) k × (IsBitSet (get_or old i 0) k → ⊥))) (sym (done i (omega arith))) (without_bit (get_or before i 0) (get_or old i 0) k (small_before i) (small i))
     | inr past ↦
         let P : ℕ → Type 0 = λ m. IsBitSet m k in (
           (λ s. absurd (no_bit k (subst P (get_or_past new i 0 (omega arith)) s))),
@@ -102,8 +101,7 @@ rest_more premises n left are within inside r =
     record {
       done = λ m l. elim (cases_eq m n) [
         | inl e ↦
-            let P : ℕ → Type 0 = λ j. get_or (set left at mask) (premise_at premises j).at 0 ≡ 65535 - (premise_at premises j).colours in
-            subst P (sym e) (get_or-set_same left at mask 0 inside)
+            subst (λ (j : ℕ). get_or (set left at mask) (premise_at premises j).at 0 ≡ 65535 - (premise_at premises j).colours) (sym e) (get_or-set_same left at mask 0 inside)
         | inr other ↦
             let below : m < n = omega arith in
             let rises = are.rising m n below within in

@@ -73,8 +73,7 @@ module _ (clue : List Block) (drawn old new others : List ℕ) (l : LeavesOut cl
   whole_said : (i k : ℕ) → (m : Mentions premises i) → Says premises i k → (k < 16) × (IsBitSet (get_or old i 0) k → ⊥)
   whole_said i k m s =
       let is = said_is i k (in_line i m) s in
-      let P : ℕ → Type 0 = λ c. IsBitSet c k in
-      (is.0, λ b. is.1 (subst P (sym (old_mask i m)) b))
+      (is.0, λ b. is.1 (subst (λ (c : ℕ). IsBitSet c k) (sym (old_mask i m)) b))
 
   whole_says : (i k : ℕ) → (m : Mentions premises i) → k < 16 → (IsBitSet (get_or old i 0) k → ⊥) → Says premises i k
   whole_says i k m c n = let P : ℕ → Type 0 = λ c. IsBitSet c k in is_said i k (in_line i m) c (λ b. n (subst P (old_mask i m) b))
@@ -90,12 +89,10 @@ module _ (clue : List Block) (drawn old new others : List ℕ) (l : LeavesOut cl
       let avoids : (i k : ℕ) → i < length old → IsBitSet (get_or (set new cell 65535) i 0) k → (k < 16) × (SaysBut premises cell i k → ⊥) =
       λ i k b s. elim (cases_eq i cell) [
         | inl e ↦
-            let P : ℕ → Type 0 = λ c. IsBitSet c k in
             let full : get_or (set new cell 65535) i 0 ≡ 65535 = ap (λ j. get_or (set new cell 65535) j 0) e ∙ get_or-set_same new cell 65535 0 (let z = l.same_length in omega arith) in
-            (bit_below 65535 16 k (omega arith) (subst P full s), λ says. says.1 e)
+            (bit_below 65535 16 k (omega arith) (subst (λ (c : ℕ). IsBitSet c k) full s), λ says. says.1 e)
         | inr other ↦
-            let P : ℕ → Type 0 = λ c. IsBitSet c k in
-            let t = subst P (get_or-set_other new cell i 65535 0 other) s in
+            let t = subst (λ (c : ℕ). IsBitSet c k) (get_or-set_other new cell i 65535 0 other) s in
             (small_new i k t, λ says. (said_is i k b says.0).1 t)
       ] in
       record {
@@ -134,8 +131,7 @@ draws_nothing clue left out drawn n x none = record {
           | inl l ↦ All-get_or (λ (mask : ℕ). mask ≡ 0) drawn i 0 l none
           | inr past ↦ get_or_past drawn i 0 past
         ] in
-        let P : ℕ → Type 0 = λ m. IsBitSet m k in
-        absurd (no_bit k (subst P empty ((x.colours i k).1 (s, not_out))))
+        absurd (no_bit k (subst (λ (m : ℕ). IsBitSet m k) empty ((x.colours i k).1 (s, not_out))))
   ]);
   fits = n.fits.0 refl;
 }

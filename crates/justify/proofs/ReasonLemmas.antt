@@ -54,8 +54,7 @@ module _ (n place colour : ℕ) (within : place < n) (small : colour < 16) where
 
 pub marked : (masks : List ℕ) (n place colour : ℕ) → masks ≡ replicate n 0 → place < n → colour < 16 → IsMark place colour (set masks place (1 * 2 ^ colour % 65536))
 marked masks n place colour e within small =
-    let R : List ℕ → Type 0 = λ ms. IsMark place colour (set ms place (1 * 2 ^ colour % 65536)) in
-    subst R (sym e) (marked_blank n place colour within small)
+    subst (λ (ms : List ℕ). IsMark place colour (set ms place (1 * 2 ^ colour % 65536))) (sym e) (marked_blank n place colour within small)
 
 -- ---- what is needed for it
 
@@ -63,9 +62,7 @@ module _ (clue : List Block) (all : List Premise) (left drawn : List ℕ) (place
   pub forces_mark : ForcesFrom clue (length left) (Says all) place colour → ForcesAll clue left drawn
   forces_mark forced i k d c =
       let a = mark.alone i k d in
-      let P : ℕ → Type 0 = λ j. CanHave clue left j k in
-      let Q : ℕ → Type 0 = λ h. CanHave clue left place h in
-      forced (have_without clue left (length left) (Says all) refl (λ j h b s. (rest j h b).0 s) place colour (subst Q a.1 (subst P a.0 c)))
+      forced (have_without clue left (length left) (Says all) refl (λ j h b s. (rest j h b).0 s) place colour (subst (λ (h : ℕ). CanHave clue left place h) a.1 (subst (λ (j : ℕ). CanHave clue left j k) a.0 c)))
 
   pub supports : (premises : List Premise) → AreNeeded clue left drawn premises → Supports clue (length left) all place colour premises
   supports premises a = record {
@@ -78,9 +75,7 @@ module _ (clue : List Block) (all : List Premise) (left drawn : List ℕ) (place
     trimmed = λ cell m.
         let t = a.trimmed cell m in
         let e = mark.alone t.place t.colour t.is_drawn in
-        let P : ℕ → Type 0 = λ j. CanHaveWithout clue (length left) (SaysBut premises cell) j t.colour in
-        let Q : ℕ → Type 0 = λ h. CanHaveWithout clue (length left) (SaysBut premises cell) place h in
-        subst Q e.1 (subst P e.0 t.can_have);
+        subst (λ (h : ℕ). CanHaveWithout clue (length left) (SaysBut premises cell) place h) e.1 (subst (λ (j : ℕ). CanHaveWithout clue (length left) (SaysBut premises cell) j t.colour) e.0 t.can_have);
   }
 
 -- ---- in a book
@@ -99,9 +94,7 @@ module _ (clues : Clues) (book : Account) (row col k n place : ℕ) (is : IsAcco
   argues premises leaves s =
       let line = (step_at book.steps n).line in
       let follows = is.follows n within in
-      let P : ℕ → Type 0 = λ r. Leaves book.base r col k in
-      let Q : ℕ → Type 0 = λ c. Leaves book.base (row_on line.axis line.at place) c k in
-      let there = subst Q at_column (subst P at_row leaves) in
+      let there = subst (λ (c : ℕ). Leaves book.base (row_on line.axis line.at place) c k) at_column (subst (λ (r : ℕ). Leaves book.base r col k) at_row leaves) in
       record {
         in_book = within;
         line = refl;
@@ -127,14 +120,12 @@ module _ (clues : Clues) (book : Account) (row col k n place : ℕ) (step : Step
 
   pub place_of_step : place < length (line_of book.base step.line)
   place_of_step =
-      let P : Step → Type 0 = λ s. CanFollow book.base book.steps n s in
       let says = says_along step row col k place draws_own one in
-      (subst P (sym same) (is.follows n within)).drawn_inside place (record { which = says.which; within = says.within; here = says.here })
+      (subst (λ (s : Step). CanFollow book.base book.steps n s) (sym same) (is.follows n within)).drawn_inside place (record { which = says.which; within = says.within; here = says.here })
 
   pub forced_there : IsDerivation clues book → ForcesFrom (clue_at clues step.line) (length (line_of book.base step.line)) (Says step.premises) place k
   forced_there derives =
-      let P : Step → Type 0 = λ s. IsForced (clue_at clues s.line) (length (line_of book.base s.line)) s in
-      subst P (sym same) (derives.forced n within) place k (says_along step row col k place draws_own one)
+      subst (λ (s : Step). IsForced (clue_at clues s.line) (length (line_of book.base s.line)) s) (sym same) (derives.forced n within) place k (says_along step row col k place draws_own one)
 
   pub argues_by : (premises : List Premise) → Leaves book.base row col k → Supports (clue_at clues step.line) (length (line_of book.base step.line)) step.premises place k premises → Argues clues book row col k (record { step = n; line = step.line; premises = premises })
   argues_by premises leaves support =

@@ -52,8 +52,7 @@ has_clue rows line clues r c h = clue_along line.axis line.at rows clues r c h
 -- the place of a premise lies where all that are mentioned do
 pub place_inside : (items premises : List Premise) (n cells : ℕ) → items ≡ premises → ((i : ℕ) → Mentions premises i → i < cells) → n < length items → (premise_at items n).at < cells
 place_inside items premises n cells e inside l =
-    let P : List Premise → Type 0 = λ ps. Mentions ps (premise_at items n).at in
-    inside (premise_at items n).at (subst P e (record { which = n; within = l; here = refl }))
+    inside (premise_at items n).at (subst (λ (ps : List Premise). Mentions ps (premise_at items n).at) e (record { which = n; within = l; here = refl }))
 
 pub mentions_same : (items premises : List Premise) (cells : ℕ) → items ≡ premises → ((i : ℕ) → Mentions premises i → i < cells) → (i : ℕ) → Mentions items i → i < cells
 mentions_same items premises cells e inside = let P : List Premise → Type 0 = λ ps. (i : ℕ) → Mentions ps i → i < cells in subst P (sym e) inside

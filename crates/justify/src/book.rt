@@ -106,13 +106,9 @@ impl Book {
         requires { colour < 16 }
         ensures { Finds self.now.steps row col colour result }
     {
-        let steps = self.steps();
-        for (place, step) in steps.iter().enumerate() {
-            if step.draws(row, col, colour) {
-                return Some(place);
-            }
-        }
-        None
+        self.steps()
+            .iter()
+            .position(|step| step.draws(row, col, colour))
     }
 }
 

@@ -13,21 +13,25 @@ pub fn facts_are_what_is_known()
     ensures { FactsAreWhatIsKnown }
 {}
 
+#[tactic(auto, using(crate::proofs::LawLemmas::new_follow))]
 /// A new step can be added to the book that it was made from, and adding it is forcing the line.
 pub fn new_steps_follow()
     ensures { NewStepsFollow }
 {}
 
+#[tactic(auto, using(crate::proofs::LawLemmas::new_derive))]
 /// A new step is forced from its premises alone, and trimmed.
 pub fn new_steps_derive()
     ensures { NewStepsDerive }
 {}
 
+#[tactic(auto, using(crate::proofs::LawLemmas::derivations_grow))]
 /// A derivation with a forced step more is a derivation, and trimmed where both are.
 pub fn derivations_grow()
     ensures { DerivationsGrow }
 {}
 
+#[tactic(auto, using(crate::proofs::LawLemmas::stay_inside))]
 /// The facts of a derivation hold its base and lie inside all closed facts that hold it.
 pub fn derivations_stay_inside()
     ensures { DerivationsStayInside }

@@ -93,12 +93,7 @@ pub(crate) fn says(premises: &[Premise], place: u8, colour: u8) -> bool
     requires { colour < 16 }
     ensures { IsTrue result ↔ Says premises.now place colour }
 {
-    for premise in premises {
-        if premise.at == place && has_colour(premise.colours, colour) {
-            return true;
-        }
-    }
-    false
+    premises.iter().any(|premise| premise.at == place && has_colour(premise.colours, colour))
 }
 
 // Whether a mask has a colour.

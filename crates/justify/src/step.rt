@@ -43,12 +43,8 @@ impl Step {
         requires { colour < 16 }
         ensures { IsTrue result ↔ Draws self.now row col colour }
     {
-        passes(self.line, row, col)
-            && says(
-                self.drawn.as_slice(),
-                place_along(self.line, row, col),
-                colour,
-            )
+        let place = place_along(self.line, row, col);
+        passes(self.line, row, col) && says(self.drawn.as_slice(), place, colour)
     }
 }
 

@@ -1,13 +1,9 @@
-use Rattle.std.proofs.Common.{◌≡◌, List, length, subst, sym, ap, ◌∙◌, arith}
+use Rattle.std.proofs.Common.{length, arith}
 use Rattle.picture.specs.Rows.{line_of}
-use Rattle.justify.specs.declared.premise.Premise.{Premise}
-use Rattle.line_settle.specs.GridLaws.{same_has_line, same_line_length}
-use Rattle.justify.proofs.GainLemmas.{Gaining, gaining_more, gaining_all}
+use Rattle.line_settle.specs.GridLaws.{same_line_length}
+use Rattle.justify.proofs.GainLemmas.{gaining_more}
 use Rattle.justify.proofs.StandingLemmas.{place_inside}
 use Rattle.justify.proofs.book.gain_drawn.Goals as goal
-
-pub exclude_on-requires-clause-line : goal.exclude_on-requires-clause-line
-exclude_on-requires-clause-line c = same_has_line _ _ c.args.step.now.line c.loop-premise.invariant.same_shape c.requires.line
 
 pub exclude_on-requires-clause-place : goal.exclude_on-requires-clause-place
 exclude_on-requires-clause-place c =
@@ -19,15 +15,3 @@ exclude_on-requires-clause-place c =
 
 pub loop-premise-preserved : goal.loop-premise-preserved
 loop-premise-preserved c = gaining_more c.args.step.now.line c.as_slice-premise-items.result.now c.loop-premise.premise-index c.args.facts.now c.loop-premise.facts c.exclude_on.new.facts c.loop-premise.invariant c.exclude_on.ensures
-
-pub returns : goal.returns
-returns c =
-    let step = c.args.step.now in
-    let items = c.as_slice-premise-items.result.now in
-    let e : items ≡ step.drawn = c.as_slice-premise-items.ensures.value in
-    let n = c.loop-premise.premise-index in
-    let P : List Premise → Type 0 = λ ps. Gaining step.line ps n c.args.facts.now c.loop-premise.facts in
-    let past = c.loop-premise-test.false in
-    let within = c.loop-premise.auto.premise-index-end in
-    let len : length items ≡ n = omega arith in
-    gaining_all step n c.args.facts.now c.loop-premise.facts (ap length (sym e) ∙ len) (subst P e c.loop-premise.invariant)

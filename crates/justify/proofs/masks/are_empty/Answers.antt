@@ -1,9 +1,5 @@
-use Rattle.std.proofs.Common.{refl, arith}
 use Rattle.justify.proofs.LineMaskLemmas.{empty_more}
 use Rattle.justify.proofs.masks.are_empty.Goals as goal
-
-pub loop-mask-init : goal.loop-mask-init
-loop-mask-init c = ((λ h i l. absurd (omega arith)), (λ h. refl))
 
 pub loop-mask-preserved : goal.loop-mask-preserved
 loop-mask-preserved c = empty_more c.args.masks.now c.loop-mask.seen c.loop-mask.mask-index c.loop-mask.invariant

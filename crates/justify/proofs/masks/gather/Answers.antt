@@ -1,23 +1,10 @@
-use Rattle.std.proofs.Common.{◌≡◌, ◌+◌, ◌*◌, ◌/◌, ◌<◌, ◌^◌, ℕ, List, arith, refl, sym, subst, get_or, set, length}
+use Rattle.std.proofs.Common.{◌≡◌, ◌+◌, ◌<◌, ◌^◌, ℕ, List, arith, refl, sym, subst, get_or, set, length}
 use Rattle.justify.specs.declared.premise.Premise.{Premise}
 use Rattle.justify.specs.Gathering.{Gathered}
 use Rattle.justify.specs.Premises.{premise}
-use Rattle.justify.proofs.GatherLemmas.{gathered_none, gathered_over, gathered_take, gathered_all}
+use Rattle.justify.proofs.GatherLemmas.{gathered_over, gathered_take, gathered_all}
 use Rattle.justify.proofs.masks.gather.Goals as goal
 use Rattle.justify.proofs.masks.gather.Goals.{then-colours-ne0, else-colours-ne0}
-
-pub loop-chunk-init : goal.loop-chunk-init
-loop-chunk-init c = gathered_none _ _
-
-pub loop-chunk-preserved : goal.loop-chunk-preserved
-loop-chunk-preserved c =
-    let P : ℕ → Type 0 = λ n. Gathered c.args.masks.now n c.gather_eight-count.new.found c.gather_eight-count.result in
-    subst P (omega arith) c.gather_eight-count.ensures
-
-pub loop-place-init : goal.loop-place-init
-loop-place-init c =
-    let P : ℕ → Type 0 = λ n. Gathered c.args.masks.now n c.loop-chunk.found c.loop-chunk.count in
-    subst P (let e : 8 * c.loop-chunk.chunk ≡ length c.args.masks.now / 8 * 8 = (let a = c.loop-chunk.auto in omega arith) in e) c.loop-chunk.invariant
 
 pub loop-place-preserved : goal.loop-place-preserved
 loop-place-preserved c =
@@ -34,12 +21,11 @@ loop-place-preserved c =
           subst C (sym w.found-is) (subst D (sym w.count-is) (gathered_over masks s.place (s.place + 1) s.found s.count (omega arith) (λ i h l. let e : i ≡ s.place = omega arith in let P : ℕ → Type 0 = λ n. get_or masks n 0 ≡ 0 in subst P (sym e) (omega arith)) s.invariant))
     ]
 
-pub returns : goal.returns
-returns c =
+pub returns-clause-gathers : goal.returns-clause-gathers
+returns-clause-gathers c =
     let s = c.loop-place in
     let masks = c.args.masks.now in
     let small : (i : ℕ) → get_or masks i 0 < 2 ^ 16 = λ i. (let f = c.type_inv.masks i in omega arith) in
     let room = c.requires.room in
     let within = s.invariant.within in
-    let all = gathered_all masks s.place s.found s.count c.loop-place-test.false (omega arith) small s.invariant in
-    record { within = (let e = s.auto.place-end (omega arith) in omega arith); gathers = all }
+    gathered_all masks s.place s.found s.count c.loop-place-test.false (omega arith) small s.invariant

@@ -3,9 +3,6 @@ use Rattle.justify.specs.Premises.{premise}
 use Rattle.justify.proofs.GatherLemmas.{gathered_over, gathered_take, none_coloured}
 use Rattle.justify.proofs.masks.gather_eight.Goals as goal
 
-pub cells-init : goal.cells-init
-cells-init c = record { within = c.requires.before.within; inside = omega arith; gathered = c.requires.before; rest = c.coloured-rest.ensures }
-
 pub cells-preserved : goal.cells-preserved
 cells-preserved c =
     let masks = c.args.masks.now in

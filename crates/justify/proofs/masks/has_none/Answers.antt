@@ -16,8 +16,7 @@ returns-then-left-from-ne0 c =
     let premises = c.args.premises.now in
     let left = c.args.left.now in
     let n = c.loop-premise.premise-index in
-    let P : ℕ → Type 0 = λ place. bit_and (get_or left place 0) (premise_at premises n).colours ≡ 0 → ⊥ in
-    let some = subst P c.from.ensures c.if-left-from-ne0.true in
+    let some = subst (λ (place : ℕ). bit_and (get_or left place 0) (premise_at premises n).colours ≡ 0 → ⊥) c.from.ensures c.if-left-from-ne0.true in
     let fits : get_or left (premise_at premises n).at 0 < 2 ^ 16 = (let f = c.type_inv.left (premise_at premises n).at in omega arith) in
     let below = and_le_l (get_or left (premise_at premises n).at 0) (premise_at premises n).colours in
     said_here premises left n c.loop-premise-test.true (omega arith) (omega arith)

@@ -1,7 +1,6 @@
-use Rattle.std.proofs.Common.{◌≡◌, ℕ, ◌+◌, ◌-◌, length, get_or, set, replicate, subst, sym, refl, ap, ◌∙◌, arith}
-use Rattle.std.proofs.lemmas.List.{get_or-replicate}
+use Rattle.std.proofs.Common.{ℕ, ◌+◌, ◌-◌, length, set, subst, sym, refl, arith}
 use Rattle.justify.specs.Premises.{premise_at}
-use Rattle.justify.proofs.LineMaskLemmas.{Rest, rest_none, rest_more, rest_all}
+use Rattle.justify.proofs.LineMaskLemmas.{Rest, rest_more, rest_all}
 use Rattle.justify.proofs.StandingLemmas.{place_inside}
 use Rattle.justify.proofs.masks.leave_rest.Goals as goal
 
@@ -12,12 +11,6 @@ bounds-left-from c =
     let len = c.loop-premise.auto.left in
     let filled = c.fill.ensures.len in
     omega arith
-
-pub loop-premise-init : goal.loop-premise-init
-loop-premise-init c =
-    let n = length c.args.left.now in
-    let e : c.fill.new.self ≡ replicate n 65535 = c.fill.ensures.after (λ y h. h) in
-    rest_none _ _ (λ i l. ap (λ xs. get_or xs i 0) e ∙ get_or-replicate n i 65535 0 (let filled = c.fill.ensures.len in omega arith))
 
 pub loop-premise-preserved : goal.loop-premise-preserved
 loop-premise-preserved c =

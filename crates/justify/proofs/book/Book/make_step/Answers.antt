@@ -10,8 +10,7 @@ returns-then-are_empty-clause-makes g c =
     let clue = c.args.clue.now in
     let left = c.copy_line.new.masks in
     let e : left ≡ line_of c.args.self.now.facts c.args.line = c.copy_line.ensures ∙ ap (λ (f : List (List ℕ)). line_of f c.args.line) c.facts-2.ensures.value in
-    let P : List ℕ → Type 0 = λ masks. DrawsNothing clue masks in
-    subst P e (draws_nothing clue left c.narrow.new.out c.keep_lost.new.masks c.in-Narrowed.ensures.narrows c.keep_lost.ensures (c.if-are_empty.ensures.0 refl))
+    subst (λ (masks : List ℕ). DrawsNothing clue masks) e (draws_nothing clue left c.narrow.new.out c.keep_lost.new.masks c.in-Narrowed.ensures.narrows c.keep_lost.ensures (c.if-are_empty.ensures.0 refl))
 
 pub returns-clause-makes : goal.returns-clause-makes
 returns-clause-makes g c =
