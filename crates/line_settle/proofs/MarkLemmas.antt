@@ -1,5 +1,6 @@
 -- What is marked for each block from the back: the positions from which a line can go to its end.
 use Rattle.std.proofs.Common.{◌≡◌, ℕ, zero, suc, ◌+◌, ◌-◌, ◌<◌, ◌≤◌, Bool, true, false, List, ◌==◌, ◌&&◌, ◌||◌, nat_lt, refl, sym, ap, subst, ◌∙◌, arith, inl, inr, eq-eqb, ne_eqb, length, get_or, drop}
+use Rattle.std.proofs.lemmas.Bool.Decides.{nat_tests}
 use Rattle.std.proofs.Math.Bool.{and-false, or-false}
 use Rattle.std.proofs.Math.Seq.{drop-length}
 use Rattle.std.proofs.Math.ListN.{set}
@@ -28,11 +29,7 @@ none_left left i k h = ap (λ m. allows m k) (get_or_past left i 0 h) ∙ allows
 
 -- a state that doesn't wait goes on by the pattern's next cell alone
 advance : (l w a f r : Bool) → l ≡ true → w ≡ false → ((l && (a && f)) || (w && r)) ≡ (a && f)
-advance true false true true r h k = refl
-advance true false true false r h k = refl
-advance true false false f r h k = refl
-advance true true a f r h k = absurd (let z : ⊥ = cc in z)
-advance false w a f r h k = absurd (let z : ⊥ = cc in z)
+advance l w a f r h i = grind (arith, nat_tests)
 
 pub step_back : (pattern left : List ℕ) (r i : ℕ) → r + 1 < length pattern → waits pattern r ≡ false → i ≤ length left → finishes pattern (drop i left) r ≡ (allows (get_or left i 0) (get_or pattern (r + 1) 0) && finishes pattern (drop (i + 1) left) (r + 1))
 step_back pattern left r i h w l = elim (cases_lt i (length left)) [

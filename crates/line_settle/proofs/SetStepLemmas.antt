@@ -1,5 +1,6 @@
 -- Sets of cells by colour, as the program makes them and writes them out.
 use Rattle.std.proofs.Common.{◌≡◌, ℕ, ◌+◌, ◌*◌, ◌%◌, ◌^◌, ◌<◌, ◌≤◌, Bool, true, false, List, ◌==◌, ◌&&◌, ◌||◌, nat_lt, bit_or, refl, sym, ap, subst, ◌∙◌, arith, inl, inr, eq-eqb, ne_eqb, eqb-true, length, get_or}
+use Rattle.std.proofs.lemmas.Bool.Decides.{nat_tests}
 use Rattle.std.proofs.Math.Bool.{and-false, and-true, or-false}
 use Rattle.std.proofs.Math.ListN.{set}
 use Rattle.std.proofs.lemmas.Bool.{cases_eq, cases_lt, lt-ltb, le-ltb, or_cases, or_left, or_right, false≢true}
@@ -44,13 +45,7 @@ seen_at seen colour n places i k e h = elim (cases_eq k colour) [
 
 -- one colour more is written, or none where its set is empty
 pub written_more : (sets : List ℕ) (k places i j : ℕ) → places ≡ get_or sets k 0 → ((nat_lt j k && has (get_or sets j 0) i) || (has places i && k == j)) ≡ (nat_lt j (k + 1) && has (get_or sets j 0) i)
-written_more sets k places i j e = elim (cases_lt j k) [
-  | inl low ↦ rw (lt-ltb j k low, lt-ltb j (k + 1) (omega arith), ne_eqb k j (λ z. absurd (omega arith)), and-false, or-false) refl
-  | inr high ↦ elim (cases_eq k j) [
-    | inl same ↦ rw (le-ltb j k high, lt-ltb j (k + 1) (omega arith), eq-eqb k j same, e, same, and-true) refl
-    | inr other ↦ rw (le-ltb j k high, le-ltb j (k + 1) (omega arith), ne_eqb k j other, and-false) refl
-  ]
-]
+written_more sets k places i j h = grind (arith, nat_tests)
 
 pub written_none : (sets : List ℕ) (k places i j : ℕ) → places ≡ get_or sets k 0 → places ≡ 0 → (nat_lt j k && has (get_or sets j 0) i) ≡ (nat_lt j (k + 1) && has (get_or sets j 0) i)
 written_none sets k places i j e none =
