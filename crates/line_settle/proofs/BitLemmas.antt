@@ -42,7 +42,6 @@ below_length mask k h e =
     elim (cases_lt 0 mask) [
       | inl some ↦
           let top = leading_top 16 mask some h in
-          let length = top.1 in
           elim (cases_lt top.0 k) [
             | inl l ↦ let z = bit_at_above mask (suc top.0) k top.3 l in absurd (omega arith)
             | inr l ↦ omega arith

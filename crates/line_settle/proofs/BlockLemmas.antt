@@ -183,7 +183,6 @@ gap_waits_not pattern q g = no_wait _ _ _ (lt-leb (length pattern) (q + 1) g.wit
 
 pub inside_waits_not : (pattern : List ℕ) (s len c t : ℕ) → BlockAt pattern s len c → suc t < len → waits pattern (s + suc t) ≡ false
 inside_waits_not pattern s len c t b h =
-    let w = b.within in
     let l : s + suc t + 1 < length pattern = omega arith in
     let z : s + suc (suc t) ≡ s + suc t + 1 = omega arith in
     let e : get_or pattern (s + suc t + 1) 0 ≡ c = ap (λ n. get_or pattern n 0) (sym z) ∙ b.cells (suc t) h in
@@ -203,7 +202,6 @@ pub blocks_spelled : (last : ℕ) (bs : List Block) → IsClue bs → length bs 
 blocks_spelled last [] c = omega arith
 blocks_spelled last (b ∷ bs) c =
     let f = first_is IsBlock b bs c in
-    let p = f.has_cells in
     let i = blocks_spelled b.colour bs (rest_are IsBlock b bs c) in
     let l = piece_length (b.colour == last) b.len b.colour (spelled_after b.colour bs) in
     omega arith

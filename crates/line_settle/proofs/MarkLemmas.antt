@@ -57,7 +57,6 @@ guard left i k x y h = elim (cases_lt i (length left)) [
 back_cells : (pattern left : List ℕ) (s len c cells ends : ℕ) → BlockAt pattern s len c → IsCellsWith left c cells → IsBack pattern left (s + len) ends → (n t i : ℕ) → suc t + n ≡ len → i ≤ length left → lays cells ends n i ≡ finishes pattern (drop i left) (s + suc t)
 back_cells pattern left s len c cells ends b is back zero t i e h = back i h ∙ ap (λ r. finishes pattern (drop i left) r) (let z : s + len ≡ s + suc t = omega arith in z)
 back_cells pattern left s len c cells ends b is back (suc n) t i e h =
-    let w = b.within in
     let z : s + suc (suc t) ≡ s + suc t + 1 = omega arith in
     let colour : get_or pattern (s + suc t + 1) 0 ≡ c = ap (λ r. get_or pattern r 0) (sym z) ∙ b.cells (suc t) (omega arith) in
     let next = λ (l : i < length left). back_cells pattern left s len c cells ends b is back n (suc t) (i + 1) (omega arith) (omega arith) ∙ ap (λ r. finishes pattern (drop (i + 1) left) r) z in
@@ -71,7 +70,6 @@ lays_first cells ends len n i e = ap (λ k. lays cells ends k i) e
 
 pub block_start : (pattern left : List ℕ) (s len c cells ends starts : ℕ) → BlockAt pattern s len c → IsCellsWith left c cells → IsBack pattern left (s + len) ends → ((i : ℕ) → has starts i ≡ lays cells ends len i) → IsStart pattern left s starts
 block_start pattern left s len c cells ends starts b is back laid i h =
-    let w = b.within in
     let p = b.has_cells in
     let n = len - 1 in
     let z : len ≡ suc n = omega arith in
@@ -104,7 +102,6 @@ wait_step : (pattern left : List ℕ) (s len c background starts waiting : ℕ) 
 wait_step pattern left s len c background starts waiting b is begins w zero i e =
     let n : i ≡ length left = omega arith in
     let l = b.within in
-    let p = b.has_cells in
     last_alone pattern left s starts background waiting i is w n
     ∙ (no_start pattern left s starts i begins n
     ∙ sym (finish_end pattern left s i n ∙ ne_eqb (s + 1) (length pattern) (λ z. absurd (omega arith))))

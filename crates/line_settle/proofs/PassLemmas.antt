@@ -164,7 +164,6 @@ block_entries pattern left s len c laid b is (suc t) l (suc i) h =
 
 pub block_entry : (pattern left : List ℕ) (s len c laid ends : ℕ) → BlockAt pattern s len c → IsLaid pattern left s laid → ((i : ℕ) → i ≤ length left → has ends i ≡ moved laid len i) → IsEntry pattern left (s + len) ends
 block_entry pattern left s len c laid ends b is e i h =
-    let p = b.has_cells in
     let z : len ≡ suc (len - 1) = omega arith in
     let y : s + suc (len - 1) ≡ s + len = omega arith in
     e i (omega arith)
@@ -229,7 +228,6 @@ inside_seen r e a f l w x y z h i j = grind (arith, nat_tests)
 
 inside_passes : (pattern left : List ℕ) (s len c laid t i k : ℕ) → BlockAt pattern s len c → IsLaid pattern left s laid → suc t < len → i < length left → Passes pattern left i (s + suc t) k ≡ (moved laid (suc t) i && c == k)
 inside_passes pattern left s len c laid t i k b lies l h =
-    let g = b.within in
     let q = s + suc t in
     let w = inside_waits_not pattern s len c t b l in
     let a = allows (get_or left i 0) (get_or pattern (q + 1) 0) in
@@ -334,7 +332,6 @@ behind_block pattern left q len c background from entered here starts later cell
     let entry = gap_entered pattern left q len c background from entered m p is before.entry e in
     let reached = wait_reached pattern left s background entered here (waits_for_block pattern s len c b) is entry f.first f.on in
     let lies = laid_at pattern left s here starts laid reached begins (λ i. has_and here starts i) in
-    let y = b.has_cells in
     record {
       entry = block_entry pattern left s len c laid ends b lies ended;
       seen_is = λ i k h.

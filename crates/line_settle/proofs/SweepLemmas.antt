@@ -113,7 +113,6 @@ pub at_end : (w : ℕ) (pattern left drawn : List ℕ) (sets : StateSets) (n : �
 at_end w pattern left drawn sets n e are =
     let d : drop n left ≡ [] = ap (λ k. drop k left) e ∙ drop-length left in
     let P : List ℕ → Type 0 = λ ms. AreReached pattern (finishes pattern ms) (finishes_marked pattern ms (drop n drawn)) (record { all = sets.last; marked = 0 }) in
-    let l = are.is_end in
     subst P (sym d) (record {
       all_are = record {
         each = λ q. (
@@ -157,7 +156,6 @@ noted_more pattern left drawn plain marked i later l m r before j h k = elim (ca
 
 pub at_first : (w : ℕ) (pattern left drawn : List ℕ) (sets : StateSets) → ArePatternSets w pattern sets → AreReached pattern (reaches pattern left 0) (reaches_marked pattern left drawn 0) (record { all = 1; marked = 0 })
 at_first w pattern left drawn sets are =
-    let l = are.is_end in
     record {
       all_are = record {
         each = λ q. (
@@ -313,7 +311,6 @@ step_kept w sets drawn plain marked old left from on next i l e t ons nexts shar
   so_far = λ pattern are tables none.
       let s = t.so_far pattern are tables none in
       let n = s.same_length in
-      let p = are.is_end in
       swept_kept pattern drawn old left i s
       ((test_marked pattern old left drawn plain marked i on (omega arith) l e (drop_more left old i n s.behind) (tables i (omega arith)) (ons pattern are)).0 shares);
 }
@@ -331,7 +328,6 @@ step_out w sets drawn plain marked old left from on i l e t ons none_shared = re
   so_far = λ pattern are tables none.
       let s = t.so_far pattern are tables none in
       let n = s.same_length in
-      let p = are.is_end in
       swept_out pattern drawn old left i (omega arith) l t.small s
       (λ m. none_shared ((test_marked pattern old left drawn plain marked i on (omega arith) l e (drop_more left old i n s.behind) (tables i (omega arith)) (ons pattern are)).1 m));
 }
@@ -476,7 +472,6 @@ last_kept w sets drawn plain marked old left from on next i l e none t ons nexts
   so_far = λ pattern are tables unmarked_old.
       let s = t.so_far pattern are tables unmarked_old in
       let n = s.same_length in
-      let p = are.is_end in
       swept_kept pattern drawn old left i s
       ((test_last pattern old left drawn plain marked i on (omega arith) l e (drop_more left old i n s.behind) none (tables i (omega arith)) (ons pattern are)).0 shares);
 }
@@ -488,7 +483,6 @@ last_out w sets drawn plain marked old left from on i l e none t ons none_shared
   so_far = λ pattern are tables unmarked_old.
       let s = t.so_far pattern are tables unmarked_old in
       let n = s.same_length in
-      let p = are.is_end in
       swept_out pattern drawn old left i (omega arith) l t.small s
       (λ m. none_shared ((test_last pattern old left drawn plain marked i on (omega arith) l e (drop_more left old i n s.behind) none (tables i (omega arith)) (ons pattern are)).1 m));
 }

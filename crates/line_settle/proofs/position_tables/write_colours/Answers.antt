@@ -10,7 +10,6 @@ pub loop-k-init : goal.loop-k-init
 loop-k-init g c =
     let bits = g.W.Word.bits in
     let is = word_at bits c.args.seen.now 0 c.index-seen-0.result (omega arith) c.index-seen-0.is in
-    let long = c.colour_line.auto.out in
     λ i j h.
     c.colour_line.ensures i j (omega arith) ∙ (rw (le-ltb j 0 (omega arith)) at (written_more (map bits c.args.seen.now) 0 _ i j is))
 
