@@ -44,17 +44,19 @@ seen_at seen colour n places i k e h = elim (cases_eq k colour) [
 ]
 
 -- one colour more is written, or none where its set is empty
-pub written_more : (sets : List ℕ) (k places i j : ℕ) → places ≡ get_or sets k 0 → ((nat_lt j k && has (get_or sets j 0) i) || (has places i && k == j)) ≡ (nat_lt j (k + 1) && has (get_or sets j 0) i)
-written_more sets k places i j h = grind (arith, nat_tests)
+pub written_more : (sets : List ℕ) (k places i j : ℕ) (y : Bool) → places ≡ get_or sets k 0 → (((nat_lt j k && has (get_or sets j 0) i) || y) || (has places i && k == j)) ≡ ((nat_lt j (k + 1) && has (get_or sets j 0) i) || y)
+written_more sets k places i j y e = grind (arith, nat_tests)
 
-pub written_none : (sets : List ℕ) (k places i j : ℕ) → places ≡ get_or sets k 0 → places ≡ 0 → (nat_lt j k && has (get_or sets j 0) i) ≡ (nat_lt j (k + 1) && has (get_or sets j 0) i)
-written_none sets k places i j e none =
-    let nothing : (has places i && k == j) ≡ false = rw (none, has_none) refl in
-    sym (rw (nothing, or-false) at (sym (written_more sets k places i j e)))
+pub written_none : (sets : List ℕ) (k places i j : ℕ) (y : Bool) → places ≡ get_or sets k 0 → places ≡ 0 → ((nat_lt j k && has (get_or sets j 0) i) || y) ≡ ((nat_lt j (k + 1) && has (get_or sets j 0) i) || y)
+written_none sets k places i j y e none =
+    let nothing : has (get_or sets k 0) i ≡ false = rw (← e, none) (has_none i) in
+    grind (arith, nat_tests)
 
 -- what lies behind the last colour was never seen
-pub all_written : (seen : List ℕ) (n i k : ℕ) → length seen ≤ n → (nat_lt k n && has (get_or seen k 0) i) ≡ has (get_or seen k 0) i
-all_written seen n i k l = elim (cases_lt k n) [
-  | inl b ↦ rw (lt-ltb k n b) refl
-  | inr b ↦ rw (le-ltb k n b, get_or_past seen k 0 (omega arith), has_none) refl
+pub all_written : (sets : List ℕ) (last i k : ℕ) → last + 1 ≡ length sets → ((nat_lt k last && has (get_or sets k 0) i) || (has (get_or sets last 0) i && last == k)) ≡ has (get_or sets k 0) i
+all_written sets last i k l = elim (cases_lt k (length sets)) [
+  | inl b ↦ grind (arith, nat_tests)
+  | inr b ↦
+      let nothing : has (get_or sets k 0) i ≡ false = rw (get_or_past sets k 0 b) (has_none i) in
+      rw nothing (rw (le-ltb k last (omega arith), ne_eqb last k (λ e. absurd (omega arith)), and-false) refl)
 ]
