@@ -1,5 +1,6 @@
 -- The colours of a mask, as its bits are tested.
 use Rattle.std.proofs.Common.{◌≡◌, ℕ, zero, suc, ◌-◌, ◌*◌, ◌%◌, ◌^◌, ◌<◌, true, false, ◌==◌, ◌||◌, bit_or, refl, sym, ap, ◌∙◌, arith, inl, inr, eq-eqb, ne_eqb, eqb-true, max}
+use Rattle.std.proofs.lemmas.Bool.Decides.{nat_tests}
 use Rattle.std.specs.Int.{bit_at}
 use Rattle.std.specs.Int.Count.{count_leading_zeros}
 use Rattle.std.proofs.lemmas.Bool.{cases_eq, cases_lt}
@@ -13,13 +14,7 @@ allows_is mask k = ap (λ b. b == 1) (shr_and_one mask k)
 
 -- a number below 2 as a test
 pub max_is_one : (a b : ℕ) → a < 2 → b < 2 → (max a b == 1) ≡ ((a == 1) || (b == 1))
-max_is_one zero zero h i = refl
-max_is_one zero (suc zero) h i = refl
-max_is_one (suc zero) zero h i = refl
-max_is_one (suc zero) (suc zero) h i = refl
-max_is_one (suc (suc a)) b h i = absurd (omega arith)
-max_is_one zero (suc (suc b)) h i = absurd (omega arith)
-max_is_one (suc zero) (suc (suc b)) h i = absurd (omega arith)
+max_is_one a b h i = grind (arith, nat_tests)
 
 pub allows_or : (a b k : ℕ) → allows (bit_or a b) k ≡ (allows a k || allows b k)
 allows_or a b k =
@@ -47,7 +42,6 @@ below_length mask k h e =
     elim (cases_lt 0 mask) [
       | inl some ↦
           let top = leading_top 16 mask some h in
-          let length = top.1 in
           elim (cases_lt top.0 k) [
             | inl l ↦ let z = bit_at_above mask (suc top.0) k top.3 l in absurd (omega arith)
             | inr l ↦ omega arith

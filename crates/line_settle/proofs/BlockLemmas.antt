@@ -1,8 +1,9 @@
 -- Where the blocks of a clue stand in its pattern.
 use Rattle.std.proofs.Common.{◌≡◌, ◌≢◌, ℕ, zero, suc, ◌+◌, ◌-◌, ◌<◌, ◌≤◌, Bool, true, false, not, ◌&&◌, ◌||◌, List, [], ◌∷◌, ◌++◌, replicate, ◌==◌, nat_lt, refl, sym, ap, ◌∙◌, arith, eq-eqb, ne_eqb, inl, inr, length, get_or, drop}
-use Rattle.std.proofs.Math.Seq.{drop-length, drop-nil}
+use Rattle.std.proofs.lemmas.Bool.Decides.{nat_tests}
+use Rattle.std.proofs.Math.Seq.{drop-length}
 use Rattle.std.proofs.lemmas.Bool.{cases_eq, cases_lt, false≢true, eqb-false, lt-leb, or_left, or_right}
-use Rattle.std.proofs.lemmas.List.{get_or-drop, drop_more, length-append, length-drop, length-replicate}
+use Rattle.std.proofs.lemmas.List.{drop-drop, get_or-drop, get_or-replicate, get_or_append_left, drop_more, length-append, length-drop, length-replicate}
 use Rattle.clues.specs.declared.block.Block.{Block}
 use Rattle.clues.specs.Clue.{block, IsBlock, IsClue}
 use Rattle.line_settle.specs.Spelling.{gap, spelled_after, pattern_of, waits}
@@ -28,10 +29,7 @@ meets_is last (b ∷ bs) zero h = refl
 meets_is last (b ∷ bs) (suc j) h = meets_is b.colour bs j (omega arith)
 
 same_both : (m n : ℕ) → (m == n) ≡ (n == m)
-same_both m n = elim (cases_eq m n) [
-  | inl e ↦ eq-eqb m n e ∙ sym (eq-eqb n m (sym e))
-  | inr d ↦ ne_eqb m n d ∙ sym (ne_eqb n m (λ e. d (sym e)))
-]
+same_both m n = grind (arith, nat_tests)
 
 meets_next : (b : Block) (bs : List Block) (j : ℕ) → j < length bs → ((block_at (b ∷ bs) j).colour == (block_at bs j).colour) ≡ meets b.colour bs j
 meets_next b [] j h = absurd (omega arith)
@@ -66,15 +64,10 @@ piece_dropped false x l c rest =
     let e : 0 + suc l ≡ suc l = omega arith in
     ap (λ n. drop n (x ∷ (replicate (suc l) c ++ rest))) e ∙ run_dropped l c rest
 
-drop_both : (a n : ℕ) (xs : List ℕ) → drop (a + n) xs ≡ drop n (drop a xs)
-drop_both zero n xs = ap (λ k. drop k xs) (let e : 0 + n ≡ n = omega arith in e)
-drop_both (suc a) n [] = drop-nil (suc a + n) ∙ sym (drop-nil n)
-drop_both (suc a) n (x ∷ xs) = ap (λ k. drop k (x ∷ xs)) (let e : suc a + n ≡ suc (a + n) = omega arith in e) ∙ drop_both a n xs
-
 block_dropped : (m : Bool) (x len c n : ℕ) (rest : List ℕ) → 0 < len → drop (gap_before m + len + n) (x ∷ (gap m ++ (replicate len c ++ rest))) ≡ drop n (c ∷ rest)
 block_dropped m x zero c n rest h = absurd (omega arith)
 block_dropped m x (suc l) c n rest h =
-    drop_both (gap_before m + suc l) n (x ∷ (gap m ++ (replicate (suc l) c ++ rest))) ∙ ap (drop n) (piece_dropped m x l c rest)
+    rw (← drop-drop, piece_dropped m x l c rest) refl
 
 behind : (last : ℕ) (bs : List Block) (j : ℕ) → IsClue bs → j ≤ length bs → drop (state_behind last bs j) (last ∷ spelled_after last bs) ≡ colour_before last bs j ∷ spelled_after (colour_before last bs j) (drop j bs)
 unfolding colour_before
@@ -109,13 +102,7 @@ pub record GapAt (pattern : List ℕ) (q : ℕ) : Type 0 where
   pub background : get_or pattern (q + 1) 0 ≡ 0
 
 in_run : (l c t : ℕ) (rest : List ℕ) → t < l → get_or (replicate l c ++ rest) t 0 ≡ c
-in_run zero c t rest h = absurd (omega arith)
-in_run (suc l) c zero rest h = refl
-in_run (suc l) c (suc t) rest h = in_run l c t rest (omega arith)
-
-run_length : (l c : ℕ) (rest : List ℕ) → l ≤ length (replicate l c ++ rest)
-run_length zero c rest = omega arith
-run_length (suc l) c rest = let e = run_length l c rest in omega arith
+in_run l c t rest h = get_or_append_left (replicate l c) rest 0 t (omega (arith, length-replicate l c)) ∙ get_or-replicate l t c 0 h
 
 at_least : (pattern : List ℕ) (q n : ℕ) → n ≤ length (drop q pattern) → 0 < n → q + n ≤ length pattern
 at_least pattern q n h p = let e = length-drop q pattern in omega arith
@@ -123,14 +110,14 @@ at_least pattern q n h p = let e = length-drop q pattern in omega arith
 plain_block : (pattern : List ℕ) (q x len c : ℕ) (rest : List ℕ) → drop q pattern ≡ x ∷ (replicate len c ++ rest) → 0 < len → c ≢ 0 → x ≢ c → BlockAt pattern q len c
 plain_block pattern q x len c rest e h n o = record {
   has_cells = h;
-  within = let k = at_least pattern q (suc len) (let l = ap length e in let r = run_length len c rest in omega arith) (omega arith) in omega arith;
+  within = let k = at_least pattern q (suc len) (let l = ap length e in omega (arith, length-append (replicate len c) rest, length-replicate len c)) (omega arith) in omega arith;
   cells = λ t l. sym (get_or-drop q pattern (suc t) 0) ∙ (ap (λ xs. get_or xs (suc t) 0) e ∙ in_run len c t rest l);
   other = λ z. o (sym (ap (λ xs. get_or xs 0 0) e) ∙ (get_or-drop q pattern 0 0 ∙ (ap (λ k. get_or pattern k 0) (let i : q + 0 ≡ q = omega arith in i) ∙ z)));
   coloured = n;
 }
 
 drop_next : (pattern : List ℕ) (q x : ℕ) (rest : List ℕ) → drop q pattern ≡ x ∷ rest → drop (q + 1) pattern ≡ rest
-drop_next pattern q x rest e = drop_both q 1 pattern ∙ ap (drop 1) e
+drop_next pattern q x rest e = rw (← drop-drop, e) refl
 
 gap_at : (pattern : List ℕ) (q x : ℕ) (rest : List ℕ) → drop q pattern ≡ x ∷ (0 ∷ rest) → GapAt pattern q
 gap_at pattern q x rest e = record {
@@ -189,17 +176,13 @@ waits_for_block pattern s len c b =
 
 -- a state doesn't wait where the pattern goes on with background, or with the colour just spelled
 no_wait : (l z e : Bool) → l ≡ false → (z || e) ≡ true → (l || (not z && not e)) ≡ false
-no_wait true z e h k = h
-no_wait false true e h k = refl
-no_wait false false true h k = refl
-no_wait false false false h k = sym k
+no_wait l z e h i = grind (arith, nat_tests)
 
 pub gap_waits_not : (pattern : List ℕ) (q : ℕ) → GapAt pattern q → waits pattern q ≡ false
 gap_waits_not pattern q g = no_wait _ _ _ (lt-leb (length pattern) (q + 1) g.within) (or_left _ _ (eq-eqb _ _ g.background))
 
 pub inside_waits_not : (pattern : List ℕ) (s len c t : ℕ) → BlockAt pattern s len c → suc t < len → waits pattern (s + suc t) ≡ false
 inside_waits_not pattern s len c t b h =
-    let w = b.within in
     let l : s + suc t + 1 < length pattern = omega arith in
     let z : s + suc (suc t) ≡ s + suc t + 1 = omega arith in
     let e : get_or pattern (s + suc t + 1) 0 ≡ c = ap (λ n. get_or pattern n 0) (sym z) ∙ b.cells (suc t) h in
@@ -219,7 +202,6 @@ pub blocks_spelled : (last : ℕ) (bs : List Block) → IsClue bs → length bs 
 blocks_spelled last [] c = omega arith
 blocks_spelled last (b ∷ bs) c =
     let f = first_is IsBlock b bs c in
-    let p = f.has_cells in
     let i = blocks_spelled b.colour bs (rest_are IsBlock b bs c) in
     let l = piece_length (b.colour == last) b.len b.colour (spelled_after b.colour bs) in
     omega arith

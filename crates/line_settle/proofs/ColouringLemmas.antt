@@ -1,18 +1,20 @@
 -- A colour that is left in the cells of a set, some cells at a time.
 use Rattle.std.proofs.Common.{◌≡◌, ℕ, ◌+◌, ◌-◌, ◌*◌, ◌/◌, ◌%◌, ◌^◌, ◌<◌, ◌≤◌, Bool, true, false, List, ◌==◌, ◌&&◌, ◌||◌, bit_and, bit_or, refl, sym, ap, subst, ◌∙◌, arith, inl, inr, length, get_or, set}
+use Rattle.std.proofs.lemmas.Bool.Decides.{nat_tests}
+use Rattle.std.proofs.Math.Bool.{and-true, or-false}
 use Rattle.std.proofs.lemmas.Bool.{cases_eq, cases_lt}
 use Rattle.std.proofs.lemmas.List.{get_or-set_same, get_or-set_other}
 use Rattle.std.proofs.lemmas.Nat.Bits.{shr_and_one, bit_at_ones}
 use Rattle.line_settle.specs.Spelling.{allows}
 use Rattle.line_settle.specs.Positions.{has, IsColoured}
 use Rattle.line_settle.proofs.BitLemmas.{allows_or, allows_shifted}
-use Rattle.line_settle.proofs.PositionLemmas.{has_and, has_down, all_true, false_behind}
+use Rattle.line_settle.proofs.PositionLemmas.{has_and, has_down}
 
 pub coloured : (mask colour k : ℕ) → colour < 16 → allows (bit_or mask (1 * 2 ^ colour % 65536)) k ≡ (allows mask k || colour == k)
 coloured mask colour k h = rw (allows_or, allows_shifted colour k h) refl
 
 pub same_colours : (mask k : ℕ) (b : Bool) → allows mask k ≡ (allows mask k || (false && b))
-same_colours mask k b = sym (false_behind (allows mask k))
+same_colours mask k b = sym (or-false (allows mask k))
 
 -- a bit as it is tested
 pub tested : (a j : ℕ) → (bit_and (a / 2 ^ j) 1 == 1) ≡ has a j
@@ -50,7 +52,7 @@ coloured_on places rest colour keep done first end n old out new f e d same earl
 -- the eight lowest positions
 pub low_eight : (a j : ℕ) → j < 8 → has (bit_and a 255) j ≡ has a j
 unfolding has
-low_eight a j h = has_and a 255 j ∙ (ap (λ x. has a j && (x == 1)) (bit_at_ones 8 j h) ∙ sym (all_true (has a j)))
+low_eight a j h = rw (has_and, bit_at_ones 8 j h) (and-true (has a j))
 
 -- the set without eight more positions
 pub rest_more : (places rest chunk j : ℕ) → ((n : ℕ) → has rest n ≡ has places (8 * chunk + n)) → has (rest / 2 ^ 8) j ≡ has places (8 * (chunk + 1) + j)
@@ -71,9 +73,6 @@ coloured_last places colour keep last whole n old out new e l w earlier more i k
 ]
   where
     once : (keep a b : Bool) → ((keep && ((keep && a) || b)) || b) ≡ ((keep && a) || b)
-    once true true b = refl
-    once true false true = refl
-    once true false false = refl
-    once false a b = refl
+    once keep a b = grind (arith, nat_tests)
 
 pub ruleset colouring = (coloured, same_colours, tested, none_coloured)

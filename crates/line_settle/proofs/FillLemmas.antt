@@ -1,5 +1,6 @@
 -- Filling the tables cell by cell.
 use Rattle.std.proofs.Common.{◌≡◌, ◌≢◌, ℕ, zero, suc, ◌+◌, ◌-◌, ◌*◌, ◌<◌, ◌≤◌, Bool, false, List, ◌∷◌, ◌==◌, ◌&&◌, ◌||◌, nat_lt, refl, sym, ap, subst, ◌∙◌, arith, inl, inr, length, get_or, take, drop, drop-cons, add-one, eq-eqb, ne_eqb, get_or-set_same, get_or-set_other}
+use Rattle.std.proofs.lemmas.Bool.Decides.{nat_tests}
 use Rattle.std.proofs.Math.ListN.{set}
 use Rattle.std.proofs.Math.Seq.{drop-length}
 use Rattle.std.proofs.lemmas.List.{get_or-take, get_or-drop}
@@ -44,10 +45,7 @@ passes_below_agree pattern mask f g t u h i (suc n) k l =
     ∙ ap (λ x. passes_below pattern mask g u n k || x) (passes_agree pattern mask f g t u h i n k (omega arith))
 
 same_test : (q m : ℕ) → 0 < m → (q == m - 1) ≡ (q + 1 == m)
-same_test q m h = elim (cases_eq q (m - 1)) [
-  | inl e ↦ eq-eqb q (m - 1) e ∙ sym (eq-eqb (q + 1) m (omega arith))
-  | inr n ↦ ne_eqb q (m - 1) n ∙ sym (ne_eqb (q + 1) m (λ e. n (omega arith)))
-]
+same_test q m h = grind (arith, nat_tests)
 
 -- the row behind cell i gives the row before it
 finishing_before : (pattern left : List ℕ) (i : ℕ) (f : ℕ → Bool) → i < length left → Agree (length pattern) f (finishes pattern (drop (i + 1) left)) → (q : ℕ) → q < length pattern → finish_step pattern (get_or left i 0) f q ≡ finishes pattern (drop i left) q

@@ -89,7 +89,6 @@ shown_have clue left i k b h p =
 pub too_long : (clue : List Block) (left : List ℕ) → IsClue clue → length left + 1 < length (pattern_of clue) → ¬ CanFit clue left
 too_long clue left b h c =
     let l = spells_length 0 _ c.0 (fits_spells clue c.0 b c.1) in
-    let e = c.1.same_length in
     omega arith
 
 pub have_fits : {clue : List Block} {left : List ℕ} {i k : ℕ} → CanHave clue left i k → CanFit clue left

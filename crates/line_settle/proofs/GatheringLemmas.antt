@@ -2,6 +2,7 @@
 use Rattle.std.proofs.Common.{◌≡◌, ℕ, zero, suc, ◌+◌, ◌-◌, ◌*◌, ◌%◌, ◌^◌, ◌<◌, ◌≤◌, Bool, true, false, cond, List, map, eqb, ◌==◌, ◌||◌, bit_and, bit_or, refl, sym, ap, subst, ◌∙◌, arith, inl, inr, eq-eqb, ne_eqb, length, get_or, replicate, take, drop, get_or-drop, w16}
 use Rattle.std.specs.Int.{bit_at}
 use Rattle.std.specs.Simd.Lanes.{zip2, chunk, top, mask_l}
+use Rattle.std.proofs.Math.Bool.{or-false, or_self}
 use Rattle.std.proofs.lemmas.Bool.{cases_lt}
 use Rattle.std.proofs.lemmas.List.{get_or_past, get_or-map, get_or-take, length-map, length-replicate, length-take, take_all}
 use Rattle.std.proofs.lemmas.Nat.{pow_pos}
@@ -12,7 +13,7 @@ use mir.Val.{bool_byte}
 use Rattle.line_settle.specs.Spelling.{allows}
 use Rattle.line_settle.specs.Positions.{has}
 use Rattle.line_settle.proofs.BitLemmas.{allows_is, allows_none}
-use Rattle.line_settle.proofs.PositionLemmas.{bit_low, has_above, has_or, has_none, has_one, has_bit, false_behind}
+use Rattle.line_settle.proofs.PositionLemmas.{bit_low, has_above, has_or, has_none, has_one, has_bit}
 
 -- ---- a shift by s places to higher positions, in w bits
 
@@ -32,13 +33,10 @@ shifted w s a i p h l =
 
 pub gathered_more : (w s : ℕ) (test : ℕ → Bool) (cells low here next : ℕ) → next ≡ here + s → low < 2 ^ s → ((j : ℕ) → j < s → has low j ≡ test (here + j)) → ((j : ℕ) → j < w → has cells j ≡ test (next + j)) → (j : ℕ) → j < w → has (bit_or (cells * 2 ^ s % 2 ^ w) low) j ≡ test (here + j)
 gathered_more w s test cells low here next e small new before j h = has_or (cells * 2 ^ s % 2 ^ w) low j ∙ elim (cases_lt j s) [
-  | inl l ↦ ap (λ x. x || has low j) (below_shifted w s cells j l h) ∙ new j l
+  | inl l ↦ rw (below_shifted w s cells j l h) (new j l)
   | inr m ↦
       let q : next + (j - s) ≡ here + j = omega arith in
-      ap (λ x. has (cells * 2 ^ s % 2 ^ w) j || x) (has_above s low j small m)
-      ∙ (false_behind (has (cells * 2 ^ s % 2 ^ w) j)
-      ∙ (shifted w s cells j (omega arith) m h
-      ∙ (before (j - s) (omega arith) ∙ ap test q)))
+      rw (has_above s low j small m, or-false, shifted w s cells j (omega arith) m h, before (j - s) (omega arith), q) refl
 ]
 
 -- one cell more
@@ -68,32 +66,17 @@ none_gathered left colour j = has_none j ∙ sym (none_past left colour (length 
 pub overlapped : (w s : ℕ) (left : List ℕ) (cells low colour whole last : ℕ) → last + s ≡ length left → last ≤ whole → whole ≤ length left → length left ≤ w → low < 2 ^ s → ((j : ℕ) → j < s → has low j ≡ allows (get_or left (last + j) 0) colour) → ((j : ℕ) → j < w → has cells j ≡ allows (get_or (take whole left) j 0) colour) → (i : ℕ) → i < w → has (bit_or cells (low * 2 ^ last % 2 ^ w)) i ≡ allows (get_or left i 0) colour
 overlapped w s left cells low colour whole last e l ends room small new before i h =
     has_or cells (low * 2 ^ last % 2 ^ w) i ∙ elim (cases_lt i last) [
-      | inl m ↦
-          ap (λ x. has cells i || x) (below_shifted w last low i m h)
-          ∙ (false_behind (has cells i)
-          ∙ (before i h ∙ ap (λ n. allows n colour) (get_or-take whole left i 0 (omega arith))))
-      | inr m ↦
-          ap (λ x. has cells i || x) (shifted w last low i (pow_pos last) m h)
-          ∙ (ap (λ x. x || has low (i - last)) (before i h)
-          ∙ elim (cases_lt (i - last) s) [
-            | inl in_part ↦
-                let q : last + (i - last) ≡ i = omega arith in
-                ap (λ x. allows (get_or (take whole left) i 0) colour || x) (new (i - last) in_part ∙ ap (λ n. allows (get_or left n 0) colour) q)
-                ∙ elim (cases_lt i whole) [
-                  | inl b ↦ ap (λ n. allows n colour || allows (get_or left i 0) colour) (get_or-take whole left i 0 b) ∙ twice (allows (get_or left i 0) colour)
-                  | inr b ↦ ap (λ x. x || allows (get_or left i 0) colour) (none_past (take whole left) colour i (let n = length-take whole left in omega arith))
-                ]
-            | inr past ↦
-                ap (λ x. allows (get_or (take whole left) i 0) colour || x) (has_above s low (i - last) small past)
-                ∙ (false_behind (allows (get_or (take whole left) i 0) colour)
-                ∙ (none_past (take whole left) colour i (let n = length-take whole left in omega arith)
-                ∙ sym (none_past left colour i (omega arith))))
-          ])
+      | inl m ↦ rw (below_shifted w last low i m h, or-false, before i h, get_or-take whole left i 0 (omega arith)) refl
+      | inr m ↦ rw (shifted w last low i (pow_pos last) m h, before i h) (elim (cases_lt (i - last) s) [
+        | inl in_part ↦
+            let q : last + (i - last) ≡ i = omega arith in
+            rw (new (i - last) in_part, q) (elim (cases_lt i whole) [
+              | inl b ↦ rw (get_or-take whole left i 0 b) (or_self (allows (get_or left i 0) colour))
+              | inr b ↦ rw (none_past (take whole left) colour i (let n = length-take whole left in omega arith)) refl
+            ])
+        | inr past ↦ rw (has_above s low (i - last) small past, or-false, none_past (take whole left) colour i (let n = length-take whole left in omega arith), none_past left colour i (omega arith)) refl
+      ])
     ]
-  where
-    twice : (b : Bool) → (b || b) ≡ b
-    twice true = refl
-    twice false = refl
 
 -- s cells more behind those that are gathered already
 pub none_taken : (left : List ℕ) (colour n j : ℕ) → n ≡ 0 → has 0 j ≡ allows (get_or (take n left) j 0) colour
@@ -101,18 +84,13 @@ none_taken left colour n j e = has_none j ∙ sym (none_past (take n left) colou
 
 pub gathered_on : (w s : ℕ) (left : List ℕ) (cells low colour here next : ℕ) → next ≡ here + s → low < 2 ^ s → ((j : ℕ) → j < s → has low j ≡ allows (get_or left (here + j) 0) colour) → ((j : ℕ) → j < w → has cells j ≡ allows (get_or (take here left) j 0) colour) → (j : ℕ) → j < w → has (bit_or cells (low * 2 ^ here % 2 ^ w)) j ≡ allows (get_or (take next left) j 0) colour
 gathered_on w s left cells low colour here next e small new before j h = has_or cells (low * 2 ^ here % 2 ^ w) j ∙ elim (cases_lt j here) [
-  | inl m ↦
-      ap (λ x. has cells j || x) (below_shifted w here low j m h)
-      ∙ (false_behind (has cells j)
-      ∙ (before j h
-      ∙ (ap (λ n. allows n colour) (get_or-take here left j 0 m) ∙ sym (ap (λ n. allows n colour) (get_or-take next left j 0 (omega arith))))))
+  | inl m ↦ rw (below_shifted w here low j m h, or-false, before j h, get_or-take here left j 0 m, get_or-take next left j 0 (omega arith)) refl
   | inr m ↦
-      ap (λ x. has cells j || x) (shifted w here low j (pow_pos here) m h)
-      ∙ (ap (λ x. x || has low (j - here)) (before j h ∙ none_past (take here left) colour j (let n = length-take here left in omega arith))
-      ∙ elim (cases_lt (j - here) s) [
+      rw (shifted w here low j (pow_pos here) m h, before j h, none_past (take here left) colour j (let n = length-take here left in omega arith))
+      (elim (cases_lt (j - here) s) [
         | inl inside ↦
             let q : here + (j - here) ≡ j = omega arith in
-            new (j - here) inside ∙ (ap (λ n. allows (get_or left n 0) colour) q ∙ sym (ap (λ n. allows n colour) (get_or-take next left j 0 (omega arith))))
+            rw (new (j - here) inside, q, get_or-take next left j 0 (omega arith)) refl
         | inr past ↦ has_above s low (j - here) small past ∙ sym (none_past (take next left) colour j (let n = length-take next left in omega arith))
       ])
 ]
@@ -122,7 +100,7 @@ pub gathered_first : (s : ℕ) (left : List ℕ) (low colour : ℕ) → low < 2 
 gathered_first s left low colour small is j = elim (cases_lt j s) [
   | inl l ↦
       let z : 0 + j ≡ j = omega arith in
-      is j l ∙ (ap (λ n. allows (get_or left n 0) colour) z ∙ sym (ap (λ n. allows n colour) (get_or-take s left j 0 l)))
+      rw (is j l, z, get_or-take s left j 0 l) refl
   | inr m ↦ has_above s low j small m ∙ sym (none_past (take s left) colour j (let n = length-take s left in omega arith))
 ]
 
@@ -139,23 +117,16 @@ whole_taken left colour n j h = ap (λ (xs : List ℕ). allows (get_or xs j 0) c
 pub whole_both : (left : List ℕ) (cells low colour : ℕ) → cells < 2 ^ 64 → low < 2 ^ 64 → length left ≤ 64 → ((j : ℕ) → j < 64 → has (bit_or cells low) j ≡ allows (get_or left j 0) colour) → (j : ℕ) → has (bit_or cells low) j ≡ allows (get_or left j 0) colour
 whole_both left cells low colour small few short is j = elim (cases_lt j 64) [
   | inl l ↦ is j l
-  | inr m ↦
-      has_or cells low j
-      ∙ (ap (λ b. b || has low j) (has_above 64 cells j small m)
-      ∙ (has_above 64 low j few m ∙ sym (none_past left colour j (omega arith))))
+  | inr m ↦ rw (has_or, has_above 64 cells j small m, has_above 64 low j few m) (sym (none_past left colour j (omega arith)))
 ]
 
 -- the first 64 cells, and those behind them
 pub two_halves : (w : ℕ) (left : List ℕ) (front rest colour : ℕ) → front < 2 ^ 64 → ((i : ℕ) → has front i ≡ allows (get_or (take 64 left) i 0) colour) → ((i : ℕ) → has rest i ≡ allows (get_or (drop 64 left) i 0) colour) → (i : ℕ) → i < w → has (bit_or front (rest * 2 ^ 64 % 2 ^ w)) i ≡ allows (get_or left i 0) colour
 two_halves w left front rest colour small f r i h = has_or front (rest * 2 ^ 64 % 2 ^ w) i ∙ elim (cases_lt i 64) [
-  | inl m ↦
-      ap (λ x. has front i || x) (below_shifted w 64 rest i m h)
-      ∙ (false_behind (has front i) ∙ (f i ∙ ap (λ n. allows n colour) (get_or-take 64 left i 0 m)))
+  | inl m ↦ rw (below_shifted w 64 rest i m h, or-false, f i, get_or-take 64 left i 0 m) refl
   | inr m ↦
       let q : 64 + (i - 64) ≡ i = omega arith in
-      ap (λ x. has front i || x) (shifted w 64 rest i (pow_pos 64) m h)
-      ∙ (ap (λ x. x || has rest (i - 64)) (has_above 64 front i small m)
-      ∙ (r (i - 64) ∙ (ap (λ n. allows n colour) (get_or-drop 64 left (i - 64) 0) ∙ ap (λ n. allows (get_or left n 0) colour) q)))
+      rw (shifted w 64 rest i (pow_pos 64) m h, has_above 64 front i small m, r (i - 64), get_or-drop 64 left (i - 64) 0, q) refl
 ]
 
 -- ---- s cells that are compared together
@@ -202,9 +173,4 @@ compared_each s left first colour i few h room l =
     let bit = 1 * 2 ^ colour % 65536 in
     let cells = chunk first s left in
     let n : length cells ≡ s = length-chunk first s left room in
-    ap (λ m. has m i) (compared_is s bit cells few n)
-    ∙ (has_mask (map (covers bit) cells) i
-    ∙ (get_or-map (covers bit) cells i 0 false (omega arith)
-    ∙ (ap (λ m. covers bit m) (get_or-chunk first s left i 0 l)
-    ∙ (ap (λ b. covers b (get_or left (first + i) 0)) (one_shifted colour 65535 refl h).0
-    ∙ covers_is (get_or left (first + i) 0) colour))))
+    rw (compared_is s bit cells few n, has_mask, get_or-map (covers bit) cells i 0 false (omega arith), get_or-chunk first s left i 0 l, (one_shifted colour 65535 refl h).0) (covers_is (get_or left (first + i) 0) colour)

@@ -37,7 +37,6 @@ free_mask givens picture facts b row col h w n =
 nothing_outside : (picture facts : List (List ℕ)) → IsPicture picture → SameShape picture facts → (row col k : ℕ) → (row < length picture → col < width_of picture → ⊥) → Leaves facts row col k → ⊥
 nothing_outside picture facts is shape row col k n s = elim (cases_lt row (length facts)) [
   | inl l ↦
-      let t = shape.rows in
       let e = shape.each row in
       let r = is.rectangular row (omega arith) in
       elim (cases_lt col (length (row_at facts row))) [
@@ -101,7 +100,6 @@ given_here picture is givens more row col h w puts facts shape k =
     let colour = cell_at picture row col in
     let small = is.colours row col in
     let r = is.rectangular row h in
-    let t = shape.rows in
     let u = shape.each row in
     let e = at_with_cell facts row col (2 ^ colour) (omega arith) (omega arith) in
     let P : ℕ → Type 0 = λ m. IsBitSet m k ↔ IsOpen more picture row col k in

@@ -1,5 +1,6 @@
 -- What is marked for each block from the back: the positions from which a line can go to its end.
 use Rattle.std.proofs.Common.{◌≡◌, ℕ, zero, suc, ◌+◌, ◌-◌, ◌<◌, ◌≤◌, Bool, true, false, List, ◌==◌, ◌&&◌, ◌||◌, nat_lt, refl, sym, ap, subst, ◌∙◌, arith, inl, inr, eq-eqb, ne_eqb, length, get_or, drop}
+use Rattle.std.proofs.lemmas.Bool.Decides.{nat_tests}
 use Rattle.std.proofs.Math.Bool.{and-false, or-false}
 use Rattle.std.proofs.Math.Seq.{drop-length}
 use Rattle.std.proofs.Math.ListN.{set}
@@ -28,11 +29,7 @@ none_left left i k h = ap (λ m. allows m k) (get_or_past left i 0 h) ∙ allows
 
 -- a state that doesn't wait goes on by the pattern's next cell alone
 advance : (l w a f r : Bool) → l ≡ true → w ≡ false → ((l && (a && f)) || (w && r)) ≡ (a && f)
-advance true false true true r h k = refl
-advance true false true false r h k = refl
-advance true false false f r h k = refl
-advance true true a f r h k = absurd (let z : ⊥ = cc in z)
-advance false w a f r h k = absurd (let z : ⊥ = cc in z)
+advance l w a f r h i = grind (arith, nat_tests)
 
 pub step_back : (pattern left : List ℕ) (r i : ℕ) → r + 1 < length pattern → waits pattern r ≡ false → i ≤ length left → finishes pattern (drop i left) r ≡ (allows (get_or left i 0) (get_or pattern (r + 1) 0) && finishes pattern (drop (i + 1) left) (r + 1))
 step_back pattern left r i h w l = elim (cases_lt i (length left)) [
@@ -60,7 +57,6 @@ guard left i k x y h = elim (cases_lt i (length left)) [
 back_cells : (pattern left : List ℕ) (s len c cells ends : ℕ) → BlockAt pattern s len c → IsCellsWith left c cells → IsBack pattern left (s + len) ends → (n t i : ℕ) → suc t + n ≡ len → i ≤ length left → lays cells ends n i ≡ finishes pattern (drop i left) (s + suc t)
 back_cells pattern left s len c cells ends b is back zero t i e h = back i h ∙ ap (λ r. finishes pattern (drop i left) r) (let z : s + len ≡ s + suc t = omega arith in z)
 back_cells pattern left s len c cells ends b is back (suc n) t i e h =
-    let w = b.within in
     let z : s + suc (suc t) ≡ s + suc t + 1 = omega arith in
     let colour : get_or pattern (s + suc t + 1) 0 ≡ c = ap (λ r. get_or pattern r 0) (sym z) ∙ b.cells (suc t) (omega arith) in
     let next = λ (l : i < length left). back_cells pattern left s len c cells ends b is back n (suc t) (i + 1) (omega arith) (omega arith) ∙ ap (λ r. finishes pattern (drop (i + 1) left) r) z in
@@ -74,7 +70,6 @@ lays_first cells ends len n i e = ap (λ k. lays cells ends k i) e
 
 pub block_start : (pattern left : List ℕ) (s len c cells ends starts : ℕ) → BlockAt pattern s len c → IsCellsWith left c cells → IsBack pattern left (s + len) ends → ((i : ℕ) → has starts i ≡ lays cells ends len i) → IsStart pattern left s starts
 block_start pattern left s len c cells ends starts b is back laid i h =
-    let w = b.within in
     let p = b.has_cells in
     let n = len - 1 in
     let z : len ≡ suc n = omega arith in
@@ -107,7 +102,6 @@ wait_step : (pattern left : List ℕ) (s len c background starts waiting : ℕ) 
 wait_step pattern left s len c background starts waiting b is begins w zero i e =
     let n : i ≡ length left = omega arith in
     let l = b.within in
-    let p = b.has_cells in
     last_alone pattern left s starts background waiting i is w n
     ∙ (no_start pattern left s starts i begins n
     ∙ sym (finish_end pattern left s i n ∙ ne_eqb (s + 1) (length pattern) (λ z. absurd (omega arith))))

@@ -1,5 +1,6 @@
 -- From the tables to what narrowing a line promises.
 use Rattle.std.proofs.Common.{◌≡◌, ℕ, zero, suc, ◌+◌, ◌<◌, ◌≤◌, Bool, true, false, List, [], ◌∷◌, ◌++◌, replicate, ◌==◌, refl, sym, ap, subst, ◌∙◌, arith, ◌⊎◌, inl, inr, length, get_or, drop, take, ◌&&◌, ◌||◌, eq-eqb, ne_eqb}
+use Rattle.std.proofs.lemmas.Bool.Decides.{nat_tests}
 use Rattle.std.specs.List.{All}
 use Rattle.std.specs.Int.{bit_at}
 use Rattle.std.proofs.Math.ListN.{get_or-eq_default}
@@ -49,11 +50,7 @@ pattern_colours blocks h = pattern_below 16 (omega arith) blocks (blocks_below b
 
 -- no line passes through a cell with a colour above those of its pattern
 no_way : (b x y : Bool) → (b && ((x && false) || (y && false))) ≡ false
-no_way false x y = refl
-no_way true false false = refl
-no_way true false true = refl
-no_way true true false = refl
-no_way true true true = refl
+no_way b x y = grind (arith, nat_tests)
 
 place_below : (pattern : List ℕ) (n q : ℕ) → 0 < n → All (λ c. c < n) pattern → get_or pattern q 0 < n
 place_below pattern n q some h = elim (cases_lt q (length pattern)) [

@@ -1,5 +1,6 @@
 -- What is seen from the front: the cells with which a line goes on from its first position to its end.
 use Rattle.std.proofs.Common.{◌≡◌, ℕ, zero, suc, ◌+◌, ◌-◌, ◌/◌, ◌<◌, ◌≤◌, Bool, true, false, List, ◌==◌, ◌&&◌, ◌||◌, nat_lt, bit_and, bit_or, replicate, refl, sym, ap, subst, ◌∙◌, arith, inl, inr, ne_eqb, length, get_or, drop}
+use Rattle.std.proofs.lemmas.Bool.Decides.{nat_tests}
 use Rattle.std.proofs.Math.Bool.{and-false, or_self}
 use Rattle.std.proofs.lemmas.Bool.{cases_lt, lt-ltb, le-ltb}
 use Rattle.clues.specs.declared.block.Block.{Block}
@@ -25,9 +26,7 @@ abbrev pub IsEntry : List ℕ → List ℕ → ℕ → ℕ → Type 0
 IsEntry pattern left q from = (i : ℕ) → i ≤ length left → has from i ≡ (enters pattern left i q && finishes pattern (drop i left) q)
 
 alone : (x w r : Bool) → w ≡ false → (x || (w && r)) ≡ x
-alone true w r h = refl
-alone false true r h = absurd (let z : ⊥ = cc in z)
-alone false false r h = refl
+alone x w r h = grind (arith, nat_tests)
 
 -- a state that doesn't wait is only come to
 reaches_enters : (pattern left : List ℕ) (i q : ℕ) → waits pattern q ≡ false → reaches pattern left i q ≡ enters pattern left i q
@@ -54,9 +53,7 @@ first_entry pattern left f (suc i) h = has_one (suc i) ∙ ne_eqb (suc i) 0 (λ 
 -- ---- over a gap
 
 over : (a e f : Bool) → (a && (e && (a && f))) ≡ ((a && e) && f)
-over true true f = refl
-over true false f = refl
-over false e f = refl
+over a e f = grind (arith, nat_tests)
 
 pub gap_entry : (pattern left : List ℕ) (q background from here : ℕ) → GapAt pattern q → IsCellsWith left 0 background → IsEntry pattern left q from → has here 0 ≡ false → ((i : ℕ) → i < length left → has here (i + 1) ≡ (has background i && has from i)) → IsEntry pattern left (q + 1) here
 gap_entry pattern left q background from here g is before first next zero h = first ∙ sym (enters_not pattern left (q + 1) (finishes pattern left (q + 1)) (omega arith))
@@ -81,25 +78,10 @@ abbrev pub IsReached : List ℕ → List ℕ → ℕ → ℕ → Type 0
 IsReached pattern left s here = (i : ℕ) → i ≤ length left → (has here i && finishes pattern (drop i left) s) ≡ (reaches pattern left i s && finishes pattern (drop i left) s)
 
 twice : (e f : Bool) → ((e && f) && f) ≡ (e && f)
-twice true true = refl
-twice true false = refl
-twice false f = refl
+twice e f = grind (arith, nat_tests)
 
 waited : (e f a h r x g w : Bool) → w ≡ true → g ≡ (x || (w && (a && f))) → (h && g) ≡ (r && g) → (((e && f) || (a && h)) && f) ≡ ((e || (w && (a && r))) && f)
-waited e f a h r x g false k l m = absurd (let z : ⊥ = cc in z)
-waited true true a h r x g true k l m = refl
-waited true false true h r x g true k l m = and-false h
-waited true false false h r x g true k l m = refl
-waited false true true h r true true true k l m = m
-waited false true true h r true false true k l m = absurd (let z : ⊥ = cc in z)
-waited false true true h r false true true k l m = m
-waited false true true h r false false true k l m = absurd (let z : ⊥ = cc in z)
-waited false true false h r x g true k l m = refl
-waited false false true true true x g true k l m = refl
-waited false false true true false x g true k l m = refl
-waited false false true false true x g true k l m = refl
-waited false false true false false x g true k l m = refl
-waited false false false h r x g true k l m = refl
+waited e f a h r x g w i j k = grind (arith, nat_tests)
 
 pub wait_reached : (pattern left : List ℕ) (s background from here : ℕ) → waits pattern s ≡ true → IsCellsWith left 0 background → IsEntry pattern left s from → has here 0 ≡ has from 0 → ((i : ℕ) → i < length left → has here (i + 1) ≡ (has from (i + 1) || (has background i && has here i))) → IsReached pattern left s here
 wait_reached pattern left s background from here w is before first next zero h =
@@ -123,12 +105,7 @@ abbrev pub IsLaid : List ℕ → List ℕ → ℕ → ℕ → Type 0
 IsLaid pattern left s laid = (i : ℕ) → i ≤ length left → has laid i ≡ (reaches pattern left i s && advances pattern (get_or left i 0) (finishes pattern (drop (i + 1) left)) s)
 
 started : (h r s g x : Bool) → g ≡ (s || x) → (h && g) ≡ (r && g) → (h && s) ≡ (r && s)
-started h r true true x k m = m
-started h r true false x k m = absurd (let z : ⊥ = cc in z)
-started true true false g x k m = refl
-started true false false g x k m = refl
-started false true false g x k m = refl
-started false false false g x k m = refl
+started h r s g x i j = grind (arith, nat_tests)
 
 no_advance : (pattern left : List ℕ) (s i : ℕ) → length left ≤ i → advances pattern (get_or left i 0) (finishes pattern (drop (i + 1) left)) s ≡ false
 no_advance pattern left s i h =
@@ -136,11 +113,7 @@ no_advance pattern left s i h =
     ∙ and-false (nat_lt (s + 1) (length pattern))
 
 same_nothing : (h r s : Bool) → s ≡ false → (h && s) ≡ (r && s)
-same_nothing h r true e = absurd (let z : ⊥ = cc in z)
-same_nothing true true false e = refl
-same_nothing true false false e = refl
-same_nothing false true false e = refl
-same_nothing false false false e = refl
+same_nothing h r s i = grind (arith, nat_tests)
 
 pub laid_at : (pattern left : List ℕ) (s here starts laid : ℕ) → IsReached pattern left s here → IsStart pattern left s starts → ((i : ℕ) → has laid i ≡ (has here i && has starts i)) → IsLaid pattern left s laid
 laid_at pattern left s here starts laid reached begins is i h =
@@ -154,11 +127,7 @@ laid_at pattern left s here starts laid reached begins is i h =
     ])
 
 moved_one : (r l a f : Bool) → l ≡ true → (r && (l && (a && f))) ≡ ((a && r) && f)
-moved_one r false a f h = absurd (let z : ⊥ = cc in z)
-moved_one true true true f h = refl
-moved_one true true false f h = refl
-moved_one false true true f h = refl
-moved_one false true false f h = refl
+moved_one r l a f h = grind (arith, nat_tests)
 
 -- behind each cell of the block the line comes to the state behind that cell
 block_entries : (pattern left : List ℕ) (s len c laid : ℕ) → BlockAt pattern s len c → IsLaid pattern left s laid → (t : ℕ) → t < len → (i : ℕ) → i ≤ length left → moved laid (suc t) i ≡ (enters pattern left i (s + suc t) && finishes pattern (drop i left) (s + suc t))
@@ -191,14 +160,10 @@ block_entries pattern left s len c laid b is (suc t) l (suc i) h =
     ∙ ap (λ r. enters pattern left (suc i) r && finishes pattern (drop (suc i) left) r) (sym y))))))
   where
     onward : (e a f : Bool) → (e && (a && f)) ≡ ((a && e) && f)
-    onward true true f = refl
-    onward true false f = refl
-    onward false true f = refl
-    onward false false f = refl
+    onward e a f = grind (arith, nat_tests)
 
 pub block_entry : (pattern left : List ℕ) (s len c laid ends : ℕ) → BlockAt pattern s len c → IsLaid pattern left s laid → ((i : ℕ) → i ≤ length left → has ends i ≡ moved laid len i) → IsEntry pattern left (s + len) ends
 block_entry pattern left s len c laid ends b is e i h =
-    let p = b.has_cells in
     let z : len ≡ suc (len - 1) = omega arith in
     let y : s + suc (len - 1) ≡ s + len = omega arith in
     e i (omega arith)
@@ -219,17 +184,7 @@ abbrev pub stays : ℕ → ℕ → ℕ → ℕ → Bool
 stays set background later i = has set i && (has background i && has later (i + 1))
 
 gap_seen : (r e a f l w x z y : Bool) → l ≡ true → w ≡ false → r ≡ e → y ≡ z → (r && (((l && (a && f)) && y) || ((w && x) && z))) ≡ (((e && (a && f)) && (a && f)) && z)
-gap_seen r e a f false w x z y h k m n = absurd (let z : ⊥ = cc in z)
-gap_seen r e a f true true x z y h k m n = absurd (let z : ⊥ = cc in z)
-gap_seen true true true true true false x true true h k m n = refl
-gap_seen true true true true true false x false false h k m n = refl
-gap_seen true true true true true false x true false h k m n = absurd (let z : ⊥ = cc in z)
-gap_seen true true true true true false x false true h k m n = absurd (let z : ⊥ = cc in z)
-gap_seen true true true false true false x z y h k m n = refl
-gap_seen true true false f true false x z y h k m n = refl
-gap_seen true false a f true false x z y h k m n = absurd (let z : ⊥ = cc in z)
-gap_seen false true a f true false x z y h k m n = absurd (let z : ⊥ = cc in z)
-gap_seen false false a f true false x z y h k m n = refl
+gap_seen r e a f l w x z y h i j k = grind (arith, nat_tests)
 
 gap_passes : (pattern left : List ℕ) (q background from later i k : ℕ) → GapAt pattern q → IsCellsWith left 0 background → IsEntry pattern left q from → IsBack pattern left (q + 1) later → i < length left → Passes pattern left i q k ≡ (stays from background later i && 0 == k)
 gap_passes pattern left q background from later i k g is before back h =
@@ -248,22 +203,13 @@ gap_passes pattern left q background from later i k g is before back h =
     ∙ ap (λ y. (has from i && (has background i && y)) && 0 == k) (sym (back (i + 1) (omega arith))))))
 
 kept : (h r s b g : Bool) → g ≡ (s || b) → (h && g) ≡ (r && g) → (h && b) ≡ (r && b)
-kept h r true true true k m = m
-kept h r true true false k m = absurd (let z : ⊥ = cc in z)
-kept h r false true true k m = m
-kept h r false true false k m = absurd (let z : ⊥ = cc in z)
-kept true true s false g k m = refl
-kept true false s false g k m = refl
-kept false true s false g k m = refl
-kept false false s false g k m = refl
+kept h r s b g i j = grind (arith, nat_tests)
 
 spread_out : (r s b x z : Bool) → (r && ((s && x) || (b && z))) ≡ (((r && s) && x) || ((r && b) && z))
-spread_out true s b x z = refl
-spread_out false s b x z = refl
+spread_out r s b x z = grind (arith, nat_tests)
 
 wait_seen : (r h s b x z g w : Bool) → w ≡ true → g ≡ (s || (w && b)) → (h && g) ≡ (r && g) → (r && ((s && x) || ((w && b) && z))) ≡ (((r && s) && x) || ((h && b) && z))
-wait_seen r h s b x z g false k l m = absurd (let z : ⊥ = cc in z)
-wait_seen r h s b x z g true k l m = spread_out r s b x z ∙ ap (λ y. ((r && s) && x) || (y && z)) (sym (kept h r s b g l m))
+wait_seen r h s b x z g w i j k = grind (arith, nat_tests)
 
 -- a waiting state, whose next cell is of colour c
 wait_passes : (pattern left : List ℕ) (s background here laid later i k : ℕ) → waits pattern s ≡ true → IsCellsWith left 0 background → IsReached pattern left s here → IsLaid pattern left s laid → IsBack pattern left s later → i < length left → Passes pattern left i s k ≡ ((has laid i && get_or pattern (s + 1) 0 == k) || (stays here background later i && 0 == k))
@@ -278,19 +224,10 @@ wait_passes pattern left s background here laid later i k w is reached lies back
     ∙ ap (λ y. (has laid i && x) || ((has here i && (has background i && y)) && 0 == k)) (sym (back (i + 1) (omega arith)))))
 
 inside_seen : (r e a f l w x y z : Bool) → l ≡ true → w ≡ false → r ≡ e → (r && (((l && (a && f)) && y) || ((w && x) && z))) ≡ ((e && (a && f)) && y)
-inside_seen r e a f false w x y z h k m = absurd (let z : ⊥ = cc in z)
-inside_seen r e a f true true x y z h k m = absurd (let z : ⊥ = cc in z)
-inside_seen true false a f true false x y z h k m = absurd (let z : ⊥ = cc in z)
-inside_seen false true a f true false x y z h k m = absurd (let z : ⊥ = cc in z)
-inside_seen false false a f true false x y z h k m = refl
-inside_seen true true true true true false x true z h k m = refl
-inside_seen true true true true true false x false z h k m = refl
-inside_seen true true true false true false x y z h k m = refl
-inside_seen true true false f true false x y z h k m = refl
+inside_seen r e a f l w x y z h i j = grind (arith, nat_tests)
 
 inside_passes : (pattern left : List ℕ) (s len c laid t i k : ℕ) → BlockAt pattern s len c → IsLaid pattern left s laid → suc t < len → i < length left → Passes pattern left i (s + suc t) k ≡ (moved laid (suc t) i && c == k)
 inside_passes pattern left s len c laid t i k b lies l h =
-    let g = b.within in
     let q = s + suc t in
     let w = inside_waits_not pattern s len c t b l in
     let a = allows (get_or left i 0) (get_or pattern (q + 1) 0) in
@@ -307,23 +244,10 @@ inside_passes pattern left s len c laid t i k b lies l h =
 -- ---- all states of a block
 
 first_cell : (p l x b z : Bool) → (p || ((l && x) || (b && z))) ≡ ((p || (b && z)) || ((false || l) && x))
-first_cell true l x b z = refl
-first_cell false true true true true = refl
-first_cell false true true true false = refl
-first_cell false true true false z = refl
-first_cell false true false true true = refl
-first_cell false true false true false = refl
-first_cell false true false false z = refl
-first_cell false false x true true = refl
-first_cell false false x true false = refl
-first_cell false false x false z = refl
+first_cell p l x b z = grind (arith, nat_tests)
 
 one_cell : (b c m x : Bool) → ((b || (c && x)) || (m && x)) ≡ (b || ((c || m) && x))
-one_cell true c m x = refl
-one_cell false true m true = refl
-one_cell false true true false = refl
-one_cell false true false false = refl
-one_cell false false m x = refl
+one_cell b c m x = grind (arith, nat_tests)
 
 block_below : (pattern left : List ℕ) (s len c background here laid later i k : ℕ) → BlockAt pattern s len c → IsCellsWith left 0 background → IsReached pattern left s here → IsLaid pattern left s laid → IsBack pattern left s later → i < length left → (t : ℕ) → t < len → Below pattern left i (s + suc t) k ≡ ((Below pattern left i s k || (stays here background later i && 0 == k)) || (covers laid (suc t) i && c == k))
 block_below pattern left s len c background here laid later i k b is reached lies back h zero l =
@@ -372,18 +296,10 @@ filled_has n background entered here (suc i) f h =
     ap (λ x. has entered (suc i) || x) e ∙ (same (has entered (suc i)) (has background i && has here i) ∙ sym e)
   where
     same : (a b : Bool) → (a || (a || b)) ≡ (a || b)
-    same true b = refl
-    same false b = refl
+    same a b = grind (arith, nat_tests)
 
 gap_and_wait : (o f h b z : Bool) → ((o || ((f && b) && z)) || ((h && b) && z)) ≡ (o || (((f || h) && b) && z))
-gap_and_wait true f h b z = refl
-gap_and_wait false true true true true = refl
-gap_and_wait false true false true true = refl
-gap_and_wait false true true true false = refl
-gap_and_wait false true false true false = refl
-gap_and_wait false true true false z = refl
-gap_and_wait false true false false z = refl
-gap_and_wait false false h b z = refl
+gap_and_wait o f h b z = grind (arith, nat_tests)
 
 background_below : (pattern left : List ℕ) (q len c background from entered here later i k : ℕ) (m : Bool) → PieceAt pattern q m len c → IsCellsWith left 0 background → IsEntry pattern left q from → Entered (length left) m background from entered → Filled (length left) background entered here → IsBack pattern left (q + gap_before m) later → i < length left → (Below pattern left i (q + gap_before m) k || (stays here background later i && 0 == k)) ≡ (Below pattern left i q k || (((has from i || has here i) && (has background i && has later (i + 1))) && 0 == k))
 background_below pattern left q len c background from entered here later i k true p is before e f back h =
@@ -416,7 +332,6 @@ behind_block pattern left q len c background from entered here starts later cell
     let entry = gap_entered pattern left q len c background from entered m p is before.entry e in
     let reached = wait_reached pattern left s background entered here (waits_for_block pattern s len c b) is entry f.first f.on in
     let lies = laid_at pattern left s here starts laid reached begins (λ i. has_and here starts i) in
-    let y = b.has_cells in
     record {
       entry = block_entry pattern left s len c laid ends b lies ended;
       seen_is = λ i k h.
@@ -437,9 +352,7 @@ behind_block pattern left q len c background from entered here starts later cell
 -- ---- behind the last block
 
 end_seen : (r h s b x z : Bool) → s ≡ false → (h && b) ≡ (r && b) → (r && ((s && x) || (b && z))) ≡ ((h && b) && z)
-end_seen r h true b x z k m = absurd (let z : ⊥ = cc in z)
-end_seen true h false b x z k m = ap (λ y. y && z) (sym m)
-end_seen false h false b x z k m = ap (λ y. y && z) (sym m)
+end_seen r h s b x z i j = grind (arith, nat_tests)
 
 pub behind_all : (pattern left : List ℕ) (q background from here later : ℕ) (old new : List ℕ) → q + 1 ≡ length pattern → IsCellsWith left 0 background → IsBack pattern left q later → Behind pattern left q from old → Filled (length left) background from here → ((i k : ℕ) → has (get_or new k 0) i ≡ (has (get_or old k 0) i || (has (bit_and here (bit_and background (later / 2))) i && 0 == k))) → HasSeen pattern left new (length pattern)
 behind_all pattern left q background from here later old new e is back before f news i k h =

@@ -1,7 +1,8 @@
 -- Sets of positions as masks: what is in them after `&`, `|`, shifts and additions.
-use Rattle.std.proofs.Common.{◌≡◌, ℕ, zero, suc, ◌+◌, ◌*◌, ◌/◌, ◌%◌, ◌^◌, ◌<◌, ◌≤◌, Bool, true, false, ◌==◌, ◌&&◌, ◌||◌, bit_and, bit_or, bit_xor, refl, sym, ap, subst, ◌∙◌, arith, inl, inr, eq-eqb, ne_eqb, max, min, set}
+use Rattle.std.proofs.Common.{◌≡◌, ℕ, zero, suc, ◌+◌, ◌*◌, ◌/◌, ◌%◌, ◌^◌, ◌<◌, ◌≤◌, Bool, true, false, ◌==◌, ◌&&◌, ◌||◌, bit_and, bit_or, bit_xor, refl, sym, ap, subst, ◌∙◌, arith, inl, inr, eq-eqb, ne_eqb, max, min, add-one}
+use Rattle.std.proofs.lemmas.Bool.Decides.{nat_tests}
 use Rattle.std.specs.Int.{bit_at}
-use Rattle.std.proofs.Math.Bool.{and_comm}
+use Rattle.std.proofs.Math.Bool.{and-false, and-true, and_assoc, and_comm, or-false}
 use Rattle.std.proofs.lemmas.Bool.{cases_eq}
 use Rattle.std.proofs.Math.Nat.{pow-succ', div-div-eq-div-mul, div-add-mod, mul_comm}
 use Rattle.std.proofs.lemmas.Nat.Bits.{shr_and_one, bit_at_lowest, bit_at-suc, bit_at_and, bit_at_or, bit_at_xor, bit_at-lt, bit_at-zero, bit_at_above, bit_at-pow_same, bit_at-pow_other, bit_at_cat_low}
@@ -12,13 +13,7 @@ use Rattle.line_settle.proofs.BitLemmas.{max_is_one}
 -- ---- numbers below 2 as tests
 
 min_is_one : (a b : ℕ) → a < 2 → b < 2 → (min a b == 1) ≡ ((a == 1) && (b == 1))
-min_is_one zero zero h i = refl
-min_is_one zero (suc zero) h i = refl
-min_is_one (suc zero) zero h i = refl
-min_is_one (suc zero) (suc zero) h i = refl
-min_is_one (suc (suc a)) b h i = absurd (omega arith)
-min_is_one zero (suc (suc b)) h i = absurd (omega arith)
-min_is_one (suc zero) (suc (suc b)) h i = absurd (omega arith)
+min_is_one a b h i = grind (arith, nat_tests)
 
 -- ---- sets
 
@@ -171,9 +166,7 @@ risen_suc w from run i h =
     ∙ ap (λ y. (bit_at from (suc i) == 1) || y) (min_is_one (bit_at run i) x p q))
 
 pub risen_on : (w from run i : ℕ) → i + 1 < w → has (risen w from run) (i + 1) ≡ (has from (i + 1) || (has run i && has (risen w from run) i))
-risen_on w from run i h =
-    let P : ℕ → Type 0 = λ n. has (risen w from run) n ≡ (has from n || (has run i && has (risen w from run) i)) in
-    subst P (let e : suc i ≡ i + 1 = omega arith in e) (risen_suc w from run i h)
+risen_on w from run i h = rw add-one (risen_suc w from run i h)
 
 -- ---- what reaches a set over fewer than n cells
 
@@ -182,13 +175,7 @@ fills f r zero i = false
 fills f r (suc n) i = f i || (r i && fills f r n (i + 1))
 
 spread : (f r a l b : Bool) → (f || (r && (a || (l && b)))) ≡ ((f || (r && a)) || ((r && l) && b))
-spread true r a l b = refl
-spread false true a l b = refl
-spread false false a l b = refl
-
-joined : (f r a b : Bool) → ((r && a) && b) ≡ (r && (a && b))
-joined f true a b = refl
-joined f false a b = refl
+spread f r a l b = grind (arith, nat_tests)
 
 apart : (i n : ℕ) → i + 1 + n ≡ i + suc n
 apart i n = omega arith
@@ -197,66 +184,37 @@ pub fills_more : (f r : ℕ → Bool) (a b i : ℕ) → fills f r (a + b) i ≡ 
 fills_more f r zero b i = ap (λ n. fills f r n i) (let e : zero + b ≡ b = omega arith in e) ∙ ap (λ n. fills f r b n) (let e : i ≡ i + zero = omega arith in e)
 fills_more f r (suc a) b i =
     let e : suc a + b ≡ suc (a + b) = omega arith in
-    ap (λ n. fills f r n i) e
-    ∙ (ap (λ x. f i || (r i && x)) (fills_more f r a b (i + 1))
-    ∙ (ap (λ n. f i || (r i && (fills f r a (i + 1) || (spans r a (i + 1) && fills f r b n)))) (apart i a)
-    ∙ spread (f i) (r i) (fills f r a (i + 1)) (spans r a (i + 1)) (fills f r b (i + suc a))))
+    rw (e, fills_more f r a b (i + 1), apart i a) (spread (f i) (r i) (fills f r a (i + 1)) (spans r a (i + 1)) (fills f r b (i + suc a)))
 
 pub spans_more : (r : ℕ → Bool) (a b i : ℕ) → spans r (a + b) i ≡ (spans r a i && spans r b (i + a))
 spans_more r zero b i = ap (λ n. spans r n i) (let e : zero + b ≡ b = omega arith in e) ∙ ap (λ n. spans r b n) (let e : i ≡ i + zero = omega arith in e)
 spans_more r (suc a) b i =
     let e : suc a + b ≡ suc (a + b) = omega arith in
-    ap (λ n. spans r n i) e
-    ∙ (ap (λ x. r i && x) (spans_more r a b (i + 1))
-    ∙ (ap (λ n. r i && (spans r a (i + 1) && spans r b n)) (apart i a)
-    ∙ sym (joined true (r i) (spans r a (i + 1)) (spans r b (i + suc a)))))
-
-no_more : (r : Bool) → (r && false) ≡ false
-no_more true = refl
-no_more false = refl
+    rw (e, spans_more r a b (i + 1), apart i a) (sym (and_assoc (r i) (spans r a (i + 1)) (spans r b (i + suc a))))
 
 -- where nothing lies from w on, w cells are enough
 fills_enough : (f r : ℕ → Bool) (w : ℕ) → ((j : ℕ) → w ≤ j → f j ≡ false) → (n i : ℕ) → w ≤ i + n → fills f r (suc n) i ≡ fills f r n i
-fills_enough f r w past zero i h = ap (λ x. x || (r i && false)) (past i (omega arith)) ∙ no_more (r i)
-fills_enough f r w past (suc n) i h = ap (λ x. f i || (r i && x)) (fills_enough f r w past n (i + 1) (omega arith))
+fills_enough f r w past zero i h = rw (past i (omega arith), and-false) refl
+fills_enough f r w past (suc n) i h = rw (fills_enough f r w past n (i + 1) (omega arith)) refl
 
 pub filled : (w set run all n i : ℕ) → set < 2 ^ w → w ≤ n → ((j : ℕ) → has all j ≡ fills (has set) (has run) n j) → has all i ≡ (has set i || (has run i && has all (i + 1)))
 filled w set run all n i h l is =
     let past = λ (j : ℕ) (m : w ≤ j). has_above w set j h m in
-    is i
-    ∙ (sym (fills_enough (has set) (has run) w past n i (omega arith))
-    ∙ ap (λ x. has set i || (has run i && x)) (sym (is (i + 1))))
-
-or_nowhere : (a b : Bool) → (a || (false && b)) ≡ a
-or_nowhere true b = refl
-or_nowhere false b = refl
+    rw (is i, is (i + 1)) (sym (fills_enough (has set) (has run) w past n i (omega arith)))
 
 -- where no n cells in a row are in the run, what reaches the set over fewer is all that does
 pub filled_short : (set run all runs n i : ℕ) → runs ≡ 0 → ((j : ℕ) → has runs j ≡ spans (has run) n j) → ((j : ℕ) → has all j ≡ fills (has set) (has run) n j) → has all i ≡ (has set i || (has run i && has all (i + 1)))
 filled_short set run all runs n i none spanned is =
     let e : suc n ≡ n + 1 = omega arith in
     let no_span : spans (has run) n i ≡ false = sym (spanned i) ∙ (ap (λ m. has m i) none ∙ has_none i) in
-    let more : fills (has set) (has run) (suc n) i ≡ fills (has set) (has run) n i =
-    ap (λ m. fills (has set) (has run) m i) e
-    ∙ (fills_more (has set) (has run) n 1 i
-    ∙ (ap (λ s. fills (has set) (has run) n i || (s && fills (has set) (has run) 1 (i + n))) no_span
-    ∙ or_nowhere (fills (has set) (has run) n i) (fills (has set) (has run) 1 (i + n)))) in
-    is i ∙ (sym more ∙ ap (λ x. has set i || (has run i && x)) (sym (is (i + 1))))
-
-nothing_more : (f r : Bool) → f ≡ (f || (r && false))
-nothing_more true r = refl
-nothing_more false true = refl
-nothing_more false false = refl
-
-pub all_true : (r : Bool) → r ≡ (r && true)
-all_true true = refl
-all_true false = refl
+    let more : fills (has set) (has run) (suc n) i ≡ fills (has set) (has run) n i = ap (λ m. fills (has set) (has run) m i) e ∙ (rw (fills_more (has set) (has run) n 1 i, no_span) (or-false _)) in
+    rw (is i, is (i + 1)) (sym more)
 
 pub fills_one : (set run i : ℕ) → has set i ≡ fills (has set) (has run) 1 i
-fills_one set run i = nothing_more (has set i) (has run i)
+fills_one set run i = sym (rw (and-false, or-false) refl)
 
 pub spans_one : (run i : ℕ) → has run i ≡ spans (has run) 1 i
-spans_one run i = all_true (has run i)
+spans_one run i = sym (and-true (has run i))
 
 pub fills_twice : (set run all runs s i : ℕ) → ((j : ℕ) → has all j ≡ fills (has set) (has run) s j) → ((j : ℕ) → has runs j ≡ spans (has run) s j) → has (bit_or all (bit_and (all / 2 ^ s) runs)) i ≡ fills (has set) (has run) (s + s) i
 fills_twice set run all runs s i f g =
@@ -268,13 +226,7 @@ spans_twice run runs s i g = rw (has_and, has_down, g i, g (i + s)) (sym (spans_
 -- ---- the next position
 
 pub up_next : (w a j : ℕ) → j + 1 < w → has (a * 2 % 2 ^ w) (j + 1) ≡ has a j
-up_next w a j h =
-    let P : ℕ → Type 0 = λ n. has (a * 2 % 2 ^ w) n ≡ has a j in
-    subst P (let e : suc j ≡ j + 1 = omega arith in e) (moved_up w a j h)
-
-pub false_behind : (b : Bool) → (b || false) ≡ b
-false_behind true = refl
-false_behind false = refl
+up_next w a j h = rw add-one (moved_up w a j h)
 
 -- the lowest bit as it is tested
 pub lowest : (a : ℕ) → (bit_and a 1 == 1) ≡ has a 0

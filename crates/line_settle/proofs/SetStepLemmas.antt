@@ -1,5 +1,6 @@
 -- Sets of cells by colour, as the program makes them and writes them out.
 use Rattle.std.proofs.Common.{◌≡◌, ℕ, ◌+◌, ◌*◌, ◌%◌, ◌^◌, ◌<◌, ◌≤◌, Bool, true, false, List, ◌==◌, ◌&&◌, ◌||◌, nat_lt, bit_or, refl, sym, ap, subst, ◌∙◌, arith, inl, inr, eq-eqb, ne_eqb, eqb-true, length, get_or}
+use Rattle.std.proofs.lemmas.Bool.Decides.{nat_tests}
 use Rattle.std.proofs.Math.Bool.{and-false, and-true, or-false}
 use Rattle.std.proofs.Math.ListN.{set}
 use Rattle.std.proofs.lemmas.Bool.{cases_eq, cases_lt, lt-ltb, le-ltb, or_cases, or_left, or_right, false≢true}
@@ -43,23 +44,19 @@ seen_at seen colour n places i k e h = elim (cases_eq k colour) [
 ]
 
 -- one colour more is written, or none where its set is empty
-pub written_more : (sets : List ℕ) (k places i j : ℕ) → places ≡ get_or sets k 0 → ((nat_lt j k && has (get_or sets j 0) i) || (has places i && k == j)) ≡ (nat_lt j (k + 1) && has (get_or sets j 0) i)
-written_more sets k places i j e = elim (cases_lt j k) [
-  | inl low ↦ rw (lt-ltb j k low, lt-ltb j (k + 1) (omega arith), ne_eqb k j (λ z. absurd (omega arith)), and-false, or-false) refl
-  | inr high ↦ elim (cases_eq k j) [
-    | inl same ↦ rw (le-ltb j k high, lt-ltb j (k + 1) (omega arith), eq-eqb k j same, e, same, and-true) refl
-    | inr other ↦ rw (le-ltb j k high, le-ltb j (k + 1) (omega arith), ne_eqb k j other, and-false) refl
-  ]
-]
+pub written_more : (sets : List ℕ) (k places i j : ℕ) (y : Bool) → places ≡ get_or sets k 0 → (((nat_lt j k && has (get_or sets j 0) i) || y) || (has places i && k == j)) ≡ ((nat_lt j (k + 1) && has (get_or sets j 0) i) || y)
+written_more sets k places i j y e = grind (arith, nat_tests)
 
-pub written_none : (sets : List ℕ) (k places i j : ℕ) → places ≡ get_or sets k 0 → places ≡ 0 → (nat_lt j k && has (get_or sets j 0) i) ≡ (nat_lt j (k + 1) && has (get_or sets j 0) i)
-written_none sets k places i j e none =
-    let nothing : (has places i && k == j) ≡ false = rw (none, has_none) refl in
-    sym (rw (nothing, or-false) at (sym (written_more sets k places i j e)))
+pub written_none : (sets : List ℕ) (k places i j : ℕ) (y : Bool) → places ≡ get_or sets k 0 → places ≡ 0 → ((nat_lt j k && has (get_or sets j 0) i) || y) ≡ ((nat_lt j (k + 1) && has (get_or sets j 0) i) || y)
+written_none sets k places i j y e none =
+    let nothing : has (get_or sets k 0) i ≡ false = rw (← e, none) (has_none i) in
+    grind (arith, nat_tests)
 
 -- what lies behind the last colour was never seen
-pub all_written : (seen : List ℕ) (n i k : ℕ) → length seen ≤ n → (nat_lt k n && has (get_or seen k 0) i) ≡ has (get_or seen k 0) i
-all_written seen n i k l = elim (cases_lt k n) [
-  | inl b ↦ rw (lt-ltb k n b) refl
-  | inr b ↦ rw (le-ltb k n b, get_or_past seen k 0 (omega arith), has_none) refl
+pub all_written : (sets : List ℕ) (last i k : ℕ) → last + 1 ≡ length sets → ((nat_lt k last && has (get_or sets k 0) i) || (has (get_or sets last 0) i && last == k)) ≡ has (get_or sets k 0) i
+all_written sets last i k l = elim (cases_lt k (length sets)) [
+  | inl b ↦ grind (arith, nat_tests)
+  | inr b ↦
+      let nothing : has (get_or sets k 0) i ≡ false = rw (get_or_past sets k 0 b) (has_none i) in
+      rw nothing (rw (le-ltb k last (omega arith), ne_eqb last k (λ e. absurd (omega arith)), and-false) refl)
 ]

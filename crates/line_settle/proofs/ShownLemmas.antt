@@ -5,7 +5,7 @@ use Rattle.std.specs.List.{All}
 use Rattle.std.proofs.Math.ListN.{get_or-eq_default}
 use Rattle.std.proofs.lemmas.Bool.{cases_eq, cases_lt}
 use Rattle.std.proofs.lemmas.Nat.{pow_pos}
-use Rattle.std.proofs.lemmas.List.{length-map, length-replicate, get_or-map, drop_all}
+use Rattle.std.proofs.lemmas.List.{length-map, length-replicate, get_or-map, get_or-replicate, drop_all}
 use Rattle.std.proofs.lemmas.List.Elements.{All-get_or, All-from_get_or}
 use Rattle.std.proofs.lemmas.Grind.{same_number_lists}
 use Rattle.clues.specs.declared.block.Block.{Block}
@@ -129,11 +129,6 @@ only_background (zero ∷ rest) zero e = refl
 only_background (zero ∷ rest) (suc i) e = only_background rest i e
 only_background (suc x ∷ rest) i e = absurd (no_block (suc x) rest (λ z. absurd (omega arith)) e)
 
-same_at : (n x i : ℕ) → i < n → get_or {A = ℕ} (replicate n x) i 0 ≡ x
-same_at zero x i h = absurd (omega arith)
-same_at (suc n) x zero h = refl
-same_at (suc n) x (suc i) h = same_at n x i (omega arith)
-
 background_fits : (left : List ℕ) → All (λ mask. IsTrue (allows mask 0)) left → Fits [] left (replicate (length left) 0)
 background_fits left b = record {
   same_length = length-replicate (length left) 0;
@@ -145,7 +140,7 @@ blank_have : (left : List ℕ) (i k : ℕ) → All (λ mask. IsTrue (allows mask
 blank_have left i k b s =
     let l = within (replicate (length left) 1) i k s in
     let h : i < length left = omega (arith, length-replicate {A = ℕ} (length left) 1) in
-    let z : k ≡ 0 = (power_has 0 k).0 (let P : ℕ → Type 0 = λ m. IsBitSet m k in subst P (same_at (length left) 1 i h) s) in
+    let z : k ≡ 0 = (power_has 0 k).0 (let P : ℕ → Type 0 = λ m. IsBitSet m k in subst P (get_or-replicate (length left) i 1 0 h) s) in
     record {
       line = replicate (length left) 0;
       fits = background_fits left b;
@@ -157,7 +152,7 @@ have_blank : (left : List ℕ) (i k : ℕ) → CanHave [] left i k → IsBitSet 
 have_blank left i k h =
     let z : k ≡ 0 = sym h.has ∙ only_background h.line i h.fits.has_clue in
     let P : ℕ → Type 0 = λ m. IsBitSet m k in
-    subst P (sym (same_at (length left) 1 i h.within)) ((power_has 0 k).1 z)
+    subst P (sym (get_or-replicate (length left) i 1 0 h.within)) ((power_has 0 k).1 z)
 
 pub blank_narrows : (left : List ℕ) → All (λ mask. IsTrue (allows mask 0)) left → Narrows [] left Narrowed (replicate (length left) 1)
 blank_narrows left b = record {

@@ -103,7 +103,6 @@ moved_into w pattern mask before moves from q wide by is h = elim (in_or (bit_an
 into_moved : (w : ℕ) (pattern : List ℕ) (mask : ℕ) (before : ℕ → Bool) (moves : MoveSets) (from q : ℕ) → 0 < w → MovesBy w pattern mask moves → AreStates pattern before from → q < length pattern → reach_step pattern mask before q ≡ true → has (bit_or (bit_and from moves.advancing * 2 % 2 ^ w) (bit_and from moves.resting)) q ≡ true
 into_moved w pattern mask before moves from q wide by is h t =
     let r = reached_by_step pattern mask before q h t in
-    let few = by.short in
     elim r.step [
       | inl a ↦
           let s = (is.each r.from).1 ((let l = a.0 in omega arith), r.was) in
@@ -272,7 +271,6 @@ pub all_moves : (w : ℕ) (pattern : List ℕ) (sets : StateSets) (mask : ℕ) �
 all_moves w pattern sets mask are e =
     let P : ℕ → Type 0 = λ m. (k : ℕ) → allows m k ≡ true → allows mask k ≡ true in
     let each : P sets.colours = subst P e (λ k a. (allowed_both mask sets.colours k a).0) in
-    let l = are.is_end in
     record {
       short = are.short;
       advancing = λ q. (
@@ -347,8 +345,6 @@ piece_waits pattern q len colour s e m p is to t h l w = elim (cases_lt t s) [
 
 pub waiting_more : (pattern : List ℕ) (q len colour s e waiting one : ℕ) (m : Bool) → PieceAt pattern q m len colour → s ≡ q + gap_before m → e ≡ s + len → ((t : ℕ) → has one t ≡ (t == s)) → AreWaiting pattern q waiting → AreWaiting pattern e (bit_or waiting one)
 waiting_more pattern q len colour s e waiting one m p is to place are =
-    let in_pattern = p.block_is.within in
-    let some = p.block_is.has_cells in
     let here : waits pattern s ≡ true = ap (waits pattern) is ∙ waits_for_block pattern (q + gap_before m) len colour p.block_is in
     λ t. (
       (λ h. elim (in_or waiting one t h) [

@@ -5,7 +5,7 @@ use Rattle.std.proofs.Math.ListN.{set, drop_of_length-le}
 use Rattle.std.proofs.Math.Seq.{drop-length}
 use Rattle.std.specs.Int.Bits.{and_zero_r, or_zero_r}
 use Rattle.std.proofs.lemmas.Bool.{cases_eq, cases_lt, or_cases, or_left, or_right, false≢true, eqb-true, eqb-false, not-true, not_from_false}
-use Rattle.std.proofs.lemmas.List.{length-set, length-replicate, get_or-set_same, get_or-set_other, get_or-drop, drop-set-lt}
+use Rattle.std.proofs.lemmas.List.{length-set, length-replicate, get_or-set_same, get_or-set_other, get_or-drop, get_or-replicate, drop-set-lt}
 use Rattle.std.proofs.lemmas.List.Elements.{All-get_or}
 use Rattle.clues.specs.declared.block.Block.{Block}
 use Rattle.clues.specs.Clue.{IsClue}
@@ -84,9 +84,6 @@ some_shared a b n =
 shared_some : (a b : ℕ) → Shares a b → bit_and a b ≢ 0
 shared_some a b s e = in_none s.0 (let P : ℕ → Type 0 = λ n. has n s.0 ≡ true in subst P e (and_in a b s.0 s.1 s.2))
 
-or_none : (a b : ℕ) → bit_or a b ≡ 0 → (q : ℕ) → has a q ≡ true → ⊥
-or_none a b e q h = in_none q (let P : ℕ → Type 0 = λ n. has n q ≡ true in subst P e (left_in a b q h))
-
 pub either_shares : (a b c d : ℕ) → (bit_or (bit_and a b) (bit_and c d) ≢ 0) ↔ (Shares a b ⊎ Shares c d)
 either_shares a b c d = (
   (λ n. elim (cases_eq (bit_and a b) 0) [
@@ -116,7 +113,6 @@ pub at_end : (w : ℕ) (pattern left drawn : List ℕ) (sets : StateSets) (n : �
 at_end w pattern left drawn sets n e are =
     let d : drop n left ≡ [] = ap (λ k. drop k left) e ∙ drop-length left in
     let P : List ℕ → Type 0 = λ ms. AreReached pattern (finishes pattern ms) (finishes_marked pattern ms (drop n drawn)) (record { all = sets.last; marked = 0 }) in
-    let l = are.is_end in
     subst P (sym d) (record {
       all_are = record {
         each = λ q. (
@@ -160,7 +156,6 @@ noted_more pattern left drawn plain marked i later l m r before j h k = elim (ca
 
 pub at_first : (w : ℕ) (pattern left drawn : List ℕ) (sets : StateSets) → ArePatternSets w pattern sets → AreReached pattern (reaches pattern left 0) (reaches_marked pattern left drawn 0) (record { all = 1; marked = 0 })
 at_first w pattern left drawn sets are =
-    let l = are.is_end in
     record {
       all_are = record {
         each = λ q. (
@@ -316,7 +311,6 @@ step_kept w sets drawn plain marked old left from on next i l e t ons nexts shar
   so_far = λ pattern are tables none.
       let s = t.so_far pattern are tables none in
       let n = s.same_length in
-      let p = are.is_end in
       swept_kept pattern drawn old left i s
       ((test_marked pattern old left drawn plain marked i on (omega arith) l e (drop_more left old i n s.behind) (tables i (omega arith)) (ons pattern are)).0 shares);
 }
@@ -334,7 +328,6 @@ step_out w sets drawn plain marked old left from on i l e t ons none_shared = re
   so_far = λ pattern are tables none.
       let s = t.so_far pattern are tables none in
       let n = s.same_length in
-      let p = are.is_end in
       swept_out pattern drawn old left i (omega arith) l t.small s
       (λ m. none_shared ((test_marked pattern old left drawn plain marked i on (omega arith) l e (drop_more left old i n s.behind) (tables i (omega arith)) (ons pattern are)).1 m));
 }
@@ -479,7 +472,6 @@ last_kept w sets drawn plain marked old left from on next i l e none t ons nexts
   so_far = λ pattern are tables unmarked_old.
       let s = t.so_far pattern are tables unmarked_old in
       let n = s.same_length in
-      let p = are.is_end in
       swept_kept pattern drawn old left i s
       ((test_last pattern old left drawn plain marked i on (omega arith) l e (drop_more left old i n s.behind) none (tables i (omega arith)) (ons pattern are)).0 shares);
 }
@@ -491,7 +483,6 @@ last_out w sets drawn plain marked old left from on i l e none t ons none_shared
   so_far = λ pattern are tables unmarked_old.
       let s = t.so_far pattern are tables unmarked_old in
       let n = s.same_length in
-      let p = are.is_end in
       swept_out pattern drawn old left i (omega arith) l t.small s
       (λ m. none_shared ((test_last pattern old left drawn plain marked i on (omega arith) l e (drop_more left old i n s.behind) none (tables i (omega arith)) (ons pattern are)).1 m));
 }
@@ -515,11 +506,6 @@ leaves_out clue drawn old new b f swept =
       needed = λ i l n. marked_misses clue (set new i 65535) drawn b (s.needed i l n);
     }
 
-full_at : (n i : ℕ) → i < n → get_or {A = ℕ} (replicate n 65535) i 0 ≡ 65535
-full_at zero i h = absurd (omega arith)
-full_at (suc n) zero h = refl
-full_at (suc n) (suc i) h = full_at n i (omega arith)
-
 -- a line without room for the blocks forces everything
 -- where all sixteen colours are left everywhere, nothing can be left out
 pub leaves_open : (clue : List Block) (drawn left : List ℕ) → ForcesAll clue left drawn → All (λ (mask : ℕ). mask ≡ all_sixteen) left → LeavesOut clue drawn left left
@@ -533,7 +519,7 @@ leaves_open clue drawn left forced full = record {
 pub leaves_all : (clue : List Block) (drawn old new : List ℕ) → IsClue clue → new ≡ replicate (length old) 65535 → length old + 1 < length (pattern_of clue) → LeavesOut clue drawn old new
 leaves_all clue drawn old new b e l =
     let n : length new ≡ length old = ap length e ∙ length-replicate (length old) 65535 in
-    let full : (i : ℕ) → i < length old → get_or new i 0 ≡ 65535 = λ i h. ap (λ m. get_or m i 0) e ∙ full_at (length old) i h in
+    let full : (i : ℕ) → i < length old → get_or new i 0 ≡ 65535 = λ i h. ap (λ m. get_or m i 0) e ∙ get_or-replicate (length old) i 65535 0 h in
     record {
       same_length = n;
       each = λ i h. inr (full i h);

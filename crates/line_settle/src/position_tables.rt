@@ -151,8 +151,9 @@ pub fn write_colours<W: Word>(seen: &[W], out: &mut [u16])
     ensures { (i k : ℕ) → i < length out.old
         → allows (slice_index out.new i) k ≡ has (slice_index (map W.bits seen.now) k) i }
 {
-    colour_line(seen[0], 0, false, out);
-    for k in 1..seen.len() {
+    let last = seen.len() - 1;
+    colour_line(seen[last], last as u8, false, out);
+    for k in 0..last {
         let set = seen[k];
         if !set.is_none() {
             colour_line(set, k as u8, true, out);

@@ -6,7 +6,5 @@ pub returns : goal.returns
 returns g c = λ none.
     let pattern = pattern_of c.args.blocks.now in
     let are = c.of-sets.ensures.sets in
-    let first = c.sweep_first-first.auto.left in
-    let drawn = c.sweep_drawn-before.auto.left in
     let long : length c.args.left.now ≡ length c.sweep_drawn-before.new.left = omega arith in
     rw long (c.sweep_last.ensures c.args.left.now (c.sweep_drawn-before.ensures c.args.left.now c.sweep_first-first.ensures.swept) pattern are (c.note_behind-end.ensures.noted pattern are) none)

@@ -17,25 +17,21 @@ loop-j-init g c = record {
 pub start_behind-start-requires : goal.start_behind-start-requires
 start_behind-start-requires g c =
     let piece = piece_here c.args.blocks.now c.loop-j.j c.loop-j.state c.meets.result c.requires.blocks_of_clue (omega arith) c.loop-j.invariant.state_is c.meets.ensures in
-    let room = piece.block_is.within in
     omega (arith, g.met.W.Word.narrow)
 
 pub overflow_add-end : goal.overflow_add-end
 overflow_add-end g c =
     let piece = piece_here c.args.blocks.now c.loop-j.j c.loop-j.state c.meets.result c.requires.blocks_of_clue (omega arith) c.loop-j.invariant.state_is c.meets.ensures in
-    let room = piece.block_is.within in
     omega (arith, g.met.W.Word.narrow)
 
 pub see_run-requires-clause-few : goal.see_run-requires-clause-few
 see_run-requires-clause-few g c =
     let piece = piece_here c.args.blocks.now c.loop-j.j c.loop-j.state c.meets.result c.requires.blocks_of_clue (omega arith) c.loop-j.invariant.state_is c.meets.ensures in
-    let room = piece.block_is.within in
     omega (arith, g.met.W.Word.narrow)
 
 pub see_run-requires-in-loop-j-clause-few : goal.see_run-requires-in-loop-j-clause-few
 see_run-requires-in-loop-j-clause-few g c =
     let piece = piece_here c.args.blocks.now c.loop-j.j c.loop-j.state c.meets.result c.requires.blocks_of_clue (omega arith) c.loop-j.invariant.state_is c.meets.ensures in
-    let room = piece.block_is.within in
     omega (arith, g.met.W.Word.narrow)
 
 pub loop-j-preserved : goal.loop-j-preserved
@@ -89,7 +85,6 @@ returns-clause-sets g c =
 pub place-requires : goal.place-requires
 place-requires g c =
     let piece = piece_here c.args.blocks.now c.loop-j.j c.loop-j.state c.meets.result c.requires.blocks_of_clue (omega arith) c.loop-j.invariant.state_is c.meets.ensures in
-    let room = piece.block_is.within in
     omega arith
 
 pub place-last-requires : goal.place-last-requires

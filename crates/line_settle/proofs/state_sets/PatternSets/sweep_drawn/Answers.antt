@@ -45,6 +45,5 @@ loop-i-preserved g c =
 pub returns : goal.returns
 returns g c = λ old start.
     let swept = c.loop-i.invariant.swept old start in
-    let inside = c.requires.inside in
     let at : c.args.behind.now.end ≡ c.loop-i.i = (let a = c.loop-i.auto.i-end (omega arith) in omega arith) in
     rw at (record { small = swept.small; from_is = λ pattern are. (swept.from_is pattern are).marked_are; so_far = swept.so_far })

@@ -20,10 +20,8 @@ loop-place-preserved g c =
     let left = c.loop-place.left in
     let i = c.loop-place.place in
     let on = bits c.forward-on.result in
-    let long = c.loop-place.auto.left in
     let inside : i < length left = omega arith in
     let same : length drawn ≡ length left = omega arith in
-    let behind_end : c.args.behind.now.end ≤ i = c.loop-place.auto.place in
     let none : IsUndrawn drawn i = λ j h. c.requires.undrawn j (omega arith) in
     let at_plain = get_or-map bits c.args.behind.now.plain.now i c.index-behind-place.result 0 (omega arith) in
     let both : bits c.and.result ≡ bit_and on (get_or plain i 0) = rw (c.and.ensures, ← at_plain) refl in
@@ -47,6 +45,5 @@ loop-place-preserved g c =
 
 pub returns : goal.returns
 returns g c = λ old start.
-    let end = c.requires.end in
     let at : length c.args.left.now ≡ c.loop-place.place = (let a = c.loop-place.auto.place-end (omega arith) in omega arith) in
     rw at (c.loop-place.invariant.swept old start).so_far
