@@ -1,15 +1,16 @@
 -- The lines of bytes, cut piece by piece.
-use Rattle.std.proofs.Common.{◌≡◌, ℕ, zero, suc, ◌+◌, ◌-◌, ◌<◌, ◌≤◌, Bool, true, false, cond, not, ◌&&◌, List, [], ◌∷◌, ◌++◌, length, length-take-le, min, take, drop, slice_index, ◌==◌, nat_lt, Err, Option, Some, None, refl, sym, ap, ◌∙◌, append_assoc, append-nil, arith}
-use Rattle.std.specs.List.{slice_split, onto_first, position, position_or_len}
+use Rattle.std.proofs.Common.{◌≡◌, ℕ, zero, suc, ◌+◌, ◌-◌, ◌<◌, ◌≤◌, Bool, true, false, cond, not, ◌&&◌, List, [], ◌∷◌, ◌++◌, length, get_or, length-take-le, min, take, drop, slice_index, ◌==◌, nat_lt, Err, Option, Some, None, refl, sym, ap, ◌∙◌, append_assoc, append-nil, arith}
+use Rattle.std.specs.List.{slice_split, position}
 use Rattle.std.specs.Str.Lines.{strip_carriage_return}
-use Rattle.std.proofs.lemmas.Option.{cond_some}
-use Rattle.std.proofs.lemmas.Bool.{eqb-true, ltb-true, ltb-false, lt-leb}
-use Rattle.std.proofs.lemmas.Bool.Decides.{nat_tests}
+use Rattle.std.proofs.lemmas.Bool.{eqb-true, false_from_ne_true, lt-leb, lt-ltb, ltb-true, ltb-false, true≢false}
 use Rattle.std.proofs.lemmas.List.{drop-take, length-append, length-take, take_all, take_min}
 use Rattle.std.proofs.lemmas.Slice.{take-put_mid}
 use borrow.Rule.Slice.PartMut.{put_mid}
 use Rattle.std.proofs.Math.Seq.{take-append-add, drop-drop}
-use Rattle.std.proofs.lemmas.List.Splits.{length-slice_split}
+use Rattle.std.proofs.lemmas.List.Elements.{All-append}
+use Rattle.std.proofs.lemmas.List.Quantifiers.{position-Some}
+use Rattle.std.proofs.lemmas.List.Splits.{length-slice_split, slice_split_at, slice_split_none}
+use Rattle.picture.specs.SplitLaws.{none_before, whole_found}
 use Rattle.std.specs.Io.KnownBytes.{Keeps}
 use Rattle.std.proofs.KnownBytes.{Consumes-kept, Consumes-trans}
 use Rattle.command_text.specs.declared.lines.Lines.{Lines}
@@ -19,65 +20,13 @@ use Rattle.command_text.specs.declared.fault.CommandFault.TheVariants.{LongLine}
 use Rattle.command_text.specs.declared.request.Request.TheVariants.{Nothing, Refused}
 use Rattle.command_text.specs.Words.{words_of}
 
-pub NoFeed-append : (front piece : List ℕ) → NoFeed front → NoFeed piece → NoFeed (front ++ piece)
-NoFeed-append [] piece p q = q
-NoFeed-append (b ∷ front) piece p q = (p.0, NoFeed-append front piece p.1 q)
-
--- ---- the pieces between line feeds
-
--- bytes without a line feed are one piece
-pub split_none : (raw : List ℕ) → NoFeed raw → slice_split is_feed raw ≡ raw ∷ []
-split_none [] p = refl
-split_none (b ∷ raw) p =
-    ap (λ t. cond t ([] ∷ slice_split is_feed raw) (onto_first b (slice_split is_feed raw))) p.0
-    ∙ ap (onto_first b) (split_none raw p.1)
-
--- bytes up to a line feed are the first piece
-pub split_first : (raw rest : List ℕ) → NoFeed raw → slice_split is_feed (raw ++ 10 ∷ rest) ≡ raw ∷ slice_split is_feed rest
-split_first [] rest p = refl
-split_first (b ∷ raw) rest p =
-    ap (λ t. cond t ([] ∷ slice_split is_feed (raw ++ 10 ∷ rest)) (onto_first b (slice_split is_feed (raw ++ 10 ∷ rest)))) p.0
-    ∙ ap (onto_first b) (split_first raw rest p.1)
-
 -- ---- the place of a line feed
 
-abbrev AtFeed : List ℕ → ℕ → Type 0
-AtFeed bytes n = NoFeed (take n bytes) × (bytes ≡ take n bytes ++ 10 ∷ drop (suc n) bytes)
-
-at_first : (b : ℕ) (bytes : List ℕ) → ((m : ℕ) → m ≡ position_or_len is_feed bytes → m < length bytes → AtFeed bytes m)
-    → (t : Bool) → is_feed b ≡ t → (n : ℕ) → n ≡ position_or_len is_feed (b ∷ bytes) → n < length (b ∷ bytes) → AtFeed (b ∷ bytes) n
-at_first b bytes later true is zero e lt = (tt, ap (λ (x : ℕ). x ∷ bytes) (eqb-true b 10 is))
-at_first b bytes later true is (suc m) e lt = absurd (omega (arith, e, ap (λ t. cond (not t) (1 + position_or_len is_feed bytes) 0) is))
-at_first b bytes later false is zero e lt = absurd (omega (arith, e, ap (λ t. cond (not t) (1 + position_or_len is_feed bytes) 0) is))
-at_first b bytes later false is (suc m) e lt =
-    let at = later m (omega (arith, e, ap (λ t. cond (not t) (1 + position_or_len is_feed bytes) 0) is)) (omega (arith, lt)) in
-    ((is, at.0), ap (λ (xs : List ℕ). b ∷ xs) at.1)
-
-at_feed : (bytes : List ℕ) (n : ℕ) → n ≡ position_or_len is_feed bytes → n < length bytes → AtFeed bytes n
-at_feed [] n e lt = absurd (omega (arith, lt))
-at_feed (b ∷ bytes) n e lt = at_first b bytes (at_feed bytes) (is_feed b) refl n e lt
-
 pub feed_found : (bytes : List ℕ) (end : ℕ) → position is_feed bytes ≡ Some end → NoFeed (take end bytes) × (bytes ≡ take end bytes ++ 10 ∷ drop (end + 1) bytes)
-feed_found bytes end e =
-    let at = cond_some _ _ _ e in
-    let found = at_feed bytes end (sym at.1) (omega (arith, at.1, ltb-true _ _ at.0)) in
-    let next : suc end ≡ end + 1 = omega arith in
-    (found.0, found.1 ∙ ap (λ n. take end bytes ++ 10 ∷ drop n bytes) next)
-
-none_first : (b : ℕ) (bytes : List ℕ) → (length bytes ≤ position_or_len is_feed bytes → NoFeed bytes) → length (b ∷ bytes) ≤ position_or_len is_feed (b ∷ bytes) → (t : Bool) → is_feed b ≡ t → NoFeed (b ∷ bytes)
-none_first b bytes later le true is = absurd (omega (arith, le, ap (λ t. cond (not t) (1 + position_or_len is_feed bytes) 0) is))
-none_first b bytes later le false is = (is, later (omega (arith, le, ap (λ t. cond (not t) (1 + position_or_len is_feed bytes) 0) is)))
-
-none_found : (bytes : List ℕ) → length bytes ≤ position_or_len is_feed bytes → NoFeed bytes
-none_found [] le = tt
-none_found (b ∷ bytes) le = none_first b bytes (none_found bytes) le (is_feed b) refl
-
-pub feed_none : (bytes : List ℕ) → position is_feed bytes ≡ None → NoFeed bytes
-feed_none bytes e = none_found bytes (ltb-false _ _ (no_place _ _ e))
-  where
-    no_place : (t : Bool) (n : ℕ) → cond t (Some n) None ≡ None → t ≡ false
-    no_place true n e = cc
-    no_place false n e = refl
+feed_found bytes end e = (
+  none_before is_feed bytes end e,
+  whole_found is_feed bytes end e ∙ ap (λ (b : ℕ). take end bytes ++ b ∷ drop (end + 1) bytes) (eqb-true (get_or bytes end 0) 10 (position-Some is_feed bytes end 0 e).1),
+)
 
 -- ---- lines
 
@@ -95,20 +44,20 @@ some_piece bytes = omega (arith, length-slice_split is_feed bytes)
 -- a line that ends, and the lines behind it
 pub lines_first : (raw rest : List ℕ) → NoFeed raw → lines_of (raw ++ 10 ∷ rest) ≡ strip_carriage_return raw ∷ lines_of rest
 unfolding lines_of
-lines_first raw rest p = ap all_pieces (split_first raw rest p) ∙ two_pieces raw (slice_split is_feed rest) (some_piece rest)
+lines_first raw rest p = ap all_pieces (slice_split_at is_feed raw 10 rest p refl) ∙ two_pieces raw (slice_split is_feed rest) (some_piece rest)
 
 pub ended_first : (raw rest : List ℕ) → NoFeed raw → ended_lines_of (raw ++ 10 ∷ rest) ≡ strip_carriage_return raw ∷ ended_lines_of rest
 unfolding ended_lines_of
-ended_first raw rest p = ap ended_pieces (split_first raw rest p) ∙ two_ended raw (slice_split is_feed rest) (some_piece rest)
+ended_first raw rest p = ap ended_pieces (slice_split_at is_feed raw 10 rest p refl) ∙ two_ended raw (slice_split is_feed rest) (some_piece rest)
 
 -- a line that does not end
 pub ended_none : (raw : List ℕ) → NoFeed raw → ended_lines_of raw ≡ []
 unfolding ended_lines_of
-ended_none raw p = ap ended_pieces (split_none raw p)
+ended_none raw p = ap ended_pieces (slice_split_none is_feed raw p)
 
 pub lines_last : (raw : List ℕ) → NoFeed raw → 0 < length raw → lines_of raw ≡ strip_carriage_return raw ∷ []
 unfolding lines_of
-lines_last raw p some = ap all_pieces (split_none raw p) ∙ last raw some
+lines_last raw p some = ap all_pieces (slice_split_none is_feed raw p) ∙ last raw some
   where
     last : (raw : List ℕ) → 0 < length raw → all_pieces (raw ∷ []) ≡ strip_carriage_return raw ∷ []
     last [] some = absurd (omega (arith, some))
@@ -127,10 +76,7 @@ pub long_line : (line : List ℕ) → 200 < length line → request_of line ≡ 
 unfolding request_of command_of
 long_line line long =
     ap (λ t. cond (t && not (has_word (words_of line))) Nothing (request_by (cond (nat_lt 200 (length line)) (Err LongLine) (command_of_words (words_of line))))) (lt-leb (length line) 200 long)
-    ∙ ap (λ t. request_by (cond t (Err LongLine) (command_of_words (words_of line)))) (lt_test 200 (length line) long)
-  where
-    lt_test : (a b : ℕ) → a < b → nat_lt a b ≡ true
-    lt_test a b lt = grind (arith, nat_tests)
+    ∙ ap (λ t. request_by (cond t (Err LongLine) (command_of_words (words_of line)))) (lt-ltb 200 (length line) long)
 
 stripped_by : (line : List ℕ) (t : Bool) → 201 < length line → 200 < length (cond t (take (length line - 1) line) line)
 stripped_by line true long = omega (arith, length-take-le (length line - 1) line (omega arith), long)
@@ -225,7 +171,7 @@ drafts_piece had have old now new draft more d t e r = record {
   read = d.read;
   raw = d.raw ++ now.inbox;
   cut = d.cut ∙ sym (ap (λ (xs : List ℕ). (d.raw ++ now.inbox) ++ xs) t.0 ∙ append-nil (d.raw ++ now.inbox));
-  no_feed = NoFeed-append d.raw now.inbox d.no_feed t.1.0;
+  no_feed = All-append (λ b. is_feed b ≡ false) d.raw now.inbox d.no_feed t.1.0;
   kept = t.1.1 ∙ ap (λ (xs : List ℕ). take 202 (xs ++ now.inbox)) d.kept ∙ take_front 202 d.raw now.inbox;
   end = λ h m. d.end h (sym e ∙ m);
   behind = λ met. ((d.behind met).0, e ∙ (d.behind met).1);
@@ -238,7 +184,7 @@ pub cuts_line : (had have : Option (List ℕ)) (old now new : Lines) (draft more
 cuts_line had have old now new draft more d t e =
     let piece = t.0 in
     let raw = d.raw ++ piece in
-    let none = NoFeed-append d.raw piece d.no_feed t.1.1.0 in
+    let none = All-append (λ b. is_feed b ≡ false) d.raw piece d.no_feed t.1.1.0 in
     let whole : more ≡ take 202 raw = t.1.1.1 ∙ ap (λ (xs : List ℕ). take 202 (xs ++ piece)) d.kept ∙ take_front 202 d.raw piece in
     let cut : old.inbox ++ d.came ≡ raw ++ 10 ∷ new.inbox = d.cut ∙ ap (λ (xs : List ℕ). d.raw ++ xs) t.1.0 ∙ sym (append_assoc d.raw piece (10 ∷ new.inbox)) in
     let all : (rest : List ℕ) → old.inbox ++ (d.came ++ rest) ≡ raw ++ 10 ∷ (new.inbox ++ rest) =
@@ -277,15 +223,12 @@ cuts_last had have old now draft d none met some = record {
     lines = λ rest may.
         ap lines_of (at_end had have old now draft d none rest (may met)) ∙ lines_last d.raw d.no_feed (some_kept draft d.raw d.kept some)
         ∙ ap (λ (lines : List (List ℕ)). strip_carriage_return d.raw ∷ lines) (sym (ap lines_of (ap (λ (xs : List ℕ). xs ++ rest) none ∙ may met) ∙ nothing_has_no_lines));
-    ended = λ on rest. absurd (true_is_not_false (sym met ∙ on));
+    ended = λ on rest. absurd (true≢false (sym met ∙ on));
     end = d.end;
     behind = d.behind;
   };
   asks = ap (λ (xs : List ℕ). request_of (strip_carriage_return xs)) d.kept ∙ front_decides d.raw;
 }
-  where
-    true_is_not_false : true ≡ false → ⊥
-    true_is_not_false e = cc
 
 -- a read failed
 pub breaks_off : (had mid have : Option (List ℕ)) (old now : Lines) (draft : List ℕ) → Drafts had mid old now draft → Keeps mid have → now.inbox ≡ [] → now.ended ≡ false → BreaksOff had have old
@@ -293,12 +236,5 @@ breaks_off had mid have old now draft d kept none on = record {
   came = d.came;
   read = Consumes-kept had mid have d.came d.read kept;
   unfinished = ap ended_lines_of (d.cut ∙ ap (λ (xs : List ℕ). d.raw ++ xs) none ∙ append-nil d.raw) ∙ ended_none d.raw d.no_feed;
-  unended = not_met old.ended (λ met. true_is_not_false (sym (d.behind met).1 ∙ on));
+  unended = false_from_ne_true old.ended (λ met. true≢false (sym (d.behind met).1 ∙ on));
 }
-  where
-    true_is_not_false : true ≡ false → ⊥
-    true_is_not_false e = cc
-
-    not_met : (b : Bool) → (b ≡ true → ⊥) → b ≡ false
-    not_met true never = absurd (never refl)
-    not_met false never = refl

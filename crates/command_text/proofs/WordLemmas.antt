@@ -1,75 +1,66 @@
--- The pieces of a line between blanks, and its words.
-use Rattle.std.proofs.Common.{◌≡◌, ℕ, ◌+◌, ◌-◌, ◌<◌, ◌≤◌, Bool, true, false, cond, not, List, [], ◌∷◌, length, take, drop, Some, None, refl, sym, ap, ◌∙◌, arith, filter}
-use Rattle.std.specs.List.{slice_split, onto_first, position, position_or_len}
-use Rattle.std.proofs.lemmas.Option.{cond_some}
-use Rattle.std.proofs.lemmas.Bool.{ltb-true, ltb-false}
-use Rattle.std.proofs.lemmas.List.{take_rest}
-use Rattle.std.proofs.lemmas.List.Splits.{slice_split_first}
-use Rattle.command_text.specs.Words.{has_byte, is_blank, words_of}
+-- The first word of a line, past its blanks.
+use Rattle.std.proofs.Common.{◌≡◌, ℕ, ◌+◌, ◌-◌, ◌<◌, zero, suc, true, false, cond, List, [], ◌∷◌, ◌++◌, length, get_or, take, drop, Some, None, refl, sym, ap, ◌∙◌, arith, filter, position}
+use Rattle.std.specs.List.{slice_split, All}
+use Rattle.std.proofs.lemmas.Bool.{both_ways, not-false, not-true}
+use Rattle.std.proofs.lemmas.List.{append-nil, get_or-drop, length-drop, length-take, take-append-drop, take_rest}
+use Rattle.std.proofs.lemmas.List.Elements.{All-head, All-tail}
+use Rattle.std.proofs.lemmas.List.Quantifiers.{position-Some}
+use Rattle.std.proofs.lemmas.List.Splits.{slice_split-cons_yes}
+use Rattle.picture.specs.SplitLaws.{none_before, none_passes, split_found, split_none}
+use Rattle.command_text.specs.Words.{has_byte, is_blank, is_no_blank, words_of}
 
--- the front up to the first blank
-pub split_found : (bytes : List ℕ) (end : ℕ) → position is_blank bytes ≡ Some end → slice_split is_blank bytes ≡ take end bytes ∷ slice_split is_blank (take (length bytes - (end + 1)) (drop (end + 1) bytes))
-split_found bytes end e =
-    let at = cond_some _ _ _ e in
-    let lt = ltb-true _ _ at.0 in
-    slice_split_first is_blank bytes 0 lt
-    ∙ ap (λ n. take n bytes ∷ slice_split is_blank (drop (n + 1) bytes)) at.1
-    ∙ ap (λ (rest : List ℕ). take end bytes ∷ slice_split is_blank rest) (sym (take_rest bytes (end + 1)))
-
-none_pass : (p : ℕ → Bool) (bytes : List ℕ) → length bytes ≤ position_or_len p bytes → slice_split p bytes ≡ bytes ∷ []
-none_pass p [] le = refl
-none_pass p (b ∷ bytes) le = none_pass_cons (none_pass p bytes) (p b) refl
-  where
-    none_pass_cons : (length bytes ≤ position_or_len p bytes → slice_split p bytes ≡ bytes ∷ []) → (t : Bool) → p b ≡ t → slice_split p (b ∷ bytes) ≡ (b ∷ bytes) ∷ []
-    none_pass_cons later true e = absurd (omega (arith, le, ap (λ t. cond (not t) (1 + position_or_len p bytes) 0) e))
-    none_pass_cons later false e =
-        let more : position_or_len p (b ∷ bytes) ≡ 1 + position_or_len p bytes = ap (λ t. cond (not t) (1 + position_or_len p bytes) 0) e in
-        ap (λ t. cond t ([] ∷ slice_split p bytes) (onto_first b (slice_split p bytes))) e
-        ∙ ap (onto_first b) (later (omega (arith, le, more)))
-
--- no blank at all
-pub split_none : (bytes : List ℕ) → position is_blank bytes ≡ None → slice_split is_blank bytes ≡ bytes ∷ []
-split_none bytes e = none_pass is_blank bytes (ltb-false _ _ (no_place _ _ e))
-  where
-    no_place : (t : Bool) (n : ℕ) → cond t (Some n) None ≡ None → t ≡ false
-    no_place true n e = cc
-    no_place false n e = refl
-
-pub ruleset splitting = (split_found, split_none)
-
--- ---- the first word
-
-has_some : (bytes : List ℕ) → 0 < length bytes → has_byte bytes ≡ true
-has_some [] some = absurd (omega (arith, some))
-has_some (b ∷ bytes) some = refl
-
-has_none : (bytes : List ℕ) → length bytes ≡ 0 → has_byte bytes ≡ false
-has_none [] none = refl
-has_none (b ∷ bytes) none = absurd (omega (arith, none))
-
--- a piece that has a byte is a word
-pub words_more : (line piece : List ℕ) (pieces : List (List ℕ)) → slice_split is_blank line ≡ piece ∷ pieces → 0 < length piece → words_of line ≡ piece ∷ filter has_byte pieces
+-- blanks that stand first make no word
+past_blanks : (front rest : List ℕ) → All (λ b. is_no_blank b ≡ false) front → words_of (front ++ rest) ≡ words_of rest
 unfolding words_of
-words_more line piece pieces e some =
-    ap (filter has_byte) e ∙ ap (λ t. cond t (piece ∷ filter has_byte pieces) (filter has_byte pieces)) (has_some piece some)
+past_blanks [] rest all = refl
+past_blanks (b ∷ front) rest all =
+    ap (filter has_byte) (slice_split-cons_yes is_blank b (front ++ rest) (not-false _ (All-head (λ c. is_no_blank c ≡ false) b front all)))
+    ∙ past_blanks front rest (All-tail (λ c. is_no_blank c ≡ false) b front all)
 
--- and any other piece is not
-pub words_skip : (line piece : List ℕ) (pieces : List (List ℕ)) → slice_split is_blank line ≡ piece ∷ pieces → length piece ≡ 0 → words_of line ≡ filter has_byte pieces
+none_in_nothing : words_of [] ≡ []
 unfolding words_of
-words_skip line piece pieces e none =
-    ap (filter has_byte) e ∙ ap (λ t. cond t (piece ∷ filter has_byte pieces) (filter has_byte pieces)) (has_none piece none)
+none_in_nothing = refl
 
-pub words_none : words_of [] ≡ []
-unfolding words_of
-words_none = refl
+pub words_none : (line : List ℕ) → position is_no_blank line ≡ None → words_of line ≡ []
+words_none line e = ap words_of (sym (append-nil line)) ∙ past_blanks line [] (none_passes is_no_blank line e) ∙ none_in_nothing
 
-pub words_are : (line : List ℕ) → filter has_byte (slice_split is_blank line) ≡ words_of line
-unfolding words_of
-words_are line = refl
+-- ---- behind the blanks
 
--- the last piece
-pub words_last : (line piece : List ℕ) → slice_split is_blank line ≡ piece ∷ [] → 0 < length piece → words_of line ≡ piece ∷ words_of []
-unfolding words_of
-words_last line piece e some = words_more line piece [] e some
+some_byte : (rest : List ℕ) (end : ℕ) → 0 < length rest → is_blank (get_or rest 0 0) ≡ false → is_blank (get_or rest end 0) ≡ true → has_byte (take end rest) ≡ true
+some_byte [] end some other blank = absurd (omega (arith, some))
+some_byte (b ∷ rest) zero some other blank = absurd (both_ways (is_blank b) other blank)
+some_byte (b ∷ rest) (suc end) some other blank = refl
 
-pub ruleset first_words = (words_more, words_last, words_skip, words_none, words_are)
+any_byte : (rest : List ℕ) → 0 < length rest → has_byte rest ≡ true
+any_byte [] some = absurd (omega (arith, some))
+any_byte (b ∷ rest) some = refl
+
+module _ (line rest : List ℕ) (start : ℕ) (e : position is_no_blank line ≡ Some start) (is : rest ≡ take (length line - start) (drop start line)) where
+  rest_is : rest ≡ drop start line
+  rest_is = is ∙ take_rest line start
+
+  some_rest : 0 < length rest
+  some_rest = omega (arith, ap length rest_is, length-drop start line, (position-Some is_no_blank line start 0 e).0)
+
+  begins : is_blank (get_or rest 0 0) ≡ false
+  begins = not-true _ (rw (rest_is, get_or-drop start line 0 0, let at : start + 0 ≡ start = omega arith in at) (position-Some is_no_blank line start 0 e).1)
+
+  behind_blanks : words_of line ≡ words_of rest
+  behind_blanks = ap words_of (sym (take-append-drop start line)) ∙ past_blanks (take start line) (drop start line) (none_before is_no_blank line start e) ∙ ap words_of (sym rest_is)
+
+  pub word_last : position is_blank rest ≡ None → words_of line ≡ rest ∷ words_of []
+  unfolding words_of
+  word_last none = behind_blanks ∙ ap (filter has_byte) (split_none is_blank rest none) ∙ ap (λ t. cond t (rest ∷ []) []) (any_byte rest some_rest)
+
+  pub word_more : (end : ℕ) → position is_blank rest ≡ Some end → words_of line ≡ take end rest ∷ words_of (take (length rest - (end + 1)) (drop (end + 1) rest))
+  unfolding words_of
+  word_more end found =
+      let behind = slice_split is_blank (take (length rest - (end + 1)) (drop (end + 1) rest)) in
+      behind_blanks ∙ ap (filter has_byte) (split_found is_blank rest end found)
+      ∙ ap (λ t. cond t (take end rest ∷ filter has_byte behind) (filter has_byte behind)) (some_byte rest end some_rest begins (position-Some is_blank rest end 0 found).1)
+
+  pub some_line : 0 < length line
+  some_line = omega (arith, (position-Some is_no_blank line start 0 e).0)
+
+  pub behind_shorter : (end : ℕ) → length (take (length rest - (end + 1)) (drop (end + 1) rest)) < length line
+  behind_shorter end = omega (arith, length-take (length rest - (end + 1)) (drop (end + 1) rest), length-drop (end + 1) rest, ap length rest_is, length-drop start line, some_rest)

@@ -1,7 +1,7 @@
 -- The lines of a session's input, and what each asks for.
 use Rattle.std.specs.Prelude.{◌≡◌, ℕ, ◌+◌, ◌-◌, ◌*◌, ◌<◌, ◌≤◌, Bool, true, false, ◌&&◌, not, List, [], ◌∷◌, ◌++◌, length, take, Option, None, Some, Result, Ok, Err, nat_le, ◌==◌, if◌then◌else◌}
 use Rattle.std.proofs.Common.{refl}
-use Rattle.std.specs.List.{slice_split}
+use Rattle.std.specs.List.{All, slice_split}
 use Rattle.std.specs.Str.Lines.{strip_carriage_return}
 use Rattle.std.specs.Io.KnownBytes.{Consumes, IsAtEnd}
 use Rattle.command_text.specs.declared.command.Command.{Command}
@@ -39,8 +39,7 @@ ended_lines_of bytes = ended_pieces (slice_split is_feed bytes)
 
 -- none of the bytes is a line feed
 abbrev pub NoFeed : List ℕ → Type 0
-NoFeed [] = Unit {0}
-NoFeed (b ∷ bytes) = (is_feed b ≡ false) × NoFeed bytes
+NoFeed bytes = All (λ b. is_feed b ≡ false) bytes
 
 -- ---- what a line asks for
 

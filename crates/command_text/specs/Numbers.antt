@@ -1,20 +1,11 @@
 -- The words of a command that stand for numbers and colours.
-use Rattle.std.specs.Prelude.{◌≡◌, ℕ, ◌+◌, ◌-◌, ◌*◌, Bool, ◌&&◌, List, [], ◌∷◌, length, codes, Option, None, Some, nat_le, ◌==◌, if◌then◌else◌}
+use Rattle.std.specs.Prelude.{◌≡◌, ℕ, ◌-◌, ◌&&◌, List, [], ◌∷◌, codes, Option, None, Some, nat_le, ◌==◌, if◌then◌else◌}
 use Rattle.std.proofs.Common.{refl}
-use Rattle.std.specs.Str.{all_ascii_digits}
-use Rattle.command_text.specs.Words.{has_byte}
+use Rattle.picture.specs.Numbers.{number_spelled, short_number, value_after}
 
--- the value of digits that stand behind a number
-unfoldable pub value_after : ℕ → List ℕ → ℕ
-value_after n [] = n
-value_after n (d ∷ digits) = value_after (n * 10 + (d - 48)) digits
-
--- one to five digits
-abbrev pub is_number : List ℕ → Bool
-is_number word = has_byte word && nat_le (length word) 5 && all_ascii_digits word
-
+-- a number of one to five digits
 unfoldable pub number_of : List ℕ → Option ℕ
-number_of word = if is_number word then Some (value_after 0 word) else None
+number_of word = short_number 5 word
 
 -- a number from 1 to 256, as a place from 0
 abbrev pub place_by : Option ℕ → Option ℕ
@@ -45,27 +36,27 @@ colour_of (b ∷ c ∷ bytes) = None
 -- ---- worked words
 
 leading_zeros : place_of (codes "00001") ≡ Some 0
-unfolding number_of value_after
+unfolding number_of number_spelled value_after
 leading_zeros = refl
 
 six_digits : place_of (codes "000001") ≡ None
-unfolding number_of value_after
+unfolding number_of number_spelled value_after
 six_digits = refl
 
 nought_is_no_place : place_of (codes "0") ≡ None
-unfolding number_of value_after
+unfolding number_of number_spelled value_after
 nought_is_no_place = refl
 
 last_place : place_of (codes "256") ≡ Some 255
-unfolding number_of value_after
+unfolding number_of number_spelled value_after
 last_place = refl
 
 past_places : place_of (codes "257") ≡ None
-unfolding number_of value_after
+unfolding number_of number_spelled value_after
 past_places = refl
 
 past_samples : sample_of (codes "65536") ≡ None
-unfolding number_of value_after
+unfolding number_of number_spelled value_after
 past_samples = refl
 
 capitals_are_none : colour_of (codes "A") ≡ None

@@ -1,17 +1,17 @@
 -- The words of a line.
-use Rattle.std.specs.Prelude.{◌≡◌, ℕ, ◌<◌, Bool, true, false, ◌||◌, ◌==◌, List, [], ◌∷◌, length, filter, Option, None, Some, nat_eq}
+use Rattle.std.specs.Prelude.{◌≡◌, ℕ, ◌<◌, Bool, true, false, not, ◌||◌, ◌==◌, List, [], ◌∷◌, length, filter, Option, None, Some, nat_eq}
 use Rattle.std.proofs.Common.{refl}
 use Rattle.std.specs.Borrow.{Bor}
 use Rattle.std.specs.Cmp.Lexicographic.{pointwise}
 use Rattle.std.specs.List.{slice_split}
+pub use Rattle.picture.specs.Numbers.{has_byte}
 
 -- a space or a TAB
 abbrev pub is_blank : ℕ → Bool
 is_blank b = (b == 32) || (b == 9)
 
-abbrev pub has_byte : List ℕ → Bool
-has_byte [] = false
-has_byte (b ∷ bytes) = true
+abbrev pub is_no_blank : ℕ → Bool
+is_no_blank b = not (is_blank b)
 
 -- the pieces between blanks that have a byte
 unfoldable pub words_of : List ℕ → List (List ℕ)
@@ -22,11 +22,6 @@ abbrev pub is_word : List ℕ → List ℕ → Bool
 is_word bytes word = pointwise nat_eq bytes word
 
 -- ---- what functions that cut a line answer
-
--- the pieces between blanks of what stands behind one, if there is one
-abbrev pub pieces_behind : Option (Bor (List ℕ)) → List (List ℕ)
-pieces_behind None = []
-pieces_behind (Some rest) = slice_split is_blank rest.now
 
 -- the first word of a line and what stands behind it, if the line has a word
 abbrev pub IsFirstWord : List ℕ → Option (Bor (List ℕ) × Bor (List ℕ)) → Type 0

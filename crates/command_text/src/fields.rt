@@ -1,39 +1,29 @@
 //! The values of a command, word by word from the left.
 
-ghost use Rattle.std.specs.Prelude.{◌≡◌, ◌<◌, length, ◌==◌, ◌+◌, IfOk, IfSome};
+ghost use Rattle.std.specs.Prelude.{◌≡◌, ◌<◌, IfOk, IfSome};
 ghost use Rattle.picture.specs.Reading.{Reads};
 ghost use Rattle.command_text.specs.Parse.{allowance_of, axis_at, cell_alone_at, cell_at, colour_at, counted, field_seen, line_at, place_at, rgb_at, sample_at, spot_at, word_at, word_seen};
 ghost use Rattle.command_text.specs.Words.{words_of};
 
 use crate::fault::CommandFault;
 use crate::numbers::{colour_in, number_in, place_in, sample_in};
-use crate::words::{is_word, next_word};
+use crate::words::next_word;
 use picture::{Axis, LineId, Rgb};
 
 #[tactic(auto, using(crate::proofs::CountLemmas::counts))]
-// Whether a line has so many words.
-fn has_words(line: &[u8], count: usize) -> bool
-    ensures { result ≡ (length (words_of line.now) == count) }
-{
-    let mut rest = line;
-    for _i in 0..count {
-        let Some((_, behind)) = next_word(rest) else {
-            return false;
-        };
-        rest = behind;
-    }
-    next_word(rest).is_none()
-}
-
 // The words that are left, where they are as many as are wanted.
 pub(crate) fn counted(rest: &[u8], count: usize) -> Result<&[u8], CommandFault>
     ensures { Reads (λ rest. words_of rest.now) result (counted count (words_of rest.now)) }
 {
-    if has_words(rest, count) {
-        Ok(rest)
-    } else {
-        Err(CommandFault::WordCount)
+    let mut left = rest;
+    for _i in 0..count {
+        let (_, behind) = read_word(left)?;
+        left = behind;
     }
+    if next_word(left).is_some() {
+        return Err(CommandFault::WordCount);
+    }
+    Ok(rest)
 }
 
 // The next word, and what stands behind it.
@@ -139,8 +129,8 @@ pub(crate) fn allowance_in(word: &[u8]) -> Option<Option<u32>>
     ensures value { result ≡ allowance_of word.now }
     ensures small { IfSome result (λ allowance. IfSome allowance (λ splits. splits < 100000)) }
 {
-    if is_word(word, b"off") {
-        return Some(None);
+    match word {
+        b"off" => Some(None),
+        _ => number_in(word).map(Some),
     }
-    number_in(word).map(Some)
 }

@@ -1,40 +1,20 @@
 //! The words of a command that stand for numbers and colours.
 
-ghost use Rattle.std.specs.Prelude.{◌≡◌, ◌+◌, ◌-◌, ◌*◌, ◌<◌, ◌≤◌, true, false, IfSome};
-ghost use Rattle.std.specs.Char.{is_ascii_digit};
+ghost use Rattle.std.specs.Prelude.{◌≡◌, ◌<◌, IfSome};
 ghost use Rattle.command_text.specs.Numbers.{colour_of, number_of, place_of, sample_of};
+
+use picture::short_number_in;
 
 // How many digits a number has at the most.
 const MOST_DIGITS: usize = 5;
 
-#[tactic(auto, using(crate::proofs::NumberLemmas::numbers))]
+#[tactic(auto, unfolding(crate::specs::Numbers::number_of))]
 // A number of one to five digits.
 pub(crate) fn number_in(word: &[u8]) -> Option<u32>
     ensures value { result ≡ number_of word.now }
     ensures small { IfSome result (λ n. n < 100000) }
 {
-    if word.is_empty() || word.len() > MOST_DIGITS {
-        return None;
-    }
-    let mut value = 0;
-    for byte in word {
-        value = with_digit(value, *byte)?;
-    }
-    Some(value)
-}
-
-// A number with one digit more. None where the byte is no digit.
-fn with_digit(number: u32, byte: u8) -> Option<u32>
-    requires { number < 100000 }
-    ensures none { result ≡ None → is_ascii_digit byte ≡ false }
-    ensures digit { IfSome result (λ _. (is_ascii_digit byte ≡ true) × (byte ≤ 57)) }
-    ensures value { IfSome result (λ n. n ≡ number * 10 + (byte - 48)) }
-{
-    if byte.is_ascii_digit() {
-        Some(number * 10 + u32::from(byte - b'0'))
-    } else {
-        None
-    }
+    short_number_in(word, MOST_DIGITS)
 }
 
 // A place from 1 to 256, counted from 0.

@@ -203,8 +203,6 @@ pub fn parse_command(line: &[u8]) -> Result<Command, CommandFault>
     if line.len() > MOST_BYTES {
         return Err(CommandFault::LongLine);
     }
-    match next_word(line) {
-        Some((first, rest)) => read_command(first, rest),
-        None => Err(CommandFault::UnknownWord),
-    }
+    let (first, rest) = next_word(line).ok_or(CommandFault::UnknownWord)?;
+    read_command(first, rest)
 }

@@ -1,5 +1,5 @@
 -- Numbers as they are written, read again.
-use Rattle.std.proofs.Common.{◌≡◌, ℕ, ◌^◌, ◌<◌, ◌≤◌, true, false, cond, eqb, leb, List, [], ◌∷◌, length, Some, None, refl, ap, ◌∙◌, arith, rules, ◌&&◌, ◌||◌, decimal}
+use Rattle.std.proofs.Common.{◌≡◌, ℕ, ◌^◌, ◌<◌, true, false, cond, eqb, List, [], ◌∷◌, Some, refl, ap, ◌∙◌, arith, ◌&&◌, ◌||◌, decimal}
 use Rattle.std.specs.Char.{is_ascii_digit}
 use Rattle.std.specs.Str.{all_ascii_digits}
 use Rattle.std.specs.List.{list_all}

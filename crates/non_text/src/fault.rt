@@ -40,7 +40,7 @@ pub enum NonFault {
 }
 
 /// What a part of the reader answers.
-pub type Read<T> = Result<T, NonFault>;
+pub(crate) type Read<T> = Result<T, NonFault>;
 
 impl NonFault {
     /// The fault's name, as the variant is called.

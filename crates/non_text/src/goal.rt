@@ -48,7 +48,7 @@ fn cells_of(alloc: Global, digits: &[u8]) -> Result<Vec<u8>, AllocError>
 
 #[tactic(auto, using(crate::proofs::GoalLemmas::cells))]
 // The picture of a goal line's value.
-pub fn goal_in(alloc: Global, value: &[u8], height: u8, width: u8) -> Read<Picture>
+pub(crate) fn goal_in(alloc: Global, value: &[u8], height: u8, width: u8) -> Read<Picture>
     requires has_row { 0 < height }
     requires rows_fit { height ≤ MAX_SIDE }
     requires has_column { 0 < width }

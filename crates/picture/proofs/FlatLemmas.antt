@@ -1,7 +1,6 @@
 -- Rows that lie in one flat list.
-use Rattle.std.proofs.Common.{◌≡◌, ℕ, zero, suc, ◌+◌, ◌*◌, ◌-◌, ◌<◌, ◌≤◌, List, [], ◌∷◌, ◌++◌, length, get_or, take, drop, map, replicate, arith, refl, ap, ◌∙◌, sym, subst, inl, inr, Bool, eqb, IsTrue}
-use Rattle.std.proofs.lemmas.List.{get_or_past, length-drop, take-append-drop, take-replicate, drop-replicate, length-map, get_or-map, ext_get_or}
-use Rattle.std.proofs.lemmas.Bool.{cases_lt}
+use Rattle.std.proofs.Common.{◌≡◌, ℕ, zero, suc, ◌+◌, ◌*◌, ◌-◌, ◌<◌, ◌≤◌, List, [], ◌∷◌, ◌++◌, length, get_or, take, drop, map, replicate, arith, refl, ap, ◌∙◌, sym, subst, Bool, eqb, IsTrue}
+use Rattle.std.proofs.lemmas.List.{length-drop, take-append-drop, take-replicate, drop-replicate, length-map, get_or-map, ext_get_or}
 use Rattle.std.specs.Cmp.Lexicographic.{pointwise}
 use Rattle.std.proofs.lemmas.Slice.Eq.{slice_eq-Decides}
 use Rattle.std.proofs.lemmas.Bool.Decides.{Decides-eqb}
@@ -117,4 +116,4 @@ column_of_picture height width cells rows line e is down has =
     ∙ ap (λ grid. line_along Down line.at grid) e
     ∙ ap (λ axis. line_along axis line.at rows) (sym down)
 
-pub ruleset flat = (length-rows_of, place_inside, rows_of-replicate)
+pub ruleset flat = (length-rows_of, place_inside, rows_of-replicate, is_picture)

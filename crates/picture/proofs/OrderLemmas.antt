@@ -1,14 +1,14 @@
 -- Colours added to a list as they come, and their numbers in it.
-use Rattle.std.proofs.Common.{◌≡◌, ℕ, zero, suc, ◌+◌, ◌*◌, ◌<◌, true, false, ◌||◌, List, [], ◌∷◌, ◌++◌, length, get_or, take, drop, map, Option, Some, None, refl, ap, ◌∙◌, sym, subst, inl, inr, arith, unwrap_or, slice_get}
+use Rattle.std.proofs.Common.{◌≡◌, ℕ, zero, suc, ◌+◌, ◌*◌, ◌<◌, true, false, List, [], ◌∷◌, ◌++◌, length, get_or, take, drop, map, Option, Some, None, refl, ap, ◌∙◌, sym, subst, inl, inr, arith, unwrap_or, slice_get}
 use Rattle.std.specs.List.{list_any, All, AllByRecursion, concat, flat_map}
 use Rattle.std.specs.Option.{option_map}
 use Rattle.std.proofs.lemmas.Bool.{cases_Bool, false≢true}
 use Rattle.std.proofs.lemmas.List.Elements.{All-append, All-from_get_or, All-from_recursion, All-nil}
-use Rattle.std.proofs.lemmas.List.{append-nil, append_assoc, map-append, map_more, take-map, drop-map, length-map}
+use Rattle.std.proofs.lemmas.List.{map-append, map_more, take-map, drop-map, length-map}
 use Rattle.std.proofs.lemmas.Option.{get_or_from_slice_get}
 use Rattle.picture.specs.declared.rgb.Rgb.{Rgb}
 use Rattle.picture.specs.Palette.{Colours, rgb_eq, place_of, IsPalette}
-use Rattle.picture.specs.Document.{seen_after, with_seen, rows_shown, number_among, triples_of, first_of, renumbered_rows}
+use Rattle.picture.specs.Document.{with_seen, rows_shown, number_among, triples_of, first_of, renumbered_rows}
 use Rattle.picture.specs.Picture.{AreCells}
 use Rattle.picture.specs.Rows.{rows_of, cell_at}
 use Rattle.picture.specs.FlatLaws.{cell_at_below}

@@ -1,13 +1,12 @@
 -- Cells read one after the other, as a loop does, and what is true of cells that were read.
-use Rattle.std.proofs.Common.{◌≡◌, ℕ, zero, suc, ◌-◌, ◌+◌, ◌≤◌, ◌<◌, Bool, true, false, cond, ltb, List, [], ◌∷◌, ◌++◌, length, get_or, Option, Some, None, Result, Ok, Err, refl, sym, ap, subst, ◌∙◌, append_assoc, length-append, arith, ◌⊎◌, inl, inr}
-use Rattle.std.specs.Option.{option_map}
+use Rattle.std.proofs.Common.{◌≡◌, ℕ, zero, suc, ◌-◌, ◌+◌, ◌≤◌, ◌<◌, true, ltb, List, [], ◌∷◌, ◌++◌, length, get_or, Option, Some, None, Result, Ok, Err, refl, sym, ap, subst, ◌∙◌, append_assoc, length-append, arith, ◌⊎◌, inl, inr}
 use Rattle.std.proofs.lemmas.List.{append-nil, get_or_past}
 use Rattle.std.proofs.lemmas.Bool.{cases_lt}
 use Rattle.picture.specs.Reading.{◌>>=◌}
 use Rattle.picture.specs.declared.rgb.Rgb.{Rgb}
 use Rattle.picture.specs.declared.picture.TheConstants.{MAX_COLOURS}
 use Rattle.picture.specs.ColourLaws.{number_small, placed}
-use Rattle.picture.specs.Palette.{Colours, rgb_eq, place_of, with_colour}
+use Rattle.picture.specs.Palette.{Colours, place_of, with_colour}
 use Rattle.ppm_text.specs.declared.fault.PpmFault.{PpmFault}
 use Rattle.ppm_text.specs.declared.fault.PpmFault.TheVariants.{Memory, TooManyColours}
 use Rattle.ppm_text.specs.declared.fields.Triple.{Triple}

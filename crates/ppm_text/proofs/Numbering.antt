@@ -1,14 +1,12 @@
 -- Colours that are numbered as they are read are numbered by first appearance.
-use Rattle.std.proofs.Common.{◌≡◌, ℕ, suc, ◌+◌, ◌<◌, ◌≤◌, Bool, true, false, ◌||◌, cond, ltb, List, [], ◌∷◌, ◌++◌, length, map, Option, Some, None, Ok, Err, refl, sym, ap, ◌∙◌, append_assoc, length-append, arith, unwrap_or}
-use Rattle.std.specs.Option.{option_map}
-use Rattle.std.specs.List.{list_any, flat_map, AllByRecursion}
+use Rattle.std.proofs.Common.{◌≡◌, ℕ, suc, ◌+◌, ◌<◌, ◌≤◌, true, cond, ltb, List, [], ◌∷◌, ◌++◌, length, map, Option, Some, None, Ok, Err, refl, sym, ap, ◌∙◌, append_assoc, length-append, arith, unwrap_or}
+use Rattle.std.specs.List.{flat_map, AllByRecursion}
 use Rattle.std.proofs.lemmas.Bool.Decides.{nat_tests}
-use Rattle.std.proofs.lemmas.List.{append-nil}
 use Rattle.picture.specs.ColourLaws.{absent, any_last, place-front, place-last, placed, seen-front}
 use Rattle.picture.specs.Reading.{◌>>=◌}
 use Rattle.picture.specs.declared.rgb.Rgb.{Rgb}
 use Rattle.picture.specs.declared.picture.TheConstants.{MAX_COLOURS}
-use Rattle.picture.specs.Palette.{Colours, rgb_eq, fits, place_of}
+use Rattle.picture.specs.Palette.{Colours, fits, place_of}
 use Rattle.picture.specs.Document.{seen_after, number_among}
 use Rattle.ppm_text.specs.declared.fault.PpmFault.TheVariants.{TooManyColours}
 use Rattle.ppm_text.specs.declared.fields.Triple.{Triple}

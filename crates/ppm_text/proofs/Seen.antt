@@ -1,12 +1,12 @@
 -- Each cell has one of the palette's colours.
 use Rattle.std.proofs.Common.{◌≡◌, ℕ, ◌<◌, true, List, [], ◌∷◌, length, get_or, arith, inl, inr}
-use Rattle.std.specs.List.{list_any, flat_map, AllByRecursion}
+use Rattle.std.specs.List.{list_any, flat_map}
 use Rattle.std.proofs.lemmas.Bool.{cases_lt, or_left}
 use Rattle.std.proofs.lemmas.List.{get_or_past}
 use Rattle.std.proofs.lemmas.List.Folds.{list_any_at}
 use Rattle.picture.specs.declared.rgb.Rgb.{Rgb}
 use Rattle.picture.specs.ColourLaws.{Among, every_append, fits_there, same}
-use Rattle.picture.specs.Palette.{rgb_eq, fits}
+use Rattle.picture.specs.Palette.{rgb_eq}
 use Rattle.picture.specs.Document.{first_of, triples_of}
 use Rattle.ppm_text.proofs.Numbering.{AreLawful}
 

@@ -16,7 +16,7 @@ use Rattle.picture.specs.Palette.{fits, only_background}
 use Rattle.ppm_text.specs.declared.fault.PpmFault.{PpmFault}
 use Rattle.ppm_text.specs.declared.fault.PpmFault.TheVariants.{BadNumber}
 use Rattle.ppm_text.specs.declared.scanner.Numeral.{Numeral}
-use Rattle.ppm_text.specs.Tokens.{Token, tokens_from, without_comments, is_gap, is_space, in_comment}
+use Rattle.ppm_text.specs.Tokens.{Token, tokens_from, without_comments, is_space, in_comment}
 use Rattle.ppm_text.specs.Numerals.{numeral_at}
 use Rattle.ppm_text.specs.Samples.{side_at, sample_at, triple_at}
 use Rattle.ppm_text.specs.Ppm.{palette_at}

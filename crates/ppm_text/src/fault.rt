@@ -44,7 +44,7 @@ pub enum PpmFault {
 }
 
 /// What a part of the reader answers.
-pub type Read<T> = Result<T, PpmFault>;
+pub(crate) type Read<T> = Result<T, PpmFault>;
 
 impl PpmFault {
     /// The fault's name, as the variant is called.

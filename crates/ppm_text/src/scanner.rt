@@ -61,11 +61,13 @@ impl<'a> Scanner<'a> {
         Ok(numeral)
     }
 
+    #[tactic(auto, using(crate::proofs::NextNumeral::next_token))]
     /// The byte at which the next token begins, if there is one.
     pub fn next_place(&self) -> Option<usize>
         ensures { result ≡ next_place self.now.tokens }
     {
-        place_after(self.bytes, self.at)
+        let place = token_start(self.bytes, self.at);
+        (place < self.bytes.len()).then_some(place)
     }
 }
 
@@ -128,16 +130,6 @@ fn any_numeral(bytes: &[u8], from: usize) -> Read<(Numeral, usize)>
         Some(behind) => Ok((Numeral { place, value }, behind)),
         None => Err(PpmFault::BadNumber(place)),
     }
-}
-
-#[tactic(auto, using(crate::proofs::NextNumeral::next_token))]
-// Where the next token begins, if there is one.
-fn place_after(bytes: &[u8], from: usize) -> Option<usize>
-    requires { from ≤ length bytes.now }
-    ensures { result ≡ next_place (tokens_at bytes.now from) }
-{
-    let place = token_start(bytes, from);
-    (place < bytes.len()).then_some(place)
 }
 
 #[tactic(auto, using(crate::proofs::Scanning::scanning))]

@@ -3,7 +3,8 @@ use Rattle.std.specs.Prelude.{◌≡◌, ℕ, ◌+◌, ◌==◌, Bool, List, tak
 use Rattle.std.proofs.Common.{refl}
 use Rattle.std.specs.Borrow.{Bor}
 use Rattle.picture.specs.declared.rgb.Rgb.{Rgb}
-use Rattle.command_text.specs.Numbers.{number_of, sample_of, value_after}
+use Rattle.picture.specs.Numbers.{number_spelled, value_after}
+use Rattle.command_text.specs.Numbers.{number_of, sample_of}
 
 -- a sample, and what stands behind the comma at its end
 abbrev pub sample_until : Option ℕ → List ℕ → Option (ℕ × List ℕ)
@@ -35,13 +36,13 @@ abbrev pub sample_seen : ℕ × Bor (List ℕ) → ℕ × List ℕ
 sample_seen x = (x.0, x.1.now)
 
 three_samples : background_of (codes "255,00,65535") ≡ Some (rgb 255 0 65535)
-unfolding number_of value_after
+unfolding number_of number_spelled value_after
 three_samples = refl
 
 two_samples : background_of (codes "1,2") ≡ None
-unfolding number_of value_after
+unfolding number_of number_spelled value_after
 two_samples = refl
 
 four_samples : background_of (codes "1,2,3,4") ≡ None
-unfolding number_of value_after
+unfolding number_of number_spelled value_after
 four_samples = refl

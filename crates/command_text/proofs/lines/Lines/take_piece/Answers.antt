@@ -1,7 +1,8 @@
 use Rattle.std.proofs.Common.{sym, ap, ◌∙◌, rules}
 use Rattle.command_text.specs.Lines.{is_feed}
 use Rattle.std.specs.List.{position}
-use Rattle.command_text.proofs.LineLemmas.{all_skipped, piece_ends, feed_none}
+use Rattle.command_text.proofs.LineLemmas.{all_skipped, piece_ends}
+use Rattle.picture.specs.SplitLaws.{none_passes}
 use Rattle.command_text.proofs.lines.Lines.take_piece.Goals as goal
 
 pub returns-in-Some-clause-piece : goal.returns-in-Some-clause-piece
@@ -10,4 +11,4 @@ returns-in-Some-clause-piece c =
 
 pub returns-in-None-clause-piece : goal.returns-in-None-clause-piece
 returns-in-None-clause-piece c =
-    (c.skip-in-None.ensures ∙ all_skipped _ _ c.as_slice-waiting.ensures, (feed_none _ (ap (position is_feed) (sym c.as_slice-waiting.ensures) ∙ sym c.feed_place.ensures ∙ c.in-None.is), search rules))
+    (c.skip-in-None.ensures ∙ all_skipped _ _ c.as_slice-waiting.ensures, (none_passes is_feed _ (ap (position is_feed) (sym c.as_slice-waiting.ensures) ∙ sym c.feed_place.ensures ∙ c.in-None.is), search rules))

@@ -17,6 +17,3 @@ returns-clause-value c =
     let f = facts _ _ _ _ c.self.view_is c.self.invariant in
     let inside = place_inside p.height p.width c.args.row c.args.col (omega arith) (omega arith) in
     get_or_read p.cells.items _ _ (omega arith) c.index.ensures 0 ∙ sym (f.cell c.args.row c.args.col (omega arith) (omega arith))
-
-pub returns-clause-picture : goal.returns-clause-picture
-returns-clause-picture c = (facts _ _ _ _ c.self.view_is c.self.invariant).picture

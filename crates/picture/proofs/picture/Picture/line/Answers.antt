@@ -9,9 +9,6 @@ returns-in-Across-clause-value c =
     c.new.ensures ∙ ap (λ cells. spaced cells (c.args.line.at * p.width) 1 p.width) c.deref.ensures.value
     ∙ row_of_picture p.height p.width p.cells.items c.args.self.now c.args.line c.self.view_is c.self.invariant c.in-Across.is c.requires
 
-pub returns-in-Across-clause-picture : goal.returns-in-Across-clause-picture
-returns-in-Across-clause-picture c = (facts _ _ _ _ c.self.view_is c.self.invariant).picture
-
 pub returns-in-Down-clause-value : goal.returns-in-Down-clause-value
 returns-in-Down-clause-value c =
     let p = c.self.inside in
