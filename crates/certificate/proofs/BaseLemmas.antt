@@ -1,12 +1,11 @@
 -- The facts that givens say, cell by cell.
 use Rattle.std.proofs.Common.{◌≡◌, ◌⊎◌, ℕ, ◌+◌, ◌-◌, ◌^◌, ◌<◌, List, [], ◌∷◌, replicate, length, get_or, sym, ap, subst, ◌∙◌, arith, inl, inr}
 use Rattle.std.specs.Prelude.{IsBitSet}
-use Rattle.std.proofs.lemmas.Bool.{cases_eq, cases_lt}
-use Rattle.std.proofs.lemmas.List.{get_or_past, get_or-replicate, length-replicate}
-use Rattle.picture.specs.Picture.{IsPicture}
+use Rattle.std.proofs.lemmas.Bool.{cases_eq}
+use Rattle.std.proofs.lemmas.List.{get_or-replicate}
 use Rattle.picture.specs.Rows.{width_of, row_at, cell_at}
 use Rattle.line_settle.specs.FactSets.{Leaves, SameShape, with_given}
-use Rattle.line_settle.specs.GridLaws.{all_left, at_with_cell, off_with_cell, shape_with_cell}
+use Rattle.line_settle.specs.GridLaws.{all_left, full_shape, at_with_cell, off_with_cell, shape_with_cell}
 use Rattle.picture.specs.BitLaws.{bit_below, power_has}
 use Rattle.cert_text.specs.declared.tree_line.CellNumber.{CellNumber}
 use Rattle.certificate.specs.Making.{BasesAreOne}
@@ -88,7 +87,7 @@ open_once picture facts cell r c k h l = elim (at_or_off r c cell) [
       subst Q (sym p.0) (subst R (sym p.1) (subst P (sym (at_with_cell facts row col (2 ^ cell_at picture row col) there.0 there.1)) ((power_has (cell_at picture row col) k).1 is)))
 ]
 
-open_stays : (picture facts : List (List ℕ)) (cells : List CellNumber) → HasCellNumbers picture cells → (r c k : ℕ) → (IsAmong (numbered r c) cells → k ≡ cell_at picture r c) → Leaves facts r c k → Leaves (with_givens picture cells facts) r c k
+pub open_stays : (picture facts : List (List ℕ)) (cells : List CellNumber) → HasCellNumbers picture cells → (r c k : ℕ) → (IsAmong (numbered r c) cells → k ≡ cell_at picture r c) → Leaves facts r c k → Leaves (with_givens picture cells facts) r c k
 open_stays picture facts [] has r c k h l = l
 open_stays picture facts (cell ∷ cells) has r c k h l =
     open_stays picture (once picture facts cell) cells has.1 r c k (λ m. h (inr m)) (open_once picture facts cell r c k (λ p. h (inl (number_is p.0 p.1))) l)
@@ -104,22 +103,13 @@ open_stays picture facts (cell ∷ cells) has r c k h l =
 blank_row : (picture : List (List ℕ)) (row : ℕ) → row < length picture → row_at (blank_for picture) row ≡ replicate (width_of picture) 65535
 blank_row picture row l = get_or-replicate (length picture) row (replicate (width_of picture) 65535) [] l
 
-blank_shape : (picture : List (List ℕ)) → IsPicture picture → SameShape picture (blank_for picture)
-blank_shape picture is = record {
-  rows = sym (length-replicate (length picture) (replicate (width_of picture) 65535));
-  each = λ i. elim (cases_lt i (length picture)) [
-    | inl l ↦ is.rectangular i l ∙ (sym (length-replicate (width_of picture) 65535) ∙ ap (λ (r : List ℕ). length r) (sym (blank_row picture i l)))
-    | inr p ↦ ap (λ (r : List ℕ). length r) (get_or_past picture i [] p ∙ sym (get_or_past (blank_for picture) i [] (let n : length (blank_for picture) ≡ length picture = length-replicate (length picture) (replicate (width_of picture) 65535) in omega arith)))
-  ];
-}
-
 blank_left : (picture : List (List ℕ)) (row col k : ℕ) → row < length picture → col < width_of picture → Leaves (blank_for picture) row col k → k < 16
 blank_left picture row col k h w l =
     let e : cell_at (blank_for picture) row col ≡ 65535 = ap (λ (r : List ℕ). get_or r col 0) (blank_row picture row h) ∙ get_or-replicate (width_of picture) col 65535 0 w in
     let P : ℕ → Type 0 = λ m. IsBitSet m k in
     bit_below 65535 16 k (omega arith) (subst P e l)
 
-givens_shape : (picture facts : List (List ℕ)) (cells : List CellNumber) → SameShape picture facts → SameShape picture (with_givens picture cells facts)
+pub givens_shape : (picture facts : List (List ℕ)) (cells : List CellNumber) → SameShape picture facts → SameShape picture (with_givens picture cells facts)
 givens_shape picture facts [] s = s
 givens_shape picture facts (cell ∷ cells) s =
     let t = shape_with_cell facts (cell.row - 1) (cell.col - 1) (2 ^ cell_at picture (cell.row - 1) (cell.col - 1)) in
@@ -128,7 +118,7 @@ givens_shape picture facts (cell ∷ cells) s =
 -- the root of a certificate with exactly the cells of a set is the base of that set
 pub bases_are_one : BasesAreOne
 bases_are_one picture givens cells is names = record {
-  same_shape = givens_shape picture (blank_for picture) cells (blank_shape picture is);
+  same_shape = givens_shape picture (blank_for picture) cells (full_shape picture is);
   left = λ row col k h w. (
     (λ l. (
       elim (left_or_given picture (blank_for picture) cells row col k l) [

@@ -1,14 +1,12 @@
 -- The first fault and the tree: there is none exactly where the lines are a tree that proves the picture.
-use Rattle.std.proofs.Common.{◌≡◌, ℕ, ◌+◌, ◌-◌, List, [], ◌∷◌, ◌++◌, Option, None, Some, Result, Ok, Err, append_assoc, get_or, refl, sym, ap, subst, ◌∙◌, inl, inr}
-use Rattle.std.specs.Prelude.{IfErr, OnOk, IsBitSet}
+use Rattle.std.proofs.Common.{◌≡◌, ℕ, ◌+◌, ◌-◌, List, [], ◌∷◌, ◌++◌, Option, None, Some, Result, Ok, Err, append_assoc, refl, sym, ap, subst, ◌∙◌, inl, inr}
+use Rattle.std.specs.Prelude.{IfErr, OnOk}
 use Rattle.std.proofs.lemmas.List.{append-nil}
 use Rattle.picture.specs.declared.line_id.LineId.{LineId}
 use Rattle.picture.specs.Picture.{IsPicture}
-use Rattle.picture.specs.Rows.{cell_at, line_of}
-use Rattle.line_settle.specs.FactSets.{with_given, row_on, col_on}
-use Rattle.line_settle.specs.GridLaws.{shape_sym, shape_trans, cell_on}
-use Rattle.line_settle.specs.ForceLaws.{on_or_not}
-use Rattle.line_settle.specs.FitLaws.{one_line, same_facts}
+use Rattle.line_settle.specs.FactSets.{with_given}
+use Rattle.line_settle.specs.ForceLaws.{gains_closes, gains_grows, gains_inside}
+use Rattle.line_settle.specs.FitLaws.{within_both}
 use Rattle.cert_text.specs.declared.fault.CertFault.{CertFault}
 use Rattle.cert_text.specs.declared.fault.CertFault.TheVariants.{Memory}
 use Rattle.cert_text.specs.declared.tree_line.LineNumber.{LineNumber}
@@ -25,20 +23,8 @@ use Rattle.certificate.proofs.Soundness.{proof_is_unique}
 
 same_gains : (picture facts one other : List (List ℕ)) (line : LineId) → IsForced picture facts line one → IsForced picture facts line other → one ≡ other
 same_gains picture facts one other line f h =
-    let a = f.1 in
-    let b = h.1 in
-    let same : line_of one line ≡ line_of other line = (one_line _ _ _ _ _ _ a.narrows b.narrows).0 in
-    same_facts one other (shape_trans (shape_sym a.same_shape) b.same_shape)
-    (λ r c k. let e : cell_at one r c ≡ cell_at other r c =
-    elim (on_or_not line r c) [
-      | inl on ↦
-          let at : (rows : List (List ℕ)) → cell_at rows r c ≡ cell_at rows (row_on line.axis line.at on.0) (col_on line.axis line.at on.0) =
-          λ rows. ap (λ x. cell_at rows x c) on.1 ∙ ap (cell_at rows (row_on line.axis line.at on.0)) on.2 in
-          at one ∙ (sym (cell_on one line on.0) ∙ (ap (λ (xs : List ℕ). get_or xs on.0 0) same ∙ (cell_on other line on.0 ∙ sym (at other))))
-      | inr off ↦ a.elsewhere r c off ∙ sym (b.elsewhere r c off)
-    ] in
-    let P : ℕ → Type 0 = λ m. IsBitSet m k in
-    ((λ s. subst P e s), (λ s. subst P (sym e) s)))
+    let half = λ (a b : List (List ℕ)) (g : IsForced picture facts line a) (k : IsForced picture facts line b). gains_inside _ _ _ _ _ g.1 b (gains_grows _ _ _ _ _ k.1) (gains_closes _ _ _ _ _ k.1) in
+    within_both one other (half one other f h) (half other one h f)
 
 -- ---- trees one behind the other
 

@@ -1,5 +1,5 @@
 -- What is made: a certificate, or there is another picture.
-use Rattle.std.proofs.Common.{◌≡◌, ℕ, ◌+◌, ◌↔◌, List, [], ◌∷◌, Option, None, Some, Ok, length, sym, ap, subst, ◌∙◌, arith}
+use Rattle.std.proofs.Common.{◌≡◌, ℕ, ◌+◌, ◌↔◌, true, List, [], ◌∷◌, Option, None, Some, is_some, Ok, length, sym, ap, subst, ◌∙◌, arith}
 use Rattle.picture.specs.CellSet.{HasCell}
 use Rattle.picture.specs.Document.{AreInside}
 use Rattle.picture.specs.Picture.{IsPicture}
@@ -107,10 +107,8 @@ made_scene bases sound picture blank start givens cells clues height width is na
       sound = subst P (sym root) (sound.base clues givens picture (base_of picture cells) is (bases picture givens cells is names));
     }
 
-pub near_other : (picture : List (List ℕ)) (givens : List ℕ) (clues : Clues) (near : Option (List (List ℕ))) (other : List (List ℕ)) → clues ≡ clues_of picture → near ≡ Some other → IfSome near (IsOther clues (HasCell givens) picture) → HasOther picture givens
-near_other picture givens clues near other c e h =
-    let P : Option (List (List ℕ)) → Type 0 = λ x. IfSome x (IsOther clues (HasCell givens) picture) in
-    let Q : Clues → Type 0 = λ k. IsOther k (HasCell givens) picture other in
-    (other, subst Q c (subst P e h))
+pub near_other : (picture : List (List ℕ)) (givens : List ℕ) (clues : Clues) (near : Option (List (List ℕ))) → clues ≡ clues_of picture → IfSome near (IsOther clues (HasCell givens) picture) → is_some near ≡ true → HasOther picture givens
+near_other picture givens clues None c h e = absurd (cc e)
+near_other picture givens clues (Some other) c h e = let Q : Clues → Type 0 = λ k. IsOther k (HasCell givens) picture other in (other, subst Q c h)
 
 pub ruleset making = (makes_none, makes_some)

@@ -20,6 +20,7 @@ use Rattle.line_settle.specs.Laws.{ForcingClosesALine, OneLineDecides}
 use Rattle.line_settle.specs.GridLaws.{at_with_cell, off_with_cell, shape_refl, shape_trans, shape_with_cell}
 use Rattle.line_settle.specs.Narrowing.{Narrows}
 use Rattle.fixpoint.specs.Closing.{AreClosable}
+use Rattle.fixpoint.specs.ClosingLaws.{within_trans}
 use Rattle.fixpoint.specs.Filling.{Fills}
 use Rattle.cert_text.specs.declared.tree_line.CellNumber.{CellNumber}
 use Rattle.cert_text.specs.declared.tree_line.LineNumber.{LineNumber}
@@ -42,12 +43,6 @@ EachWithin start (facts ∷ others) = IsWithin start facts × EachWithin start o
 both_within : (start : List (List ℕ)) (xs ys : List (List (List ℕ))) → EachWithin start xs → EachWithin start ys → EachWithin start (xs ++ ys)
 both_within start [] ys p q = q
 both_within start (x ∷ xs) ys p q = (p.0, both_within start xs ys p.1 q)
-
-within_within : (a b c : List (List ℕ)) → IsWithin a b → IsWithin b c → IsWithin a c
-within_within a b c p q = record {
-  same_shape = record { rows = p.same_shape.rows ∙ q.same_shape.rows; each = λ i. p.same_shape.each i ∙ q.same_shape.each i };
-  leaves = λ row col k l. p.leaves row col k (q.leaves row col k l);
-}
 
 -- a colour is left inside the grid alone
 pub left_inside : (facts : List (List ℕ)) (row col k : ℕ) → Leaves facts row col k → (row < length facts) × (col < length (row_at facts row))
@@ -92,7 +87,7 @@ each_held : (start facts : List (List ℕ)) (row col : ℕ) (colours : List ℕ)
 each_held start facts row col [] w a = tt
 each_held start facts row col (k ∷ ks) w a =
     let bit = eqb-true (bit_at (cell_at facts row col) k) 1 (a 0 0 (omega arith)) in
-    (within_within start facts _ w (held_within facts row col k (bit_is_set (cell_at facts row col) k bit)), each_held start facts row col ks w (λ i d m. a (suc i) d (omega arith)))
+    (within_trans start facts _ w (held_within facts row col k (bit_is_set (cell_at facts row col) k bit)), each_held start facts row col ks w (λ i d m. a (suc i) d (omega arith)))
 
 colours_are_left : (mask : ℕ) → All (λ k. eqb (bit_at mask k) 1 ≡ true) (colours_of mask)
 unfolding colours_of
@@ -102,7 +97,7 @@ led_within : ForcingClosesALine → (picture start facts : List (List ℕ)) (lin
 led_within law picture start facts (Line number) next l w =
     let P : List (List (List ℕ)) → Type 0 = EachWithin start in
     let forced = l.1.1.0 in
-    subst P (sym l.1.1.1) (within_within start facts l.1.0 w (law.grows _ _ _ _ _ forced.1), tt)
+    subst P (sym l.1.1.1) (within_trans start facts l.1.0 w (law.grows _ _ _ _ _ forced.1), tt)
 led_within law picture start facts (Split cell) next l w =
     let P : List (List (List ℕ)) → Type 0 = EachWithin start in
     let row = cell.row - 1 in

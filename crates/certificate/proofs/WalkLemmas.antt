@@ -1,20 +1,14 @@
 -- The walk over the lines: what a call needs to know, and what is first from the beginning.
-use Rattle.std.proofs.Common.{◌≡◌, ℕ, ◌+◌, ◌-◌, ◌<◌, ◌≤◌, ◌↔◌, List, [], ◌∷◌, ◌++◌, Bool, true, false, Option, Some, Ok, Err, IsTrue, length, get_or, drop, drop-cons, add-one, refl, sym, ap, subst, ◌∙◌, arith, inl, inr}
-use Rattle.std.proofs.lemmas.List.{length-map}
-use Rattle.std.proofs.lemmas.List.FromFn.{length-range_with_len}
-use Rattle.std.specs.List.{range_with_len}
-use Rattle.picture.specs.declared.line_id.Axis.{Axis}
-use Rattle.picture.specs.declared.line_id.Axis.TheVariants.{Across, Down}
+use Rattle.std.proofs.Common.{◌≡◌, ℕ, ◌+◌, ◌-◌, ◌<◌, ◌↔◌, List, [], ◌∷◌, ◌++◌, Bool, true, false, Option, Some, Ok, Err, IsTrue, length, get_or, drop, drop-cons, add-one, refl, sym, ap, subst, ◌∙◌, arith, inl, inr}
 use Rattle.picture.specs.declared.line_id.LineId.{LineId}
-use Rattle.picture.specs.Picture.{IsPicture}
-use Rattle.picture.specs.Rows.{width_of, line_along, line_of, lines_along, HasLine}
+use Rattle.picture.specs.Rows.{width_of, line_of, lines_along, HasLine}
 use Rattle.clues.specs.declared.block.Block.{Block}
-use Rattle.clues.specs.Clue.{clue_of}
-use Rattle.clues.specs.ClueBook.{Clues, clue_at, clues_along, clues_of, first_clues, HasClue}
+use Rattle.clues.specs.BookLaws.{length_along-clues_of}
+use Rattle.clues.specs.ClueBook.{Clues, clue_at, clues_of, HasClue}
 use Rattle.line_settle.specs.declared.line_engine.Outcome.{Outcome}
 use Rattle.line_settle.specs.Fitting.{CanFit}
 use Rattle.line_settle.specs.FactSets.{Gains}
-use Rattle.line_settle.specs.GridLaws.{same_line_length, shape_trans}
+use Rattle.line_settle.specs.GridLaws.{shape_trans}
 use Rattle.cert_text.specs.declared.fault.CertFault.{CertFault}
 use Rattle.cert_text.specs.declared.fault.CertFault.TheVariants.{Trailing}
 use Rattle.cert_text.specs.declared.tree_line.LineNumber.{LineNumber}
@@ -28,33 +22,15 @@ use Rattle.certificate.proofs.PendingLemmas.{moved_inside}
 
 -- ---- a line found
 
-clue_count : (axis : Axis) (picture : List (List ℕ)) (n : ℕ) → length (first_clues axis picture n) ≡ n
-unfolding first_clues
-clue_count axis picture n = length-map (range_with_len 0 n) (λ (at : ℕ). clue_of (line_along axis at picture)) ∙ length-range_with_len 0 n
-
-pub clues_are_there : (axis : Axis) (picture : List (List ℕ)) → length (clues_along axis (clues_of picture)) ≡ lines_along axis picture
-clues_are_there Across picture = clue_count Across picture (length picture)
-clues_are_there Down picture = clue_count Down picture (width_of picture)
-
 has_found : (picture : List (List ℕ)) (number : LineNumber) (found : LineId) → HasLineNumber picture number → found ≡ line_id number → HasLine picture found
 has_found picture number found h e = subst (λ (l : LineId). HasLine picture l) (sym e) (let l : number.number - 1 < lines_along number.axis picture = omega arith in l)
 
 pub found_clue : (picture : List (List ℕ)) (clues : Clues) (longest : ℕ) (number : LineNumber) (found : LineId) → CanCheck picture clues longest → HasLineNumber picture number → found ≡ line_id number → HasClue clues found
 found_clue picture clues longest number found can h e =
     let P : Clues → Type 0 = λ c. HasClue c found in
-    let n = clues_are_there found.axis picture in
+    let n = length_along-clues_of found.axis picture in
     let l = has_found picture number found h e in
     subst P (sym can.clues_are) (omega arith)
-
-pub short_along : (axis : Axis) (at longest : ℕ) (picture : List (List ℕ)) → IsPicture picture → width_of picture ≤ longest → length picture ≤ longest → at < lines_along axis picture → length (line_along axis at picture) ≤ longest
-short_along Across at longest picture is w t h = let r = is.rectangular at h in omega arith
-short_along Down at longest picture is w t h = let m = length-map picture (λ (row : List ℕ). get_or row at 0) in omega arith
-
-pub found_short : (picture facts : List (List ℕ)) (clues : Clues) (longest : ℕ) (notes : List Note) (number : LineNumber) (found : LineId) → CanCheck picture clues longest → IsWalk picture facts notes → HasLineNumber picture number → found ≡ line_id number → length (line_of facts found) ≤ longest
-found_short picture facts clues longest notes number found can walk h e =
-    let s = same_line_length picture facts found walk.same_shape in
-    let l = short_along found.axis found.at longest picture can.is_picture can.wide can.tall (has_found picture number found h e) in
-    omega arith
 
 -- ---- a line judged
 
