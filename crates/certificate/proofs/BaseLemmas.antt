@@ -32,17 +32,12 @@ at_once picture facts cell k l =
     let s = shape_with_cell facts row col (2 ^ p) in
     let h = s.rows in
     let w = s.each row in
-    let P : ℕ → Type 0 = λ m. IsBitSet m k in
-    (power_has p k).0 (subst P (at_with_cell facts row col (2 ^ p) (omega arith) (omega arith)) l)
+    (power_has p k).0 (rw (at_with_cell facts row col (2 ^ p) (omega arith) (omega arith)) at l)
 
 -- one given leaves the picture's colour there, and elsewhere what was left
 left_once : (picture facts : List (List ℕ)) (cell : CellNumber) (r c k : ℕ) → Leaves (once picture facts cell) r c k → Leaves facts r c k ⊎ (k ≡ cell_at picture r c)
 left_once picture facts cell r c k l = elim (at_or_off r c cell) [
-  | inl p ↦
-      let P : ℕ → Type 0 = λ x. Leaves (once picture facts cell) x c k in
-      let Q : ℕ → Type 0 = λ y. Leaves (once picture facts cell) (cell.row - 1) y k in
-      let e = at_once picture facts cell k (subst Q p.1 (subst P p.0 l)) in
-      inr (e ∙ (ap (λ (x : ℕ). cell_at picture x (cell.col - 1)) (sym p.0) ∙ ap (cell_at picture r) (sym p.1)))
+  | inl p ↦ inr (rw (p.0, p.1) (at_once picture facts cell k (rw (p.0, p.1) at l)))
   | inr n ↦ let P : ℕ → Type 0 = λ m. IsBitSet m k in inl (subst P (off_with_cell facts (cell.row - 1) (cell.col - 1) (2 ^ cell_at picture (cell.row - 1) (cell.col - 1)) r c n) l)
 ]
 
@@ -63,9 +58,7 @@ given_left picture facts (cell ∷ cells) r c k (inl e) l = elim (left_or_given 
       let col : c + 1 ≡ cell.col = ap (λ (x : CellNumber). x.col) e in
       let a : r ≡ cell.row - 1 = omega arith in
       let b : c ≡ cell.col - 1 = omega arith in
-      let P : ℕ → Type 0 = λ x. Leaves (once picture facts cell) x c k in
-      let Q : ℕ → Type 0 = λ y. Leaves (once picture facts cell) (cell.row - 1) y k in
-      at_once picture facts cell k (subst Q b (subst P a h)) ∙ (ap (λ (x : ℕ). cell_at picture x (cell.col - 1)) (sym a) ∙ ap (cell_at picture r) (sym b))
+      rw (a, b) (at_once picture facts cell k (rw (a, b) at h))
 ]
 given_left picture facts (cell ∷ cells) r c k (inr m) l = given_left picture (once picture facts cell) cells r c k m l
 
@@ -76,15 +69,8 @@ open_once picture facts cell r c k h l = elim (at_or_off r c cell) [
   | inl p ↦
       let row = cell.row - 1 in
       let col = cell.col - 1 in
-      let inside = left_inside facts r c k l in
-      let A : ℕ → Type 0 = λ x. (x < length facts) × (c < length (row_at facts x)) in
-      let B : ℕ → Type 0 = λ y. (row < length facts) × (y < length (row_at facts row)) in
-      let there = subst B p.1 (subst A p.0 inside) in
-      let P : ℕ → Type 0 = λ m. IsBitSet m k in
-      let Q : ℕ → Type 0 = λ x. Leaves (once picture facts cell) x c k in
-      let R : ℕ → Type 0 = λ y. Leaves (once picture facts cell) row y k in
-      let is : k ≡ cell_at picture row col = h p ∙ (ap (λ (x : ℕ). cell_at picture x c) p.0 ∙ ap (cell_at picture row) p.1) in
-      subst Q (sym p.0) (subst R (sym p.1) (subst P (sym (at_with_cell facts row col (2 ^ cell_at picture row col) there.0 there.1)) ((power_has (cell_at picture row col) k).1 is)))
+      let inside = rw (p.0, p.1) at (left_inside facts r c k l) in
+      rw (p.0, p.1, at_with_cell facts row col (2 ^ cell_at picture row col) inside.0 inside.1) ((power_has (cell_at picture row col) k).1 (rw (p.0, p.1) at (h p)))
 ]
 
 pub open_stays : (picture facts : List (List ℕ)) (cells : List CellNumber) → HasCellNumbers picture cells → (r c k : ℕ) → (IsAmong (numbered r c) cells → k ≡ cell_at picture r c) → Leaves facts r c k → Leaves (with_givens picture cells facts) r c k
@@ -106,8 +92,7 @@ blank_row picture row l = get_or-replicate (length picture) row (replicate (widt
 blank_left : (picture : List (List ℕ)) (row col k : ℕ) → row < length picture → col < width_of picture → Leaves (blank_for picture) row col k → k < 16
 blank_left picture row col k h w l =
     let e : cell_at (blank_for picture) row col ≡ 65535 = ap (λ (r : List ℕ). get_or r col 0) (blank_row picture row h) ∙ get_or-replicate (width_of picture) col 65535 0 w in
-    let P : ℕ → Type 0 = λ m. IsBitSet m k in
-    bit_below 65535 16 k (omega arith) (subst P e l)
+    bit_below 65535 16 k (omega arith) (rw e at l)
 
 pub givens_shape : (picture facts : List (List ℕ)) (cells : List CellNumber) → SameShape picture facts → SameShape picture (with_givens picture cells facts)
 givens_shape picture facts [] s = s

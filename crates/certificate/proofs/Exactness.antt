@@ -1,5 +1,5 @@
 -- The first fault and the tree: there is none exactly where the lines are a tree that proves the picture.
-use Rattle.std.proofs.Common.{◌≡◌, ℕ, ◌+◌, ◌-◌, List, [], ◌∷◌, ◌++◌, Option, None, Some, Result, Ok, Err, append_assoc, refl, sym, ap, subst, ◌∙◌, inl, inr}
+use Rattle.std.proofs.Common.{◌≡◌, ℕ, ◌+◌, ◌-◌, List, [], ◌∷◌, ◌++◌, Option, None, Some, Result, Ok, Err, append_assoc, refl, sym, ap, ◌∙◌, inl, inr}
 use Rattle.std.specs.Prelude.{IfErr, OnOk}
 use Rattle.std.proofs.lemmas.List.{append-nil}
 use Rattle.picture.specs.declared.line_id.LineId.{LineId}
@@ -61,20 +61,16 @@ line_led picture facts others gained number lines h f (more tree trees) e p =
 -- from the lines to the trees
 led_to : (picture facts : List (List ℕ)) (others next : List (List (List ℕ))) (line : CertLine) (lines : List CertLine) → Leads picture facts line next → Forest picture (next ++ others) lines → Forest picture (facts ∷ others) (line ∷ lines)
 led_to picture facts others next Done lines l f =
-    let P : List (List (List ℕ)) → Type 0 = λ fs. Forest picture (fs ++ others) lines in
-    let g = subst P l.1 f in
+    let g = rw l.1 at f in
     record { trees = more done g.trees; written_is = ap (λ (ls : List CertLine). Done ∷ ls) g.written_is; proves = (l.0, g.proves) }
 led_to picture facts others next (Dead number) lines l f =
-    let P : List (List (List ℕ)) → Type 0 = λ fs. Forest picture (fs ++ others) lines in
-    let g = subst P l.2 f in
+    let g = rw l.2 at f in
     record { trees = more (dead number) g.trees; written_is = ap (λ (ls : List CertLine). Dead number ∷ ls) g.written_is; proves = ((l.0, l.1), g.proves) }
 led_to picture facts others next (Line number) lines l f =
-    let P : List (List (List ℕ)) → Type 0 = λ fs. Forest picture (fs ++ others) lines in
-    let g = subst P l.1.1.1 f in
+    let g = rw l.1.1.1 at f in
     line_led picture facts others l.1.0 number lines l.0 l.1.1.0 g.trees g.written_is g.proves
 led_to picture facts others next (Split cell) lines l f =
-    let P : List (List (List ℕ)) → Type 0 = λ fs. Forest picture (fs ++ others) lines in
-    let g = subst P l.1 f in
+    let g = rw l.1 at f in
     let c = cut picture (split_at facts cell) others g.trees g.proves in
     record {
       trees = more (split cell c.first) c.rest;
@@ -115,30 +111,27 @@ record Stands (picture facts : List (List ℕ)) (others : List (List (List ℕ))
 done_stands : (picture facts : List (List ℕ)) (others : List (List (List ℕ))) (trees : Trees) → ShowsOnly picture facts → EachProves picture others trees → Stands picture facts others Done (each_written trees)
 done_stands picture facts others trees p q = record {
   no_fault = λ n found h. h.0 p;
-  goes = λ next l. let P : List (List (List ℕ)) → Type 0 = λ fs. Forest picture (fs ++ others) (each_written trees) in subst P (sym l.1) (record { trees = trees; written_is = refl; proves = q });
+  goes = λ next l. rw l.1 (record { trees = trees; written_is = refl; proves = q });
 }
 
 dead_stands : (picture facts : List (List ℕ)) (others : List (List (List ℕ))) (number : LineNumber) (trees : Trees) → HasLineNumber picture number → IsDead picture facts (line_id number) → EachProves picture others trees → Stands picture facts others (Dead number) (each_written trees)
 dead_stands picture facts others number trees has p q = record {
   no_fault = λ n found h. elim h [ inl g ↦ g.0 has | inr g ↦ g.1 p ];
-  goes = λ next l. let P : List (List (List ℕ)) → Type 0 = λ fs. Forest picture (fs ++ others) (each_written trees) in subst P (sym l.2) (record { trees = trees; written_is = refl; proves = q });
+  goes = λ next l. rw l.2 (record { trees = trees; written_is = refl; proves = q });
 }
 
 forced_stands : (picture facts gained : List (List ℕ)) (others : List (List (List ℕ))) (number : LineNumber) (tree : Tree) (trees : Trees) → HasLineNumber picture number → IsForced picture facts (line_id number) gained → Proves picture gained tree → EachProves picture others trees → Stands picture facts others (Line number) (written tree ++ each_written trees)
 forced_stands picture facts gained others number tree trees has f p q = record {
   no_fault = λ n found h. h.0 has;
   goes = λ next l.
-      let P : List (List (List ℕ)) → Type 0 = λ fs. Forest picture (fs ++ others) (written tree ++ each_written trees) in
-      let Q : List (List ℕ) → Type 0 = λ g. Forest picture (g ∷ others) (written tree ++ each_written trees) in
-      subst P (sym l.1.1.1) (subst Q (same_gains picture facts gained l.1.0 (line_id number) f l.1.1.0) (record { trees = more tree trees; written_is = refl; proves = (p, q) }));
+      rw (l.1.1.1, ← same_gains picture facts gained l.1.0 (line_id number) f l.1.1.0) (record { trees = more tree trees; written_is = refl; proves = (p, q) });
 }
 
 split_stands : (picture facts : List (List ℕ)) (others : List (List (List ℕ))) (cell : CellNumber) (branches trees : Trees) → HasCellNumber picture cell → EachProves picture (split_at facts cell) branches → EachProves picture others trees → Stands picture facts others (Split cell) (each_written branches ++ each_written trees)
 split_stands picture facts others cell branches trees has p q = record {
   no_fault = λ n found h. h.0 has;
   goes = λ next l.
-      let P : List (List (List ℕ)) → Type 0 = λ fs. Forest picture (fs ++ others) (each_written branches ++ each_written trees) in
-      subst P (sym l.1) (record { trees = join branches trees; written_is = sym (joined_written branches trees); proves = joined_proves picture (split_at facts cell) others branches trees p q });
+      rw l.1 (record { trees = join branches trees; written_is = sym (joined_written branches trees); proves = joined_proves picture (split_at facts cell) others branches trees p q });
 }
 
 -- the same where the lines are told by an equation
@@ -146,9 +139,7 @@ told : (picture facts : List (List ℕ)) (others : List (List (List ℕ))) (line
 told picture facts others line x lines xs e s =
     let a : x ≡ line = cc in
     let b : xs ≡ lines = cc in
-    let P : CertLine → Type 0 = λ l. Stands picture facts others l lines in
-    let Q : List CertLine → Type 0 = λ ls. Stands picture facts others x ls in
-    subst P a (subst Q b s)
+    rw (← a, ← b) s
 
 stands : (picture facts : List (List ℕ)) (others : List (List (List ℕ))) (tree : Tree) (trees : Trees) (line : CertLine) (lines : List CertLine) → line ∷ lines ≡ written tree ++ each_written trees → Proves picture facts tree → EachProves picture others trees → Stands picture facts others line lines
 stands picture facts others done trees line lines e p q = told picture facts others line Done lines (each_written trees) e (done_stands picture facts others trees p q)

@@ -1,5 +1,5 @@
 -- The walk over the lines: what a call needs to know, and what is first from the beginning.
-use Rattle.std.proofs.Common.{◌≡◌, ℕ, ◌+◌, ◌-◌, ◌<◌, ◌↔◌, List, [], ◌∷◌, ◌++◌, Bool, true, false, Option, Some, Ok, Err, IsTrue, length, get_or, drop, drop-cons, add-one, refl, sym, ap, subst, ◌∙◌, arith, inl, inr}
+use Rattle.std.proofs.Common.{◌≡◌, ℕ, ◌+◌, ◌-◌, ◌<◌, ◌↔◌, List, [], ◌∷◌, Bool, true, false, Option, Some, Ok, Err, IsTrue, length, get_or, drop, drop-cons, add-one, refl, sym, ap, subst, ◌∙◌, arith, inl, inr}
 use Rattle.picture.specs.declared.line_id.LineId.{LineId}
 use Rattle.picture.specs.Rows.{width_of, line_of, lines_along, HasLine}
 use Rattle.clues.specs.declared.block.Block.{Block}
@@ -27,10 +27,9 @@ has_found picture number found h e = subst (λ (l : LineId). HasLine picture l) 
 
 pub found_clue : (picture : List (List ℕ)) (clues : Clues) (longest : ℕ) (number : LineNumber) (found : LineId) → CanCheck picture clues longest → HasLineNumber picture number → found ≡ line_id number → HasClue clues found
 found_clue picture clues longest number found can h e =
-    let P : Clues → Type 0 = λ c. HasClue c found in
     let n = length_along-clues_of found.axis picture in
     let l = has_found picture number found h e in
-    subst P (sym can.clues_are) (omega arith)
+    rw can.clues_are (omega arith)
 
 -- ---- a line judged
 
@@ -39,16 +38,12 @@ by_found picture clues longest clue number found can e c = c ∙ (ap (λ (cs : C
 
 pub not_dead : (picture facts : List (List ℕ)) (clues : Clues) (longest : ℕ) (clue : List Block) (number : LineNumber) (found : LineId) (b : Bool) → CanCheck picture clues longest → found ≡ line_id number → clue ≡ clue_at clues found → IsTrue b ↔ (CanFit clue (line_of facts found) → ⊥) → b ≡ false → IsDead picture facts (line_id number) → ⊥
 not_dead picture facts clues longest clue number found b can e c is f dead =
-    let P : List Block → Type 0 = λ bs. CanFit bs (line_of facts found) → ⊥ in
-    let Q : LineId → Type 0 = λ l. CanFit (clue_at (clues_of picture) (line_id number)) (line_of facts l) → ⊥ in
-    let t : b ≡ true = is.1 (subst P (sym (by_found picture clues longest clue number found can e c)) (subst Q (sym e) dead)) in
+    let t : b ≡ true = is.1 (rw (by_found picture clues longest clue number found can e c, e) dead) in
     cc
 
 pub forced_takes : (picture facts gained : List (List ℕ)) (clues : Clues) (longest : ℕ) (old new : List Note) (clue : List Block) (number : LineNumber) (found : LineId) (n : ℕ) → CanCheck picture clues longest → IsWalk picture facts old → HasLineNumber picture number → found ≡ line_id number → clue ≡ clue_at clues found → (outcome : Outcome) × Gains clue found facts gained outcome → pending gained new ≡ pending facts old → AreInside (length facts) (width_of facts) new → Takes picture facts old (Line number) n (Ok true) gained new
 forced_takes picture facts gained clues longest old new clue number found n can walk h e c f waits inside =
-    let P : List Block → Type 0 = λ bs. Gains bs found facts gained f.0 in
-    let Q : LineId → Type 0 = λ l. Gains (clue_at (clues_of picture) (line_id number)) l facts gained f.0 in
-    let gains = subst Q e (subst P (by_found picture clues longest clue number found can e c) f.1) in (
+    let gains = rw (by_found picture clues longest clue number found can e c, e) at f.1 in (
       record { same_shape = shape_trans walk.same_shape f.1.same_shape; inside = moved_inside facts gained new f.1.same_shape inside },
       (gained ∷ [], ((h, (gained, ((f.0, gains), refl))), ap (λ (fs : List (List (List ℕ))). gained ∷ fs) waits)),
     )
@@ -64,16 +59,12 @@ here lines i d l = rw (add-one, drop-cons lines i d) refl
 
 pub trailing_first : (picture : List (List ℕ)) (start : List (List (List ℕ))) (facts : List (List ℕ)) (notes : List Note) (going : Bool) (first i : ℕ) (lines : List CertLine) → FirstSoFar picture start (waiting going facts notes) first (first + i) lines (drop i lines) → i < length lines → going ≡ false → FirstFault picture start first lines (Some (Trailing (first + i)))
 trailing_first picture start facts notes going first i lines so_far l e =
-    let P : List CertLine → Type 0 = λ ls. FirstFault picture [] (first + i) ls (Some (Trailing (first + i))) in
-    let Q : Bool → Type 0 = λ b. FirstFault picture (waiting b facts notes) (first + i) (drop i lines) (Some (Trailing (first + i))) in
-    so_far.goes (Some (Trailing (first + i))) (subst Q (sym e) (subst P (sym (here lines i Done l)) refl))
+    so_far.goes (Some (Trailing (first + i))) (rw (e, here lines i Done l) refl)
 
 -- from a line that is at hand
 at_line : (picture : List (List ℕ)) (start : List (List (List ℕ))) (facts : List (List ℕ)) (notes : List Note) (going : Bool) (first i : ℕ) (lines : List CertLine) (line d : CertLine) → FirstSoFar picture start (waiting going facts notes) first (first + i) lines (drop i lines) → i < length lines → going ≡ true → line ≡ get_or lines i d → (fault : Option CertFault) → FirstFault picture (facts ∷ pending facts notes) (first + i) (line ∷ drop (i + 1) lines) fault → FirstFault picture start first lines fault
 at_line picture start facts notes going first i lines line d so_far l e is fault f =
-    let P : List CertLine → Type 0 = λ ls. FirstFault picture (facts ∷ pending facts notes) (first + i) ls fault in
-    let Q : Bool → Type 0 = λ b. FirstFault picture (waiting b facts notes) (first + i) (drop i lines) fault in
-    so_far.goes fault (subst Q (sym e) (subst P (ap (λ (x : CertLine). x ∷ drop (i + 1) lines) is ∙ sym (here lines i d l)) f))
+    so_far.goes fault (rw (e, here lines i d l, ← is) f)
 
 pub refused_first : (picture : List (List ℕ)) (start : List (List (List ℕ))) (facts new : List (List ℕ)) (notes left : List Note) (going : Bool) (first i : ℕ) (lines : List CertLine) (line d : CertLine) (e : CertFault) → FirstSoFar picture start (waiting going facts notes) first (first + i) lines (drop i lines) → i < length lines → going ≡ true → line ≡ get_or lines i d → Takes picture facts notes line (first + i) (Err e) new left → AnswersFirst (FirstFault picture start first lines) (Err e)
 refused_first picture start facts new notes left going first i lines line d e so_far l g is (inl m) = inl m
@@ -85,7 +76,6 @@ taken_first picture start facts new notes left going goes_on first i lines line 
   goes = λ fault f.
       let next = t.1.0 in
       let leads = t.1.1.0 in
-      let P : List (List (List ℕ)) → Type 0 = λ fs. FirstFault picture fs (first + (i + 1)) (drop (i + 1) lines) fault in
-      let Q : ℕ → Type 0 = λ n. FirstFault picture (next ++ pending facts notes) n (drop (i + 1) lines) fault in
-      at_line picture start facts notes going first i lines line d so_far l g is fault (inr (next, (leads, subst Q (let e : first + (i + 1) ≡ first + i + 1 = omega arith in e) (subst P t.1.1.1 f))));
+      let e : first + (i + 1) ≡ first + i + 1 = omega arith in
+      at_line picture start facts notes going first i lines line d so_far l g is fault (inr (next, (leads, rw (t.1.1.1, e) at f)));
 }
