@@ -1,12 +1,11 @@
 -- The facts that givens say, cell by cell.
 use Rattle.std.proofs.Common.{◌≡◌, ◌⊎◌, ℕ, ◌+◌, ◌-◌, ◌^◌, ◌<◌, List, [], ◌∷◌, replicate, length, get_or, sym, ap, subst, ◌∙◌, arith, inl, inr}
 use Rattle.std.specs.Prelude.{IsBitSet}
-use Rattle.std.proofs.lemmas.Bool.{cases_eq, cases_lt}
-use Rattle.std.proofs.lemmas.List.{get_or_past, get_or-replicate, length-replicate}
-use Rattle.picture.specs.Picture.{IsPicture}
+use Rattle.std.proofs.lemmas.Bool.{cases_eq}
+use Rattle.std.proofs.lemmas.List.{get_or-replicate}
 use Rattle.picture.specs.Rows.{width_of, row_at, cell_at}
 use Rattle.line_settle.specs.FactSets.{Leaves, SameShape, with_given}
-use Rattle.line_settle.specs.GridLaws.{all_left, at_with_cell, off_with_cell, shape_with_cell}
+use Rattle.line_settle.specs.GridLaws.{all_left, full_shape, at_with_cell, off_with_cell, shape_with_cell}
 use Rattle.picture.specs.BitLaws.{bit_below, power_has}
 use Rattle.cert_text.specs.declared.tree_line.CellNumber.{CellNumber}
 use Rattle.certificate.specs.Making.{BasesAreOne}
@@ -33,17 +32,12 @@ at_once picture facts cell k l =
     let s = shape_with_cell facts row col (2 ^ p) in
     let h = s.rows in
     let w = s.each row in
-    let P : ℕ → Type 0 = λ m. IsBitSet m k in
-    (power_has p k).0 (subst P (at_with_cell facts row col (2 ^ p) (omega arith) (omega arith)) l)
+    (power_has p k).0 (rw (at_with_cell facts row col (2 ^ p) (omega arith) (omega arith)) at l)
 
 -- one given leaves the picture's colour there, and elsewhere what was left
 left_once : (picture facts : List (List ℕ)) (cell : CellNumber) (r c k : ℕ) → Leaves (once picture facts cell) r c k → Leaves facts r c k ⊎ (k ≡ cell_at picture r c)
 left_once picture facts cell r c k l = elim (at_or_off r c cell) [
-  | inl p ↦
-      let P : ℕ → Type 0 = λ x. Leaves (once picture facts cell) x c k in
-      let Q : ℕ → Type 0 = λ y. Leaves (once picture facts cell) (cell.row - 1) y k in
-      let e = at_once picture facts cell k (subst Q p.1 (subst P p.0 l)) in
-      inr (e ∙ (ap (λ (x : ℕ). cell_at picture x (cell.col - 1)) (sym p.0) ∙ ap (cell_at picture r) (sym p.1)))
+  | inl p ↦ inr (rw (p.0, p.1) (at_once picture facts cell k (rw (p.0, p.1) at l)))
   | inr n ↦ let P : ℕ → Type 0 = λ m. IsBitSet m k in inl (subst P (off_with_cell facts (cell.row - 1) (cell.col - 1) (2 ^ cell_at picture (cell.row - 1) (cell.col - 1)) r c n) l)
 ]
 
@@ -64,9 +58,7 @@ given_left picture facts (cell ∷ cells) r c k (inl e) l = elim (left_or_given 
       let col : c + 1 ≡ cell.col = ap (λ (x : CellNumber). x.col) e in
       let a : r ≡ cell.row - 1 = omega arith in
       let b : c ≡ cell.col - 1 = omega arith in
-      let P : ℕ → Type 0 = λ x. Leaves (once picture facts cell) x c k in
-      let Q : ℕ → Type 0 = λ y. Leaves (once picture facts cell) (cell.row - 1) y k in
-      at_once picture facts cell k (subst Q b (subst P a h)) ∙ (ap (λ (x : ℕ). cell_at picture x (cell.col - 1)) (sym a) ∙ ap (cell_at picture r) (sym b))
+      rw (a, b) (at_once picture facts cell k (rw (a, b) at h))
 ]
 given_left picture facts (cell ∷ cells) r c k (inr m) l = given_left picture (once picture facts cell) cells r c k m l
 
@@ -77,18 +69,11 @@ open_once picture facts cell r c k h l = elim (at_or_off r c cell) [
   | inl p ↦
       let row = cell.row - 1 in
       let col = cell.col - 1 in
-      let inside = left_inside facts r c k l in
-      let A : ℕ → Type 0 = λ x. (x < length facts) × (c < length (row_at facts x)) in
-      let B : ℕ → Type 0 = λ y. (row < length facts) × (y < length (row_at facts row)) in
-      let there = subst B p.1 (subst A p.0 inside) in
-      let P : ℕ → Type 0 = λ m. IsBitSet m k in
-      let Q : ℕ → Type 0 = λ x. Leaves (once picture facts cell) x c k in
-      let R : ℕ → Type 0 = λ y. Leaves (once picture facts cell) row y k in
-      let is : k ≡ cell_at picture row col = h p ∙ (ap (λ (x : ℕ). cell_at picture x c) p.0 ∙ ap (cell_at picture row) p.1) in
-      subst Q (sym p.0) (subst R (sym p.1) (subst P (sym (at_with_cell facts row col (2 ^ cell_at picture row col) there.0 there.1)) ((power_has (cell_at picture row col) k).1 is)))
+      let inside = rw (p.0, p.1) at (left_inside facts r c k l) in
+      rw (p.0, p.1, at_with_cell facts row col (2 ^ cell_at picture row col) inside.0 inside.1) ((power_has (cell_at picture row col) k).1 (rw (p.0, p.1) at (h p)))
 ]
 
-open_stays : (picture facts : List (List ℕ)) (cells : List CellNumber) → HasCellNumbers picture cells → (r c k : ℕ) → (IsAmong (numbered r c) cells → k ≡ cell_at picture r c) → Leaves facts r c k → Leaves (with_givens picture cells facts) r c k
+pub open_stays : (picture facts : List (List ℕ)) (cells : List CellNumber) → HasCellNumbers picture cells → (r c k : ℕ) → (IsAmong (numbered r c) cells → k ≡ cell_at picture r c) → Leaves facts r c k → Leaves (with_givens picture cells facts) r c k
 open_stays picture facts [] has r c k h l = l
 open_stays picture facts (cell ∷ cells) has r c k h l =
     open_stays picture (once picture facts cell) cells has.1 r c k (λ m. h (inr m)) (open_once picture facts cell r c k (λ p. h (inl (number_is p.0 p.1))) l)
@@ -104,22 +89,12 @@ open_stays picture facts (cell ∷ cells) has r c k h l =
 blank_row : (picture : List (List ℕ)) (row : ℕ) → row < length picture → row_at (blank_for picture) row ≡ replicate (width_of picture) 65535
 blank_row picture row l = get_or-replicate (length picture) row (replicate (width_of picture) 65535) [] l
 
-blank_shape : (picture : List (List ℕ)) → IsPicture picture → SameShape picture (blank_for picture)
-blank_shape picture is = record {
-  rows = sym (length-replicate (length picture) (replicate (width_of picture) 65535));
-  each = λ i. elim (cases_lt i (length picture)) [
-    | inl l ↦ is.rectangular i l ∙ (sym (length-replicate (width_of picture) 65535) ∙ ap (λ (r : List ℕ). length r) (sym (blank_row picture i l)))
-    | inr p ↦ ap (λ (r : List ℕ). length r) (get_or_past picture i [] p ∙ sym (get_or_past (blank_for picture) i [] (let n : length (blank_for picture) ≡ length picture = length-replicate (length picture) (replicate (width_of picture) 65535) in omega arith)))
-  ];
-}
-
 blank_left : (picture : List (List ℕ)) (row col k : ℕ) → row < length picture → col < width_of picture → Leaves (blank_for picture) row col k → k < 16
 blank_left picture row col k h w l =
     let e : cell_at (blank_for picture) row col ≡ 65535 = ap (λ (r : List ℕ). get_or r col 0) (blank_row picture row h) ∙ get_or-replicate (width_of picture) col 65535 0 w in
-    let P : ℕ → Type 0 = λ m. IsBitSet m k in
-    bit_below 65535 16 k (omega arith) (subst P e l)
+    bit_below 65535 16 k (omega arith) (rw e at l)
 
-givens_shape : (picture facts : List (List ℕ)) (cells : List CellNumber) → SameShape picture facts → SameShape picture (with_givens picture cells facts)
+pub givens_shape : (picture facts : List (List ℕ)) (cells : List CellNumber) → SameShape picture facts → SameShape picture (with_givens picture cells facts)
 givens_shape picture facts [] s = s
 givens_shape picture facts (cell ∷ cells) s =
     let t = shape_with_cell facts (cell.row - 1) (cell.col - 1) (2 ^ cell_at picture (cell.row - 1) (cell.col - 1)) in
@@ -128,7 +103,7 @@ givens_shape picture facts (cell ∷ cells) s =
 -- the root of a certificate with exactly the cells of a set is the base of that set
 pub bases_are_one : BasesAreOne
 bases_are_one picture givens cells is names = record {
-  same_shape = givens_shape picture (blank_for picture) cells (blank_shape picture is);
+  same_shape = givens_shape picture (blank_for picture) cells (full_shape picture is);
   left = λ row col k h w. (
     (λ l. (
       elim (left_or_given picture (blank_for picture) cells row col k l) [

@@ -1,5 +1,5 @@
 -- The colours of a mask, by rising number.
-use Rattle.std.proofs.Common.{◌≡◌, ◌≢◌, ℕ, zero, suc, ◌+◌, ◌*◌, ◌%◌, ◌^◌, ◌<◌, ◌≤◌, ◌↔◌, List, [], ◌∷◌, eqb, refl, sym, ap, subst, ◌∙◌, arith, inl, inr, bit_and}
+use Rattle.std.proofs.Common.{◌≡◌, ◌≢◌, ℕ, zero, suc, ◌+◌, ◌*◌, ◌%◌, ◌^◌, ◌<◌, ◌≤◌, ◌↔◌, List, [], ◌∷◌, eqb, refl, sym, ap, ◌∙◌, arith, inl, inr, bit_and}
 use Rattle.std.specs.Prelude.{IsBitSet}
 use Rattle.std.specs.Int.{bit_at, bit_not, trailing_zeros, w16}
 use Rattle.std.specs.List.{filter, range_with_len}
@@ -60,10 +60,8 @@ record Rest (mask k rest : ℕ) : Type 0 where
 
 without_one : (mask k low rest : ℕ) → mask < 2 ^ 16 → low < 2 ^ 16 → low ≡ 2 ^ k → rest ≡ bit_and mask (bit_not w16 low) → Rest mask k rest
 without_one mask k low rest q l is f =
-    let P : ℕ → Type 0 = λ n. (j : ℕ) → IsBitSet n j ↔ (IsBitSet mask j × (IsBitSet low j → ⊥)) in
-    let bits : (j : ℕ) → IsBitSet rest j ↔ (IsBitSet mask j × (IsBitSet low j → ⊥)) = subst P (sym f) (λ j. without_bit mask low j q l) in
-    let Q : ℕ → Type 0 = λ n. (j : ℕ) → IsBitSet n j ↔ (j ≡ k) in
-    let one : (j : ℕ) → IsBitSet low j ↔ (j ≡ k) = subst Q (sym is) (power_has k) in
+    let bits : (j : ℕ) → IsBitSet rest j ↔ (IsBitSet mask j × (IsBitSet low j → ⊥)) = rw f (λ j. without_bit mask low j q l) in
+    let one : (j : ℕ) → IsBitSet low j ↔ (j ≡ k) = rw is (power_has k) in
     record {
       gone = bit_or_none rest k (λ s. ((bits k).0 s).1 ((one k).1 refl));
       same = λ j n. same_bit rest mask j ((λ s. ((bits j).0 s).0), (λ s. (bits j).1 (s, λ t. n ((one j).0 t))));

@@ -1,14 +1,12 @@
 -- The first fault and the tree: there is none exactly where the lines are a tree that proves the picture.
-use Rattle.std.proofs.Common.{◌≡◌, ℕ, ◌+◌, ◌-◌, List, [], ◌∷◌, ◌++◌, Option, None, Some, Result, Ok, Err, append_assoc, get_or, refl, sym, ap, subst, ◌∙◌, inl, inr}
-use Rattle.std.specs.Prelude.{IfErr, OnOk, IsBitSet}
+use Rattle.std.proofs.Common.{◌≡◌, ℕ, ◌+◌, ◌-◌, List, [], ◌∷◌, ◌++◌, Option, None, Some, Result, Ok, Err, append_assoc, refl, sym, ap, ◌∙◌, inl, inr}
+use Rattle.std.specs.Prelude.{IfErr, OnOk}
 use Rattle.std.proofs.lemmas.List.{append-nil}
 use Rattle.picture.specs.declared.line_id.LineId.{LineId}
 use Rattle.picture.specs.Picture.{IsPicture}
-use Rattle.picture.specs.Rows.{cell_at, line_of}
-use Rattle.line_settle.specs.FactSets.{with_given, row_on, col_on}
-use Rattle.line_settle.specs.GridLaws.{shape_sym, shape_trans, cell_on}
-use Rattle.line_settle.specs.ForceLaws.{on_or_not}
-use Rattle.line_settle.specs.FitLaws.{one_line, same_facts}
+use Rattle.line_settle.specs.FactSets.{with_given}
+use Rattle.line_settle.specs.ForceLaws.{gains_closes, gains_grows, gains_inside}
+use Rattle.line_settle.specs.FitLaws.{within_both}
 use Rattle.cert_text.specs.declared.fault.CertFault.{CertFault}
 use Rattle.cert_text.specs.declared.fault.CertFault.TheVariants.{Memory}
 use Rattle.cert_text.specs.declared.tree_line.LineNumber.{LineNumber}
@@ -25,20 +23,8 @@ use Rattle.certificate.proofs.Soundness.{proof_is_unique}
 
 same_gains : (picture facts one other : List (List ℕ)) (line : LineId) → IsForced picture facts line one → IsForced picture facts line other → one ≡ other
 same_gains picture facts one other line f h =
-    let a = f.1 in
-    let b = h.1 in
-    let same : line_of one line ≡ line_of other line = (one_line _ _ _ _ _ _ a.narrows b.narrows).0 in
-    same_facts one other (shape_trans (shape_sym a.same_shape) b.same_shape)
-    (λ r c k. let e : cell_at one r c ≡ cell_at other r c =
-    elim (on_or_not line r c) [
-      | inl on ↦
-          let at : (rows : List (List ℕ)) → cell_at rows r c ≡ cell_at rows (row_on line.axis line.at on.0) (col_on line.axis line.at on.0) =
-          λ rows. ap (λ x. cell_at rows x c) on.1 ∙ ap (cell_at rows (row_on line.axis line.at on.0)) on.2 in
-          at one ∙ (sym (cell_on one line on.0) ∙ (ap (λ (xs : List ℕ). get_or xs on.0 0) same ∙ (cell_on other line on.0 ∙ sym (at other))))
-      | inr off ↦ a.elsewhere r c off ∙ sym (b.elsewhere r c off)
-    ] in
-    let P : ℕ → Type 0 = λ m. IsBitSet m k in
-    ((λ s. subst P e s), (λ s. subst P (sym e) s)))
+    let half = λ (a b : List (List ℕ)) (g : IsForced picture facts line a) (k : IsForced picture facts line b). gains_inside _ _ _ _ _ g.1 b (gains_grows _ _ _ _ _ k.1) (gains_closes _ _ _ _ _ k.1) in
+    within_both one other (half one other f h) (half other one h f)
 
 -- ---- trees one behind the other
 
@@ -75,20 +61,16 @@ line_led picture facts others gained number lines h f (more tree trees) e p =
 -- from the lines to the trees
 led_to : (picture facts : List (List ℕ)) (others next : List (List (List ℕ))) (line : CertLine) (lines : List CertLine) → Leads picture facts line next → Forest picture (next ++ others) lines → Forest picture (facts ∷ others) (line ∷ lines)
 led_to picture facts others next Done lines l f =
-    let P : List (List (List ℕ)) → Type 0 = λ fs. Forest picture (fs ++ others) lines in
-    let g = subst P l.1 f in
+    let g = rw l.1 at f in
     record { trees = more done g.trees; written_is = ap (λ (ls : List CertLine). Done ∷ ls) g.written_is; proves = (l.0, g.proves) }
 led_to picture facts others next (Dead number) lines l f =
-    let P : List (List (List ℕ)) → Type 0 = λ fs. Forest picture (fs ++ others) lines in
-    let g = subst P l.2 f in
+    let g = rw l.2 at f in
     record { trees = more (dead number) g.trees; written_is = ap (λ (ls : List CertLine). Dead number ∷ ls) g.written_is; proves = ((l.0, l.1), g.proves) }
 led_to picture facts others next (Line number) lines l f =
-    let P : List (List (List ℕ)) → Type 0 = λ fs. Forest picture (fs ++ others) lines in
-    let g = subst P l.1.1.1 f in
+    let g = rw l.1.1.1 at f in
     line_led picture facts others l.1.0 number lines l.0 l.1.1.0 g.trees g.written_is g.proves
 led_to picture facts others next (Split cell) lines l f =
-    let P : List (List (List ℕ)) → Type 0 = λ fs. Forest picture (fs ++ others) lines in
-    let g = subst P l.1 f in
+    let g = rw l.1 at f in
     let c = cut picture (split_at facts cell) others g.trees g.proves in
     record {
       trees = more (split cell c.first) c.rest;
@@ -129,30 +111,27 @@ record Stands (picture facts : List (List ℕ)) (others : List (List (List ℕ))
 done_stands : (picture facts : List (List ℕ)) (others : List (List (List ℕ))) (trees : Trees) → ShowsOnly picture facts → EachProves picture others trees → Stands picture facts others Done (each_written trees)
 done_stands picture facts others trees p q = record {
   no_fault = λ n found h. h.0 p;
-  goes = λ next l. let P : List (List (List ℕ)) → Type 0 = λ fs. Forest picture (fs ++ others) (each_written trees) in subst P (sym l.1) (record { trees = trees; written_is = refl; proves = q });
+  goes = λ next l. rw l.1 (record { trees = trees; written_is = refl; proves = q });
 }
 
 dead_stands : (picture facts : List (List ℕ)) (others : List (List (List ℕ))) (number : LineNumber) (trees : Trees) → HasLineNumber picture number → IsDead picture facts (line_id number) → EachProves picture others trees → Stands picture facts others (Dead number) (each_written trees)
 dead_stands picture facts others number trees has p q = record {
   no_fault = λ n found h. elim h [ inl g ↦ g.0 has | inr g ↦ g.1 p ];
-  goes = λ next l. let P : List (List (List ℕ)) → Type 0 = λ fs. Forest picture (fs ++ others) (each_written trees) in subst P (sym l.2) (record { trees = trees; written_is = refl; proves = q });
+  goes = λ next l. rw l.2 (record { trees = trees; written_is = refl; proves = q });
 }
 
 forced_stands : (picture facts gained : List (List ℕ)) (others : List (List (List ℕ))) (number : LineNumber) (tree : Tree) (trees : Trees) → HasLineNumber picture number → IsForced picture facts (line_id number) gained → Proves picture gained tree → EachProves picture others trees → Stands picture facts others (Line number) (written tree ++ each_written trees)
 forced_stands picture facts gained others number tree trees has f p q = record {
   no_fault = λ n found h. h.0 has;
   goes = λ next l.
-      let P : List (List (List ℕ)) → Type 0 = λ fs. Forest picture (fs ++ others) (written tree ++ each_written trees) in
-      let Q : List (List ℕ) → Type 0 = λ g. Forest picture (g ∷ others) (written tree ++ each_written trees) in
-      subst P (sym l.1.1.1) (subst Q (same_gains picture facts gained l.1.0 (line_id number) f l.1.1.0) (record { trees = more tree trees; written_is = refl; proves = (p, q) }));
+      rw (l.1.1.1, ← same_gains picture facts gained l.1.0 (line_id number) f l.1.1.0) (record { trees = more tree trees; written_is = refl; proves = (p, q) });
 }
 
 split_stands : (picture facts : List (List ℕ)) (others : List (List (List ℕ))) (cell : CellNumber) (branches trees : Trees) → HasCellNumber picture cell → EachProves picture (split_at facts cell) branches → EachProves picture others trees → Stands picture facts others (Split cell) (each_written branches ++ each_written trees)
 split_stands picture facts others cell branches trees has p q = record {
   no_fault = λ n found h. h.0 has;
   goes = λ next l.
-      let P : List (List (List ℕ)) → Type 0 = λ fs. Forest picture (fs ++ others) (each_written branches ++ each_written trees) in
-      subst P (sym l.1) (record { trees = join branches trees; written_is = sym (joined_written branches trees); proves = joined_proves picture (split_at facts cell) others branches trees p q });
+      rw l.1 (record { trees = join branches trees; written_is = sym (joined_written branches trees); proves = joined_proves picture (split_at facts cell) others branches trees p q });
 }
 
 -- the same where the lines are told by an equation
@@ -160,9 +139,7 @@ told : (picture facts : List (List ℕ)) (others : List (List (List ℕ))) (line
 told picture facts others line x lines xs e s =
     let a : x ≡ line = cc in
     let b : xs ≡ lines = cc in
-    let P : CertLine → Type 0 = λ l. Stands picture facts others l lines in
-    let Q : List CertLine → Type 0 = λ ls. Stands picture facts others x ls in
-    subst P a (subst Q b s)
+    rw (← a, ← b) s
 
 stands : (picture facts : List (List ℕ)) (others : List (List (List ℕ))) (tree : Tree) (trees : Trees) (line : CertLine) (lines : List CertLine) → line ∷ lines ≡ written tree ++ each_written trees → Proves picture facts tree → EachProves picture others trees → Stands picture facts others line lines
 stands picture facts others done trees line lines e p q = told picture facts others line Done lines (each_written trees) e (done_stands picture facts others trees p q)

@@ -1,5 +1,5 @@
 -- What is made: a certificate, or there is another picture.
-use Rattle.std.proofs.Common.{◌≡◌, ℕ, ◌+◌, ◌↔◌, List, [], ◌∷◌, Option, None, Some, Ok, length, sym, ap, subst, ◌∙◌, arith}
+use Rattle.std.proofs.Common.{◌≡◌, ℕ, ◌+◌, ◌↔◌, true, List, [], ◌∷◌, Option, None, Some, is_some, Ok, length, sym, ap, subst, ◌∙◌, arith}
 use Rattle.picture.specs.CellSet.{HasCell}
 use Rattle.picture.specs.Document.{AreInside}
 use Rattle.picture.specs.Picture.{IsPicture}
@@ -16,7 +16,7 @@ use Rattle.second_search.specs.Laws.{SoundFacts}
 use Rattle.second_search.specs.Other.{AreSound}
 use Rattle.second_search.specs.Parts.{IsScene}
 use Rattle.cert_text.specs.Cert.{Certificate, IsCert}
-use Rattle.certificate.specs.FirstFault.{CertFirstFault, FirstFaultBehind}
+use Rattle.certificate.specs.FirstFault.{CertFirstFault}
 use Rattle.certificate.specs.Making.{BasesAreOne, EachExcludes, HasNoFault, HasOther, IsMade, Makes, NamesGivens, WritesTree}
 use Rattle.certificate.specs.Puzzle.{IsNamed, IsUnique, base_of, blank_for, with_givens}
 use Rattle.certificate.specs.Walk.{GivesBase}
@@ -41,8 +41,7 @@ none_made picture start givens cells is inside names shape e w =
               let c = same.each row in
               let q = is.rectangular row i.0 in
               let l : Leaves start row col (cell_at other row col) = fills.leaves row col (let h = i.1 in omega arith) in
-              let P : List (List ℕ) → Type 0 = λ f. Leaves f row col (cell_at other row col) in
-              given_left picture (blank_for picture) cells row col (cell_at other row col) ((names.named row col).0 has) (subst P e l);
+              given_left picture (blank_for picture) cells row col (cell_at other row col) ((names.named row col).0 has) (rw e at l);
         };
         differs = w.1.1;
       },
@@ -56,16 +55,10 @@ unique_has_no_other picture givens cells names unique other o =
 
 pub some_made : (picture start : List (List ℕ)) (givens : List ℕ) (cells : List CellNumber) (lines : List CertLine) (cert : Certificate) → IsPicture picture → NamesGivens picture givens cells → GivesBase picture (blank_for picture) cells (Ok tt) start → start ≡ with_givens picture cells (blank_for picture) → HasNoFault picture (start ∷ []) lines → EachExcludes picture (start ∷ []) lines → IsCert cert → cert.givens ≡ cells → cert.lines ≡ lines → (cert.version ≡ 1) ↔ (cells ≡ []) → IsMade picture givens cert
 some_made picture start givens cells lines cert is names base root none each c g l v =
-    let P : List CellNumber → Type 0 = λ cs. FirstFaultBehind picture (blank_for picture) 2 cs cert.lines None in
-    let Q : List CertLine → Type 0 = λ ls. FirstFaultBehind picture (blank_for picture) 2 cells ls None in
-    let accepted : CertFirstFault picture cert None = subst P (sym g) (subst Q (sym l) (base.1 lines None (none (2 + length cells)))) in
+    let accepted : CertFirstFault picture cert None = rw (g, l) (base.1 lines None (none (2 + length cells))) in
     let proof = none_is_proof picture cert accepted in
-    let N : List CellNumber → Type 0 = NamesGivens picture givens in
-    let named = subst N (sym g) names in
+    let named : NamesGivens picture givens cert.givens = rw g names in
     let unique = proof_is_unique picture cert is proof in
-    let A : List (List ℕ) → Type 0 = λ facts. EachExcludes picture (facts ∷ []) lines in
-    let B : List CellNumber → Type 0 = λ cs. EachExcludes picture (base_of picture cs ∷ []) lines in
-    let C : List CertLine → Type 0 = λ ls. EachExcludes picture (base_of picture cert.givens ∷ []) ls in
     record {
       is_cert = c;
       accepted = accepted;
@@ -74,7 +67,7 @@ some_made picture start givens cells lines cert is names base root none each c g
       no_other = unique_has_no_other picture givens cert.givens named unique;
       names = named;
       version = ((λ e. g ∙ v.0 e), (λ e. v.1 (sym g ∙ e)));
-      excludes = subst C (sym l) (subst B (sym g) (subst A root each));
+      excludes = rw (g, l, ← root) each;
     }
 
 -- the facts at the root, as they were made
@@ -83,8 +76,7 @@ root_is picture blank start cells height width h w b = b ∙ (ap (λ (n : ℕ). 
 
 pub made_shape : (picture blank : List (List ℕ)) (height width : ℕ) → IsPicture picture → height ≡ length picture → width ≡ width_of picture → blank ≡ nothing_excluded height width → SameShape picture blank
 made_shape picture blank height width is h w b =
-    let P : List (List ℕ) → Type 0 = λ x. SameShape picture x in
-    subst P (sym (root_is picture blank blank [] height width h w b)) (full_shape picture is)
+    rw (root_is picture blank blank [] height width h w b) (full_shape picture is)
 
 pub makes_none : (picture blank start : List (List ℕ)) (givens : List ℕ) (cells : List CellNumber) (height width : ℕ) → IsPicture picture → AreInside givens picture → NamesGivens picture givens cells → height ≡ length picture → width ≡ width_of picture → blank ≡ nothing_excluded height width → GivesBase picture blank cells (Ok tt) start → start ≡ with_givens picture cells blank → WritesTree picture start None → Makes picture givens None
 makes_none picture blank start givens cells height width is inside names h w b base e t =
@@ -107,10 +99,8 @@ made_scene bases sound picture blank start givens cells clues height width is na
       sound = subst P (sym root) (sound.base clues givens picture (base_of picture cells) is (bases picture givens cells is names));
     }
 
-pub near_other : (picture : List (List ℕ)) (givens : List ℕ) (clues : Clues) (near : Option (List (List ℕ))) (other : List (List ℕ)) → clues ≡ clues_of picture → near ≡ Some other → IfSome near (IsOther clues (HasCell givens) picture) → HasOther picture givens
-near_other picture givens clues near other c e h =
-    let P : Option (List (List ℕ)) → Type 0 = λ x. IfSome x (IsOther clues (HasCell givens) picture) in
-    let Q : Clues → Type 0 = λ k. IsOther k (HasCell givens) picture other in
-    (other, subst Q c (subst P e h))
+pub near_other : (picture : List (List ℕ)) (givens : List ℕ) (clues : Clues) (near : Option (List (List ℕ))) → clues ≡ clues_of picture → IfSome near (IsOther clues (HasCell givens) picture) → is_some near ≡ true → HasOther picture givens
+near_other picture givens clues None c h e = absurd (cc e)
+near_other picture givens clues (Some other) c h e = let Q : Clues → Type 0 = λ k. IsOther k (HasCell givens) picture other in (other, subst Q c h)
 
 pub ruleset making = (makes_none, makes_some)

@@ -1,31 +1,31 @@
 -- The lines of a tree that a search writes are those of a certificate without fault.
-use Rattle.std.proofs.Common.{◌≡◌, ℕ, suc, ◌+◌, ◌-◌, ◌^◌, ◌<◌, ◌≤◌, List, [], ◌∷◌, ◌++◌, true, None, Some, length, get_or, eqb, eqb-true, refl, sym, ap, subst, ◌∙◌, arith, inl, inr}
-use Rattle.std.specs.Prelude.{IsBitSet}
+use Rattle.std.proofs.Common.{◌≡◌, ℕ, suc, ◌+◌, ◌-◌, ◌<◌, ◌≤◌, List, [], ◌∷◌, ◌++◌, true, None, Some, length, eqb, eqb-true, refl, sym, ap, ◌∙◌, arith, inl, inr}
 use Rattle.std.specs.Int.{bit_at}
 use Rattle.std.specs.List.{All, range_with_len}
-use Rattle.std.proofs.lemmas.Bool.{cases_eq, cases_lt}
+use Rattle.std.proofs.lemmas.Bool.{cases_lt}
 use Rattle.std.proofs.lemmas.List.{get_or_past}
 use Rattle.std.proofs.lemmas.List.Elements.{filter_passes}
 use Rattle.picture.specs.declared.line_id.Axis.{Axis}
 use Rattle.picture.specs.declared.line_id.Axis.TheVariants.{Across, Down}
-use Rattle.picture.specs.BitLaws.{bit_is_set, no_bit, power_has}
+use Rattle.picture.specs.BitLaws.{bit_is_set, no_bit}
 use Rattle.picture.specs.Picture.{IsPicture}
-use Rattle.picture.specs.Rows.{width_of, row_at, cell_at, with_cell, line_of, lines_along}
+use Rattle.picture.specs.Rows.{width_of, row_at, cell_at, line_of, lines_along}
 use Rattle.clues.specs.declared.block.Block.{Block}
 use Rattle.clues.specs.ClueBook.{Clues, clue_at, clues_of}
 use Rattle.clues.specs.Laws.{CluesAreOfLines}
 use Rattle.line_settle.specs.declared.line_engine.Outcome.{Outcome}
 use Rattle.line_settle.specs.FactSets.{IsWithin, Leaves, SameShape}
 use Rattle.line_settle.specs.Laws.{ForcingClosesALine, OneLineDecides}
-use Rattle.line_settle.specs.GridLaws.{at_with_cell, off_with_cell, shape_refl, shape_trans, shape_with_cell}
+use Rattle.line_settle.specs.GridLaws.{shape_refl, shape_trans}
 use Rattle.line_settle.specs.Narrowing.{Narrows}
 use Rattle.fixpoint.specs.Closing.{AreClosable}
-use Rattle.fixpoint.specs.Filling.{Fills}
+use Rattle.fixpoint.specs.ClosingLaws.{within_trans}
 use Rattle.cert_text.specs.declared.tree_line.CellNumber.{CellNumber}
 use Rattle.cert_text.specs.declared.tree_line.LineNumber.{LineNumber}
 use Rattle.cert_text.specs.declared.tree_line.CertLine.{CertLine}
 use Rattle.cert_text.specs.declared.tree_line.CertLine.TheVariants.{Line, Split, Dead, Done}
 use Rattle.second_search.specs.Trees.{IsOtherIn, Stands, Walks}
+use Rattle.second_search.proofs.FindLemmas.{held_within}
 use Rattle.line_settle.specs.Branches.{colours_of, held}
 use Rattle.cert_text.specs.Cert.{AreWritable, IsWritable}
 use Rattle.certificate.specs.FirstFault.{FirstFault, Leads}
@@ -43,56 +43,22 @@ both_within : (start : List (List ℕ)) (xs ys : List (List (List ℕ))) → Eac
 both_within start [] ys p q = q
 both_within start (x ∷ xs) ys p q = (p.0, both_within start xs ys p.1 q)
 
-within_within : (a b c : List (List ℕ)) → IsWithin a b → IsWithin b c → IsWithin a c
-within_within a b c p q = record {
-  same_shape = record { rows = p.same_shape.rows ∙ q.same_shape.rows; each = λ i. p.same_shape.each i ∙ q.same_shape.each i };
-  leaves = λ row col k l. p.leaves row col k (q.leaves row col k l);
-}
-
 -- a colour is left inside the grid alone
 pub left_inside : (facts : List (List ℕ)) (row col k : ℕ) → Leaves facts row col k → (row < length facts) × (col < length (row_at facts row))
 left_inside facts row col k l = elim (cases_lt row (length facts)) [
-  | inr p ↦
-      let e : cell_at facts row col ≡ 0 = ap (λ (r : List ℕ). get_or r col 0) (get_or_past facts row [] p) in
-      let P : ℕ → Type 0 = λ m. IsBitSet m k in
-      absurd (no_bit k (subst P e l))
+  | inr p ↦ absurd (no_bit k (rw (get_or_past facts row [] p) at l))
   | inl h ↦ elim (cases_lt col (length (row_at facts row))) [
-    | inr p ↦ let P : ℕ → Type 0 = λ m. IsBitSet m k in absurd (no_bit k (subst P (get_or_past (row_at facts row) col 0 p) l))
+    | inr p ↦ absurd (no_bit k (rw (get_or_past (row_at facts row) col 0 p) at l))
     | inl w ↦ (h, w)
   ]
 ]
 
-held_bit : (facts : List (List ℕ)) (row col k j : ℕ) → Leaves facts row col k → Leaves (with_cell facts row col (2 ^ k)) row col j → Leaves facts row col j
-held_bit facts row col k j s l =
-    let inside = left_inside facts row col k s in
-    let P : ℕ → Type 0 = λ m. IsBitSet m j in
-    let e : j ≡ k = (power_has k j).0 (subst P (at_with_cell facts row col (2 ^ k) inside.0 inside.1) l) in
-    let Q : ℕ → Type 0 = λ n. IsBitSet (cell_at facts row col) n in
-    subst Q (sym e) s
-
-held_within : (facts : List (List ℕ)) (row col k : ℕ) → IsBitSet (cell_at facts row col) k → IsWithin facts (with_cell facts row col (2 ^ k))
-held_within facts row col k s = record {
-  same_shape = shape_with_cell facts row col (2 ^ k);
-  leaves = λ r c j l. elim (cases_eq r row) [
-    | inl er ↦ elim (cases_eq c col) [
-      | inl ec ↦
-          let P : ℕ → Type 0 = λ n. IsBitSet (cell_at (with_cell facts row col (2 ^ k)) n c) j in
-          let Q : ℕ → Type 0 = λ n. IsBitSet (cell_at (with_cell facts row col (2 ^ k)) row n) j in
-          let here = subst Q ec (subst P er l) in
-          let R : ℕ → Type 0 = λ n. IsBitSet (cell_at facts n col) j in
-          let S : ℕ → Type 0 = λ n. IsBitSet (cell_at facts r n) j in
-          subst S (sym ec) (subst R (sym er) (held_bit facts row col k j s here))
-      | inr n ↦ let P : ℕ → Type 0 = λ m. IsBitSet m j in subst P (off_with_cell facts row col (2 ^ k) r c (λ p. n p.1)) l
-    ]
-    | inr n ↦ let P : ℕ → Type 0 = λ m. IsBitSet m j in subst P (off_with_cell facts row col (2 ^ k) r c (λ p. n p.0)) l
-  ];
-}
-
 each_held : (start facts : List (List ℕ)) (row col : ℕ) (colours : List ℕ) → IsWithin start facts → All (λ k. eqb (bit_at (cell_at facts row col) k) 1 ≡ true) colours → EachWithin start (held facts row col colours)
 each_held start facts row col [] w a = tt
 each_held start facts row col (k ∷ ks) w a =
-    let bit = eqb-true (bit_at (cell_at facts row col) k) 1 (a 0 0 (omega arith)) in
-    (within_within start facts _ w (held_within facts row col k (bit_is_set (cell_at facts row col) k bit)), each_held start facts row col ks w (λ i d m. a (suc i) d (omega arith)))
+    let left = bit_is_set (cell_at facts row col) k (eqb-true (bit_at (cell_at facts row col) k) 1 (a 0 0 (omega arith))) in
+    let inside = left_inside facts row col k left in
+    (within_trans start facts _ w (held_within facts row col k inside.0 inside.1 left), each_held start facts row col ks w (λ i d m. a (suc i) d (omega arith)))
 
 colours_are_left : (mask : ℕ) → All (λ k. eqb (bit_at mask k) 1 ≡ true) (colours_of mask)
 unfolding colours_of
@@ -100,16 +66,14 @@ colours_are_left mask = filter_passes (λ k. eqb (bit_at mask k) 1) (range_with_
 
 led_within : ForcingClosesALine → (picture start facts : List (List ℕ)) (line : CertLine) (next : List (List (List ℕ))) → Leads picture facts line next → IsWithin start facts → EachWithin start next
 led_within law picture start facts (Line number) next l w =
-    let P : List (List (List ℕ)) → Type 0 = EachWithin start in
     let forced = l.1.1.0 in
-    subst P (sym l.1.1.1) (within_within start facts l.1.0 w (law.grows _ _ _ _ _ forced.1), tt)
+    rw l.1.1.1 (within_trans start facts l.1.0 w (law.grows _ _ _ _ _ forced.1), tt)
 led_within law picture start facts (Split cell) next l w =
-    let P : List (List (List ℕ)) → Type 0 = EachWithin start in
     let row = cell.row - 1 in
     let col = cell.col - 1 in
-    subst P (sym l.1) (each_held start facts row col (colours_of (cell_at facts row col)) w (colours_are_left (cell_at facts row col)))
-led_within law picture start facts (Dead number) next l w = let P : List (List (List ℕ)) → Type 0 = EachWithin start in subst P (sym l.2) tt
-led_within law picture start facts Done next l w = let P : List (List (List ℕ)) → Type 0 = EachWithin start in subst P (sym l.1) tt
+    rw l.1 (each_held start facts row col (colours_of (cell_at facts row col)) w (colours_are_left (cell_at facts row col)))
+led_within law picture start facts (Dead number) next l w = rw l.2 tt
+led_within law picture start facts Done next l w = rw l.1 tt
 
 -- ---- the lines of a tree are those of a certificate
 
@@ -183,14 +147,12 @@ whole law once picture start is s (line ∷ lines) (facts ∷ others) w h =
 
 pub whole_tree : ForcingClosesALine → OneLineDecides → (picture start : List (List ℕ)) (clues : Clues) (longest : ℕ) (lines : List CertLine) → CanCheck picture clues longest → SameShape picture start → Walks clues picture lines (start ∷ []) [] → WritesTree picture start (Some lines)
 whole_tree law once picture start clues longest lines can s h =
-    let P : Clues → Type 0 = λ c. Walks c picture lines (start ∷ []) [] in
-    let w = whole law once picture start can.is_picture s lines (start ∷ []) (record { same_shape = shape_refl start; leaves = λ row col k l. l }, tt) (subst P can.clues_are h) in
+    let w = whole law once picture start can.is_picture s lines (start ∷ []) (record { same_shape = shape_refl start; leaves = λ row col k l. l }, tt) (rw can.clues_are at h) in
     (w.writes, w.goes, w.each)
 
 pub other_tree : (picture start other : List (List ℕ)) (clues : Clues) (longest : ℕ) → CanCheck picture clues longest → IsOtherIn clues picture start other → WritesTree picture start None
 other_tree picture start other clues longest can h =
-    let P : Clues → Type 0 = λ c. Fills c start other in
-    (other, (subst P can.clues_are h.0, h.1))
+    (other, (rw can.clues_are at h.0, h.1))
 
 pub can_close : CluesAreOfLines → (picture start : List (List ℕ)) (clues : Clues) (longest : ℕ) → CanCheck picture clues longest → SameShape picture start → AreClosable clues longest start
 can_close law picture start clues longest can s =

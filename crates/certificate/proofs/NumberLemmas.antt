@@ -60,9 +60,7 @@ more_named givens row col cells new h w has e n =
           | inl m ↦ let k = (n.named r c).0 m in (k.0, elim k.1 [ inl l ↦ inl l | inr p ↦ inr (p.0, (let l = p.1 in let q : c < col + 1 = omega arith in q)) ])
           | inr f ↦
               let s = same_place r c row col f in
-              let A : ℕ → Type 0 = λ x. HasCell givens x c in
-              let B : ℕ → Type 0 = λ y. HasCell givens row y in
-              (subst A (sym s.0) (subst B (sym s.1) has), inr (s.0, (let t = s.1 in let q : c < col + 1 = omega arith in q)))
+              (rw (s.0, s.1) has, inr (s.0, (let t = s.1 in let q : c < col + 1 = omega arith in q)))
         ]),
         (λ h. by_place r c h.0 h.1),
       );
@@ -75,9 +73,7 @@ more_named givens row col cells new h w has e n =
       | inl l ↦ among_front (numbered r c) cells (numbered row col ∷ []) ((n.named r c).1 (g, inr (p.0, l)))
       | inr k ↦
           let f : c ≡ col = (let l = p.1 in omega arith) in
-          let A : ℕ → Type 0 = λ x. IsAmong (numbered x c) (cells ++ (numbered row col ∷ [])) in
-          let B : ℕ → Type 0 = λ y. IsAmong (numbered row y) (cells ++ (numbered row col ∷ [])) in
-          subst A (sym p.0) (subst B (sym f) (among_last (numbered row col) cells))
+          rw (p.0, f) (among_last (numbered row col) cells)
     ]
 
 -- a cell that is not given
@@ -96,9 +92,7 @@ same_named givens row col cells none n = record {
             | inl l ↦ l
             | inr k ↦
                 let f : c ≡ col = (let l = p.1 in omega arith) in
-                let A : ℕ → Type 0 = λ x. HasCell givens x c in
-                let B : ℕ → Type 0 = λ y. HasCell givens row y in
-                absurd (none (subst B f (subst A p.0 h.0)))
+                absurd (none (rw (p.0, f) at h.0))
           ],
         )
       ],
@@ -136,13 +130,11 @@ all_named picture givens height cells inside tall n = record {
   ordered = subst (AreOrdered 0) (append-nil cells) (n.ordered [] tt);
   inside = each_inside picture cells (λ cell m.
       let p = n.real cell m in
-      let P : CellNumber → Type 0 = λ x. HasCellNumber picture x in
-      let Q : CellNumber → Type 0 = λ x. IsAmong x cells in
-      let k = (n.named p.0 p.1.0).0 (subst Q p.1.1 m) in
+      let k = (n.named p.0 p.1.0).0 (rw p.1.1 at m) in
       let i = inside p.0 p.1.0 k.0 in
       let r = i.0 in
       let c = i.1 in
-      subst P (sym p.1.1) ((let q : 0 < p.0 + 1 = omega arith in q), (let q : p.0 + 1 ≤ length picture = omega arith in q), (let q : 0 < p.1.0 + 1 = omega arith in q), (let q : p.1.0 + 1 ≤ width_of picture = omega arith in q)));
+      rw p.1.1 ((let q : 0 < p.0 + 1 = omega arith in q), (let q : p.0 + 1 ≤ length picture = omega arith in q), (let q : 0 < p.1.0 + 1 = omega arith in q), (let q : p.1.0 + 1 ≤ width_of picture = omega arith in q)));
   named = λ r c. (
     (λ h. (n.named r c).1 (h, inl (let i = (inside r c h).0 in let q : r < height = omega arith in q))),
     (λ m. ((n.named r c).0 m).0),

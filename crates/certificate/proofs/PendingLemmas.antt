@@ -72,6 +72,4 @@ popped_inside height width old new note e is = subst (AreInside height width) (p
 -- notes on the cells of facts are notes on the cells of all facts of that shape
 pub moved_inside : (a b : List (List ℕ)) (notes : List Note) → SameShape a b → AreInside (length a) (width_of a) notes → AreInside (length b) (width_of b) notes
 moved_inside a b notes s is =
-    let P : ℕ → Type 0 = λ w. AreInside (length b) w notes in
-    let Q : ℕ → Type 0 = λ h. AreInside h (width_of a) notes in
-    subst P (s.each 0) (subst Q s.rows is)
+    rw (← s.rows, ← s.each 0) is

@@ -1,5 +1,5 @@
 -- Masks with one colour alone.
-use Rattle.std.proofs.Common.{◌≡◌, ℕ, ◌*◌, ◌%◌, ◌^◌, ◌<◌, ◌↔◌, sym, subst, ◌∙◌, arith, inl, inr, bit_and}
+use Rattle.std.proofs.Common.{◌≡◌, ℕ, ◌*◌, ◌%◌, ◌^◌, ◌<◌, ◌↔◌, subst, ◌∙◌, arith, inl, inr, bit_and}
 use Rattle.std.specs.Prelude.{IsBitSet}
 use Rattle.std.specs.Int.{bit_not, w16}
 use Rattle.std.proofs.lemmas.Bool.{cases_eq}
@@ -10,8 +10,7 @@ use Rattle.line_settle.specs.MaskLaws.{shifted, without_bit}
 pub only_bit : (left colour low : ℕ) → left < 2 ^ 16 → colour < 16 → low ≡ 1 * 2 ^ colour % 65536 → (bit_and left (bit_not w16 low) ≡ 0) ↔ ((k : ℕ) → IsBitSet left k → k ≡ colour)
 only_bit left colour low q c e =
     let is : low ≡ 2 ^ colour = e ∙ shifted colour c in
-    let Q : ℕ → Type 0 = λ n. (j : ℕ) → IsBitSet n j ↔ (j ≡ colour) in
-    let one : (j : ℕ) → IsBitSet low j ↔ (j ≡ colour) = subst Q (sym is) (power_has colour) in
+    let one : (j : ℕ) → IsBitSet low j ↔ (j ≡ colour) = rw is (power_has colour) in
     let small : low < 2 ^ 16 = omega arith in
     let rest = bit_and left (bit_not w16 low) in (
       (λ z k s. elim (cases_eq k colour) [

@@ -1,20 +1,14 @@
 -- The walk over the lines: what a call needs to know, and what is first from the beginning.
-use Rattle.std.proofs.Common.{◌≡◌, ℕ, ◌+◌, ◌-◌, ◌<◌, ◌≤◌, ◌↔◌, List, [], ◌∷◌, ◌++◌, Bool, true, false, Option, Some, Ok, Err, IsTrue, length, get_or, drop, drop-cons, add-one, refl, sym, ap, subst, ◌∙◌, arith, inl, inr}
-use Rattle.std.proofs.lemmas.List.{length-map}
-use Rattle.std.proofs.lemmas.List.FromFn.{length-range_with_len}
-use Rattle.std.specs.List.{range_with_len}
-use Rattle.picture.specs.declared.line_id.Axis.{Axis}
-use Rattle.picture.specs.declared.line_id.Axis.TheVariants.{Across, Down}
+use Rattle.std.proofs.Common.{◌≡◌, ℕ, ◌+◌, ◌-◌, ◌<◌, ◌↔◌, List, [], ◌∷◌, Bool, true, false, Option, Some, Ok, Err, IsTrue, length, get_or, drop, drop-cons, add-one, refl, sym, ap, subst, ◌∙◌, arith, inl, inr}
 use Rattle.picture.specs.declared.line_id.LineId.{LineId}
-use Rattle.picture.specs.Picture.{IsPicture}
-use Rattle.picture.specs.Rows.{width_of, line_along, line_of, lines_along, HasLine}
+use Rattle.picture.specs.Rows.{width_of, line_of, lines_along, HasLine}
 use Rattle.clues.specs.declared.block.Block.{Block}
-use Rattle.clues.specs.Clue.{clue_of}
-use Rattle.clues.specs.ClueBook.{Clues, clue_at, clues_along, clues_of, first_clues, HasClue}
+use Rattle.clues.specs.BookLaws.{length_along-clues_of}
+use Rattle.clues.specs.ClueBook.{Clues, clue_at, clues_of, HasClue}
 use Rattle.line_settle.specs.declared.line_engine.Outcome.{Outcome}
 use Rattle.line_settle.specs.Fitting.{CanFit}
 use Rattle.line_settle.specs.FactSets.{Gains}
-use Rattle.line_settle.specs.GridLaws.{same_line_length, shape_trans}
+use Rattle.line_settle.specs.GridLaws.{shape_trans}
 use Rattle.cert_text.specs.declared.fault.CertFault.{CertFault}
 use Rattle.cert_text.specs.declared.fault.CertFault.TheVariants.{Trailing}
 use Rattle.cert_text.specs.declared.tree_line.LineNumber.{LineNumber}
@@ -28,33 +22,14 @@ use Rattle.certificate.proofs.PendingLemmas.{moved_inside}
 
 -- ---- a line found
 
-clue_count : (axis : Axis) (picture : List (List ℕ)) (n : ℕ) → length (first_clues axis picture n) ≡ n
-unfolding first_clues
-clue_count axis picture n = length-map (range_with_len 0 n) (λ (at : ℕ). clue_of (line_along axis at picture)) ∙ length-range_with_len 0 n
-
-pub clues_are_there : (axis : Axis) (picture : List (List ℕ)) → length (clues_along axis (clues_of picture)) ≡ lines_along axis picture
-clues_are_there Across picture = clue_count Across picture (length picture)
-clues_are_there Down picture = clue_count Down picture (width_of picture)
-
 has_found : (picture : List (List ℕ)) (number : LineNumber) (found : LineId) → HasLineNumber picture number → found ≡ line_id number → HasLine picture found
 has_found picture number found h e = subst (λ (l : LineId). HasLine picture l) (sym e) (let l : number.number - 1 < lines_along number.axis picture = omega arith in l)
 
 pub found_clue : (picture : List (List ℕ)) (clues : Clues) (longest : ℕ) (number : LineNumber) (found : LineId) → CanCheck picture clues longest → HasLineNumber picture number → found ≡ line_id number → HasClue clues found
 found_clue picture clues longest number found can h e =
-    let P : Clues → Type 0 = λ c. HasClue c found in
-    let n = clues_are_there found.axis picture in
+    let n = length_along-clues_of found.axis picture in
     let l = has_found picture number found h e in
-    subst P (sym can.clues_are) (omega arith)
-
-pub short_along : (axis : Axis) (at longest : ℕ) (picture : List (List ℕ)) → IsPicture picture → width_of picture ≤ longest → length picture ≤ longest → at < lines_along axis picture → length (line_along axis at picture) ≤ longest
-short_along Across at longest picture is w t h = let r = is.rectangular at h in omega arith
-short_along Down at longest picture is w t h = let m = length-map picture (λ (row : List ℕ). get_or row at 0) in omega arith
-
-pub found_short : (picture facts : List (List ℕ)) (clues : Clues) (longest : ℕ) (notes : List Note) (number : LineNumber) (found : LineId) → CanCheck picture clues longest → IsWalk picture facts notes → HasLineNumber picture number → found ≡ line_id number → length (line_of facts found) ≤ longest
-found_short picture facts clues longest notes number found can walk h e =
-    let s = same_line_length picture facts found walk.same_shape in
-    let l = short_along found.axis found.at longest picture can.is_picture can.wide can.tall (has_found picture number found h e) in
-    omega arith
+    rw can.clues_are (omega arith)
 
 -- ---- a line judged
 
@@ -63,16 +38,12 @@ by_found picture clues longest clue number found can e c = c ∙ (ap (λ (cs : C
 
 pub not_dead : (picture facts : List (List ℕ)) (clues : Clues) (longest : ℕ) (clue : List Block) (number : LineNumber) (found : LineId) (b : Bool) → CanCheck picture clues longest → found ≡ line_id number → clue ≡ clue_at clues found → IsTrue b ↔ (CanFit clue (line_of facts found) → ⊥) → b ≡ false → IsDead picture facts (line_id number) → ⊥
 not_dead picture facts clues longest clue number found b can e c is f dead =
-    let P : List Block → Type 0 = λ bs. CanFit bs (line_of facts found) → ⊥ in
-    let Q : LineId → Type 0 = λ l. CanFit (clue_at (clues_of picture) (line_id number)) (line_of facts l) → ⊥ in
-    let t : b ≡ true = is.1 (subst P (sym (by_found picture clues longest clue number found can e c)) (subst Q (sym e) dead)) in
+    let t : b ≡ true = is.1 (rw (by_found picture clues longest clue number found can e c, e) dead) in
     cc
 
 pub forced_takes : (picture facts gained : List (List ℕ)) (clues : Clues) (longest : ℕ) (old new : List Note) (clue : List Block) (number : LineNumber) (found : LineId) (n : ℕ) → CanCheck picture clues longest → IsWalk picture facts old → HasLineNumber picture number → found ≡ line_id number → clue ≡ clue_at clues found → (outcome : Outcome) × Gains clue found facts gained outcome → pending gained new ≡ pending facts old → AreInside (length facts) (width_of facts) new → Takes picture facts old (Line number) n (Ok true) gained new
 forced_takes picture facts gained clues longest old new clue number found n can walk h e c f waits inside =
-    let P : List Block → Type 0 = λ bs. Gains bs found facts gained f.0 in
-    let Q : LineId → Type 0 = λ l. Gains (clue_at (clues_of picture) (line_id number)) l facts gained f.0 in
-    let gains = subst Q e (subst P (by_found picture clues longest clue number found can e c) f.1) in (
+    let gains = rw (by_found picture clues longest clue number found can e c, e) at f.1 in (
       record { same_shape = shape_trans walk.same_shape f.1.same_shape; inside = moved_inside facts gained new f.1.same_shape inside },
       (gained ∷ [], ((h, (gained, ((f.0, gains), refl))), ap (λ (fs : List (List (List ℕ))). gained ∷ fs) waits)),
     )
@@ -88,16 +59,12 @@ here lines i d l = rw (add-one, drop-cons lines i d) refl
 
 pub trailing_first : (picture : List (List ℕ)) (start : List (List (List ℕ))) (facts : List (List ℕ)) (notes : List Note) (going : Bool) (first i : ℕ) (lines : List CertLine) → FirstSoFar picture start (waiting going facts notes) first (first + i) lines (drop i lines) → i < length lines → going ≡ false → FirstFault picture start first lines (Some (Trailing (first + i)))
 trailing_first picture start facts notes going first i lines so_far l e =
-    let P : List CertLine → Type 0 = λ ls. FirstFault picture [] (first + i) ls (Some (Trailing (first + i))) in
-    let Q : Bool → Type 0 = λ b. FirstFault picture (waiting b facts notes) (first + i) (drop i lines) (Some (Trailing (first + i))) in
-    so_far.goes (Some (Trailing (first + i))) (subst Q (sym e) (subst P (sym (here lines i Done l)) refl))
+    so_far.goes (Some (Trailing (first + i))) (rw (e, here lines i Done l) refl)
 
 -- from a line that is at hand
 at_line : (picture : List (List ℕ)) (start : List (List (List ℕ))) (facts : List (List ℕ)) (notes : List Note) (going : Bool) (first i : ℕ) (lines : List CertLine) (line d : CertLine) → FirstSoFar picture start (waiting going facts notes) first (first + i) lines (drop i lines) → i < length lines → going ≡ true → line ≡ get_or lines i d → (fault : Option CertFault) → FirstFault picture (facts ∷ pending facts notes) (first + i) (line ∷ drop (i + 1) lines) fault → FirstFault picture start first lines fault
 at_line picture start facts notes going first i lines line d so_far l e is fault f =
-    let P : List CertLine → Type 0 = λ ls. FirstFault picture (facts ∷ pending facts notes) (first + i) ls fault in
-    let Q : Bool → Type 0 = λ b. FirstFault picture (waiting b facts notes) (first + i) (drop i lines) fault in
-    so_far.goes fault (subst Q (sym e) (subst P (ap (λ (x : CertLine). x ∷ drop (i + 1) lines) is ∙ sym (here lines i d l)) f))
+    so_far.goes fault (rw (e, here lines i d l, ← is) f)
 
 pub refused_first : (picture : List (List ℕ)) (start : List (List (List ℕ))) (facts new : List (List ℕ)) (notes left : List Note) (going : Bool) (first i : ℕ) (lines : List CertLine) (line d : CertLine) (e : CertFault) → FirstSoFar picture start (waiting going facts notes) first (first + i) lines (drop i lines) → i < length lines → going ≡ true → line ≡ get_or lines i d → Takes picture facts notes line (first + i) (Err e) new left → AnswersFirst (FirstFault picture start first lines) (Err e)
 refused_first picture start facts new notes left going first i lines line d e so_far l g is (inl m) = inl m
@@ -109,7 +76,6 @@ taken_first picture start facts new notes left going goes_on first i lines line 
   goes = λ fault f.
       let next = t.1.0 in
       let leads = t.1.1.0 in
-      let P : List (List (List ℕ)) → Type 0 = λ fs. FirstFault picture fs (first + (i + 1)) (drop (i + 1) lines) fault in
-      let Q : ℕ → Type 0 = λ n. FirstFault picture (next ++ pending facts notes) n (drop (i + 1) lines) fault in
-      at_line picture start facts notes going first i lines line d so_far l g is fault (inr (next, (leads, subst Q (let e : first + (i + 1) ≡ first + i + 1 = omega arith in e) (subst P t.1.1.1 f))));
+      let e : first + (i + 1) ≡ first + i + 1 = omega arith in
+      at_line picture start facts notes going first i lines line d so_far l g is fault (inr (next, (leads, rw (t.1.1.1, e) at f)));
 }

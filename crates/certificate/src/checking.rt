@@ -41,24 +41,6 @@ pub(crate) fn set_givens(
     Ok(())
 }
 
-// Answers the first fault of a certificate that claims something.
-fn first_fault<E: LineEngine>(
-    alloc: Global,
-    engine: &mut E,
-    claim: &Claim,
-    cert: &Cert,
-) -> Result<(), CertFault>
-    requires { CanCheck claim.now.picture.now claim.now.clues.now (E.longest engine.old) }
-    ensures first { AnswersFirst (CertFirstFault claim.now.picture.now cert.now) result }
-    ensures same_longest { E.longest engine.new ≡ E.longest engine.old }
-{
-    let picture = claim.picture;
-    let mut facts = Facts::none(alloc, picture.height(), picture.width())?;
-    set_givens(picture, &mut facts, cert.givens())?;
-    let first = FIRST_LINES + cert.givens_len();
-    walk(alloc, engine, claim, &mut facts, cert.lines(), first)
-}
-
 #[tactic(auto, using(crate::proofs::Exactness::answering))]
 /// Checks a certificate of a picture: whether no other picture has its clues and, in the certificate's givens, its colours.
 /// No line of the picture may be longer than the engine takes.
@@ -80,11 +62,13 @@ pub fn check_cert<E: LineEngine>(
     ensures unique { OnOk result (IsUnique picture.now cert.now.givens) }
     ensures same_longest { E.longest engine.new ≡ E.longest engine.old }
 {
-    let _ = picture.height();
     let clues = ClueBook::of(alloc, picture)?;
     let claim = Claim {
         picture,
         clues: &clues,
     };
-    first_fault(alloc, engine, &claim, cert)
+    let mut facts = Facts::none(alloc, picture.height(), picture.width())?;
+    set_givens(picture, &mut facts, cert.givens())?;
+    let first = FIRST_LINES + cert.givens_len();
+    walk(alloc, engine, &claim, &mut facts, cert.lines(), first)
 }

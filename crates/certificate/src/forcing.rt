@@ -56,10 +56,7 @@ pub(crate) fn is_dead<E: LineEngine>(
 {
     let mut out = [0; MOST_CELLS];
     let cells = usize::from(facts.line_len(line));
-    match narrow_line(engine, facts, clue, line, &mut out[..cells]) {
-        Outcome::Dead => true,
-        Outcome::Narrowed => false,
-    }
+    narrow_line(engine, facts, clue, line, &mut out[..cells]) == Outcome::Dead
 }
 
 #[tactic(auto, using(line_settle::specs::AlongLaws::places))]

@@ -117,10 +117,7 @@ fn has_near_other<E: LineEngine>(
         return Ok(false);
     }
     let near = find_near_other(alloc, engine, scene, splits)?;
-    if let Some(_other) = near {
-        return Ok(true);
-    }
-    Ok(false)
+    Ok(near.is_some())
 }
 
 /// Makes a certificate of a picture with exactly these givens: `check_cert` accepts it, so there is no other picture with the

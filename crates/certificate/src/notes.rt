@@ -123,17 +123,15 @@ pub(crate) fn split(
     if colours == 0 {
         return end_branch(facts, notes);
     }
-    match facts.shown(row, col) {
-        Some(_) => Ok(true),
-        None => {
-            let note = Note {
-                row,
-                col,
-                before: colours,
-                colours,
-            };
-            begin(facts, notes, note)?;
-            Ok(true)
-        }
+    if let Some(_only) = facts.shown(row, col) {
+        return Ok(true);
     }
+    let note = Note {
+        row,
+        col,
+        before: colours,
+        colours,
+    };
+    begin(facts, notes, note)?;
+    Ok(true)
 }

@@ -1,7 +1,6 @@
 //! One step of the checker: what a line of the certificate does to the branch at hand.
 
 ghost use Rattle.std.specs.Prelude.{◌≡◌, ℕ, ◌+◌, ◌<◌, ◌≤◌, ◌^◌, ◌∷◌, [], length, reverse, Option};
-ghost use Rattle.cert_text.specs.declared.tree_line.CertLine.TheVariants as line;
 ghost use Rattle.certificate.specs.FirstFault.{AnswersFirst, FirstFault};
 ghost use Rattle.certificate.specs.Walk.{CanCheck, IsWalk, Takes};
 
@@ -9,7 +8,7 @@ use crate::forcing::{force, is_dead};
 use crate::notes::{Note, end_branch, split};
 use crate::places::{cell_in, line_at};
 use crate::showing::shows_only;
-use cert_text::{CellNumber, CertFault, CertLine, LineNumber};
+use cert_text::{CertFault, CertLine};
 use clues::ClueBook;
 use line_settle::{Facts, LineEngine};
 use picture::Picture;
@@ -20,92 +19,6 @@ use std::alloc::Global;
 pub(crate) struct Claim<'a> {
     pub picture: &'a Picture,
     pub clues: &'a ClueBook,
-}
-
-// Takes a `line`: the branch goes on with what it forces.
-fn take_forced<E: LineEngine>(
-    engine: &mut E,
-    claim: &Claim,
-    facts: &mut Facts,
-    notes: &mut Vec<Note>,
-    at: LineNumber,
-    number: usize,
-) -> Result<bool, CertFault>
-    requires can { CanCheck claim.now.picture.now claim.now.clues.now (E.longest engine.old) }
-    requires walk { IsWalk claim.now.picture.now facts.old (reverse notes.old.items) }
-    ensures takes { Takes claim.now.picture.now facts.old (reverse notes.old.items) (line.Line at)
-        number result facts.new (reverse notes.new.items) }
-    ensures same_longest { E.longest engine.new ≡ E.longest engine.old }
-    ensures calls { E.calls engine.old ≤ E.calls engine.new }
-{
-    let Some(line) = line_at(claim.picture, at) else {
-        return Err(CertFault::Place(number));
-    };
-    force(engine, facts, notes, claim.clues.clue(line), line)?;
-    Ok(true)
-}
-
-// Takes a `dead`: the branch ends.
-fn take_dead<E: LineEngine>(
-    engine: &mut E,
-    claim: &Claim,
-    facts: &mut Facts,
-    notes: &mut Vec<Note>,
-    at: LineNumber,
-    number: usize,
-) -> Result<bool, CertFault>
-    requires can { CanCheck claim.now.picture.now claim.now.clues.now (E.longest engine.old) }
-    requires walk { IsWalk claim.now.picture.now facts.old (reverse notes.old.items) }
-    ensures takes { Takes claim.now.picture.now facts.old (reverse notes.old.items) (line.Dead at)
-        number result facts.new (reverse notes.new.items) }
-    ensures same_longest { E.longest engine.new ≡ E.longest engine.old }
-    ensures calls { E.calls engine.old ≤ E.calls engine.new }
-{
-    let Some(line) = line_at(claim.picture, at) else {
-        return Err(CertFault::Place(number));
-    };
-    if !is_dead(engine, facts, claim.clues.clue(line), line) {
-        return Err(CertFault::NotDead(number));
-    }
-    let going = end_branch(facts, notes)?;
-    Ok(going)
-}
-
-// Takes a `split`: the branch of the cell's lowest colour begins.
-fn take_split(
-    picture: &Picture,
-    facts: &mut Facts,
-    notes: &mut Vec<Note>,
-    cell: CellNumber,
-    number: usize,
-) -> Result<bool, CertFault>
-    requires walk { IsWalk picture.now facts.old (reverse notes.old.items) }
-    ensures takes { Takes picture.now facts.old (reverse notes.old.items) (line.Split cell) number
-        result facts.new (reverse notes.new.items) }
-{
-    let Some((row, col)) = cell_in(picture, cell) else {
-        return Err(CertFault::Place(number));
-    };
-    let going = split(facts, notes, row, col)?;
-    Ok(going)
-}
-
-// Takes a `done`: the branch ends.
-fn take_done(
-    picture: &Picture,
-    facts: &mut Facts,
-    notes: &mut Vec<Note>,
-    number: usize,
-) -> Result<bool, CertFault>
-    requires walk { IsWalk picture.now facts.old (reverse notes.old.items) }
-    ensures takes { Takes picture.now facts.old (reverse notes.old.items) line.Done number result
-        facts.new (reverse notes.new.items) }
-{
-    if !shows_only(facts, picture) {
-        return Err(CertFault::NotDone(number));
-    }
-    let going = end_branch(facts, notes)?;
-    Ok(going)
 }
 
 // Takes a line with its number, and says whether a branch is at hand behind it.
@@ -124,11 +37,39 @@ pub(crate) fn take_line<E: LineEngine>(
     ensures same_longest { E.longest engine.new ≡ E.longest engine.old }
     ensures calls { E.calls engine.old ≤ E.calls engine.new }
 {
+    let picture = claim.picture;
     match line {
-        CertLine::Line(at) => take_forced(engine, claim, facts, notes, at, number),
-        CertLine::Split(cell) => take_split(claim.picture, facts, notes, cell, number),
-        CertLine::Dead(at) => take_dead(engine, claim, facts, notes, at, number),
-        CertLine::Done => take_done(claim.picture, facts, notes, number),
+        // The branch goes on with what the line forces.
+        CertLine::Line(at) => {
+            let Some(line) = line_at(picture, at) else {
+                return Err(CertFault::Place(number));
+            };
+            force(engine, facts, notes, claim.clues.clue(line), line)?;
+            Ok(true)
+        }
+        // The branch of the cell's lowest colour begins.
+        CertLine::Split(cell) => {
+            let Some((row, col)) = cell_in(picture, cell) else {
+                return Err(CertFault::Place(number));
+            };
+            split(facts, notes, row, col)
+        }
+        // The branch ends.
+        CertLine::Dead(at) => {
+            let Some(line) = line_at(picture, at) else {
+                return Err(CertFault::Place(number));
+            };
+            if !is_dead(engine, facts, claim.clues.clue(line), line) {
+                return Err(CertFault::NotDead(number));
+            }
+            end_branch(facts, notes)
+        }
+        CertLine::Done => {
+            if !shows_only(facts, picture) {
+                return Err(CertFault::NotDone(number));
+            }
+            end_branch(facts, notes)
+        }
     }
 }
 

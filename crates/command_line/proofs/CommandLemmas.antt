@@ -1,6 +1,6 @@
 -- The command line as it is made, and what a parse by it gives.
 use Rattle.std.proofs.Common.{◌≡◌, ◌++◌, true, false, List, [], ◌∷◌, Result, Ok, Err, refl, ap, subst, ◌∙◌, IfErr, IfOk}
-use Rattle.clap.specs.Words.{AddsArg, AddsSubcommand, App, FailsBy, HasMatchesOf, Rule, Shape, Text, app_of, fault_of, is_simple, is_simple_and_free, kind_of, rule_of, shape_of, takes, with_subcommand}
+use Rattle.clap.specs.Words.{AddsArg, AddsSubcommand, App, FailsBy, HasMatchesOf, Rule, Shape, Text, app_of, fault_of, is_simple_and_free, kind_of, rule_of, shape_of, takes, with_subcommand}
 use Rattle.clap.specs.declared.builder.arg.Arg.{Arg}
 use Rattle.clap.specs.declared.builder.command.Command.{Command}
 use Rattle.clap.specs.declared.builder.value_parser.ValueParser.{ValueParser}
@@ -37,12 +37,6 @@ command_made top work first check (Ok c) t a h l m s f =
     h.shape m ∙ ap (λ (x : App). with_subcommand x (shape_of check)) one ∙ ap (λ (x : Shape). with_subcommand (with_subcommand bare (work_shape f.0)) x) s in
     (f.0, (f.1.0, both))
 
-simple : (formats : ValueParser) → is_simple (program_app formats) ≡ true
-simple formats = refl
-
-free : (formats : ValueParser) → is_simple_and_free (program_app formats) ≡ true
-free formats = refl
-
 -- what an app's parse fails by
 abbrev Fails : List Text → Result ArgMatches Error → App → Type 0
 Fails words r x = is_simple_and_free x ≡ true → FailsBy (fault_of x words) r
@@ -54,8 +48,8 @@ pub parse_made : (c : Command) (words : List Text) (r : Result ArgMatches Error)
 parse_made c words (Ok m) ok err kinds f =
     let given : HasMatchesOf (program_app f.0) words m = subst (λ (x : App). HasMatchesOf x words m) f.1.1 ok in
     let fails : Fails words (Ok m) (program_app f.0) = subst (Fails words (Ok m)) f.1.1 kinds in
-    (f.0, (f.1.0, (fails (free f.0), (given (simple f.0)).1)))
+    (f.0, (f.1.0, (fails refl, (given refl).1)))
 parse_made c words (Err e) ok err kinds f =
     let passes : takes (program_app f.0) words ≡ true → kind_of e ≡ OutOfMemory = subst (λ (x : App). takes x words ≡ true → kind_of e ≡ OutOfMemory) f.1.1 err in
     let fails : Fails words (Err e) (program_app f.0) = subst (Fails words (Err e)) f.1.1 kinds in
-    (f.0, (f.1.0, (fails (free f.0), passes)))
+    (f.0, (f.1.0, (fails refl, passes)))

@@ -13,14 +13,12 @@ use Rattle.program_options.specs.Background.{background_of}
 use Rattle.program_options.specs.Options.{IsLawful}
 use Rattle.command_line.specs.Program.{AreFormats, program_app}
 use Rattle.command_line.specs.declared.words.Task.{Task}
-use Rattle.command_line.specs.declared.words.Task.TheVariants.{Clues, Work, Check, Help}
+use Rattle.command_line.specs.declared.words.Task.TheVariants.{Work, Check, Help}
 
 -- the options of a session are lawful
 abbrev pub IsLawfulTask : Task → Type 0
-IsLawfulTask Clues = Unit {0}
 IsLawfulTask (Work file options) = IsLawful options
-IsLawfulTask (Check file cert background) = Unit {0}
-IsLawfulTask (Help text) = Unit {0}
+IsLawfulTask _ = Unit {0}
 
 -- ---- the values of a subcommand
 
@@ -81,18 +79,14 @@ IsRefused g e =
 
 -- a session with this file and these options
 abbrev pub IsWork : Given → Result Task ProgramFault → Type 0
-IsWork g (Ok Clues) = ⊥
 IsWork g (Ok (Work file options)) = (file.now ≡ path_of g.file) × AreOptions g options
-IsWork g (Ok (Check file cert background)) = ⊥
-IsWork g (Ok (Help text)) = ⊥
+IsWork g (Ok _) = ⊥
 IsWork g (Err e) = IsRefused g e
 
 -- a check with these two files and this background
 abbrev pub IsCheck : Given → Result Task ProgramFault → Type 0
-IsCheck g (Ok Clues) = ⊥
-IsCheck g (Ok (Work file options)) = ⊥
 IsCheck g (Ok (Check file cert background)) = (file.now ≡ path_of g.file) × ((cert.now ≡ path_of g.cert) × (background_asked g.background ≡ Ok background))
-IsCheck g (Ok (Help text)) = ⊥
+IsCheck g (Ok _) = ⊥
 IsCheck g (Err e) = background_asked g.background ≡ Err e
 
 -- the subcommand that was entered is one of the program's two
@@ -115,10 +109,8 @@ is_shown _ = false
 
 -- What an error of a kind comes to: help or the version is shown; or the words are refused; or memory ran out.
 abbrev pub IsUntaken : ErrorKind → Result Task ProgramFault → Type 0
-IsUntaken kind (Ok Clues) = ⊥
-IsUntaken kind (Ok (Work file options)) = ⊥
-IsUntaken kind (Ok (Check file cert background)) = ⊥
 IsUntaken kind (Ok (Help text)) = is_shown kind ≡ true
+IsUntaken kind (Ok _) = ⊥
 IsUntaken kind (Err (fault.Words text)) = (is_shown kind ≡ false) × (kind ≡ OutOfMemory → ⊥)
 IsUntaken kind (Err e) = e ≡ fault.Memory
 

@@ -1,7 +1,6 @@
 -- What a lawful edit asks of the parts that make its document.
 use Rattle.std.proofs.Common.{◌≡◌, ℕ, ◌<◌, ◌≤◌, ◌⊎◌, inl, inr, Option, false, List, length, map, refl, sym, ap, subst, ◌∙◌, arith}
 use Rattle.std.specs.List.{All}
-use Rattle.std.proofs.lemmas.Bool.{cases_lt}
 use Rattle.std.proofs.lemmas.Bool.Decides.{nat_tests}
 use Rattle.picture.specs.declared.picture.TheConstants.{MAX_SIDE}
 use Rattle.picture.specs.declared.line_id.Axis.{Axis}
@@ -18,7 +17,7 @@ use Rattle.edits.specs.Edit.{colour_after, edited, painted}
 use Rattle.edits.specs.Fault.{lacks_colour}
 use Rattle.edits.specs.Note.{Cell, IsCellIn, cells_kept, changed_cells, repainted, with_cells, rows_before, marks_before, colours_before}
 use Rattle.edits.proofs.CellLemmas.{all_has, changed_from, has_from_map, paints_cells}
-use Rattle.edits.proofs.GridLemmas.{cell_at-grid, cell_at-past_rows, cell_at-past_columns, grid_is_grid, length-grid}
+use Rattle.edits.proofs.GridLemmas.{grid_below}
 use Rattle.edits.proofs.FaultLemmas.{IsLawful}
 use Rattle.edits.proofs.ShiftLemmas.{edited_below, deleted_is, inserted_is, swapped_is}
 
@@ -45,19 +44,9 @@ paints e (inr (inr r)) = subst Paints (sym r.2) (recolour_paints r.0 r.1)
 
 module _ (d : Design) (e : Edit) (is : IsDesign d) (is_lawful : IsLawful d e) where
   pub painted_coloured : Paints e → AreColoured (painted e d.rows) d.colours
-  painted_coloured p = λ i j.
-      let h = length d.rows in
-      let w = width_of d.rows in
-      let value : ℕ → ℕ → ℕ = λ i j. colour_after e i j (cell_at d.rows i j) in
-      let some : 0 < length d.colours.triples = is.is_palette.has_background in
-      elim (cases_lt i h) [
-        | inl in_rows ↦
-            elim (cases_lt j w) [
-              | inl in_columns ↦ rw (cell_at-grid h w value i j in_rows in_columns) (p.fits d.colours i j (cell_at d.rows i j) is_lawful.coloured (is.is_coloured i j))
-              | inr past ↦ rw (cell_at-past_columns h w (painted e d.rows) i j (grid_is_grid h w value) past) some
-            ]
-        | inr past ↦ rw (cell_at-past_rows (painted e d.rows) i j (omega (arith, length-grid h w value))) some
-      ]
+  painted_coloured p =
+      grid_below (length d.rows) (width_of d.rows) (length d.colours.triples) (λ i j. colour_after e i j (cell_at d.rows i j)) is.is_palette.has_background
+      (λ i j _ _. p.fits d.colours i j (cell_at d.rows i j) is_lawful.coloured (is.is_coloured i j))
 
   pub cells_fit : Paints e → All (IsCellIn d.rows) (map (repainted e) (changed_cells e d.rows))
   cells_fit p =

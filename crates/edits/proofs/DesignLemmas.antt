@@ -8,22 +8,14 @@ use Rattle.picture.specs.Document.{AreColoured}
 use Rattle.picture.specs.Rows.{cell_at, width_of, with_cell}
 use Rattle.edits.specs.Design.{IsDesign, design, mark_at, marks_of}
 use Rattle.edits.specs.Laws.{MarksAreGivens}
-use Rattle.edits.proofs.GridLemmas.{grid_is_grid, grid_same, with_cell_is_grid, cell_at-with_other, cell_at-with_same, place_cases, cell_at-grid, cell_at-past_rows, cell_at-past_columns, length-grid}
+use Rattle.edits.proofs.GridLemmas.{grid_below, grid_is_grid, grid_same, with_cell_is_grid, cell_at-with_other, cell_at-with_same, place_cases, cell_at-grid, cell_at-past_rows, cell_at-past_columns, length-grid}
 
 pub mark_small : (b : Bool) → cond b 0 1 < 2
 mark_small true = omega arith
 mark_small false = omega arith
 
 pub marks_small : (h w : ℕ) (givens : List ℕ) (i j : ℕ) → cell_at (marks_of h w givens) i j < 2
-marks_small h w givens i j =
-    elim (cases_lt i h) [
-      | inl in_rows ↦
-          elim (cases_lt j w) [
-            | inl in_columns ↦ rw (cell_at-grid h w (mark_at givens) i j in_rows in_columns) (mark_small (eqb (bit_and (get_or givens i 0) (2 ^ j)) 0))
-            | inr past ↦ omega (arith, cell_at-past_columns h w (marks_of h w givens) i j (grid_is_grid h w (mark_at givens)) past)
-          ]
-      | inr past ↦ omega (arith, cell_at-past_rows (marks_of h w givens) i j (omega (arith, length-grid h w (mark_at givens))))
-    ]
+marks_small h w givens = grid_below h w 2 (mark_at givens) (omega arith) (λ i j _ _. mark_small (eqb (bit_and (get_or givens i 0) (2 ^ j)) 0))
 
 -- a mark is 1 where the set has the cell
 pub mark_has : (givens : List ℕ) (i j : ℕ) → HasCell givens i j → mark_at givens i j ≡ 1

@@ -9,7 +9,7 @@ use Rattle.picture.specs.declared.rgb.Rgb.{Rgb}
 use Rattle.picture.specs.Palette.{Colours, rgb_eq}
 use Rattle.edits.specs.declared.edit.Edit.{Edit}
 use Rattle.edits.specs.declared.fault.EditFault.{EditFault}
-use Rattle.edits.specs.Design.{Design, design, IsDesign}
+use Rattle.edits.specs.Design.{Design, IsDesign}
 use Rattle.edits.specs.Note.{Note, IsEntry, note_for}
 use Rattle.edits.specs.Edit.{edited}
 use Rattle.edits.specs.Fault.{edit_fault, same_design, is_outside, lacks_colour, has_no_room, deletes_last, is_over, is_full, is_there, sets_background}
@@ -45,8 +45,7 @@ lawful d e none =
 
 -- tests of sameness
 same_rgb : (a b : Rgb) → a.r ≡ b.r → a.g ≡ b.g → a.b ≡ b.b → a ≡ b
-same_rgb a b r g bl =
-    ap (λ x. record { r = x; g = a.g; b = a.b }) r ∙ (ap (λ x. record { r = b.r; g = x; b = a.b }) g ∙ ap (λ x. record { r = b.r; g = b.g; b = x }) bl)
+same_rgb a b r g bl = λ i. record { r = r i; g = g i; b = bl i }
 
 pub rgb_decides : (a b : Rgb) → Decides (rgb_eq a b) (a ≡ b)
 rgb_decides a b =
@@ -57,11 +56,10 @@ rows_decide : (a b : List (List ℕ)) → Decides (pointwise (pointwise eqb) a b
 rows_decide a b = slice_eq-Decides (λ x y. slice_eq-Decides Decides-eqb x y (pointwise eqb x y) refl) a b (pointwise (pointwise eqb) a b) refl
 
 same_colours : (a b : Colours) → a.maxval ≡ b.maxval → a.triples ≡ b.triples → a ≡ b
-same_colours a b maxval triples = ap (λ m. record { maxval = m; triples = a.triples }) maxval ∙ ap (λ t. record { maxval = b.maxval; triples = t }) triples
+same_colours a b maxval triples = λ i. record { maxval = maxval i; triples = triples i }
 
 pub same_parts : (a b : Design) → a.colours ≡ b.colours → a.rows ≡ b.rows → a.marks ≡ b.marks → a ≡ b
-same_parts a b colours rows marks =
-    ap (λ c. design c a.rows a.marks) colours ∙ (ap (λ r. design b.colours r a.marks) rows ∙ ap (λ m. design b.colours b.rows m) marks)
+same_parts a b colours rows marks = λ i. record { colours = colours i; rows = rows i; marks = marks i }
 
 pub same_design_decides : (a b : Design) → Decides (same_design a b) (a ≡ b)
 same_design_decides a b =

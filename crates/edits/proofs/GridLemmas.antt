@@ -56,6 +56,18 @@ cell_at-past_columns h w rows i j is past =
       | inr beyond ↦ cell_at-past_rows rows i j (omega (arith, is.row_count))
     ]
 
+-- a bound of the values is one of all cells
+pub grid_below : (h w n : ℕ) (value : ℕ → ℕ → ℕ) → 0 < n → ((i j : ℕ) → i < h → j < w → value i j < n) → (i j : ℕ) → cell_at (grid h w value) i j < n
+grid_below h w n value some below i j =
+    elim (cases_lt i h) [
+      | inl in_rows ↦
+          elim (cases_lt j w) [
+            | inl in_columns ↦ rw (cell_at-grid h w value i j in_rows in_columns) (below i j in_rows in_columns)
+            | inr past ↦ rw (cell_at-past_columns h w (grid h w value) i j (grid_is_grid h w value) past) some
+          ]
+      | inr past ↦ rw (cell_at-past_rows (grid h w value) i j (omega (arith, length-grid h w value))) some
+    ]
+
 -- one cell changed
 pub cell_at-with_same : (h w : ℕ) (rows : List (List ℕ)) (i j x : ℕ) → IsGrid h w rows → i < h → j < w → cell_at (with_cell rows i j x) i j ≡ x
 cell_at-with_same h w rows i j x is in_rows in_columns =

@@ -39,6 +39,11 @@ place_is_some rgb [] = refl
 place_is_some rgb (t ∷ triples) = first_or_later (rgb_eq rgb t) (place_of rgb triples) (list_any (rgb_eq rgb) triples) (place_is_some rgb triples)
 
 -- paints
+-- a test of what leaves a document as it is, and only that
+idle_when : (b : Bool) (P : Type 0) (after d : Design) → MatchBool b P (P → ⊥) → (P → after ≡ d) → (after ≡ d → P) → b ≡ same_design after d
+idle_when true P after d is to from = sym (same_when after d (to is))
+idle_when false P after d is to from = sym (other_when after d (λ same. is (from same)))
+
 pub paint_idle : (d : Design) (e : Edit) (b : Bool) → IsPicture d.rows → MatchBool b (changed_cells e d.rows ≢ []) (changed_cells e d.rows ≡ []) → not b ≡ same_design (design d.colours (painted e d.rows) d.marks) d
 paint_idle d e true is some = sym (other_when _ d (λ same. some (unchanged_painted e d.rows (ap (λ (x : Design). x.rows) same))))
 paint_idle d e false is none = sym (same_when _ d (ap (λ r. design d.colours r d.marks) (painted_unchanged e d.rows is none)))
@@ -74,48 +79,40 @@ cells_along-same Across a b h w is_a is_b some = is_a.row_lengths 0 some ∙ sym
 cells_along-same Down a b h w is_a is_b some = is_a.row_count ∙ sym is_b.row_count
 
 pub swap_idle : (d : Design) (axis : Axis) (first second : ℕ) (b : Bool) → IsDesign d → first < lines_along axis d.rows → second < lines_along axis d.rows → MatchBool b (AreAlike axis first second d) (AreAlike axis first second d → ⊥) → b ≡ same_design (design d.colours (lines_swapped axis first second d.rows) (lines_swapped axis first second d.marks)) d
-swap_idle d axis first second true is f s alike =
+swap_idle d axis first second b is f s alike =
     let h = length d.rows in
     let w = width_of d.rows in
     let grid = picture_is_grid d.rows is.is_picture in
     let f' : first < size_along axis h w = rw (← size_of_lines axis d.rows) f in
     let s' : second < size_along axis h w = rw (← size_of_lines axis d.rows) s in
     let long = cells_along-same axis d.rows d.marks h w grid is.marks_fit is.is_picture.has_row in
-    sym (same_when _ d
-    (ap (λ r. design d.colours r (lines_swapped axis first second d.marks)) (alike_swapped axis first second h w d.rows grid is.is_picture.has_row f' s' (λ k within. (alike k within).0))
-    ∙ ap (λ m. design d.colours d.rows m) (alike_swapped axis first second h w d.marks is.marks_fit is.is_picture.has_row f' s' (λ k within. (alike k (rw long within)).1))))
-swap_idle d axis first second false is f s other =
-    let h = length d.rows in
-    let w = width_of d.rows in
-    let grid = picture_is_grid d.rows is.is_picture in
-    let f' : first < size_along axis h w = rw (← size_of_lines axis d.rows) f in
-    let s' : second < size_along axis h w = rw (← size_of_lines axis d.rows) s in
-    let long = cells_along-same axis d.rows d.marks h w grid is.marks_fit is.is_picture.has_row in
-    sym (other_when _ d (λ same. other (λ k within. (
+    idle_when b (AreAlike axis first second d) _ d alike
+    (λ is_alike.
+    ap (λ r. design d.colours r (lines_swapped axis first second d.marks)) (alike_swapped axis first second h w d.rows grid is.is_picture.has_row f' s' (λ k within. (is_alike k within).0))
+    ∙ ap (λ m. design d.colours d.rows m) (alike_swapped axis first second h w d.marks is.marks_fit is.is_picture.has_row f' s' (λ k within. (is_alike k (rw long within)).1)))
+    (λ same k within. (
       swapped_alike axis first second h w d.rows grid is.is_picture.has_row f' s' (ap (λ (x : Design). x.rows) same) k within,
       swapped_alike axis first second h w d.marks is.marks_fit is.is_picture.has_row f' s' (ap (λ (x : Design). x.marks) same) k (rw (← long) within),
-    ))))
-
-set_idle_by : (d : Design) (k : ℕ) (rgb old : Rgb) (b : Bool) → k < length d.colours.triples → slice_get d.colours.triples k ≡ Some old → MatchBool b (old ≡ rgb) (old ≢ rgb) → b ≡ same_design (design (with_triple d.colours k rgb) d.rows d.marks) d
-set_idle_by d k rgb old true within at same =
-    sym (same_when _ d (ap (λ t. design (record { maxval = d.colours.maxval; triples = t }) d.rows d.marks)
-    (ap (λ x. set d.colours.triples k x) (sym same ∙ sym (get_or_from_slice_get d.colours.triples k old old at)) ∙ set-get_or d.colours.triples k old)))
-set_idle_by d k rgb old false within at other =
-    sym (other_when _ d (λ same. other
-    (sym (get_or_from_slice_get d.colours.triples k old old at) ∙ (ap (λ (x : Design). get_or x.colours.triples k old) (sym same) ∙ get_or-set_same d.colours.triples k rgb old within))))
+    ))
 
 match_from : (b c : Bool) (P : Type 0) → b ≡ c → (c ≡ true → P) × (P → c ≡ true) → MatchBool b P (P → ⊥)
 match_from true c P e decides = decides.0 (sym e)
 match_from false c P e decides = λ p. absurd (cc (e, decides.1 p))
 
 pub set_idle : (d : Design) (k : ℕ) (rgb old : Rgb) (b : Bool) → k < length d.colours.triples → slice_get d.colours.triples k ≡ Some old → b ≡ rgb_eq old rgb → b ≡ same_design (design (with_triple d.colours k rgb) d.rows d.marks) d
-set_idle d k rgb old b within at is = set_idle_by d k rgb old b within at (match_from b (rgb_eq old rgb) (old ≡ rgb) is (rgb_decides old rgb))
+set_idle d k rgb old b within at is =
+    let stands = get_or_from_slice_get d.colours.triples k old old at in
+    idle_when b (old ≡ rgb) _ d (match_from b (rgb_eq old rgb) (old ≡ rgb) is (rgb_decides old rgb))
+    (λ same. ap (λ t. design (record { maxval = d.colours.maxval; triples = t }) d.rows d.marks)
+    (ap (λ x. set d.colours.triples k x) (sym same ∙ sym stands) ∙ set-get_or d.colours.triples k old))
+    (λ same. sym stands ∙ (ap (λ (x : Design). get_or x.colours.triples k old) (sym same) ∙ get_or-set_same d.colours.triples k rgb old within))
 
 -- givens
 pub mark_idle : (d : Design) (i j x : ℕ) (b : Bool) → IsDesign d → i < length d.rows → j < width_of d.rows → MatchBool b (cell_at d.marks i j ≡ x) (cell_at d.marks i j ≢ x) → b ≡ same_design (design d.colours d.rows (with_cell d.marks i j x)) d
-mark_idle d i j x true is in_rows in_columns here = sym (same_when _ d (ap (λ m. design d.colours d.rows m) (ap (λ y. with_cell d.marks i j y) (sym here) ∙ with_cell_same d.marks i j)))
-mark_idle d i j x false is in_rows in_columns other =
-    sym (other_when _ d (λ same. other (ap (λ (y : Design). cell_at y.marks i j) (sym same) ∙ cell_at-with_same (length d.rows) (width_of d.rows) d.marks i j x is.marks_fit in_rows in_columns)))
+mark_idle d i j x b is in_rows in_columns marked =
+    idle_when b (cell_at d.marks i j ≡ x) _ d marked
+    (λ here. ap (λ m. design d.colours d.rows m) (ap (λ y. with_cell d.marks i j y) (sym here) ∙ with_cell_same d.marks i j))
+    (λ same. ap (λ (y : Design). cell_at y.marks i j) (sym same) ∙ cell_at-with_same (length d.rows) (width_of d.rows) d.marks i j x is.marks_fit in_rows in_columns)
 
 pub pin_idle : (d : Design) (i j : ℕ) (b : Bool) → IsDesign d → i < length d.rows → j < width_of d.rows → IsTrue b ↔ (cell_at d.marks i j ≡ 1) → b ≡ same_design (design d.colours d.rows (with_cell d.marks i j 1)) d
 pin_idle d i j true is in_rows in_columns given = mark_idle d i j 1 true is in_rows in_columns (given.0 refl)

@@ -15,7 +15,7 @@ use Rattle.edits.specs.Note.{IsStep, note_for, note_of, reverted}
 use Rattle.edits.specs.Prepared.{advance_of}
 use Rattle.edits.specs.History.{Turn, turn, History, history, past_from, future_from, ArePast, AreFuture, last_turn, undone, undone_to, redone, fault_if_empty, undo_fault, redo_fault, or_memory, IsPlanFor, Advance, ByEdit, ByUndo, ByRedo, Plan, plan, advanced, first_turn}
 use Rattle.edits.specs.Studio.{AreRings, notes_of, history_from, with_first, with_last, past_after, future_after}
-use Rattle.edits.proofs.HistoryLemmas.{split_last, take_front, last_of, length-past_from, step_entry, entry_step, past_from-last, past_from-push, past_from-drop, ArePast-push, ArePast-drop, ArePast-pop}
+use Rattle.edits.proofs.HistoryLemmas.{split_last, take_front, last_of, length-future_from, length-past_from, step_entry, entry_step, past_from-last, past_from-push, past_from-drop, ArePast-push, ArePast-drop, ArePast-pop}
 
 -- a step back and a step forth, where there is one
 not_empty : (ts : List Turn) (t : Turn) (fault : EditFault) → fault_if_empty (ts ++ t ∷ []) fault ≡ None
@@ -53,6 +53,13 @@ first_step d es x e are = subst (λ (ys : List Entry). AreFuture d (notes_of ys)
 pub future_split : (d : Design) (es : List Entry) (x : Entry) → slice_get es 0 ≡ Some x → future_from d (notes_of es) ≡ turn (edited d x.edit) x.edit ∷ future_from (edited d x.edit) (notes_of (drop 1 es))
 future_split d es x e = ap (λ (ys : List Entry). future_from d (notes_of ys)) (first_split es x e)
 
+-- the history is as long as the rings
+pub past_long : (d : Design) (es : List Entry) → length es ≡ length (past_from d (notes_of es))
+past_long d es = sym (length-past_from d (notes_of es) ∙ length-map es note_of)
+
+pub future_long : (d : Design) (es : List Entry) → length es ≡ length (future_from d (notes_of es))
+future_long d es = sym (length-future_from d (notes_of es) ∙ length-map es note_of)
+
 -- a history after an edit
 module _ (d d' : Design) (past future : Buffer Entry) (x : Entry) (is : IsDesign d) (are : AreRings d past future) where
   pub made : (k : Changes) → IsPlanFor (history_from d past future) (plan (ByEdit (note_of x)) d' k) → IsStep d (note_of x) d'
@@ -75,7 +82,7 @@ module _ (d d' : Design) (past future : Buffer Entry) (x : Entry) (is : IsDesign
   edit_history step =
       let turns : List Turn = past_from d (notes_of past.items) ++ turn d x.edit ∷ [] in
       let count : length (past.items ++ x ∷ []) ≡ length turns =
-      length-append past.items (x ∷ []) ∙ (ap (λ (k : ℕ). k + 1) (sym (length-past_from d (notes_of past.items) ∙ length-map past.items note_of)) ∙ sym (length-append (past_from d (notes_of past.items)) (turn d x.edit ∷ []))) in
+      length-append past.items (x ∷ []) ∙ (ap (λ (k : ℕ). k + 1) (past_long d past.items) ∙ sym (length-append (past_from d (notes_of past.items)) (turn d x.edit ∷ []))) in
       let same : past_from d' (notes_of (keep_last past.capacity (past.items ++ x ∷ []))) ≡ keep_last past.capacity turns =
       ap (past_from d') notes_kept
       ∙ (past_from-drop d' (length (past.items ++ x ∷ []) - past.capacity) (notes_of past.items ++ note_of x ∷ [])

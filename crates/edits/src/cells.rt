@@ -20,8 +20,7 @@ pub(crate) fn put_cells(picture: &mut Picture, cells: &[Cell])
     requires cells { All (IsCellIn picture.old) cells.now }
     ensures { picture.new ≡ with_cells picture.old cells.now }
 {
-    for cell in cells {
-        let (row, col, colour) = *cell;
+    for &(row, col, colour) in cells {
         picture.set(row, col, colour);
     }
 }
@@ -32,8 +31,7 @@ pub(crate) fn paint_cells(picture: &mut Picture, edit: &Edit, cells: &[Cell])
     requires cells { All (IsCellIn picture.old) (map (repainted edit.now) cells.now) }
     ensures { picture.new ≡ with_cells picture.old (map (repainted edit.now) cells.now) }
 {
-    for cell in cells {
-        let (row, col, old) = *cell;
+    for &(row, col, old) in cells {
         picture.set(row, col, edit.colour_after(row, col, old));
     }
 }
@@ -47,8 +45,7 @@ pub(crate) fn put_givens(givens: &mut CellSet, picture: &Picture, places: &[(u8,
         ≡ with_cells (marks_of (length picture.now) (width_of picture.now) givens.old) (map as_mark places.now) }
     ensures inside { AreInside givens.new picture.now }
 {
-    for place in places {
-        let (row, col) = *place;
+    for &(row, col) in places {
         givens.put(row, col);
     }
 }

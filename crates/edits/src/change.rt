@@ -88,8 +88,7 @@ fn of_cells(old: &Picture, new: &Picture, cells: &[Cell]) -> Change
     ensures exact { IsChangeOf result old.now new.now }
 {
     let mut change = Change::cells(old.height(), old.width());
-    for cell in cells {
-        let (row, col, _) = *cell;
+    for &(row, col, _) in cells {
         touch_cell(&mut change, row, col);
     }
     change

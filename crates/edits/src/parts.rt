@@ -150,9 +150,7 @@ pub fn added(document: &Document, rgb: Rgb) -> Result<Document, AllocError>
 {
     let mut after = document.copy()?;
     // The edit was lawful, so only memory can be wanting.
-    if after.palette.add(rgb).is_err() {
-        return Err(AllocError);
-    }
+    after.palette.add(rgb).map_err(|_| AllocError)?;
     Ok(after)
 }
 
@@ -164,9 +162,7 @@ pub fn recoloured(document: &Document, colour: u8, rgb: Rgb) -> Result<Document,
 {
     let mut after = document.copy()?;
     // The edit was lawful, so only memory can be wanting.
-    if after.palette.set(colour, rgb).is_err() {
-        return Err(AllocError);
-    }
+    after.palette.set(colour, rgb).map_err(|_| AllocError)?;
     Ok(after)
 }
 

@@ -1,4 +1,4 @@
-use Rattle.std.proofs.Common.{◌≡◌, ◌∙◌, ap, arith, length}
+use Rattle.std.proofs.Common.{◌≡◌, ◌∙◌, ap, arith, length, sym}
 use Rattle.picture.specs.declared.line_id.Axis.TheVariants.{Across, Down}
 use Rattle.picture.specs.Rows.{width_of}
 use Rattle.clues.specs.ClueBook.{Clues}
@@ -20,7 +20,7 @@ find_near_other-requires-clause-wide g c =
     let wide = c.requires.can.wide in
     omega arith
 
-pub returns-in-Some-clause-other : goal.returns-in-Some-clause-other
-returns-in-Some-clause-other g c =
+pub returns-clause-other : goal.returns-clause-other
+returns-clause-other g c =
     let s = c.args.scene.now in
-    λ yes. near_other s.picture.now s.givens.now s.clues.now c.in_ok-near.near c.in-Some._other c.requires.can.clues_are c.in-Some.is c.in_ok-near.ensures.other
+    λ yes. near_other s.picture.now s.givens.now s.clues.now c.in_ok-near.near c.requires.can.clues_are c.in_ok-near.ensures.other (sym c.is_some.ensures ∙ yes)

@@ -1,9 +1,5 @@
-use Rattle.std.proofs.Common.{◌≡◌, subst, sym, List, Ok, Option, Vec, Global}
-use Rattle.cert_text.specs.declared.tree_line.CellNumber.{CellNumber}
-use Rattle.cert_text.specs.declared.tree_line.CertLine.{CertLine}
-use Rattle.certificate.specs.Making.{WritesTree, lines_seen}
-use Rattle.certificate.specs.Puzzle.{with_givens}
-use Rattle.certificate.specs.Walk.{CanCheck, GivesBase}
+use Rattle.std.proofs.Common.{subst, sym}
+use Rattle.certificate.specs.Walk.{CanCheck}
 use Rattle.certificate.proofs.MadeLemmas.{made_scene, made_shape, makes_none, makes_some}
 use Rattle.certificate.proofs.BaseLemmas.{bases_are_one}
 use Rattle.second_search.proofs.KnownLaws.{sound_facts}
@@ -17,8 +13,7 @@ has_near_other-requires-clause-scene g c =
     let start = c.set_givens.new.facts in
     let blank = c.in_ok-facts.facts in
     let cells = c.in_ok-cells.cells.items in
-    let Q : List CellNumber → Type 0 = λ givens. start ≡ with_givens c.args.picture.now givens blank in
-    made_scene bases_are_one sound_facts c.args.picture.now blank start c.args.givens.now cells c.in_ok-book.book c.height.result c.width.result c.height.ensures.picture c.in_ok-cells.ensures.named c.height.ensures.value c.width.ensures.value c.in_ok-facts.ensures.value (subst Q c.deref.ensures.value c.in-Ok.ensures.facts) c.in_ok-book.ensures
+    made_scene bases_are_one sound_facts c.args.picture.now blank start c.args.givens.now cells c.in_ok-book.book c.height.result c.width.result c.height.ensures.picture c.in_ok-cells.ensures.named c.height.ensures.value c.width.ensures.value c.in_ok-facts.ensures.value (rw c.deref.ensures.value at c.in-Ok.ensures.facts) c.in_ok-book.ensures
 
 pub returns-then-branch-clause-makes : goal.returns-then-branch-clause-makes
 returns-then-branch-clause-makes g c = c.in_ok-has_near_other.ensures.other c.if-branch.true
@@ -38,17 +33,11 @@ returns-in_default-clause-makes g c =
     let start = c.set_givens.new.facts in
     let blank = c.in_ok-facts.facts in
     let cells = c.in_ok-cells.cells.items in
-    let P : List CellNumber → Type 0 = λ givens. GivesBase c.args.picture.now blank givens (Ok tt) start in
-    let Q : List CellNumber → Type 0 = λ givens. start ≡ with_givens c.args.picture.now givens blank in
-    let R : Option (Vec CertLine Global) → Type 0 = λ lines. WritesTree c.args.picture.now start (lines_seen lines) in
-    makes_none c.args.picture.now blank start c.args.givens.now cells c.height.result c.width.result c.height.ensures.picture c.requires.inside c.in_ok-cells.ensures.named c.height.ensures.value c.width.ensures.value c.in_ok-facts.ensures.value (subst P c.deref.ensures.value c.in-Ok.ensures.base) (subst Q c.deref.ensures.value c.in-Ok.ensures.facts) (subst R c.in_default.is c.in_ok-lines.ensures.writes)
+    makes_none c.args.picture.now blank start c.args.givens.now cells c.height.result c.width.result c.height.ensures.picture c.requires.inside c.in_ok-cells.ensures.named c.height.ensures.value c.width.ensures.value c.in_ok-facts.ensures.value (rw c.deref.ensures.value at c.in-Ok.ensures.base) (rw c.deref.ensures.value at c.in-Ok.ensures.facts) (rw c.in_default.is at c.in_ok-lines.ensures.writes)
 
 pub returns-clause-makes : goal.returns-clause-makes
 returns-clause-makes g c =
     let start = c.set_givens.new.facts in
     let blank = c.in_ok-facts.facts in
     let cells = c.in_ok-cells.cells.items in
-    let P : List CellNumber → Type 0 = λ givens. GivesBase c.args.picture.now blank givens (Ok tt) start in
-    let Q : List CellNumber → Type 0 = λ givens. start ≡ with_givens c.args.picture.now givens blank in
-    let R : Option (Vec CertLine Global) → Type 0 = λ lines. WritesTree c.args.picture.now start (lines_seen lines) in
-    makes_some c.args.picture.now blank start c.args.givens.now cells c.in-Some.lines.items c.with_version.result c.height.result c.width.result c.height.ensures.picture c.in_ok-cells.ensures.named c.height.ensures.value c.width.ensures.value c.in_ok-facts.ensures.value (subst P c.deref.ensures.value c.in-Ok.ensures.base) (subst Q c.deref.ensures.value c.in-Ok.ensures.facts) (subst R c.in-Some.is c.in_ok-lines.ensures.writes) c.with_version.ensures.cert c.with_version.ensures.givens c.with_version.ensures.lines c.with_version.ensures.version
+    makes_some c.args.picture.now blank start c.args.givens.now cells c.in-Some.lines.items c.with_version.result c.height.result c.width.result c.height.ensures.picture c.in_ok-cells.ensures.named c.height.ensures.value c.width.ensures.value c.in_ok-facts.ensures.value (rw c.deref.ensures.value at c.in-Ok.ensures.base) (rw c.deref.ensures.value at c.in-Ok.ensures.facts) (rw c.in-Some.is at c.in_ok-lines.ensures.writes) c.with_version.ensures.cert c.with_version.ensures.givens c.with_version.ensures.lines c.with_version.ensures.version

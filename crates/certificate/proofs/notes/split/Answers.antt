@@ -18,5 +18,5 @@ pub returns-in-Some-clause-pending : goal.returns-in-Some-clause-pending
 returns-in-Some-clause-pending c =
     let facts = c.args.facts.now in
     let only = c.in-Some.ensures in
-    let k = c.in-Some.field-0 in
+    let k = c.in-Some._only in
     sym (ap (λ (fs : List (List (List ℕ))). fs ++ pending facts (reverse c.args.notes.now.items)) (one_branch facts c.args.row c.args.col k (bit_below (cell_at facts c.args.row c.args.col) 16 k (c.left-colours.ensures.facts.masks c.args.row c.args.col) ((only k).1 refl)) only))

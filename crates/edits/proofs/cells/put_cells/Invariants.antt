@@ -3,5 +3,5 @@ use Rattle.std.proofs.Common.{◌≡◌, take}
 use Rattle.edits.specs.Note.{with_cells}
 use Rattle.edits.proofs.cells.put_cells.Given as goal
 
-abbrev pub invariant-loop-cell : goal.invariant-loop-cell
-invariant-loop-cell l = l.picture ≡ with_cells l.fn.picture (take l.cell-index l.cells)
+abbrev pub invariant-loop-row : goal.invariant-loop-row
+invariant-loop-row l = l.picture ≡ with_cells l.fn.picture (take l.row-index l.cells)

@@ -6,8 +6,8 @@ use Rattle.edits.specs.Design.{marks_of}
 use Rattle.edits.specs.Note.{as_mark, with_cells}
 use Rattle.edits.proofs.cells.put_givens.Given as goal
 
-abbrev pub invariant-loop-place : goal.invariant-loop-place
-invariant-loop-place l = record {
-  marks : marks_of (length l.picture) (width_of l.picture) l.givens ≡ with_cells (marks_of (length l.picture) (width_of l.picture) l.fn.givens) (map as_mark (take l.place-index l.places));
+abbrev pub invariant-loop-row : goal.invariant-loop-row
+invariant-loop-row l = record {
+  marks : marks_of (length l.picture) (width_of l.picture) l.givens ≡ with_cells (marks_of (length l.picture) (width_of l.picture) l.fn.givens) (map as_mark (take l.row-index l.places));
   inside : AreInside l.givens l.picture;
 }

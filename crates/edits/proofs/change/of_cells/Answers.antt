@@ -17,7 +17,7 @@ returns-clause-exact c =
     c.cells-change.ensures.lines old new
     (record { is_picture = c.width.ensures.picture; row_count = sym high; column_count = sym wide })
     (record { is_picture = c.requires.picture; row_count = c.requires.differ.row_count ∙ sym high; column_count = c.requires.differ.column_count ∙ sym wide }) in
-    let all : c.loop-cell.cell-index ≡ length c.args.cells.now = omega arith in
-    cells_exact c.loop-cell.change old new c.args.cells.now c.width.ensures.picture c.requires.picture c.requires.differ
-    (subst (λ (m : Moves). FollowsCells m old new) (start ∙ sym c.loop-cell.invariant.moves) follows)
-    (subst (λ (n : ℕ). (line : LineId) → IsTouched c.loop-cell.change line ↔ IsCrossed n c.args.cells.now line) all c.loop-cell.invariant.touched)
+    let all : c.loop-row.row-index ≡ length c.args.cells.now = omega arith in
+    cells_exact c.loop-row.change old new c.args.cells.now c.width.ensures.picture c.requires.picture c.requires.differ
+    (subst (λ (m : Moves). FollowsCells m old new) (start ∙ sym c.loop-row.invariant.moves) follows)
+    (subst (λ (n : ℕ). (line : LineId) → IsTouched c.loop-row.change line ↔ IsCrossed n c.args.cells.now line) all c.loop-row.invariant.touched)

@@ -6,8 +6,8 @@ use Rattle.clues.specs.Change.{IsTouched, still}
 use Rattle.edits.specs.Change.{IsCrossed}
 use Rattle.edits.proofs.change.of_cells.Given as goal
 
-abbrev pub invariant-loop-cell : goal.invariant-loop-cell
-invariant-loop-cell l = record {
+abbrev pub invariant-loop-row : goal.invariant-loop-row
+invariant-loop-row l = record {
   moves : l.change.moves ≡ still (length l.old) (width_of l.old);
-  touched : (line : LineId) → IsTouched l.change line ↔ IsCrossed l.cell-index l.cells line;
+  touched : (line : LineId) → IsTouched l.change line ↔ IsCrossed l.row-index l.cells line;
 }

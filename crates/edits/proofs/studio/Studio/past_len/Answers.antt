@@ -1,14 +1,7 @@
-use Rattle.std.proofs.Common.{ap, sym, ◌∙◌, length}
-use Rattle.std.proofs.lemmas.List.{length-map}
+use Rattle.std.proofs.Common.{◌∙◌}
 use Rattle.edits.specs.Design.{design_of}
-use Rattle.edits.specs.History.{History}
-use Rattle.edits.specs.Note.{note_of}
-use Rattle.edits.specs.Studio.{notes_of}
-use Rattle.edits.proofs.HistoryLemmas.{length-past_from}
+use Rattle.edits.proofs.RingLemmas.{past_long}
 use Rattle.edits.proofs.studio.Studio.past_len.Goals as goal
 
 pub returns : goal.returns
-returns c =
-    c.len.ensures.len
-    ∙ (sym (length-past_from (design_of c.self.inside.document) (notes_of c.self.inside.past.items) ∙ length-map c.self.inside.past.items note_of)
-    ∙ ap (λ (h : History). length h.past) c.self.view_is)
+returns c = rw (← c.self.view_is) (c.len.ensures.len ∙ past_long (design_of c.self.inside.document) c.self.inside.past.items)
