@@ -17,7 +17,7 @@ use Rattle.line_settle.specs.Fitting.{CanFit}
 use Rattle.justify.specs.declared.step.Step.{Step}
 use Rattle.justify.specs.Steps.{step_at, IsTrimmed}
 use Rattle.justify.specs.Book.{Account, AreTrimmed, IsAccount, IsDerivation}
-use Rattle.justify.specs.Laws.{DerivationsStayInside}
+use Rattle.justify.proofs.LawLemmas.{stay_inside}
 use Rattle.fixpoint.specs.Closing.{HasDeadLine, PutsCrossing}
 use Rattle.fixpoint.specs.declared.fault.CloseFault.{CloseFault}
 use Rattle.fixpoint.specs.declared.fault.CloseFault.TheVariants.{Dead, Memory}
@@ -57,9 +57,8 @@ grows_on clues old between new first last a b =
 pub all_trimmed : (clues : Clues) (old new : Account) (added : List Step) → Grows clues old new added → AreTrimmed clues old → AreTrimmed clues new
 all_trimmed clues old new added g t =
     let R : Step → Type 0 = λ s. IsTrimmed (clue_at clues s.line) (length (line_of old.base s.line)) s in
-    let P : List Step → Type 0 = λ steps. (n : ℕ) → n < length steps → R (step_at steps n) in
     let Q : List (List ℕ) → Type 0 = λ base. (n : ℕ) → n < length new.steps → IsTrimmed (clue_at clues (step_at new.steps n).line) (length (line_of base (step_at new.steps n).line)) (step_at new.steps n) in
-    subst Q (sym g.base) (subst P (sym g.steps) (each_joined R old.steps added t g.trimmed))
+    subst Q (sym g.base) (subst (λ (steps : List Step). (n : ℕ) → n < length steps → R (step_at steps n)) (sym g.steps) (each_joined R old.steps added t g.trimmed))
 
 -- the steps that were added are those behind the old ones
 pub added_behind : (clues : Clues) (old new : Account) (added : List Step) → Grows clues old new added → steps_added old new ≡ added
@@ -102,9 +101,6 @@ book_starts clues longest dirty agenda start meter calls d same c e t n =
       working = record { at_most = omega arith; at_least = omega arith; steps = omega arith };
     }
 
-pub one_more : (evaluations : ℕ) (m0 m1 m2 : Meter) (c0 c1 c2 : ℕ) → Counts evaluations 0 m0 m1 c0 c1 → Counts 1 0 m1 m2 c1 c2 → Counts (evaluations + 1) 0 m0 m2 c0 c2
-one_more evaluations m0 m1 m2 c0 c1 c2 a b = counting_adds evaluations 0 1 0 m0 m1 m2 c0 c1 c2 a b
-
 module _ (clues : Clues) (longest : ℕ) (dirty : Lines) (start old new : Account) (agenda rest changed after : Lines) (line : LineId) (m0 m1 m2 : Meter) (c0 c1 c2 : ℕ) (b : ClosingBook clues longest dirty start old agenda m0 m1 c0 c1) (h : HasName agenda line) (t : TakesOutName agenda rest line) (is : IsFacts old.facts) (turn : Turn clues line old new changed) (puts : PutsNames rest after changed) (counts : Counts 1 0 m1 m2 c1 c2) where
   crossing : PutsCrossing line (line_of old.facts line) (line_of new.facts line) rest after
   crossing = crossing_put line (line_of old.facts line) (line_of new.facts line) changed turn.names rest after puts
@@ -129,38 +125,38 @@ module _ (clues : Clues) (longest : ℕ) (dirty : Lines) (start old new : Accoun
     evaluations = b.evaluations + 1;
     grows = grows_on clues start old new b.added turn.added b.grows turn.grows;
     closing = closing_goes_on clues longest start.facts old.facts new.facts agenda rest after line Narrowed b.closing h t is turn.gains refl crossing;
-    counts = one_more b.evaluations m0 m1 m2 c0 c1 c2 b.counts counts;
+    counts = counting_adds b.evaluations 0 1 0 m0 m1 m2 c0 c1 c2 b.counts counts;
     working = works_on;
   }
 
   pub book_comes_nearer : IsWithin old.facts new.facts → left_to_do new.facts after < left_to_do old.facts agenda
   book_comes_nearer w = less_to_do old.facts new.facts agenda rest after line is (b.closing.lines line h) w h t crossing
 
-pub book_closes : (clues : Clues) (longest : ℕ) (dirty : Lines) (start now : Account) (agenda : Lines) (m0 m : Meter) (c0 c : ℕ) → DerivationsStayInside → IsAccount start → IsDerivation clues start
+pub book_closes : (clues : Clues) (longest : ℕ) (dirty : Lines) (start now : Account) (agenda : Lines) (m0 m : Meter) (c0 c : ℕ) → IsAccount start → IsDerivation clues start
     → ClosingBook clues longest dirty start now agenda m0 m c0 c → agenda ≡ no_names → IsClosedBook clues start now
-book_closes clues longest dirty start now agenda m0 m c0 c stay is d b none =
+book_closes clues longest dirty start now agenda m0 m c0 c is d b none =
     let ends = closing_ends clues longest start.facts now.facts agenda Narrowed b.closing none refl in
     let least = ends.least refl in
     record {
       grows = grown clues start now b.added b.grows;
       least = record {
         closed = least.closed;
-        holds = within_trans start.base start.facts now.facts (stay.holds start is) least.holds;
-        least = λ others closed w. least.least others closed (stay.inside clues start is d others closed w);
+        holds = within_trans start.base start.facts now.facts (stay_inside.holds start is) least.holds;
+        least = λ others closed w. least.least others closed (stay_inside.inside clues start is d others closed w);
       };
       fits = ends.fits refl;
     }
 
 -- a line that no list fits now has none under closed facts that hold the base
-pub book_dies : (clues : Clues) (longest : ℕ) (start now : Account) (agenda : Lines) (line : LineId) → DerivationsStayInside → IsAccount start → IsDerivation clues start → Closing clues longest start.facts now.facts agenda
+pub book_dies : (clues : Clues) (longest : ℕ) (start now : Account) (agenda : Lines) (line : LineId) → IsAccount start → IsDerivation clues start → Closing clues longest start.facts now.facts agenda
     → HasName agenda line → ¬ CanFit (clue_at clues line) (line_of now.facts line) → HasDeadLine clues start.base
-book_dies clues longest start now agenda line stay is d c h dead =
-    let shape = shape_trans (stay.holds start is).same_shape c.holds.same_shape in
+book_dies clues longest start now agenda line is d c h dead =
+    let shape = shape_trans (stay_inside.holds start is).same_shape c.holds.same_shape in
     record {
       line = line;
       has = same_has_line now.facts start.base line (shape_sym shape) (c.lines line h);
       dead = λ others closed w f.
-          let within = c.inside others closed (stay.inside clues start is d others closed w) in
+          let within = c.inside others closed (stay_inside.inside clues start is d others closed w) in
           dead (f.0, tighter_fits (clue_at clues line) (line_of now.facts line) (line_of others line) f.0 (within_tighter now.facts others within line) f.1);
     }
 

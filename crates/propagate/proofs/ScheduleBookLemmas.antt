@@ -1,17 +1,16 @@
 -- Books whose lines take their turns as a schedule names them.
-use Rattle.std.proofs.Common.{◌≡◌, ℕ, ◌+◌, ◌<◌, ◌≤◌, List, [], ◌∷◌, ◌++◌, length, drop, get_or, refl, sym, subst, inl, inr, Err, drop-cons, add-one}
+use Rattle.std.proofs.Common.{◌≡◌, ℕ, ◌+◌, ◌<◌, List, [], ◌∷◌, ◌++◌, length, drop, get_or, refl, sym, subst, inl, inr, Err, drop-cons, add-one}
 use Rattle.std.specs.List.{All}
-use Rattle.std.proofs.lemmas.List.{drop_all}
 use Rattle.picture.specs.declared.line_id.LineId.{LineId}
 use Rattle.picture.specs.LineSet.{Lines}
 use Rattle.picture.specs.Rows.{line_of, HasLine}
 use Rattle.clues.specs.ClueBook.{Clues, clue_at}
 use Rattle.line_settle.specs.Fitting.{CanFit}
 use Rattle.line_settle.specs.FactSets.{IsClosed, IsLeast, IsWithin, SameShape}
-use Rattle.line_settle.specs.Laws.{LeastIsUnique}
+use Rattle.line_settle.proofs.LawLemmas.{one_least}
 use Rattle.justify.specs.declared.step.Step.{Step}
 use Rattle.justify.specs.Book.{Account, IsAccount, IsDerivation}
-use Rattle.justify.specs.Laws.{DerivationsStayInside}
+use Rattle.justify.proofs.LawLemmas.{stay_inside}
 use Rattle.fixpoint.specs.declared.fault.CloseFault.{CloseFault}
 use Rattle.fixpoint.specs.declared.fault.CloseFault.TheVariants.{Dead, Memory}
 use Rattle.fixpoint.specs.Closing.{AreClosable}
@@ -67,12 +66,7 @@ module _ (clues : Clues) (longest : ℕ) (start old : Account) (lines rest : Lis
 -- the next line of a list
 pub next_in_turn : (clues : Clues) (longest : ℕ) (start now : Account) (lines : List LineId) (n : ℕ) (none : LineId) → n < length lines → Scheduled clues longest start now lines (drop n lines) → Scheduled clues longest start now lines (get_or lines n none ∷ drop (n + 1) lines)
 next_in_turn clues longest start now lines n none l s =
-    let P : List LineId → Type 0 = λ rest. Scheduled clues longest start now lines rest in
-    let Q : ℕ → Type 0 = λ m. Scheduled clues longest start now lines (get_or lines n none ∷ drop m lines) in
-    subst Q (sym (add-one n)) (subst P (drop-cons lines n none l) s)
-
-pub none_left : (lines : List LineId) (n : ℕ) → length lines ≤ n → drop n lines ≡ []
-none_left lines n l = drop_all n lines l
+    subst (λ (m : ℕ). Scheduled clues longest start now lines (get_or lines n none ∷ drop m lines)) (sym (add-one n)) (subst (λ (rest : List LineId). Scheduled clues longest start now lines rest) (drop-cons lines n none l) s)
 
 -- a fault of a schedule: either a line is dead in its turn, or memory was refused
 pub schedule_fails : (clues : Clues) (start : Account) (lines : List LineId) (fault : CloseFault) → (fault ≡ Dead → IsDeadInTurn clues start.facts lines) → RunsSchedule clues start lines (Err fault)
@@ -81,21 +75,21 @@ schedule_fails clues start lines Memory dead = tt {0}
 
 -- ---- what schedules come to, over the base of a book
 
-module _ (stay : DerivationsStayInside) (clues : Clues) (book : Account) (is : IsAccount book) (d : IsDerivation clues book) where
+module _ (clues : Clues) (book : Account) (is : IsAccount book) (d : IsDerivation clues book) where
   fills_inside : (lines : List LineId) (facts : List (List ℕ)) → All (HasLine book.facts) lines → AreAfter clues book.facts lines facts → (others : List (List ℕ)) → IsClosed clues others → IsWithin book.base others → IsWithin facts others
-  fills_inside lines facts all a others closed w = schedules_lead_inside.inside clues book.facts lines facts all a others closed (stay.inside clues book is d others closed w)
+  fills_inside lines facts all a others closed w = schedules_lead_inside.inside clues book.facts lines facts all a others closed (stay_inside.inside clues book is d others closed w)
 
   fills_least : (lines : List LineId) (facts : List (List ℕ)) → All (HasLine book.facts) lines → AreAfter clues book.facts lines facts → IsClosed clues facts → IsLeast clues book.base facts
   fills_least lines facts all a closed = record {
     closed = closed;
-    holds = within_trans book.base book.facts facts (stay.holds book is) (schedules_lead_inside.holds clues book.facts lines facts a);
+    holds = within_trans book.base book.facts facts (stay_inside.holds book is) (schedules_lead_inside.holds clues book.facts lines facts a);
     least = fills_inside lines facts all a;
   }
 
-pub schedules_fill : DerivationsStayInside → LeastIsUnique → SchedulesFillBooks
-schedules_fill stay unique = record {
-  inside = λ clues book lines facts is d. fills_inside stay clues book is d lines facts;
-  least = λ clues book lines facts is d. fills_least stay clues book is d lines facts;
+pub schedules_fill : SchedulesFillBooks
+schedules_fill = record {
+  inside = λ clues book lines facts is d. fills_inside clues book is d lines facts;
+  least = λ clues book lines facts is d. fills_least clues book is d lines facts;
   order = λ clues book lines more facts others is d all every a b closed shut.
-      unique clues book.base facts others (fills_least stay clues book is d lines facts all a closed) (fills_least stay clues book is d more others every b shut);
+      one_least clues book.base facts others (fills_least clues book is d lines facts all a closed) (fills_least clues book is d more others every b shut);
 }

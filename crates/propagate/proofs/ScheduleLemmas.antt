@@ -25,8 +25,7 @@ one_gain clues line base facts others g h =
 one_after : (clues : Clues) (base : List (List ℕ)) (lines : List LineId) (facts others : List (List ℕ)) → AreAfter clues base lines facts → AreAfter clues base lines others → facts ≡ others
 one_after clues base [] facts others a b = a ∙ sym b
 one_after clues base (line ∷ lines) facts others a b =
-    let P : List (List ℕ) → Type 0 = λ f. AreAfter clues f lines facts in
-    one_after clues b.0 lines facts others (subst P (one_gain clues line base a.0 b.0 a.1.0 b.1.0) a.1.1) b.1.1
+    one_after clues b.0 lines facts others (subst (λ (f : List (List ℕ)). AreAfter clues f lines facts) (one_gain clues line base a.0 b.0 a.1.0 b.1.0) a.1.1) b.1.1
 
 after_holds : (clues : Clues) (base : List (List ℕ)) (lines : List LineId) (facts : List (List ℕ)) → AreAfter clues base lines facts → IsWithin base facts
 after_holds clues base [] facts a = let P : List (List ℕ) → Type 0 = λ f. IsWithin base f in subst P (sym a) (within_refl base)
@@ -79,11 +78,8 @@ not_both clues base [] facts a d = d
 not_both clues base (line ∷ lines) facts a d = elim d [
   | inl none ↦ let g = a.1.0 in let n = g.narrows in none (n.fits.0 refl)
   | inr later ↦
-      let P : List (List ℕ) → Type 0 = λ f. IsDeadInTurn clues f lines in
-      not_both clues a.0 lines facts a.1.1 (subst P (one_gain clues line base later.0 a.0 later.1.0 a.1.0) later.1.1)
+      not_both clues a.0 lines facts a.1.1 (subst (λ (f : List (List ℕ)). IsDeadInTurn clues f lines) (one_gain clues line base later.0 a.0 later.1.0 a.1.0) later.1.1)
 ]
 
 pub schedules_lead_inside : SchedulesLeadInside
 schedules_lead_inside = record { one = one_after; holds = after_holds; inside = after_inside; least = after_least; dead = dead_in_turn; not_both = not_both }
-
-pub ruleset schedules = (schedules_lead_inside)

@@ -1,10 +1,8 @@
 -- What a line's turn comes to.
-use Rattle.std.proofs.Common.{◌≡◌, ◌≢◌, ℕ, zero, suc, ◌+◌, ◌<◌, ◌≤◌, ◌^◌, ◌⊎◌, ◌↔◌, List, [], ◌∷◌, length, refl, sym, ap, subst, ◌∙◌, arith, inl, inr, get_or, bit_and}
+use Rattle.std.proofs.Common.{◌≡◌, ◌≢◌, ℕ, zero, suc, ◌+◌, ◌<◌, ◌≤◌, ◌⊎◌, ◌↔◌, List, [], ◌∷◌, length, refl, sym, ap, subst, ◌∙◌, arith, inl, inr, get_or}
 use Rattle.std.specs.Prelude.{IsBitSet}
-use Rattle.std.specs.Int.{w16, trailing_zeros}
 use Rattle.std.proofs.lemmas.Bool.{cases_eq}
 use Rattle.std.proofs.lemmas.List.{append-nil}
-use Rattle.std.proofs.lemmas.Nat.Bits.{bit_at-trailing_zeros}
 use Rattle.picture.specs.declared.line_id.LineId.{LineId}
 use Rattle.picture.specs.LineSet.{Lines, HasName, PutsName, name_count}
 use Rattle.picture.specs.Rows.{line_of, HasLine}
@@ -19,12 +17,15 @@ use Rattle.justify.specs.declared.step.Step.{Step}
 use Rattle.justify.specs.Premises.{premise_at, ArePremises, Mentions, Says}
 use Rattle.justify.specs.Steps.{step_at, IsTrimmed}
 use Rattle.justify.specs.Book.{Account, Adds, GainDrawn, IsAccount, IsDerivation}
-use Rattle.justify.specs.Laws.{DerivationsGrow, NewStepsDerive, NewStepsFollow}
 use Rattle.justify.specs.Making.{DrawsNothing, IsNewStep}
 use Rattle.propagate.specs.Turns.{CrossesDrawn, Turn}
 use Rattle.line_settle.specs.GridLaws.{shape_refl, cell_on}
 use Rattle.line_settle.specs.FitLaws.{have_left}
-use Rattle.picture.specs.BitLaws.{bit_is_set, same_bits}
+use Rattle.picture.specs.BitLaws.{same_bits}
+use Rattle.justify.proofs.LawLemmas.{derivations_grow, new_derive, new_follow}
+use Rattle.justify.proofs.LineMaskLemmas.{some_bit}
+use Rattle.justify.proofs.PlaceLemmas.{one_along}
+use Rattle.justify.proofs.SaidLemmas.{mentions_or_not}
 
 -- ---- the lines that cross a step where it draws
 
@@ -37,9 +38,6 @@ pub record CrossesOne (line : LineId) (premises : List Premise) (n : ℕ) (other
 pub record CrossesSoFar (line : LineId) (premises : List Premise) (n : ℕ) (lines : Lines) : Type 0 where
   pub names : (other : LineId) → HasName lines other ↔ CrossesOne line premises n other
   pub few : name_count lines ≤ n
-
-pub named_or_not : (mask at : ℕ) → IsBitSet mask at ⊎ (¬ IsBitSet mask at)
-named_or_not mask at = elim (cases_eq (bit_and mask (2 ^ at)) 0) [ inl e ↦ inr (λ s. s e) | inr n ↦ inl n ]
 
 pub crosses_more : (line : LineId) (premises : List Premise) (n : ℕ) (old new : Lines) (name : LineId) → name ≡ crossing_at line (premise_at premises n).at
     → HasName old name ⊎ (¬ HasName old name) → (HasName old name → new ≡ old) → (¬ HasName old name → name_count new ≡ name_count old + 1)
@@ -61,17 +59,10 @@ crosses_more line premises n old new name is known same more puts c = record {
   ]);
 }
 
-pub drawn_place : (items premises : List Premise) (n most : ℕ) → items ≡ premises → ((i : ℕ) → Mentions premises i → i < most) → n < length items → (premise_at items n).at < most
-drawn_place items premises n most e inside l =
-    let P : List Premise → Type 0 = λ ps. Mentions ps (premise_at items n).at in
-    inside (premise_at items n).at (subst P e (record { which = n; within = l; here = refl }))
-
 pub crosses_all : (step : Step) (items : List Premise) (n : ℕ) (lines : Lines) → items ≡ step.drawn → length items ≡ n → CrossesSoFar step.line items n lines → (other : LineId) → HasName lines other ↔ CrossesDrawn step other
 crosses_all step items n lines same count is other =
-    let P : List Premise → Type 0 = λ ps. length ps ≡ n in
-    let Q : List Premise → Type 0 = λ ps. CrossesSoFar step.line ps n lines in
-    let len = subst P same count in
-    let c = subst Q same is in (
+    let len = subst (λ (ps : List Premise). length ps ≡ n) same count in
+    let c = subst (λ (ps : List Premise). CrossesSoFar step.line ps n lines) same is in (
       (λ s.
           let x = (c.names other).0 s in
           let at : other.at ≡ (premise_at step.drawn x.which).at = ap (λ (l : LineId). l.at) x.here in
@@ -86,28 +77,6 @@ crosses_all step items n lines same count is other =
 
 -- ---- where a new step draws, the facts change
 
-some_bit : (mask : ℕ) → 0 < mask → mask < 2 ^ 16 → (k : ℕ) × IsBitSet mask k
-some_bit mask some small = (trailing_zeros w16 mask, bit_is_set mask (trailing_zeros w16 mask) (bit_at-trailing_zeros w16 mask some small).1)
-
-one_or_none : (premises : List Premise) (i n : ℕ) → ((m : ℕ) × (m < n) × ((premise_at premises m).at ≡ i)) ⊎ ((m : ℕ) → m < n → (premise_at premises m).at ≡ i → ⊥)
-one_or_none premises i zero = inr (λ m l e. absurd (omega arith))
-one_or_none premises i (suc n) = elim (cases_eq (premise_at premises n).at i) [
-  | inl e ↦ inl (n, omega arith, e)
-  | inr d ↦ elim (one_or_none premises i n) [
-    | inl w ↦ inl (w.0, (let l = w.1 in omega arith), w.2)
-    | inr none ↦ inr (λ m l e. elim (cases_eq m n) [
-      | inl same ↦ d (let P : ℕ → Type 0 = λ x. (premise_at premises x).at ≡ i in subst P same e)
-      | inr other ↦ none m (omega arith) e
-    ])
-  ]
-]
-
-mentions_or_not : (premises : List Premise) (i : ℕ) → Mentions premises i ⊎ (Mentions premises i → ⊥)
-mentions_or_not premises i = elim (one_or_none premises i (length premises)) [
-  | inl w ↦ inl (record { which = w.0; within = w.1; here = w.2 })
-  | inr none ↦ inr (λ m. none m.which m.within m.here)
-]
-
 module _ (clue : List Block) (step : Step) (old new : List (List ℕ)) (n : IsNewStep clue step.line (line_of old step.line) step) (g : GainDrawn step old new) where
   line_bit : (facts : List (List ℕ)) (i k : ℕ) → IsBitSet (get_or (line_of facts step.line) i 0) k → Leaves facts (row_on step.line.axis step.line.at i) (col_on step.line.axis step.line.at i) k
   line_bit facts i k s = let P : ℕ → Type 0 = λ m. IsBitSet m k in subst P (cell_on facts step.line i) s
@@ -119,20 +88,15 @@ module _ (clue : List Block) (step : Step) (old new : List (List ℕ)) (n : IsNe
   mentioned_differs are i m same =
       let bit = some_bit (premise_at step.drawn m.which).colours (are.some m.which m.within) (are.small m.which) in
       let says : Says step.drawn i bit.0 = record { which = m.which; within = m.within; here = m.here; colour = bit.1 } in
-      let P : ℕ → Type 0 = λ mask. IsBitSet mask bit.0 in
-      let stays = subst P same (n.draws i bit.0 says).0 in
+      let stays = subst (λ (mask : ℕ). IsBitSet mask bit.0) same (n.draws i bit.0 says).0 in
       ((g.leaves _ _ bit.0).0 (line_bit new i bit.0 stays)).1 (record { place = i; in_row = refl; in_column = refl; says = says })
-
-  one_place : (axis : Rattle.picture.specs.declared.line_id.Axis.Axis) (at i j : ℕ) → row_on axis at i ≡ row_on axis at j → col_on axis at i ≡ col_on axis at j → i ≡ j
-  one_place Rattle.picture.specs.declared.line_id.Axis.TheVariants.Across at i j r c = c
-  one_place Rattle.picture.specs.declared.line_id.Axis.TheVariants.Down at i j r c = r
 
   unmentioned_stays : (i : ℕ) → (Mentions step.drawn i → ⊥) → get_or (line_of old step.line) i 0 ≡ get_or (line_of new step.line) i 0
   unmentioned_stays i none = same_bits _ _ (λ k. (
     (λ s. cell_bit new i k ((g.leaves _ _ k).1 (
       line_bit old i k s,
       λ d.
-          let same = one_place step.line.axis step.line.at i d.place d.in_row d.in_column in
+          let same = one_along step.line _ _ i d.place refl refl d.in_row d.in_column in
           let says = d.says in
           none (record { which = says.which; within = says.within; here = says.here ∙ sym same }),
     ))),
@@ -175,20 +139,19 @@ trimmed_one : (R : Step → Type 0) (step : Step) → R step → (n : ℕ) → n
 trimmed_one R step r zero l = r
 trimmed_one R step r (suc n) l = absurd (omega arith)
 
-pub turn_for_step : NewStepsFollow → NewStepsDerive → DerivationsGrow
-    → (clues : Clues) (line : LineId) (old new : Account) (step : Step) (lines : Lines) → IsAccount old → IsDerivation clues old → HasLine old.facts line
+pub turn_for_step : (clues : Clues) (line : LineId) (old new : Account) (step : Step) (lines : Lines) → IsAccount old → IsDerivation clues old → HasLine old.facts line
     → IsNewStep (clue_at clues line) line (line_of old.facts line) step → Adds old step new → ArePremises step.drawn
     → ((other : LineId) → HasName lines other ↔ CrossesDrawn step other) → name_count lines ≤ length step.drawn → Turn clues line old new lines
-turn_for_step follow derive grow clues line old new step lines is d has n a are names few = record {
+turn_for_step clues line old new step lines is d has n a are names few = record {
   added = step ∷ [];
   grows = record {
     base = a.base;
     steps = a.steps;
-    derivation = grow.derives clues old new step is a (derive.forced clues old line step is n) d;
-    trimmed = trimmed_one (λ s. IsTrimmed (clue_at clues s.line) (length (line_of old.base s.line)) s) step (derive.trimmed clues old line step is n);
+    derivation = derivations_grow.derives clues old new step is a (new_derive.forced clues old line step is n) d;
+    trimmed = trimmed_one (λ s. IsTrimmed (clue_at clues s.line) (length (line_of old.base s.line)) s) step (new_derive.trimmed clues old line step is n);
   };
   one = omega arith;
-  gains = follow.gains old new (clue_at clues line) line step a has n;
+  gains = new_follow.gains old new (clue_at clues line) line step a has n;
   names =
       let P : LineId → Type 0 = λ l. IsNewStep (clue_at clues line) l (line_of old.facts l) step → (other : LineId) → CrossesDrawn step other ↔ CrossesChange l (line_of old.facts l) (line_of new.facts l) other in
       let changed = subst P n.of_line (λ m. drawn_is_changed (clue_at clues line) step old.facts new.facts m a.facts are) n in

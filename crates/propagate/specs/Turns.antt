@@ -8,20 +8,11 @@ use Rattle.line_settle.specs.declared.line_engine.Outcome.TheVariants.{Narrowed}
 use Rattle.line_settle.specs.Crossing.{CrossesChange}
 use Rattle.picture.specs.Crossing.{crossing_at}
 use Rattle.line_settle.specs.FactSets.{Gains}
-use Rattle.justify.specs.declared.fault.StepFault.{StepFault}
-use Rattle.justify.specs.declared.fault.StepFault.TheVariants as step
 use Rattle.justify.specs.declared.step.Step.{Step}
 use Rattle.justify.specs.Premises.{Mentions}
 use Rattle.justify.specs.Steps.{step_at, IsTrimmed}
 use Rattle.justify.specs.Book.{Account, Adds, IsDerivation}
 use Rattle.justify.specs.Making.{DrawsNothing, IsNewStep}
-use Rattle.fixpoint.specs.declared.fault.CloseFault.{CloseFault}
-use Rattle.fixpoint.specs.declared.fault.CloseFault.TheVariants as fault
-
--- the fault of closing that a step's fault is
-abbrev pub after_step : StepFault → CloseFault
-after_step step.Dead = fault.Dead
-after_step step.Memory = fault.Memory
 
 -- A line in its turn, which some list fits: it forces nothing new and the book stays, or the step of all that it newly forces
 -- is put behind the others.

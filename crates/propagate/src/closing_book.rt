@@ -10,7 +10,6 @@ use crate::turn::take_turn;
 use clues::ClueBook;
 use fixpoint::CloseFault;
 use justify::Book;
-use justify::laws::derivations_stay_inside;
 use line_settle::{LineEngine, Meter};
 use picture::LineSet;
 use worklist::Agenda;
@@ -37,10 +36,8 @@ pub fn close<E: LineEngine, A: Agenda>(
     ensures trimmed { AreTrimmed clues.now book → IfOk result (AreTrimmed clues.now) }
     ensures same_longest { E.longest engine.new ≡ E.longest engine.old }
 {
-    derivations_stay_inside();
-    let _ = (book.facts().height(), engine.calls());
-    let _evaluations = meter.evaluations;
-    let _trials = meter.trials;
+    let _ = book.facts().height();
+    let (_calls, _evaluations, _trials) = (engine.calls(), meter.evaluations, meter.trials);
     let mut book = book;
     agenda.clear();
     agenda.put_all(dirty);

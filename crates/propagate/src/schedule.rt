@@ -33,9 +33,8 @@ pub fn run_schedule<E: LineEngine>(
     ensures trimmed { AreTrimmed clues.now book → IfOk result (AreTrimmed clues.now) }
     ensures same_longest { E.longest engine.new ≡ E.longest engine.old }
 {
-    let _ = (book.facts().height(), engine.calls());
-    let _evaluations = meter.evaluations;
-    let _trials = meter.trials;
+    let _ = book.facts().height();
+    let (_calls, _evaluations, _trials) = (engine.calls(), meter.evaluations, meter.trials);
     let mut book = book;
     for line in schedule {
         take_turn(engine, &mut book, clues, *line, meter)?;

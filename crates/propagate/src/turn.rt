@@ -10,12 +10,11 @@ ghost use Rattle.line_settle.specs.Fitting.{CanFit};
 ghost use Rattle.justify.specs.Premises.{ArePremises, Mentions};
 ghost use Rattle.justify.specs.Book.{IsAccount, IsDerivation};
 ghost use Rattle.fixpoint.specs.Closing.{AreClosable};
-ghost use Rattle.propagate.specs.Turns.{CrossesDrawn, TakesTurn, Turn, after_step};
+ghost use Rattle.propagate.specs.Turns.{CrossesDrawn, TakesTurn, Turn};
 ghost use Rattle.fixpoint.specs.declared.fault.CloseFault.TheVariants as fault;
 
 use clues::ClueBook;
 use fixpoint::CloseFault;
-use justify::laws::{derivations_grow, new_steps_derive, new_steps_follow};
 use justify::{Book, Step, StepFault};
 use line_settle::{LineEngine, Meter};
 use picture::{Axis, LineId, LineSet, MAX_SIDE};
@@ -40,31 +39,16 @@ pub(crate) fn take_turn<E: LineEngine>(
     ensures account { IsAccount book.old }
     ensures facts { IsFacts book.old.facts }
 {
-    new_steps_follow();
-    new_steps_derive();
-    derivations_grow();
     let _ = book.facts().line_len(line);
-    let made = match book.make_step(engine, clues.clue(line), line, meter) {
-        Ok(made) => made,
-        Err(fault) => return Err(close_fault(fault)),
-    };
-    match made {
-        None => Ok(LineSet::empty()),
-        Some(step) => {
+    match book.make_step(engine, clues.clue(line), line, meter) {
+        Ok(None) => Ok(LineSet::empty()),
+        Ok(Some(step)) => {
             let changed = crossing_drawn(&step);
             book.add_step(step)?;
             Ok(changed)
         }
-    }
-}
-
-// Why a book is not closed, where a step could not be made.
-fn close_fault(fault: StepFault) -> CloseFault
-    ensures { result ≡ after_step fault }
-{
-    match fault {
-        StepFault::Dead => CloseFault::Dead,
-        StepFault::Memory => CloseFault::Memory,
+        Err(StepFault::Dead) => Err(CloseFault::Dead),
+        Err(StepFault::Memory) => Err(CloseFault::Memory),
     }
 }
 

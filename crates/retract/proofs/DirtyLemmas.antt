@@ -4,6 +4,7 @@ use Rattle.std.proofs.lemmas.Bool.{cases_lt}
 use Rattle.picture.specs.declared.line_id.Axis.{Axis}
 use Rattle.picture.specs.declared.line_id.LineId.{LineId}
 use Rattle.picture.specs.LineSet.{Lines, HasName, PutsName}
+use Rattle.picture.specs.LineSetLaws.{same_name}
 use Rattle.picture.specs.Rows.{line_of, HasLine}
 use Rattle.clues.specs.Change.{Moves}
 use Rattle.clues.specs.ClueBook.{Clues, clue_at}
@@ -39,9 +40,6 @@ pub record AreDirtyBelow (axis : Axis) (at : ℕ) (moves : Moves) (old new : Clu
   pub inside : (line : LineId) → line.axis ≡ axis → HasName dirty line → line.at < at
   pub decided : (line : LineId) → line.axis ≡ axis → line.at < at → IsDecided moves old new before after dirty line
   pub others : (line : LineId) → (line.axis ≡ axis → ⊥) → HasName dirty line ↔ HasName first line
-
-same_name : (one other : LineId) → one.axis ≡ other.axis → one.at ≡ other.at → one ≡ other
-same_name one other axis at = λ i. record { axis = axis i; at = at i }
 
 module _ (axis : Axis) (at : ℕ) (moves : Moves) (old new : Clues) (before after : List (List ℕ)) (first dirty : Lines) (line : LineId) (along : line.axis ≡ axis) (here : line.at ≡ at) (below : AreDirtyBelow axis at moves old new before after first dirty) where
   is_line : (other : LineId) → other.axis ≡ axis → at ≤ other.at → other.at < at + 1 → other ≡ line

@@ -10,7 +10,7 @@ use Rattle.picture.specs.Rows.{HasLine, line_along, line_of, lines_along}
 use Rattle.clues.specs.Change.{AreMoves, Moves, image_of, lines_after, lines_before}
 use Rattle.picture.specs.Crossing.{crossing}
 use Rattle.clues.specs.ClueBook.{Clues, clue_at}
-use Rattle.clues.specs.Laws.{ImagesAreLines}
+use Rattle.clues.proofs.LawLemmas.{images}
 use Rattle.line_settle.specs.FactSets.{IsFacts, row_on, col_on}
 use Rattle.justify.specs.declared.step.Step.{Step}
 use Rattle.justify.specs.Premises.{Mentions, Says}
@@ -29,7 +29,7 @@ pub old_sizes : (moves : Moves) (old new : Clues) (book : Account) → IsDerivat
 old_sizes moves old new book derivation books Across = derivation.rows ∙ books.before Across
 old_sizes moves old new book derivation books Down = derivation.columns ∙ books.before Down
 
-module _ (moves : Moves) (old new : Clues) (book : Account) (base : List (List ℕ)) (kept : List Step) (n : ℕ) (to : LineId) (Known : ℕ → ℕ → ℕ → Type 0) (images : ImagesAreLines) (are : AreMoves moves) (is : IsAccount book) (derivation : IsDerivation old book) (books : HaveBooks moves old new) (base_facts : IsFacts base) (new_sizes : (axis : Axis) → lines_along axis base ≡ lines_after axis moves) (within : n < length book.steps) (stands : Stands moves old new Known (step_at book.steps n) to) where
+module _ (moves : Moves) (old new : Clues) (book : Account) (base : List (List ℕ)) (kept : List Step) (n : ℕ) (to : LineId) (Known : ℕ → ℕ → ℕ → Type 0) (are : AreMoves moves) (is : IsAccount book) (derivation : IsDerivation old book) (books : HaveBooks moves old new) (base_facts : IsFacts base) (new_sizes : (axis : Axis) → lines_along axis base ≡ lines_after axis moves) (within : n < length book.steps) (stands : Stands moves old new Known (step_at book.steps n) to) where
   abbrev step : Step
   step = step_at book.steps n
 
@@ -54,9 +54,9 @@ module _ (moves : Moves) (old new : Clues) (book : Account) (base : List (List �
 
   drawn_once : CameBefore moves book.steps n kept → (i k : ℕ) → Says step.drawn i k → IsDrawnBefore kept (length kept) (row_on to.axis to.at i) (col_on to.axis to.at i) k → ⊥
   drawn_once came i k says drawn =
-      let was = was_drawn moves book.steps kept n (row_on to.axis to.at i) (col_on to.axis to.at i) k images came drawn in
-      let cell = moved_cell moves step.line to i images stands.image (stands.drawn_stay i (mentioned step.drawn i k says)) in
-      let same = one_cell moves was.old_row was.old_col (row_on step.line.axis step.line.at i) (col_on step.line.axis step.line.at i) (row_on to.axis to.at i) (col_on to.axis to.at i) images was.cell cell in
+      let was = was_drawn moves book.steps kept n (row_on to.axis to.at i) (col_on to.axis to.at i) k came drawn in
+      let cell = moved_cell moves step.line to i stands.image (stands.drawn_stay i (mentioned step.drawn i k says)) in
+      let same = one_cell moves was.old_row was.old_col (row_on step.line.axis step.line.at i) (col_on step.line.axis step.line.at i) (row_on to.axis to.at i) (col_on to.axis to.at i) was.cell cell in
       follow.drawn_once i k says (subst (λ r. IsDrawnBefore book.steps n r (col_on step.line.axis step.line.at i) k) same.0 (subst (λ c. IsDrawnBefore book.steps n was.old_row c k) same.1 was.drawn))
 
   pub can_follow : CameBefore moves book.steps n kept → ((row col k : ℕ) → Known row col k → IsKnownBefore base kept (length kept) row col k) → CanFollow base kept (length kept) (moved step to)
@@ -97,8 +97,8 @@ came_more moves steps kept n step came last m h =
     ]
 
 -- a line that keeps its length has as many cells in the new facts
-pub kept_length : (moves : Moves) (from to : LineId) (facts : List (List ℕ)) → ImagesAreLines → IsFacts facts → ((axis : Axis) → lines_along axis facts ≡ lines_after axis moves) → Some to ≡ image_of moves from → to.at < lines_after to.axis moves → KeepsLength moves from.axis → length (line_of facts to) ≡ lines_before (crossing from.axis) moves
-kept_length moves from to facts images is sizes image inside keeps =
+pub kept_length : (moves : Moves) (from to : LineId) (facts : List (List ℕ)) → IsFacts facts → ((axis : Axis) → lines_along axis facts ≡ lines_after axis moves) → Some to ≡ image_of moves from → to.at < lines_after to.axis moves → KeepsLength moves from.axis → length (line_of facts to) ≡ lines_before (crossing from.axis) moves
+kept_length moves from to facts is sizes image inside keeps =
     length-line_along to.axis to.at facts is (rw (sizes to.axis) inside)
     ∙ (sizes (crossing to.axis) ∙ (ap (λ axis. lines_after (crossing axis) moves) (images.same_axis moves from to (sym image)) ∙ sym keeps))
 

@@ -8,12 +8,11 @@ use Rattle.picture.specs.declared.line_id.LineId.{LineId}
 use Rattle.picture.specs.Rows.{lines_along}
 use Rattle.clues.specs.Change.{AreMoves, Moves, lines_after}
 use Rattle.clues.specs.ClueBook.{Clues}
-use Rattle.clues.specs.Laws.{ImagesAreLines}
 use Rattle.line_settle.specs.FactSets.{Excludes, IsFacts}
 use Rattle.justify.specs.declared.step.Step.{Step}
 use Rattle.justify.specs.Steps.{step_at}
 use Rattle.justify.specs.Book.{Account, Adds, AreTrimmed, CanAdd, IsAccount, IsDerivation, IsKnownBefore, account}
-use Rattle.justify.specs.Laws.{DerivationsGrow, FactsAreWhatIsKnown}
+use Rattle.justify.proofs.LawLemmas.{derivations_grow, facts_known}
 use Rattle.retract.specs.Standing.{AreStanding, HaveBooks, Leave, Stands, moved}
 use Rattle.retract.proofs.CellLemmas.{CameBefore}
 use Rattle.retract.proofs.KeepLemmas.{came_from, came_more, came_weaker, can_follow, is_forced, is_trimmed, no_step}
@@ -42,10 +41,10 @@ so_far_none moves old new book base books sizes = record {
   trimmed = λ t n h. absurd (omega arith);
 }
 
-module _ (moves : Moves) (old new : Clues) (book : Account) (base : List (List ℕ)) (n : ℕ) (kept : Account) (within : n < length book.steps) (so_far : KeepsSoFar moves old new book base n kept) (known : FactsAreWhatIsKnown) (is_kept : IsAccount kept) where
+module _ (moves : Moves) (old new : Clues) (book : Account) (base : List (List ℕ)) (n : ℕ) (kept : Account) (within : n < length book.steps) (so_far : KeepsSoFar moves old new book base n kept) (is_kept : IsAccount kept) where
   -- what the facts exclude is what is known
   excluded_known : (row col k : ℕ) → Excludes kept.facts row col k ↔ IsKnownBefore kept.base kept.steps (length kept.steps) row col k
-  excluded_known row col k = known kept.base kept.facts kept.steps (length kept.steps) is_kept.behind row col k
+  excluded_known row col k = facts_known kept.base kept.facts kept.steps (length kept.steps) is_kept.behind row col k
 
   pub so_far_gone : ((to : LineId) → Stands moves old new (Excludes kept.facts) (step_at book.steps n) to → ⊥) → KeepsSoFar moves old new book base (n + 1) kept
   so_far_gone gone = record {
@@ -60,7 +59,7 @@ module _ (moves : Moves) (old new : Clues) (book : Account) (base : List (List �
     trimmed = so_far.trimmed;
   }
 
-  module _ (to : LineId) (images : ImagesAreLines) (are : AreMoves moves) (is : IsAccount book) (derivation : IsDerivation old book) (books : HaveBooks moves old new) (new_sizes : (axis : Axis) → lines_along axis base ≡ lines_after axis moves) (stands : Stands moves old new (Excludes kept.facts) (step_at book.steps n) to) where
+  module _ (to : LineId) (are : AreMoves moves) (is : IsAccount book) (derivation : IsDerivation old book) (books : HaveBooks moves old new) (new_sizes : (axis : Axis) → lines_along axis base ≡ lines_after axis moves) (stands : Stands moves old new (Excludes kept.facts) (step_at book.steps n) to) where
     base_facts : IsFacts base
     base_facts = rw (← so_far.base_is) is_kept.base_facts
 
@@ -68,25 +67,25 @@ module _ (moves : Moves) (old new : Clues) (book : Account) (base : List (List �
     known_in row col k h = rw (← so_far.base_is) ((excluded_known row col k).0 h)
 
     pub can_add : CanAdd kept (moved (step_at book.steps n) to)
-    can_add = rw so_far.base_is (can_follow moves old new book base kept.steps n to (Excludes kept.facts) images are is derivation books base_facts new_sizes within stands so_far.came known_in)
+    can_add = rw so_far.base_is (can_follow moves old new book base kept.steps n to (Excludes kept.facts) are is derivation books base_facts new_sizes within stands so_far.came known_in)
 
-    pub so_far_kept : (after : Account) → DerivationsGrow → Adds kept (moved (step_at book.steps n) to) after → KeepsSoFar moves old new book base (n + 1) after
-    so_far_kept after grow adds =
+    pub so_far_kept : (after : Account) → Adds kept (moved (step_at book.steps n) to) after → KeepsSoFar moves old new book base (n + 1) after
+    so_far_kept after adds =
         let step = step_at book.steps n in
-        let forced = is_forced moves old new book base kept.steps n to (Excludes kept.facts) images are is derivation books base_facts new_sizes within stands in
+        let forced = is_forced moves old new book base kept.steps n to (Excludes kept.facts) are is derivation books base_facts new_sizes within stands in
         record {
           base_is = adds.base ∙ so_far.base_is;
-          came = rw adds.steps (came_more moves book.steps kept.steps n (moved step to) so_far.came (came_from moves old new book base kept.steps n to (Excludes kept.facts) images are is derivation books base_facts new_sizes within stands));
+          came = rw adds.steps (came_more moves book.steps kept.steps n (moved step to) so_far.came (came_from moves old new book base kept.steps n to (Excludes kept.facts) are is derivation books base_facts new_sizes within stands));
           left = λ all rest.
               so_far.left all
               (subst (λ steps. Leave moves old new base steps kept.steps all) (sym (drop_here book.steps n within))
               (one_kept moves old new base step (drop (n + 1) book.steps) kept.steps all to
               (stands_alike moves old new (Excludes kept.facts) (IsKnownBefore base kept.steps (length kept.steps)) step to known_in stands)
               (rw adds.steps at rest)));
-          derivation = grow.derives new kept after (moved step to) is_kept adds (rw so_far.base_is forced) so_far.derivation;
+          derivation = derivations_grow.derives new kept after (moved step to) is_kept adds (rw so_far.base_is forced) so_far.derivation;
           trimmed = λ t.
-              grow.trimmed new kept after (moved step to) is_kept adds
-              (rw so_far.base_is (is_trimmed moves old new book base kept.steps n to (Excludes kept.facts) images are is derivation books base_facts new_sizes within stands (t n within)))
+              derivations_grow.trimmed new kept after (moved step to) is_kept adds
+              (rw so_far.base_is (is_trimmed moves old new book base kept.steps n to (Excludes kept.facts) are is derivation books base_facts new_sizes within stands (t n within)))
               (so_far.trimmed t);
         }
 

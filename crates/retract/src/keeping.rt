@@ -13,10 +13,8 @@ ghost use Rattle.retract.specs.Dirty.{AreDirty};
 
 use crate::dirty::{Sides, dirty_lines};
 use crate::standing::standing_line;
-use clues::laws::images_are_lines;
 use clues::{Change, ClueBook};
 use justify::Book;
-use justify::laws::{derivations_grow, facts_are_what_is_known};
 use line_settle::Facts;
 use picture::LineSet;
 use std::alloc::{AllocError, Global};
@@ -55,7 +53,13 @@ pub fn keep(
     ensures fits { EachFits old.now book.now.facts
         → IfOk result (λ kept. EachOutside CanFit new.now kept.book.facts kept.dirty) }
 {
-    let kept = standing(alloc, book, old, new, change, base)?;
+    let _ = base.height();
+    let mut kept = Book::start(alloc, base)?;
+    for step in book.steps() {
+        if let Some(to) = standing_line(step, old, new, change, kept.facts()) {
+            kept.add_step(step.moved_to(to)?)?;
+        }
+    }
     let sides = Sides {
         old,
         new,
@@ -65,35 +69,4 @@ pub fn keep(
     };
     let dirty = dirty_lines(&sides);
     Ok(Kept { book: kept, dirty })
-}
-
-// The book of the steps that stand.
-fn standing(
-    alloc: Global,
-    book: &Book,
-    old: &ClueBook,
-    new: &ClueBook,
-    change: &Change,
-    base: Facts,
-) -> Result<Book, AllocError>
-    requires derivation { IsDerivation old.now book.now }
-    requires books { HaveBooks change.now.moves old.now new.now }
-    requires base { (axis : Axis) → lines_along axis base ≡ lines_after axis change.now.moves }
-    ensures base { IfOk result (λ kept. kept.base ≡ base) }
-    ensures steps { IfOk result
-        (λ kept. AreStanding change.now.moves old.now new.now base book.now.steps kept.steps) }
-    ensures derivation { IfOk result (λ kept. IsDerivation new.now kept) }
-    ensures trimmed { AreTrimmed old.now book.now → IfOk result (λ kept. AreTrimmed new.now kept) }
-{
-    images_are_lines();
-    facts_are_what_is_known();
-    derivations_grow();
-    let _ = base.height();
-    let mut kept = Book::start(alloc, base)?;
-    for step in book.steps() {
-        if let Some(to) = standing_line(step, old, new, change, kept.facts()) {
-            kept.add_step(step.moved_to(to)?)?;
-        }
-    }
-    Ok(kept)
 }

@@ -20,10 +20,7 @@ pub(crate) fn keeps_length(old: &ClueBook, new: &ClueBook, change: &Change, axis
     requires { HaveBooks change.now.moves old.now new.now }
     ensures { IsTrue result ↔ KeepsLength change.now.moves axis }
 {
-    match axis {
-        Axis::Across => old.width() == new.width(),
-        Axis::Down => old.height() == new.height(),
-    }
+    old.line_count(axis.crossing()) == new.line_count(axis.crossing())
 }
 
 // Whether each position along lines of an axis stays.

@@ -11,7 +11,6 @@ ghost use Rattle.justify.specs.Premises.{Mentions};
 ghost use Rattle.retract.specs.Standing.{AreKnown, ExcludesAll, HaveBooks, Stands, StayInPlace};
 
 use crate::sizes::keeps_length;
-use clues::laws::images_are_lines;
 use clues::{Change, ClueBook};
 use justify::{Premise, Step};
 use line_settle::Facts;
@@ -40,7 +39,6 @@ pub(crate) fn standing_line(
     ensures none { IfNone result ((to : LineId)
         → Stands change.now.moves old.now new.now (Excludes known.now) step.now to → ⊥) }
 {
-    images_are_lines();
     let _ = known.height();
     let line = step.line;
     let to = change.image(line)?;

@@ -1,10 +1,11 @@
 use Rattle.std.proofs.Common.{ℕ, ◌+◌, Err, refl, sym, ap, ◌∙◌, subst, arith}
 use Rattle.std.proofs.lemmas.Result.{err_from_is_err_and}
 use Rattle.picture.specs.LineSet.{Lines}
+use Rattle.line_settle.specs.FitLaws.{counting_adds}
 use Rattle.line_settle.specs.ForceLaws.{gains_grows}
 use Rattle.worklist.specs.NameLaws.{filled}
 use Rattle.fixpoint.specs.ClosingLaws.{Closing, closing_starts}
-use Rattle.propagate.proofs.GrowLemmas.{ClosingBook, all_trimmed, book_closes, book_comes_nearer, book_dies, book_fails, book_goes_on, book_starts, one_more}
+use Rattle.propagate.proofs.GrowLemmas.{ClosingBook, all_trimmed, book_closes, book_comes_nearer, book_dies, book_fails, book_goes_on, book_starts}
 use Rattle.propagate.proofs.closing_book.close.Goals as goal
 
 pub loop-line-init : goal.loop-line-init
@@ -21,13 +22,13 @@ returns-in_err-changed-clause-closes g c =
     let p = err_from_is_err_and c.from_residual.result c.from_residual.ensures.1 in
     let i = c.loop-line.invariant in
     let s = c.in-Some.ensures in
-    rw (p.1, p.2) (book_fails c.args.clues.now c.args.book _ (λ e. book_dies c.args.clues.now _ c.args.book c.loop-line.book _ _ c.derivations_stay_inside.ensures c.facts.ensures.account c.requires.derivation i.closing.closing s.0 (c.in_err-changed.ensures.dead (ap Err e))))
+    rw (p.1, p.2) (book_fails c.args.clues.now c.args.book _ (λ e. book_dies c.args.clues.now _ c.args.book c.loop-line.book _ _ c.facts.ensures.account c.requires.derivation i.closing.closing s.0 (c.in_err-changed.ensures.dead (ap Err e))))
 
 pub returns-in_err-changed-clause-works : goal.returns-in_err-changed-clause-works
 returns-in_err-changed-clause-works g c =
     let p = err_from_is_err_and c.from_residual.result c.from_residual.ensures.1 in
     let i = c.loop-line.invariant in
-    rw p.1 (i.closing.evaluations + 1, one_more _ _ _ _ _ _ _ i.closing.counts c.in_err-changed.ensures.counts)
+    rw p.1 (i.closing.evaluations + 1, counting_adds _ 0 1 0 _ _ _ _ _ _ i.closing.counts c.in_err-changed.ensures.counts)
 
 pub loop-line-smaller : goal.loop-line-smaller
 loop-line-smaller g c =
@@ -49,7 +50,7 @@ loop-line-preserved g c =
 
 pub returns-clause-closes : goal.returns-clause-closes
 returns-clause-closes g c =
-    book_closes _ _ _ _ _ _ _ _ _ _ c.derivations_stay_inside.ensures c.facts.ensures.account c.requires.derivation c.loop-line.invariant.closing c.in_default.ensures.0
+    book_closes _ _ _ _ _ _ _ _ _ _ c.facts.ensures.account c.requires.derivation c.loop-line.invariant.closing c.in_default.ensures.0
 
 pub returns-clause-trimmed : goal.returns-clause-trimmed
 returns-clause-trimmed g c = all_trimmed _ _ _ _ c.loop-line.invariant.closing.grows

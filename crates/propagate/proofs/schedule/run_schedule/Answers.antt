@@ -1,6 +1,7 @@
 use Rattle.std.proofs.Common.{ℕ, ◌+◌, drop, Err, refl, sym, ap, ◌∙◌, subst, arith}
 use Rattle.std.proofs.lemmas.Result.{err_from_is_err_and}
-use Rattle.propagate.proofs.GrowLemmas.{all_trimmed, one_more}
+use Rattle.line_settle.specs.FitLaws.{counting_adds}
+use Rattle.propagate.proofs.GrowLemmas.{all_trimmed}
 use Rattle.propagate.proofs.ScheduleBookLemmas.{Scheduled, next_in_turn, schedule_dies, schedule_fails, schedule_goes_on, schedule_starts}
 use Rattle.fixpoint.specs.WorkLaws.{nothing_counted}
 use Rattle.propagate.proofs.schedule.run_schedule.Goals as goal
@@ -22,7 +23,7 @@ pub returns-in_err-take_turn-clause-works : goal.returns-in_err-take_turn-clause
 returns-in_err-take_turn-clause-works g c =
     let p = err_from_is_err_and c.from_residual.result c.from_residual.ensures.1 in
     let l = c.loop-line-test.true in
-    rw p.1 (c.loop-line.line-index + 1, omega arith, one_more _ _ _ _ _ _ _ c.loop-line.invariant.counts c.in_err-take_turn.ensures.counts)
+    rw p.1 (c.loop-line.line-index + 1, omega arith, counting_adds _ 0 1 0 _ _ _ _ _ _ c.loop-line.invariant.counts c.in_err-take_turn.ensures.counts)
 
 pub loop-line-preserved : goal.loop-line-preserved
 loop-line-preserved g c =
@@ -32,7 +33,7 @@ loop-line-preserved g c =
     let P : ℕ → Type 0 = λ n. Scheduled c.args.clues.now n c.args.book c.take_turn.new.book c.args.schedule.now (drop (c.loop-line.line-index + 1) c.args.schedule.now) in
     record {
       scheduled = subst P (sym e.same_longest) (schedule_goes_on _ _ _ _ _ _ _ next _ _ e.turn e.comes_to);
-      counts = one_more _ _ _ _ _ _ _ i.counts e.counts;
+      counts = counting_adds _ 0 1 0 _ _ _ _ _ _ i.counts e.counts;
       same_longest = e.same_longest ∙ i.same_longest;
     }
 
