@@ -13,10 +13,12 @@ use Rattle.second_search.specs.declared.keeper.Verdict.{Verdict}
 use Rattle.second_search.specs.declared.keeper.Verdict.TheVariants.{Other, Undecided, Unique}
 use Rattle.second_search.specs.Laws.{FillingsAreOfFacts, PartsDecide}
 use Rattle.second_search.specs.Parts.{AreParts, IsOtherFilling, IsScene}
-use Rattle.second_search.specs.Judging.{AreTrue, Changes, EndsBy, EndsPart, Finds, HasNoFilling, IsFilling, IsTrueOf, IsVerdict, Judges, Passes, answer_at, cells_at, kept_at, parts_of}
-use Rattle.second_search.proofs.EndLemmas.{IsFound}
+use Rattle.second_search.specs.Judging.{AreTrue, Changes, EndsBy, EndsPart, Finds, HasNoFilling, IsFilling, IsTrueOf, IsVerdict, Judges, Passes, answer_at, cells_at, kept_at, parts_of, AnswersAs}
 use Rattle.second_search.proofs.WithinLemmas.{within_none, within_one}
 use Rattle.second_search.proofs.VerdictLemmas.{part_of_kept}
+use Rattle.second_search.specs.declared.keeper.Judged.{Judged}
+use Rattle.second_search.specs.declared.keeper.Judged.TheVariants as judged
+use Rattle.second_search.specs.Answering.{IsAnswer}
 
 module _ (clues : Clues) (givens : List ℕ) (picture : List (List ℕ)) where
   abbrev HasNone : List ℕ → Type 0
@@ -29,34 +31,28 @@ module _ (clues : Clues) (givens : List ℕ) (picture : List (List ℕ)) where
 
   changes_true : (old new : List KeptPart) (end : ℕ) → Changes old new end → ((i : ℕ) → i < end → i < length old → HasNone (cells_at old i)) → AreTrue clues givens picture old → AreTrue clues givens picture new
   changes_true old new end c none t i l =
-      let n = c.count in
       elim (cases_lt i end) [
         | inl m ↦
             let P : Answer → Type 0 = λ a. IsTrueOf clues givens picture (cells_at new i) a in
-            let Q : List ℕ → Type 0 = λ cells. HasNone cells in
-            subst P (sym (c.before i m)) (subst Q (sym (c.cells i)) (none i m (omega arith)))
+            subst P (sym (c.before i m)) (subst (λ (cells : List ℕ). HasNone cells) (sym (c.cells i)) (none i m (omega arith)))
         | inr p ↦
-            let P : KeptPart → Type 0 = λ part. IsTrueOf clues givens picture part.cells part.answer in
-            subst P (sym (c.behind i p)) (t i (omega arith))
+            subst (λ (part : KeptPart). IsTrueOf clues givens picture part.cells part.answer) (sym (c.behind i p)) (t i (omega arith))
       ]
 
   finds_true : (old new : List KeptPart) (at : ℕ) (other : List (List ℕ)) → Finds old new at other → ((i : ℕ) → i < at → i < length old → HasNone (cells_at old i)) → IsOtherFilling clues givens picture (cells_at old at) other → AreTrue clues givens picture old → AreTrue clues givens picture new
   finds_true old new at other c none one t i l =
-      let n = c.count in
       let Q : List ℕ → Type 0 = λ cells. HasNone cells in
       elim (cases_eq i at) [
         | inl q ↦
             let R : ℕ → Type 0 = λ k. IsTrueOf clues givens picture (cells_at new k) (answer_at new k) in
-            let P : Answer → Type 0 = λ a. IsTrueOf clues givens picture (cells_at new at) a in
             let S : List ℕ → Type 0 = λ cells. IsOtherFilling clues givens picture cells other in
-            subst R (sym q) (subst P (sym c.here) (subst S (sym (c.cells at)) one))
+            subst R (sym q) (subst (λ (a : Answer). IsTrueOf clues givens picture (cells_at new at) a) (sym c.here) (subst S (sym (c.cells at)) one))
         | inr d ↦ elim (cases_lt i at) [
           | inl m ↦
               let P : Answer → Type 0 = λ a. IsTrueOf clues givens picture (cells_at new i) a in
               subst P (sym (c.before i m)) (subst Q (sym (c.cells i)) (none i m (omega arith)))
           | inr p ↦
-              let P : KeptPart → Type 0 = λ part. IsTrueOf clues givens picture part.cells part.answer in
-              subst P (sym (c.behind i (omega arith))) (t i (omega arith))
+              subst (λ (part : KeptPart). IsTrueOf clues givens picture part.cells part.answer) (sym (c.behind i (omega arith))) (t i (omega arith))
         ]
       ]
 
@@ -77,8 +73,8 @@ module _ (law : CluesAreOfLines) (books : BooksAreTheirClues) (closing : Closing
 
   part_found : (cells : List ℕ) (answer : Answer) (other : List (List ℕ)) (x y : ℕ) → EndsBy clues facts picture allowance cells answer (ending.Found other) x y → IsOtherFilling clues givens picture cells other
   part_found cells Unknown other x y e = within_one law books closing own fillings clues givens facts picture scene cells other allowance y e.1
-  part_found cells Nothing other x y e = absurd (subst IsFound e.0 tt)
-  part_found cells (Filling known) other x y e = absurd (subst IsFound e.0 tt)
+  part_found cells Nothing other x y e = let f = e.0 in absurd cc
+  part_found cells (Filling known) other x y e = let f = e.0 in absurd cc
 
   all_passed : (kept : List KeptPart) (n s t : ℕ) → HasNoFilling kept (length kept) → AreTrue clues givens picture kept → Passes clues facts picture allowance kept n s t → (i : ℕ) → i < n → i < length kept → HasNone clues givens picture (cells_at kept i)
   all_passed kept n s t none are p i l m =
@@ -101,7 +97,6 @@ module _ (law : CluesAreOfLines) (books : BooksAreTheirClues) (closing : Closing
       let some = (decide.some_part clues givens facts picture (parts_of old) scene are).0 (other, is) in
       let i = some.0 in
       let P : List ℕ → Type 0 = λ cells. IsOtherFilling clues givens picture cells some.1.1.0 in
-      let l = some.1.0 in
       all_passed old (length old) m n j.none_kept t j.passes i (omega arith) (omega arith) some.1.1.0 (subst P (part_of_kept old i) some.1.1.1)
   verdict_true old new Other m n are t (inl j) =
       let f = kept_filling_is clues givens picture (cells_at old j.at) (answer_at old j.at) j.is.is (t j.at j.is.place) in
@@ -110,3 +105,15 @@ module _ (law : CluesAreOfLines) (books : BooksAreTheirClues) (closing : Closing
       let s = j.stops in
       (j.other, (part_found (cells_at old j.at) (answer_at old j.at) j.other s.searched_here s.splits_here s.here).is_other)
   verdict_true old new Undecided m n are t j = tt
+
+-- ---- what is answered
+
+-- what is answered is true where the verdict is, and what is kept
+pub answer_true : (clues : Clues) (givens : List ℕ) (picture : List (List ℕ)) (kept : List KeptPart) (answer : Judged) (verdict : Verdict) → AreTrue clues givens picture kept → IsVerdict clues givens picture verdict → AnswersAs kept answer verdict → IsAnswer clues givens picture answer
+answer_true clues givens picture kept judged.Unique verdict t v a = subst (IsVerdict clues givens picture) a v
+answer_true clues givens picture kept (judged.Other other) verdict t v a =
+    let f = a.1 in
+    let P : Answer → Type 0 = λ x. IsTrueOf clues givens picture (cells_at kept f.at) x in
+    let filling : IsOtherFilling clues givens picture (cells_at kept f.at) other.now = subst P f.is (t f.at f.place) in
+    filling.is_other
+answer_true clues givens picture kept judged.Undecided verdict t v a = tt

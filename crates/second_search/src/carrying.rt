@@ -7,7 +7,6 @@ ghost use Rattle.second_search.specs.Carrying.{HoldsCells, LieInside, NamesAlong
 ghost use Rattle.second_search.specs.Parts.{GoesThrough, picked};
 
 use crate::keeper::Answer;
-use crate::parts::cell_on;
 use line_settle::Facts;
 use picture::{Axis, CellSet, LineId, LineSet, Picture};
 use split_choice::Cell;
@@ -91,7 +90,7 @@ fn goes_through(line: LineId, cells: &CellSet, facts: &Facts) -> bool
     ensures { IsTrue result ↔ GoesThrough line cells.now }
 {
     for i in 0..facts.line_len(line) {
-        let cell = cell_on(line, i);
+        let cell = Cell::on(line, i);
         if cells.has(cell.row, cell.col) {
             return true;
         }
@@ -107,9 +106,8 @@ pub(crate) fn first_cell(cells: &CellSet, facts: &Facts) -> Option<Cell>
         (λ cell. (cell.row < length facts.now) × ((cell.col < width_of facts.now) × HasCell cells.now cell.row cell.col)) }
 {
     for row in 0..facts.height() {
-        match first_in_row(cells, facts, row) {
-            Some(cell) => return Some(cell),
-            None => {}
+        if let Some(cell) = first_in_row(cells, facts, row) {
+            return Some(cell);
         }
     }
     None

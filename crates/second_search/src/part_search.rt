@@ -5,9 +5,9 @@ ghost use Rattle.picture.specs.Rows.{width_of};
 ghost use Rattle.line_settle.specs.FactSets.{SameShape};
 ghost use Rattle.fixpoint.specs.LineNames.{AreLinesOf};
 ghost use Rattle.second_search.specs.Parts.{IsPart};
-ghost use Rattle.second_search.specs.Searching.{CountsAny, CountsSome, EndsAs, alone, raised};
-ghost use Rattle.second_search.specs.Through.{LeavesAlone, LeavesRowAlone, PutsRow, PutsThrough};
-ghost use Rattle.second_search.specs.Scene.{CanSearch};
+ghost use Rattle.second_search.specs.Searching.{CountsAny, CountsSome, EndsAs, KeepsOutside, alone, raised};
+ghost use Rattle.second_search.specs.Through.{LeavesRowAlone, PutsRow, PutsThrough};
+ghost use Rattle.second_search.specs.Scene.{CanSearch, IsWhole};
 
 use crate::cell_lines::put_both;
 use crate::counting::{Searched, Start, search_counted};
@@ -37,12 +37,9 @@ pub(crate) fn search_part<E: LineEngine>(
 {
     let _ = scene.facts.height();
     let (_calls, _evaluations, _trials) = (engine.calls(), meter.evaluations, meter.trials);
-    let lines = lines_through(cells, scene.facts);
-    let mut facts = scene.facts.copy()?;
-    leave_alone(&mut facts, scene.picture, cells);
     let start = Start {
-        facts,
-        lines,
+        facts: facts_on(scene, cells)?,
+        lines: lines_through(cells, scene.facts),
         allowance,
     };
     search_counted(alloc, engine, scene.clues, scene.picture, start, meter)
@@ -74,14 +71,18 @@ fn put_through(cells: &CellSet, facts: &Facts, row: u8, lines: &mut LineSet)
     }
 }
 
-// Leaves outside of some cells a picture's colours alone.
-pub(crate) fn leave_alone(facts: &mut Facts, picture: &Picture, cells: &CellSet)
-    requires { SameShape picture.now facts.old }
-    ensures { LeavesAlone cells.now picture.now facts.old facts.new (length facts.old) }
+// The facts of a scene on some cells, with the picture's colours alone left elsewhere.
+pub(crate) fn facts_on(scene: &Scene, cells: &CellSet) -> Result<Facts, AllocError>
+    requires { IsWhole scene.now }
+    ensures alone { IfOk result
+        (λ facts. facts ≡ alone cells.now scene.now.facts.now scene.now.picture.now) }
+    ensures outside { IfOk result (KeepsOutside cells.now scene.now.picture.now) }
 {
-    for row in 0..facts.height() {
-        leave_row_alone(facts, picture, cells, row);
+    let mut facts = scene.facts.copy()?;
+    for row in 0..scene.facts.height() {
+        leave_row_alone(&mut facts, scene.picture, cells, row);
     }
+    Ok(facts)
 }
 
 // The same in one row.

@@ -8,7 +8,7 @@ ghost use Rattle.second_search.specs.Scene.{IsWhole};
 
 use crate::scene::Scene;
 use line_settle::Facts;
-use picture::{Axis, LineId, LineSet, LineView, MAX_SIDE, Picture};
+use picture::{Axis, LineId, LineSet, LineView};
 
 // The names of the lines that are the same in two scenes.
 pub(crate) fn same_lines(before: &Scene, after: &Scene) -> LineSet
@@ -23,6 +23,7 @@ pub(crate) fn same_lines(before: &Scene, after: &Scene) -> LineSet
     lines
 }
 
+#[tactic(auto, using(crate::proofs::CarryLemmas::few_lines))]
 // Puts the names of the lines along an axis that are the same in two scenes into a set.
 fn put_same(before: &Scene, after: &Scene, axis: Axis, lines: &mut LineSet)
     requires before { IsWhole before.now }
@@ -31,22 +32,11 @@ fn put_same(before: &Scene, after: &Scene, axis: Axis, lines: &mut LineSet)
         after.now.clues.now after.now.facts.now after.now.picture.now axis
         (lines_along axis after.now.picture.now) lines.old lines.new }
 {
-    for at in 0..line_count(after.picture, axis) {
+    for at in 0..after.picture.line_count(axis) {
         let line = LineId { axis, at };
         if is_same_line(before, after, line) {
             lines.put(line);
         }
-    }
-}
-
-// How many lines a picture has along an axis.
-fn line_count(picture: &Picture, axis: Axis) -> u8
-    ensures count { result ≡ lines_along axis picture.now }
-    ensures few { result ≤ MAX_SIDE }
-{
-    match axis {
-        Axis::Across => picture.height(),
-        Axis::Down => picture.width(),
     }
 }
 
@@ -59,7 +49,7 @@ fn is_same_line(before: &Scene, after: &Scene, line: LineId) -> bool
     ensures { IsTrue result ↔ IsSameLine before.now.clues.now before.now.facts.now
         before.now.picture.now after.now.clues.now after.now.facts.now after.now.picture.now line }
 {
-    if line.at >= line_count(before.picture, line.axis) {
+    if line.at >= before.picture.line_count(line.axis) {
         return false;
     }
     let same_clue = before.clues.clue(line).same(after.clues.clue(line));

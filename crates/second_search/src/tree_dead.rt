@@ -32,6 +32,7 @@ pub(crate) fn dead_line<E: LineEngine>(
     dead_along(engine, clues, facts, Axis::Down)
 }
 
+#[tactic(auto, using(crate::proofs::KeepLemmas::sized_lines))]
 // The first such line along an axis.
 fn dead_along<E: LineEngine>(
     engine: &mut E,
@@ -46,11 +47,7 @@ fn dead_along<E: LineEngine>(
     ensures same_longest { E.longest engine.new ≡ E.longest engine.old }
 {
     let _ = engine.calls();
-    let count = match axis {
-        Axis::Across => facts.height(),
-        Axis::Down => facts.width(),
-    };
-    for at in 0..count {
+    for at in 0..clues.line_count(axis) {
         let line = LineId { axis, at };
         if !some_fits(engine, clues, facts, line)? {
             return Ok(Some(line));
@@ -73,8 +70,7 @@ fn some_fits<E: LineEngine>(
     ensures calls { E.calls engine.old ≤ E.calls engine.new }
     ensures same_longest { E.longest engine.new ≡ E.longest engine.old }
 {
-    let _ = facts.height();
-    let _ = engine.calls();
+    let _ = (facts.height(), engine.calls());
     let mut trial = facts.copy()?;
     let mut count = 0;
     match force(engine, &mut trial, clues.clue(line), line, &mut count) {

@@ -15,11 +15,8 @@ use crate::tree_lines::line_number;
 use cert_text::CertLine;
 use line_settle::{Facts, LineEngine};
 use picture::Picture;
-use split_choice::{Cell, Choice, Chosen, Node, Plan, Puzzle, choose, filled, fills_all, leaves};
+use split_choice::{Cell, Choice, Chosen, Node, Puzzle, choose, filled, fills_all, leaves};
 use std::alloc::{AllocError, Global};
-
-// How many of the most telling cells are looked at. A native model closes as many pictures with 12 of them.
-const MOST_CELLS: usize = 40;
 
 // What comes next: a line that ends the branch, a cell to split, or another picture than the known one.
 #[derive(Drop)]
@@ -56,17 +53,20 @@ pub(crate) fn next_step<E: LineEngine>(
 {
     let _ = (facts.height(), engine.calls());
     let node = node_at(scene, facts, way);
-    let here = other_here(alloc, scene, &node)?;
-    if let Some(picture) = here {
+    if let Some(picture) = other_here(alloc, scene, &node)? {
         return Ok(TreeStep::Other(picture));
     }
-    let chosen = choose(alloc, engine, &node, plan_of(way))?;
-    match chosen {
+    match choose(
+        alloc,
+        engine,
+        &node,
+        way.choice,
+        way.until.unwrap_or(u64::MAX),
+    )? {
         Chosen::Splits(cell) => return Ok(TreeStep::Splits(cell)),
         Chosen::Nothing => {}
         Chosen::Fills(trial) => {
-            let there = other_in(alloc, scene, &node.puzzle, facts, &trial)?;
-            if let Some(picture) = there {
+            if let Some(picture) = other_in(alloc, scene, &node.puzzle, facts, &trial)? {
                 return Ok(TreeStep::Other(picture));
             }
         }
@@ -97,15 +97,6 @@ fn node_at<'a>(scene: &Scene<'a>, facts: &'a Facts, way: Way) -> Node<'a>
         },
         facts,
         own: way.holds && leaves(facts, scene.picture),
-    }
-}
-
-// How its cells are chosen.
-fn plan_of(way: Way) -> Plan {
-    Plan {
-        choice: way.choice,
-        most: MOST_CELLS,
-        until: way.until.unwrap_or(u64::MAX),
     }
 }
 
@@ -144,40 +135,7 @@ fn is_other_in(scene: &Scene, facts: &Facts, picture: &Picture) -> bool
     ensures { IsTrue result → IsOtherIn scene.now.clues.now
         scene.now.picture.now facts.now picture.now }
 {
-    !picture.same(scene.picture) && scene.clues.has_clues(picture) && allows(facts, picture)
-}
-
-// Whether facts have the size of a picture and leave its colours.
-fn allows(facts: &Facts, picture: &Picture) -> bool
-    ensures shape { IsTrue result → SameShape picture.now facts.now }
-    ensures leaves { IsTrue result → LeavesPicture picture.now facts.now }
-    ensures picture { IsPicture picture.now }
-{
-    if picture.height() != facts.height() || picture.width() != facts.width() {
-        return false;
-    }
-    for row in 0..facts.height() {
-        if !allows_row(facts, picture, row) {
-            return false;
-        }
-    }
-    true
-}
-
-// The same of a row.
-fn allows_row(facts: &Facts, picture: &Picture, row: u8) -> bool
-    requires here { row < length facts.now }
-    requires there { row < length picture.now }
-    requires width { width_of picture.now ≡ width_of facts.now }
-    ensures { IsTrue result → (col : ℕ) → col < width_of facts.now → Leaves facts.now row col
-        (cell_at picture.now row col) }
-{
-    for col in 0..facts.width() {
-        if facts.excluded(row, col, picture.cell(row, col)) {
-            return false;
-        }
-    }
-    true
+    !picture.same(scene.picture) && scene.clues.has_clues(picture) && leaves(facts, picture)
 }
 
 // What a picture that has the clues is: the known one, which ends the branch, or another.

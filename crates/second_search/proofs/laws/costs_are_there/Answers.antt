@@ -1,4 +1,4 @@
-use Rattle.second_search.proofs.DearLemmas as dear
+use Rattle.second_search.proofs.CostLemmas as dear
 use Rattle.second_search.proofs.KnownLaws.{only_is_closed}
 use Rattle.second_search.proofs.laws.costs_are_there.Goals as goal
 

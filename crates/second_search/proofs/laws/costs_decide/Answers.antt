@@ -1,4 +1,4 @@
-use Rattle.second_search.proofs.DearLemmas as dear
+use Rattle.second_search.proofs.CostLemmas as dear
 use Rattle.second_search.proofs.KnownLaws.{costs_are_unique, only_is_closed}
 use Rattle.second_search.proofs.laws.costs_decide.Goals as goal
 

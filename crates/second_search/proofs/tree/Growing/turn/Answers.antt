@@ -55,7 +55,6 @@ returns-clause-turns g c =
     let P : Outcome → Type 0 = λ o. Settles s.clues.now c.in_ok-facts.facts settled c.args.self.now.lines c.close_written.new.lines o in
     let mid : Growing = record { pending = c.narrow.new.self; lines = c.close_written.new.lines; due = c.args.self.now.due } in
     let hand = sym (ap (λ (x : Search). x.at_hand) c.in_ok-narrow.ensures) in
-    let Q : TreeStep → Type 0 = λ x. Continues s.clues.now s.picture.now settled x in
     let R : List (List ℕ) → Type 0 = λ x. Continues s.clues.now s.picture.now x (splits c.in-Splits.cell) in
-    let at = subst R hand (subst Q c.in-Splits.is c.in_ok-step.ensures.continues) in
+    let at = subst R hand (subst (λ (x : TreeStep). Continues s.clues.now s.picture.now settled x) c.in-Splits.is c.in_ok-step.ensures.continues) in
     turn_on s.clues.now s.picture.now c.in_ok-facts.facts settled c.args.self.now mid _ (c.in_ok-facts.ensures ∙ c.at_hand.ensures) (subst P c.in-Narrowed.is c.in_ok-outcome.ensures.settles) c.in_ok-narrow.ensures None (splits_turn s.clues.now s.picture.now mid _ c.in-Splits.cell c.cell_number.result (subst IsFacts hand c.height.ensures.facts) at c.cell_number.ensures.row c.cell_number.ensures.col c.in_ok-split-in-Splits.ensures c.in_ok-add-in-Splits.ensures)
