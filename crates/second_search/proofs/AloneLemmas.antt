@@ -55,8 +55,7 @@ alone_is law cells picture facts new rows is shape full left =
 -- nothing is left alone yet
 pub leaves_none : (cells : List ℕ) (picture facts new : List (List ℕ)) → new ≡ facts → LeavesAlone cells picture facts new 0
 leaves_none cells picture facts new e =
-    let P : List (List ℕ) → Type 0 = λ x. LeavesAlone cells picture facts x 0 in
-    subst P (sym e) (record { same_shape = shape_refl facts; kept = λ row col h. refl; left = λ row col l. absurd (omega arith) })
+    subst (λ (x : List (List ℕ)). LeavesAlone cells picture facts x 0) (sym e) (record { same_shape = shape_refl facts; kept = λ row col h. refl; left = λ row col l. absurd (omega arith) })
 
 -- one row more is left alone
 pub leaves_more : (cells : List ℕ) (picture first old new : List (List ℕ)) (row width : ℕ) → width ≡ width_of old → LeavesAlone cells picture first old row → LeavesRowAlone cells picture old new row width → LeavesAlone cells picture first new (row + 1)
@@ -77,8 +76,7 @@ keeps_outside cells picture facts new rows is shape full left = record {
   outside = λ row col l out.
       let h : row < length facts = elim (cases_lt row (length facts)) [ inl m ↦ m | inr p ↦ absurd (let none : length (row_at facts row) ≡ 0 = ap length (get_or_past facts row [] p) in omega arith) ] in
       let rect = is.rectangular row h in
-      let P : ℕ → Type 0 = λ m. IsOnly m (cell_at picture row col) in
-      subst P (sym (left.left row col (omega arith) (omega arith) out)) (power_has (cell_at picture row col));
+      subst (λ (m : ℕ). IsOnly m (cell_at picture row col)) (sym (left.left row col (omega arith) (omega arith) out)) (power_has (cell_at picture row col));
 }
 
 -- ---- the cells of a part

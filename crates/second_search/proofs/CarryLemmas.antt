@@ -65,8 +65,7 @@ stands_there cells facts line count is inside has e none t =
     let p = at_place line.axis line.at t.row t.col t.on_line in
     let i = inside t.row t.col t.has in
     let near = near_on facts line.axis line.at t.row t.col p.0 is has i.0 i.1 p.1.0 p.1.1 in
-    let Q : ℕ → Type 0 = λ c. HasCell cells (row_on line.axis line.at p.0) c in
-    none p.0 (omega arith) (subst Q p.1.1 (subst (λ (r : ℕ). HasCell cells r t.col) p.1.0 t.has))
+    none p.0 (omega arith) (subst (λ (c : ℕ). HasCell cells (row_on line.axis line.at p.0) c) p.1.1 (subst (λ (r : ℕ). HasCell cells r t.col) p.1.0 t.has))
 
 -- a line through some cells inside a grid is one of its lines
 through_inside : (rows : List (List ℕ)) (cells : List ℕ) (line : LineId) → LieInside cells rows → GoesThrough line cells → HasLine rows line
@@ -109,8 +108,7 @@ module _ (clues : Clues) (facts picture : List (List ℕ)) (clues_after : Clues)
 
   pub carried_true : FillingsStay → (givens : List ℕ) (cells known_cells : List ℕ) (known answer : Answer) → IsScene clues givens facts picture → IsScene clues_after givens_after facts_after picture_after → KeepsLines clues facts picture clues_after facts_after picture_after cells → IsPart facts cells → known_cells ≡ cells → answer ≡ carried cells picture_after known → IsTrueOf clues givens picture known_cells known → IsTrueOf clues_after givens_after picture_after cells answer
   carried_true law givens cells known_cells known answer s t keeps p e same is =
-      let Q : Answer → Type 0 = λ a. IsTrueOf clues_after givens_after picture_after cells a in
-      subst Q (sym same) (still_true law givens cells s t keeps p known (subst (λ (x : List ℕ). IsTrueOf clues givens picture x known) e is))
+      subst (λ (a : Answer). IsTrueOf clues_after givens_after picture_after cells a) (sym same) (still_true law givens cells s t keeps p known (subst (λ (x : List ℕ). IsTrueOf clues givens picture x known) e is))
 
 -- what is known of a part has a picture that holds its cells
 holds_cells : (clues : Clues) (givens : List ℕ) (facts picture : List (List ℕ)) (cells : List ℕ) → IsScene clues givens facts picture → IsPart facts cells → (answer : Answer) → IsTrueOf clues givens picture cells answer → HoldsCells cells answer
@@ -148,17 +146,15 @@ kept_place same facts kept cells are p =
     let h = has_first facts cells p in
     let held = are.all p.row p.col (part_open facts cells p.row p.col p h) in
     let count = length-map kept (λ (part : KeptPart). part.cells) in
-    let P : List ℕ → Type 0 = λ x. HasCell x p.row p.col in
     let near : held.0 < length kept = omega arith in
-    (held.0, (near, same_place same facts kept cells held.0 p.row p.col are p near (subst P (part_of_kept kept held.0) held.1.1) h))
+    (held.0, (near, same_place same facts kept cells held.0 p.row p.col are p near (subst (λ (x : List ℕ). HasCell x p.row p.col) (part_of_kept kept held.0) held.1.1) h))
 
 -- where nothing is known of any part, nothing is carried
 pub nothing_known : FillingsStay → SameCellsAreEqual → (clues : Clues) (facts picture : List (List ℕ)) (clues_after : Clues) (givens_after : List ℕ) (facts_after picture_after : List (List ℕ)) (old new : List KeptPart) → AreParts facts (parts_of old) → KnowsNothing old (length old) → Starts facts_after new → Carries clues facts picture clues_after facts_after picture_after old new
 nothing_known law same clues facts picture clues_after givens_after facts_after picture_after old new are none starts = λ i l.
     let cells = cells_at new i in
     let p = each_is_part facts_after new starts.parts i l in
-    let P : Answer → Type 0 = λ answer. IsCarried clues facts picture clues_after facts_after picture_after old cells answer in
-    subst P (sym (starts.unknown i)) (record {
+    subst (λ (answer : Answer). IsCarried clues facts picture clues_after facts_after picture_after old cells answer) (sym (starts.unknown i)) (record {
       keeps = λ keeps.
           let at = kept_place same facts old cells are (part_before clues facts picture clues_after givens_after facts_after picture_after law cells p keeps) in
           (Unknown, (record { at = at.0; place = at.1.0; cells_are = at.1.1; answer_is = none at.0 at.1.0 }, refl));
@@ -170,8 +166,7 @@ pub carries_more : (clues : Clues) (facts picture : List (List ℕ)) (clues_afte
 carries_more clues facts picture clues_after givens_after facts_after picture_after old parts kept more cells answer count c e same is known =
     let part : KeptPart = record { cells = cells; answer = answer } in
     let n = c.count_is in
-    let P : List KeptPart → Type 0 = λ xs. CarriesFirst clues facts picture clues_after givens_after facts_after picture_after old parts xs (count + 1) in
-    subst P (sym e) (record {
+    subst (λ (xs : List KeptPart). CarriesFirst clues facts picture clues_after givens_after facts_after picture_after old parts xs (count + 1)) (sym e) (record {
       count_is = (let m = length_push kept part in omega arith);
       cells = each_more (λ i x. x.cells ≡ part_at parts i) kept part count n c.cells same;
       carries = each_more (λ i x. IsCarried clues facts picture clues_after facts_after picture_after old x.cells x.answer) kept part count n c.carries is;

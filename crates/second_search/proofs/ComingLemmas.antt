@@ -119,8 +119,7 @@ leads_as clues known others found n (Ends p) (Splits t d) g l = absurd g
 leads_as clues known others found n (Splits s c) Dies g l = absurd g
 leads_as clues known others found n (Splits s c) (Ends q) g l = absurd g
 leads_as clues known others found n (Splits s c) (Splits t d) g l =
-    let Q : Cell → Type 0 = λ x. Leads clues known others (Splits t x) found n in
-    subst Q g.1 (subst (λ (x : List (List ℕ)). Leads clues known others (Splits x c) found n) g.0 l)
+    subst (λ (x : Cell). Leads clues known others (Splits t x) found n) g.1 (subst (λ (x : List (List ℕ)). Leads clues known others (Splits x c) found n) g.0 l)
 
 -- a search of facts that come to something goes on as that leads
 pub leads : LeastIsUnique → (clues : Clues) (known facts : List (List ℕ)) (others : List (List (List ℕ))) (coming : Coming) (found : Option (List (List ℕ))) (n : ℕ) → Comes clues facts coming → Searches clues known (facts ∷ others) found n → Leads clues known others coming found n
@@ -137,8 +136,7 @@ comes_of : (clues : Clues) (facts settled : List (List ℕ)) (outcome : Outcome)
 comes_of clues facts settled outcome c e Dies h = absurd h
 comes_of clues facts settled outcome c e (Ends picture) h = (settled, (record { are_facts = h.0; least = c.least e; fits = c.fits e }, h.1))
 comes_of clues facts settled outcome c e (Splits more cell) h =
-    let P : List (List ℕ) → Type 0 = λ x. SettlesTo clues facts x × IsFirstUnsettled x cell in
-    subst P (sym h.0) (record { are_facts = h.1.0; least = c.least e; fits = c.fits e }, h.1.1)
+    subst (λ (x : List (List ℕ)). SettlesTo clues facts x × IsFirstUnsettled x cell) (sym h.0) (record { are_facts = h.1.0; least = c.least e; fits = c.fits e }, h.1.1)
 
 pub comes_closed : (clues : Clues) (facts first settled : List (List ℕ)) (outcome : Outcome) (coming : Result Coming AllocError) → first ≡ facts → Closes clues first settled outcome → outcome ≡ Narrowed → IfOk coming (ComesClosed settled) → IfOk coming (Comes clues facts)
 comes_closed clues facts first settled outcome (Ok coming) same c e h =

@@ -1,4 +1,4 @@
--- Facts have a cost: they come to something, and what waits then weighs less.
+-- Facts have a cost: they come to something, and what waits then weighs less; and where a search is broken off.
 use Rattle.std.proofs.Common.{◌≡◌, ℕ, zero, suc, ◌^◌, ◌<◌, ◌⊎◌, ◌==◌, true, Option, None, Some, List, [], ◌∷◌, ◌++◌, length, get_or, map, refl, sym, ap, subst, ◌∙◌, arith, inl, inr, eqb-true, ◌≤◌}
 use Rattle.std.specs.Prelude.{IsBitSet, slice_index}
 use Rattle.std.specs.List.{All, filter, range_with_len}
@@ -32,9 +32,10 @@ use Rattle.second_search.specs.declared.keeper.Answer.{Answer}
 use Rattle.second_search.specs.declared.keeper.Answer.TheVariants.{Filling, Nothing, Unknown}
 use Rattle.second_search.specs.declared.keeper.KeptPart.{KeptPart}
 use Rattle.second_search.specs.Costs.{CostsAreThere, CostsDecide, IsDear}
-use Rattle.second_search.specs.Judging.{EndsBy, Passes, answer_at, cells_at, kept_at}
+use Rattle.second_search.specs.Judging.{EndsBy, Passes, answer_at, cells_at}
 use Rattle.second_search.specs.Parts.{IsScene}
 use Rattle.second_search.proofs.AloneLemmas.{own_power}
+use Rattle.second_search.proofs.KnownLaws.{costs_are_unique, only_is_closed}
 use Rattle.second_search.proofs.ChainLemmas.{bit_or_not}
 
 -- ---- equal or not
@@ -297,8 +298,7 @@ cheap unique clues known facts most cost n found s le h l = let e = unique clues
 
 part_is_cheap : CostsAreUnique → (clues : Clues) (facts picture : List (List ℕ)) (most cost searched splits : ℕ) (cells : List ℕ) (answer : Answer) → answer ≡ Unknown → EndsBy clues facts picture (Some most) cells answer ending.Nothing searched splits → HasCost clues picture (alone cells facts picture) cost → most < cost → ⊥
 part_is_cheap unique clues facts picture most cost searched splits cells answer e ends h l =
-    let P : Answer → Type 0 = λ x. EndsBy clues facts picture (Some most) cells x ending.Nothing searched splits in
-    let known : EndsBy clues facts picture (Some most) cells Unknown ending.Nothing searched splits = subst P e ends in
+    let known : EndsBy clues facts picture (Some most) cells Unknown ending.Nothing searched splits = subst (λ (x : Answer). EndsBy clues facts picture (Some most) cells x ending.Nothing searched splits) e ends in
     cheap unique clues picture (alone cells facts picture) most cost splits None known.1.0 known.1.1 h l
 
 found_is_cheap : CostsAreUnique → (clues : Clues) (facts picture other : List (List ℕ)) (most cost searched splits : ℕ) (cells : List ℕ) (answer : Answer) → answer ≡ Unknown → EndsBy clues facts picture (Some most) cells answer (ending.Found other) searched splits → HasCost clues picture (alone cells facts picture) cost → most < cost → ⊥
@@ -328,27 +328,27 @@ stopped_is_dear unique clues facts picture most searched splits cells Unknown is
 stopped_is_dear unique clues facts picture most searched splits cells Nothing is ends = let e = ends.0 in absurd cc
 stopped_is_dear unique clues facts picture most searched splits cells (Filling other) is ends = let e = ends.0 in absurd cc
 
-pub costs_are_there : OnlyIsClosed → CostsAreThere
-costs_are_there law = record {
+pub costs_are_there : CostsAreThere
+costs_are_there = record {
   facts = cost_is_there;
-  parts = λ clues givens facts picture cells scene is. cost_is_there clues picture (alone cells facts picture) (alone_facts law clues givens facts picture cells scene is);
+  parts = λ clues givens facts picture cells scene is. cost_is_there clues picture (alone cells facts picture) (alone_facts only_is_closed clues givens facts picture cells scene is);
 }
 
-pub costs_decide : OnlyIsClosed → CostsAreUnique → CostsDecide
-costs_decide law unique = record {
-  facts = λ clues known facts most cost h. ((λ ends. ends.1.1 cost h), (λ l. broken_off unique clues known facts most cost h l));
+pub costs_decide : CostsDecide
+costs_decide = record {
+  facts = λ clues known facts most cost h. ((λ ends. ends.1.1 cost h), (λ l. broken_off costs_are_unique clues known facts most cost h l));
   undecided = λ clues givens facts picture most old new searched splits scene is b.
       let i = b.at in
       record {
         place = b.stops.place;
-        is = stopped_is_dear unique clues facts picture most b.stops.searched_here b.stops.splits_here (cells_at old i) (answer_at old i) (alone_facts law clues givens facts picture (cells_at old i) scene is) b.stops.here;
-        before = passed_are_cheap unique clues facts picture most old i b.stops.searched_before b.stops.splits_before b.stops.before;
+        is = stopped_is_dear costs_are_unique clues facts picture most b.stops.searched_here b.stops.splits_here (cells_at old i) (answer_at old i) (alone_facts only_is_closed clues givens facts picture (cells_at old i) scene is) b.stops.here;
+        before = passed_are_cheap costs_are_unique clues facts picture most old i b.stops.searched_before b.stops.splits_before b.stops.before;
       };
-  unique = λ clues facts picture most old new searched splits p. passed_are_cheap unique clues facts picture most old (length old) searched splits p.passes;
+  unique = λ clues facts picture most old new searched splits p. passed_are_cheap costs_are_unique clues facts picture most old (length old) searched splits p.passes;
   other = λ clues facts picture most old new searched splits f i l d. elim (cases_eq i f.at) [
-    | inr before ↦ passed_are_cheap unique clues facts picture most old f.at f.stops.searched_before f.stops.splits_before f.stops.before i (omega arith) d
+    | inr before ↦ passed_are_cheap costs_are_unique clues facts picture most old f.at f.stops.searched_before f.stops.splits_before f.stops.before i (omega arith) d
     | inl e ↦
         let here : IsDear clues facts picture most old f.at = subst (λ (j : ℕ). IsDear clues facts picture most old j) e d in
-        found_is_cheap unique clues facts picture f.other most here.1.0 f.stops.searched_here f.stops.splits_here (cells_at old f.at) (answer_at old f.at) here.0 f.stops.here here.1.1.0 here.1.1.1
+        found_is_cheap costs_are_unique clues facts picture f.other most here.1.0 f.stops.searched_here f.stops.splits_here (cells_at old f.at) (answer_at old f.at) here.0 f.stops.here here.1.1.0 here.1.1.1
   ];
 }

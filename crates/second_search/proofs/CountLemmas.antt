@@ -1,5 +1,5 @@
 -- A search that counts its splits: what waits ends as the first facts do, but for the splits made so far.
-use Rattle.std.proofs.Common.{◌≡◌, ℕ, suc, ◌+◌, ◌*◌, ◌^◌, ◌<◌, ◌⊎◌, Option, None, Some, List, [], ◌∷◌, ◌++◌, length, refl, sym, ap, subst, ◌∙◌, arith, inl, inr}
+use Rattle.std.proofs.Common.{◌≡◌, ℕ, suc, ◌+◌, ◌^◌, ◌<◌, ◌⊎◌, Option, None, Some, List, [], ◌∷◌, ◌++◌, refl, sym, ap, subst, ◌∙◌, arith, inl, inr}
 use Rattle.picture.specs.Rows.{cell_at}
 use Rattle.clues.specs.ClueBook.{Clues}
 use Rattle.line_settle.specs.declared.meter.Meter.{Meter}
@@ -59,15 +59,13 @@ going_passes unique clues known first facts others n g (inr c) = record {
 pub going_splits : LeastIsUnique → (clues : Clues) (known first facts settled : List (List ℕ)) (cell : Cell) (others : List (List (List ℕ))) (n : ℕ) → Going clues known first (facts ∷ others) n → Comes clues facts (Splits settled cell) → Going clues known first (branches settled cell.row cell.col (cell_at settled cell.row cell.col) ++ others) (suc n)
 going_splits unique clues known first facts settled cell others n g c = record {
   on = λ found m s.
-      let P : ℕ → Type 0 = λ x. Searches clues known (first ∷ []) found x in
-      subst P (let e : suc m + n ≡ m + suc n = omega arith in e) (g.on found (suc m) (is_split facts others settled cell found m c s));
+      subst (λ (x : ℕ). Searches clues known (first ∷ []) found x) (let e : suc m + n ≡ m + suc n = omega arith in e) (g.on found (suc m) (is_split facts others settled cell found m c s));
   back = λ found m s.
       let b = g.back found m s in
       let l = leads unique clues known facts others (Splits settled cell) found b.0 c b.1.1 in
       (l.0, ((let e : m ≡ l.0 + suc n = omega arith in e), l.1.1));
   past = λ m s.
-      let P : ℕ → Type 0 = λ x. SplitsPast clues known (first ∷ []) x in
-      subst P (let e : suc m + n ≡ m + suc n = omega arith in e) (g.past (suc m) (past_split facts others settled cell m c s));
+      subst (λ (x : ℕ). SplitsPast clues known (first ∷ []) x) (let e : suc m + n ≡ m + suc n = omega arith in e) (g.past (suc m) (past_split facts others settled cell m c s));
 }
 
 -- ---- how it ends
@@ -103,8 +101,7 @@ used (Some most) left n h e =
 
 pub ends_with_nothing : (clues : Clues) (known first : List (List ℕ)) (waiting : List (List (List ℕ))) (n : ℕ) (allowance left : Option ℕ) → Going clues known first waiting n → waiting ≡ [] → IsLeft allowance n left → EndsAs clues known first allowance ending.Nothing n
 ends_with_nothing clues known first waiting n allowance left g e l =
-    let P : List (List (List ℕ)) → Type 0 = λ x. Searches clues known x None 0 in
-    let s : Searches clues known (first ∷ []) None (0 + n) = g.on None 0 (subst P (sym e) none_waits) in
+    let s : Searches clues known (first ∷ []) None (0 + n) = g.on None 0 (subst (λ (x : List (List (List ℕ))). Searches clues known x None 0) (sym e) none_waits) in
     (subst (λ (x : ℕ). Searches clues known (first ∷ []) None x) (let z : 0 + n ≡ n = omega arith in z) s, allowed allowance left n l)
 
 pub ends_with_other : (clues : Clues) (known first facts picture : List (List ℕ)) (others : List (List (List ℕ))) (n : ℕ) (allowance left : Option ℕ) → Going clues known first (facts ∷ others) n → Comes clues facts (Ends picture) → (picture ≡ known → ⊥) → IsLeft allowance n left → EndsAs clues known first allowance (ending.Found picture) n
@@ -193,8 +190,7 @@ counted_ending unique clues known first allowance start s t left rest count more
 -- the rows that were settled are the same in the facts that are split
 pub split_same : (clues : Clues) (facts first settled : List (List ℕ)) (coming : Coming) (cell : Cell) (rows : ℕ) → first ≡ facts → coming ≡ Splits settled cell → Comes clues first coming → AreRowsSettled facts rows → AreSameAbove facts settled rows
 split_same clues facts first settled coming cell rows e f c above =
-    let Q : Coming → Type 0 = λ x. Comes clues facts x in
-    let h : Comes clues facts (Splits settled cell) = subst Q f (subst (λ (x : List (List ℕ)). Comes clues x coming) e c) in
+    let h : Comes clues facts (Splits settled cell) = subst (λ (x : Coming). Comes clues facts x) f (subst (λ (x : List (List ℕ)). Comes clues x coming) e c) in
     rows_same clues facts settled rows h.0.are_facts h.0.least.holds h.0.fits above
 
 -- ---- what waits weighs less

@@ -47,8 +47,7 @@ shown_line clues settled picture line own is s has len keeps =
     let col = col_on line.axis line.at i in
     let p = place_on settled line i is has (omega arith) in
     let only = s.only row col p.0 p.1 in
-    let P : ℕ → Type 0 = λ m. IsBitSet m (get_or own i 0) in
-    (only (get_or own i 0)).0 (subst P (cell_on settled line i) (keeps i (omega arith))) ∙ sym (cell_on picture line i))
+    (only (get_or own i 0)).0 (subst (λ (m : ℕ). IsBitSet m (get_or own i 0)) (cell_on settled line i) (keeps i (omega arith))) ∙ sym (cell_on picture line i))
 
 pub shown_clues : CluesAreOfLines → BooksAreTheirClues → (clues : Clues) (settled picture : List (List ℕ)) → IsFacts settled → EachFits clues settled → Shows settled picture → IsSized clues settled → clues_of picture ≡ clues
 shown_clues law books clues settled picture is fits s sized = books (clues_of picture) clues

@@ -1,4 +1,4 @@
--- What is searched while facts wait: nothing that fills the first facts gets lost.
+-- What is searched while facts wait: nothing that fills the first facts gets lost; and sound facts.
 use Rattle.std.proofs.Common.{◌≡◌, ℕ, zero, suc, ◌+◌, ◌^◌, ◌<◌, ◌≤◌, ◌⊎◌, ◌↔◌, ◌==◌, Bool, true, false, cond, eq-eqb, eqb-true, Option, None, Some, List, [], ◌∷◌, ◌++◌, length, replicate, refl, sym, ap, subst, ◌∙◌, arith, inl, inr}
 use Rattle.std.specs.Prelude.{IsBitSet}
 use Rattle.std.specs.List.{filter, range_with_len}
@@ -43,8 +43,7 @@ pub held_within : (facts : List (List ℕ)) (row col k : ℕ) → row < length f
 held_within facts row col k h l s = record {
   same_shape = shape_with_cell facts row col (2 ^ k);
   leaves = λ r c j.
-      let X : ℕ → Type 0 = λ i. Leaves facts row col i in
-      set_each facts row col (2 ^ k) h l (λ r c x. IsBitSet x j → Leaves facts r c j) (λ t. subst X (sym ((power_has k j).0 t)) s) (λ r c d t. t) r c;
+      set_each facts row col (2 ^ k) h l (λ r c x. IsBitSet x j → Leaves facts r c j) (λ t. subst (λ (i : ℕ). Leaves facts row col i) (sym ((power_has k j).0 t)) s) (λ r c d t. t) r c;
 }
 
 -- a number in a list of numbers
@@ -213,8 +212,7 @@ all_fills clues picture facts height width sizes h tall wide shape left =
 pub finds_first : (clues : Clues) (facts blank : List (List ℕ)) (height width : ℕ) (found : Option (List (List ℕ))) → ((picture : List (List ℕ)) (axis : Axis) → length (clues_along axis (clues_of picture)) ≡ lines_along axis picture) → height ≡ length clues.rows → width ≡ length clues.columns → facts ≡ replicate height (replicate {A = ℕ} width 65535) → ((row col k : ℕ) → row < height → col < width → k < 16 → Leaves facts row col k) → (clues_of blank ≡ clues → ⊥) → FindsFilling clues facts blank found → FindsFirst clues found
 finds_first clues facts blank height width None sizes tall wide e left n h = λ picture has.
     let P : List (List ℕ) → Type 0 = λ x. SameShape (replicate height (replicate {A = ℕ} width 65535)) x in
-    let Q : List (List ℕ) → Type 0 = λ x. clues_of x ≡ clues in
-    h picture (all_fills clues picture facts height width (sizes picture) has tall wide (subst P (sym e) (shape_refl _)) left) (λ same. n (subst Q same has.has_clues))
+    h picture (all_fills clues picture facts height width (sizes picture) has tall wide (subst P (sym e) (shape_refl _)) left) (λ same. n (subst (λ (x : List (List ℕ)). clues_of x ≡ clues) same has.has_clues))
 finds_first clues facts blank height width (Some picture) sizes tall wide e left n h = record { is_picture = h.0.is_picture; has_clues = h.0.has_clues }
 
 -- ---- sound facts

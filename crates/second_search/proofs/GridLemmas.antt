@@ -44,9 +44,8 @@ pub set_each : (facts : List (List ℕ)) (row col x : ℕ) → row < length fact
 set_each facts row col x h l P here off r c = elim (both_or_not (cases_eq r row) (cases_eq c col)) [
   | inr d ↦ subst (P r c) (sym (off_with_cell facts row col x r c d)) (off r c d)
   | inl e ↦
-      let Q : ℕ → Type 0 = λ i. P i c (cell_at (with_cell facts row col x) i c) in
       let R : ℕ → Type 0 = λ j. P row j (cell_at (with_cell facts row col x) row j) in
-      subst Q (sym e.0) (subst R (sym e.1) (subst (P row col) (sym (at_with_cell facts row col x h l)) here))
+      subst (λ (i : ℕ). P i c (cell_at (with_cell facts row col x) i c)) (sym e.0) (subst R (sym e.1) (subst (P row col) (sym (at_with_cell facts row col x h l)) here))
 ]
 
 -- a cell that is set and set back

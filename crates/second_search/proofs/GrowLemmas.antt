@@ -25,7 +25,7 @@ same_axis Down Down = inl refl
 same_axis Across Down = inr (λ (e : Across ≡ Down). absurd cc)
 same_axis Down Across = inr (λ (e : Down ≡ Across). absurd cc)
 
-abbrev line_named : Axis → ℕ → LineId
+abbrev pub line_named : Axis → ℕ → LineId
 line_named axis at = record { axis = axis; at = at }
 
 pub same_line : (one other : LineId) → (one ≡ other) ⊎ (one ≡ other → ⊥)
@@ -90,14 +90,12 @@ grown_first facts row col old new is o all no_cell no_line t = record {
   waits = λ r c line h on un. (t.waiting line).1 (elim ((t.cells r c).0 h) [
     | inl was ↦ absurd (no_cell r c was)
     | inr e ↦
-        let U : Lines → Type 0 = λ names. HasName names line in
-        inr (subst U t.unvisited un, subst (λ (j : ℕ). IsOnLine line row j) e.1 (subst (λ (i : ℕ). IsOnLine line i c) e.0 on))
+        inr (subst (λ (names : Lines). HasName names line) t.unvisited un, subst (λ (j : ℕ). IsOnLine line row j) e.1 (subst (λ (i : ℕ). IsOnLine line i c) e.0 on))
   ]);
   reached = λ line w. elim ((t.waiting line).0 w) [
     | inl was ↦ absurd (no_line line was)
     | inr p ↦
-        let U : Lines → Type 0 = λ names. HasName names line in
-        (subst U (sym t.unvisited) p.0, record { row = row; col = col; has = (t.cells row col).1 (inr (refl, refl)); on_line = p.1 })
+        (subst (λ (names : Lines). HasName names line) (sym t.unvisited) p.0, record { row = row; col = col; has = (t.cells row col).1 (inr (refl, refl)); on_line = p.1 })
   ];
   visited = λ r c line on un o.
       let U : Lines → Type 0 = λ names. HasName names line in
@@ -148,8 +146,7 @@ pub record Gathering (facts : List (List ℕ)) (line : LineId) (first now : Grow
 
 place_is : (line : LineId) (i row col : ℕ) → row ≡ row_on line.axis line.at i → col ≡ col_on line.axis line.at i → IsOnLine line row col
 place_is line i row col e f =
-    let Q : ℕ → Type 0 = λ y. IsOnLine line (row_on line.axis line.at i) y in
-    subst (λ (x : ℕ). IsOnLine line x col) (sym e) (subst Q (sym f) (place_on line.axis line.at i))
+    subst (λ (x : ℕ). IsOnLine line x col) (sym e) (subst (λ (y : ℕ). IsOnLine line (row_on line.axis line.at i) y) (sym f) (place_on line.axis line.at i))
 
 pub gathered_open : (facts : List (List ℕ)) (line : LineId) (first old new : Growth) (i row col : ℕ) → row ≡ row_on line.axis line.at i → col ≡ col_on line.axis line.at i → IsOpenCell facts row col → TakesIn row col old new → Gathering facts line first old i → Gathering facts line first new (i + 1)
 gathered_open facts line first old new i row col e f o t g = record {

@@ -63,8 +63,7 @@ outside_line cells picture facts lines line is k n has not i l =
     let len = same_line_length picture facts line k.same_shape in
     let inside = along_inside line.axis line.at i picture is (omega arith) (same_has_line facts picture line (shape_sym k.same_shape) has) in
     let only = k.outside row col (omega arith) (λ h. not (row_has line.axis line.at i cells lines n h)) in
-    let Q : ℕ → Type 0 = λ c. IsOnly (cell_at facts row col) c in
-    subst (λ (m : ℕ). IsOnly m (get_or (line_of picture line) i 0)) (sym (cell_on facts line i)) (subst Q (sym (cell_on picture line i)) only)
+    subst (λ (m : ℕ). IsOnly m (get_or (line_of picture line) i 0)) (sym (cell_on facts line i)) (subst (λ (c : ℕ). IsOnly (cell_at facts row col) c) (sym (cell_on picture line i)) only)
 
 pub quiet_outside : CluesAreOfLines → (clues : Clues) (cells : List ℕ) (picture facts : List (List ℕ)) (lines : Lines) → IsPicture picture → clues_of picture ≡ clues → KeepsOutside cells picture facts → NamesLinesOf cells lines → QuietOutside clues facts lines
 quiet_outside law clues cells picture facts lines is e k n line has not =
@@ -119,8 +118,7 @@ quiet_held clues settled row col x closed fits h l above =
       in_columns = omega arith;
       quiet = λ lines both line has not.
           let there = same_has_line held_to settled line (shape_sym shape) has in
-          let P : List ℕ → Type 0 = λ left. IsQuietLine (clue_at clues line) left in
-          subst P (sym (same_line_off settled row col x lines line both not)) (record { closed = closed line there; fits = fits line there });
+          subst (λ (left : List ℕ). IsQuietLine (clue_at clues line) left) (sym (same_line_off settled row col x lines line both not)) (record { closed = closed line there; fits = fits line there });
       above = λ r c m w.
           let at = above r c m (omega arith) in
           (at.0, subst (λ (y : ℕ). IsOnly y at.0) (sym (off_with_cell settled row col x r c (λ e. absurd (let p = e.0 in omega arith)))) at.1);
@@ -163,8 +161,7 @@ ready_first clues first lines s e of quiet =
 
 pub quiet_at : (clues : Clues) (first : List (List ℕ)) (s t : Search) (cell : Cell) → EachQuiet clues first s.behind s.cells → GoesOn s t (Some cell) → (SameShape first t.at_hand × IsQuietBut clues t.at_hand cell) × EachQuiet clues first t.behind t.cells
 quiet_at clues first s t cell q on =
-    let R : List Cell → Type 0 = λ x. EachQuiet clues first (t.at_hand ∷ t.behind) x in
-    subst R on.1 (subst (λ (x : List (List (List ℕ))). EachQuiet clues first x s.cells) on.0 q)
+    subst (λ (x : List Cell). EachQuiet clues first (t.at_hand ∷ t.behind) x) on.1 (subst (λ (x : List (List (List ℕ))). EachQuiet clues first x s.cells) on.0 q)
 
 pub ready_at : (clues : Clues) (first facts : List (List ℕ)) (cell : Cell) (lines : Lines) → SameShape first facts → IsQuietBut clues facts cell → AreLinesOf facts lines → NamesBoth lines cell.row cell.col → IsReady clues first facts lines cell.row
 ready_at clues first facts cell lines s q of both = record { same_shape = s; are_lines = of; quiet = q.quiet lines both; above = q.above }

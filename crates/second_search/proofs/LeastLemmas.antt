@@ -19,7 +19,7 @@ use Rattle.line_settle.specs.GridLaws.{cell_on, same_has_line, shape_refl, shape
 use Rattle.line_settle.specs.MaskLaws.{without_bit}
 use Rattle.fixpoint.specs.Closing.{EachFits, HasDeadLine}
 use Rattle.second_search.proofs.GridLemmas.{both_or_not, set_each}
-use Rattle.second_search.proofs.GrowLemmas.{place_inside}
+use Rattle.second_search.proofs.GrowLemmas.{line_named, place_inside}
 use Rattle.second_search.proofs.PickLemmas.{find_below, same_list}
 use Rattle.second_search.proofs.WeightLemmas.{weight, weight_with_cell}
 use Rattle.clues.specs.Clue.{block, clue_of}
@@ -107,9 +107,6 @@ have_or_not clue left i k small = elim (cases_lt i (length left)) [
     | inr none ↦ inr (λ h. none h.line (record { same_length = h.fits.same_length; keeps = h.fits.keeps }) (h.fits.has_clue, h.has))
   ]
 ]
-
-abbrev line_named : Axis → ℕ → LineId
-line_named axis at = record { axis = axis; at = at }
 
 small_line : (facts : List (List ℕ)) (line : LineId) → IsFacts facts → AreSmall (line_of facts line)
 small_line facts line is i =
@@ -290,9 +287,7 @@ force_one clues base facts line i k a has l small forced =
               record {
                 same_shape = shape_trans (shape_sym (shape facts row col k is place.0 place.1 small)) in_facts.same_shape;
                 leaves = λ r c j t. left_then facts row col k is place.0 place.1 small r c j (in_facts.leaves r c j t) (λ e.
-                    let Q : ℕ → Type 0 = λ x. Leaves others row x j in
-                    let R : ℕ → Type 0 = λ x. Leaves others row col x in
-                    let here : Leaves others row col k = subst R e.1.1 (subst Q e.1.0 (subst (λ (x : ℕ). Leaves others x c j) e.0 t)) in
+                    let here : Leaves others row col k = subst (λ (x : ℕ). Leaves others row col x) e.1.1 (subst (λ (x : ℕ). Leaves others row x j) e.1.0 (subst (λ (x : ℕ). Leaves others x c j) e.0 t)) in
                     let on : IsBitSet (get_or (line_of others line) i 0) k = subst M (sym (cell_on others line i)) here in
                     let have = closed line (same_has_line facts others line in_facts.same_shape has) i k on in
                     forced.forces (tighter_have (clue_at clues line) (line_of facts line) (line_of others line) (within_tighter facts others in_facts line) i k have));

@@ -176,8 +176,7 @@ pub cells_along : (a b : List (List ℕ)) (axis : Axis) (at row col : ℕ) → l
 cells_along a b Across at row col e on =
     subst (λ (x : ℕ). cell_at a x col ≡ cell_at b x col) (sym on) (ap (λ (xs : List ℕ). get_or xs col 0) e)
 cells_along a b Down at row col e on =
-    let P : ℕ → Type 0 = λ y. cell_at a row y ≡ cell_at b row y in
-    subst P (sym on) (sym (read_down a at row) ∙ (ap (λ (xs : List ℕ). get_or xs row 0) e ∙ read_down b at row))
+    subst (λ (y : ℕ). cell_at a row y ≡ cell_at b row y) (sym on) (sym (read_down a at row) ∙ (ap (λ (xs : List ℕ). get_or xs row 0) e ∙ read_down b at row))
   where
     read_down : (a : List (List ℕ)) (at row : ℕ) → get_or (line_along Down at a) row 0 ≡ cell_at a row at
     read_down a at row = elim (cases_lt row (length a)) [

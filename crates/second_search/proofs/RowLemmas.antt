@@ -10,6 +10,7 @@ use Rattle.second_search.specs.Parts.{AreParts, IsBefore, IsChained, IsOpenCell,
 use Rattle.second_search.proofs.ChainLemmas.{chain_back, chain_end, chain_in_row, chain_on, open_inside}
 use Rattle.picture.specs.Laws.{SameCellsAreEqual}
 use Rattle.second_search.specs.Laws.{PartsAreOneList}
+use Rattle.second_search.proofs.KnownLaws.{same_cells_are_equal}
 use Rattle.second_search.proofs.PartLemmas.{one_part_each}
 
 pub none_above : (facts : List (List ℕ)) → ArePartsAbove facts [] 0
@@ -120,17 +121,14 @@ one_more_part facts parts cells row col a p =
       ];
       all = λ r c l o. elim (cases_eq r row) [
         | inl e ↦
-            let P : ℕ → Type 0 = λ x. IsChained facts row col x c in
-            let Q : ℕ → Type 0 = λ x. IsOpenCell facts x c in
-            held_by_new parts cells r c ((p.members r c).1 (subst P (sym e) (chain_in_row facts row col c p.is_open (subst Q e o))))
+            held_by_new parts cells r c ((p.members r c).1 (subst (λ (x : ℕ). IsChained facts row col x c) (sym e) (chain_in_row facts row col c p.is_open (subst (λ (x : ℕ). IsOpenCell facts x c) e o))))
         | inr d ↦ held_more parts cells r c (a.all r c (omega arith) o)
       ];
     }
 
 pub one_more : (facts parts more : List (List ℕ)) (cells : List ℕ) (row col : ℕ) → more ≡ parts ++ cells ∷ [] → IsFirstOpen facts row col → (HoldsCell parts row col → ⊥) → IsCellSet cells → ((r c : ℕ) → HasCell cells r c ↔ IsChained facts row col r c) → ArePartsAbove facts parts row → ArePartsAbove facts more (row + 1)
 one_more facts parts more cells row col e first new set members a =
-    let P : List (List ℕ) → Type 0 = λ x. ArePartsAbove facts x (row + 1) in
-    subst P (sym e) (one_more_part facts parts cells row col a (new_part facts parts cells row col first new a set members))
+    subst (λ (x : List (List ℕ)). ArePartsAbove facts x (row + 1)) (sym e) (one_more_part facts parts cells row col a (new_part facts parts cells row col first new a set members))
 
 -- the parts of all rows
 pub all_rows : (facts parts : List (List ℕ)) (rows : ℕ) → IsFacts facts → rows ≡ length facts → ArePartsAbove facts parts rows → AreParts facts parts
@@ -233,5 +231,5 @@ module _ (same : SameCellsAreEqual) (facts : List (List ℕ)) where
       let y = no_longer b a q p in
       ext_get_or [] a b (omega arith) (λ i l. let m = match_of a b p q i l in m.same ∙ ap (part_at b) (at_same a b p q i l m))
 
-pub all_one_list : SameCellsAreEqual → PartsAreOneList
-all_one_list same facts parts others p q = one_list same facts parts others p q
+pub all_one_list : PartsAreOneList
+all_one_list facts parts others p q = one_list same_cells_are_equal facts parts others p q

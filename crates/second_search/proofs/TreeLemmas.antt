@@ -94,8 +94,7 @@ number_is line number a n =
 
 has_number : (facts : List (List ℕ)) (line : LineId) (number : LineNumber) → HasLine facts line → number.axis ≡ line.axis → number.number ≡ line.at + 1 → HasLineNumber facts number
 has_number facts line number h a n =
-    let P : Axis → Type 0 = λ x. (0 < number.number) × (number.number ≤ lines_along x facts) in
-    subst P (sym a) ((let p : 0 < number.number = omega arith in p), (let q : number.number ≤ lines_along line.axis facts = omega arith in q))
+    subst (λ (x : Axis). (0 < number.number) × (number.number ≤ lines_along x facts)) (sym a) ((let p : 0 < number.number = omega arith in p), (let q : number.number ≤ lines_along line.axis facts = omega arith in q))
 
 -- where no line crosses a change, nothing has changed
 same_line : (before after : List ℕ) (line : LineId) → length before ≡ length after → ((other : LineId) → CrossesChange line before after other → ⊥) → (i : ℕ) → i < length before → get_or before i 0 ≡ get_or after i 0
@@ -156,9 +155,7 @@ forced_settles clues clue line number facts new names l m has e g changed some a
 
     more : ForcesMore clues facts (line_id number) new
     more =
-        let P : LineId → Type 0 = λ x. ForcesMore clues facts x new in
-        let Q : List Block → Type 0 = λ bs. Gains bs line facts new Narrowed in
-        subst P (sym (number_is line number a n)) (record { outcome = Narrowed; gains = subst Q e g; more = differ })
+        subst (λ (x : LineId). ForcesMore clues facts x new) (sym (number_is line number a n)) (record { outcome = Narrowed; gains = subst (λ (bs : List Block). Gains bs line facts new Narrowed) e g; more = differ })
 
 -- a dead line is written
 pub dead_settles : (clues : Clues) (clue : List Block) (line : LineId) (number : LineNumber) (facts new : List (List ℕ)) (l m : Lines) → HasLine facts line → clue ≡ clue_at clues line → Gains clue line facts new NoneFits → number.axis ≡ line.axis → number.number ≡ line.at + 1 → Adds l m (Dead number ∷ []) → Settles clues facts new l m NoneFits
@@ -273,12 +270,10 @@ module _ (own : OnlyIsClosed) (closing : ClosingKeepsFillings) (clues : Clues) (
   -- what fills a branch and is not the known picture fills one of the branches that a line leads to
   step_fills : (facts picture : List (List ℕ)) (line : CertLine) (next : List (List (List ℕ))) → SameShape known facts → Stands clues known facts line next → (picture ≡ known → ⊥) → Fills clues facts picture → FillsSome clues next picture
   step_fills facts picture (Line number) next e s d f =
-      let P : List (List (List ℕ)) → Type 0 = λ x. FillsSome clues x picture in
-      subst P (sym s.1.1.1) (inl (forced_fills own clues facts s.1.0 picture (line_id number) (line_there facts number s.0) s.1.1.0 f))
+      subst (λ (x : List (List (List ℕ))). FillsSome clues x picture) (sym s.1.1.1) (inl (forced_fills own clues facts s.1.0 picture (line_id number) (line_there facts number s.0) s.1.1.0 f))
   step_fills facts picture (Split cell) next e s d f =
-      let P : List (List (List ℕ)) → Type 0 = λ x. FillsSome clues x picture in
       let i = inside_row facts picture cell f.is_picture f.same_shape s.0 in
-      subst P (sym s.1.0) (split_some clues facts picture (cell.row - 1) (cell.col - 1) i.0 i.1 f)
+      subst (λ (x : List (List (List ℕ))). FillsSome clues x picture) (sym s.1.0) (split_some clues facts picture (cell.row - 1) (cell.col - 1) i.0 i.1 f)
   step_fills facts picture (Dead number) next e s d f = absurd (dead_has_none closing clues facts picture (line_id number) (line_there facts number s.0) s.1.0 f)
   step_fills facts picture Done next e s d f = absurd (d (only_known clues known facts picture e s.0 f))
 
@@ -354,8 +349,7 @@ compare_continues clues known facts picture (Other other) is s has h =
 
 pub dead_continues : (clues : Clues) (known facts : List (List ℕ)) (line : LineId) (number : LineNumber) → IsDeadLine clues facts line → number.axis ≡ line.axis → number.number ≡ line.at + 1 → Continues clues known facts (Ends (Dead number))
 dead_continues clues known facts line number d a n =
-    let P : LineId → Type 0 = λ x. CanFit (clue_at clues x) (line_of facts x) → ⊥ in
-    (has_number facts line number d.has a n, (subst P (sym (number_is line number a n)) d.dead, refl))
+    (has_number facts line number d.has a n, (subst (λ (x : LineId). CanFit (clue_at clues x) (line_of facts x) → ⊥) (sym (number_is line number a n)) d.dead, refl))
 
 pub none_dead : CluesAreOfLines → BooksAreTheirClues → (clues : Clues) (longest : ℕ) (facts picture : List (List ℕ)) → IsFacts facts → AreClosable clues longest facts → EachFits clues facts → Shows facts picture → clues_of picture ≡ clues
 none_dead law books clues longest facts picture is can fits s = shown_clues law books clues facts picture is fits s (record { rows = can.rows; columns = can.columns })
@@ -382,8 +376,7 @@ splits_turn clues known old new cell number is at er ec e adds =
     let r : cell.row ≡ number.row - 1 = omega (arith, er) in
     let c : cell.col ≡ number.col - 1 = omega (arith, ec) in
     let split : front ≡ split_at facts number = ap (λ (x : ℕ). branches facts x cell.col (cell_at facts x cell.col)) r ∙ ap (λ (y : ℕ). branches facts (number.row - 1) y (cell_at facts (number.row - 1) y)) c in
-    let C : ℕ → Type 0 = λ y. (k : ℕ) → IsOnly (cell_at facts (number.row - 1) y) k → ⊥ in
-    let open_there : IsUnsettledAt facts number = subst C c (subst (λ (x : ℕ). (k : ℕ) → IsOnly (cell_at facts x cell.col) k → ⊥) r at.unsettled) in
+    let open_there : IsUnsettledAt facts number = subst (λ (y : ℕ). (k : ℕ) → IsOnly (cell_at facts (number.row - 1) y) k → ⊥) c (subst (λ (x : ℕ). (k : ℕ) → IsOnly (cell_at facts x cell.col) k → ⊥) r at.unsettled) in
     let P : List (List (List ℕ)) → Type 0 = λ x. load x < load (facts ∷ old.pending.behind) in
     record {
       lines = Split number ∷ [];
@@ -428,8 +421,7 @@ pub turn_on : (clues : Clues) (known first settled : List (List ℕ)) (old mid n
 turn_on clues known first settled old mid new f h e None t = turns_on clues known first settled old mid new f h e t
 turn_on clues known first settled old mid new f h e (Some picture) t =
     let hand : mid.pending.at_hand ≡ settled = ap (λ (x : Search). x.at_hand) e in
-    let Q : List (List ℕ) → Type 0 = λ x. IsWithin x settled in
-    (fills_fewer clues old.pending.at_hand settled picture (subst Q f h.0) (subst (λ (x : List (List ℕ)). Fills clues x picture) hand t.0), t.1)
+    (fills_fewer clues old.pending.at_hand settled picture (subst (λ (x : List (List ℕ)). IsWithin x settled) f h.0) (subst (λ (x : List (List ℕ)). Fills clues x picture) hand t.0), t.1)
 
 -- ---- a tree
 

@@ -1,4 +1,4 @@
--- What is kept after a picture is judged is true, and so is the verdict.
+-- What is kept after a picture is judged is true, and so are the verdict and what is answered.
 use Rattle.std.proofs.Common.{ℕ, zero, suc, ◌<◌, Option, List, length, sym, subst, arith, inl, inr}
 use Rattle.std.proofs.lemmas.Bool.{cases_eq, cases_lt}
 use Rattle.std.proofs.lemmas.List.{length-map}
@@ -33,8 +33,7 @@ module _ (clues : Clues) (givens : List ℕ) (picture : List (List ℕ)) where
   changes_true old new end c none t i l =
       elim (cases_lt i end) [
         | inl m ↦
-            let P : Answer → Type 0 = λ a. IsTrueOf clues givens picture (cells_at new i) a in
-            subst P (sym (c.before i m)) (subst (λ (cells : List ℕ). HasNone cells) (sym (c.cells i)) (none i m (omega arith)))
+            subst (λ (a : Answer). IsTrueOf clues givens picture (cells_at new i) a) (sym (c.before i m)) (subst (λ (cells : List ℕ). HasNone cells) (sym (c.cells i)) (none i m (omega arith)))
         | inr p ↦
             subst (λ (part : KeptPart). IsTrueOf clues givens picture part.cells part.answer) (sym (c.behind i p)) (t i (omega arith))
       ]
@@ -45,12 +44,10 @@ module _ (clues : Clues) (givens : List ℕ) (picture : List (List ℕ)) where
       elim (cases_eq i at) [
         | inl q ↦
             let R : ℕ → Type 0 = λ k. IsTrueOf clues givens picture (cells_at new k) (answer_at new k) in
-            let S : List ℕ → Type 0 = λ cells. IsOtherFilling clues givens picture cells other in
-            subst R (sym q) (subst (λ (a : Answer). IsTrueOf clues givens picture (cells_at new at) a) (sym c.here) (subst S (sym (c.cells at)) one))
+            subst R (sym q) (subst (λ (a : Answer). IsTrueOf clues givens picture (cells_at new at) a) (sym c.here) (subst (λ (cells : List ℕ). IsOtherFilling clues givens picture cells other) (sym (c.cells at)) one))
         | inr d ↦ elim (cases_lt i at) [
           | inl m ↦
-              let P : Answer → Type 0 = λ a. IsTrueOf clues givens picture (cells_at new i) a in
-              subst P (sym (c.before i m)) (subst Q (sym (c.cells i)) (none i m (omega arith)))
+              subst (λ (a : Answer). IsTrueOf clues givens picture (cells_at new i) a) (sym (c.before i m)) (subst Q (sym (c.cells i)) (none i m (omega arith)))
           | inr p ↦
               subst (λ (part : KeptPart). IsTrueOf clues givens picture part.cells part.answer) (sym (c.behind i (omega arith))) (t i (omega arith))
         ]
@@ -60,8 +57,7 @@ passes_each : (clues : Clues) (facts picture : List (List ℕ)) (allowance : Opt
 passes_each clues facts picture allowance kept zero s t p i l = absurd (omega arith)
 passes_each clues facts picture allowance kept (suc n) s t p i l = elim (cases_eq i n) [
   | inl q ↦
-      let P : ℕ → Type 0 = λ k. (x : ℕ) × ((y : ℕ) × EndsPart clues facts picture allowance (kept_at kept k) ending.Nothing x y) in
-      subst P (sym q) (p.1.1.0, (p.1.1.1.0, p.1.1.1.1.1.0))
+      subst (λ (k : ℕ). (x : ℕ) × ((y : ℕ) × EndsPart clues facts picture allowance (kept_at kept k) ending.Nothing x y)) (sym q) (p.1.1.0, (p.1.1.1.0, p.1.1.1.1.1.0))
   | inr d ↦ passes_each clues facts picture allowance kept n p.0 p.1.0 p.1.1.1.1.0 i (omega arith)
 ]
 
@@ -96,8 +92,7 @@ module _ (law : CluesAreOfLines) (books : BooksAreTheirClues) (closing : Closing
       let count = length-map old (λ (part : KeptPart). part.cells) in
       let some = (decide.some_part clues givens facts picture (parts_of old) scene are).0 (other, is) in
       let i = some.0 in
-      let P : List ℕ → Type 0 = λ cells. IsOtherFilling clues givens picture cells some.1.1.0 in
-      all_passed old (length old) m n j.none_kept t j.passes i (omega arith) (omega arith) some.1.1.0 (subst P (part_of_kept old i) some.1.1.1)
+      all_passed old (length old) m n j.none_kept t j.passes i (omega arith) (omega arith) some.1.1.0 (subst (λ (cells : List ℕ). IsOtherFilling clues givens picture cells some.1.1.0) (part_of_kept old i) some.1.1.1)
   verdict_true old new Other m n are t (inl j) =
       let f = kept_filling_is clues givens picture (cells_at old j.at) (answer_at old j.at) j.is.is (t j.at j.is.place) in
       (f.0, f.1.is_other)
@@ -113,7 +108,6 @@ pub answer_true : (clues : Clues) (givens : List ℕ) (picture : List (List ℕ)
 answer_true clues givens picture kept judged.Unique verdict t v a = subst (IsVerdict clues givens picture) a v
 answer_true clues givens picture kept (judged.Other other) verdict t v a =
     let f = a.1 in
-    let P : Answer → Type 0 = λ x. IsTrueOf clues givens picture (cells_at kept f.at) x in
-    let filling : IsOtherFilling clues givens picture (cells_at kept f.at) other.now = subst P f.is (t f.at f.place) in
+    let filling : IsOtherFilling clues givens picture (cells_at kept f.at) other.now = subst (λ (x : Answer). IsTrueOf clues givens picture (cells_at kept f.at) x) f.is (t f.at f.place) in
     filling.is_other
 answer_true clues givens picture kept judged.Undecided verdict t v a = tt

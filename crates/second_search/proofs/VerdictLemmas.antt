@@ -1,4 +1,4 @@
--- What is kept of the parts: from the start, after a search, and what it makes of the picture.
+-- What is kept of the parts: from the start, after a search, and what it makes of the picture; and going along them, with counts.
 use Rattle.std.proofs.Common.{◌≡◌, ℕ, zero, suc, ◌+◌, ◌<◌, Option, List, [], ◌∷◌, ◌++◌, length, refl, sym, ap, subst, ◌∙◌, arith, inl, inr, ◌^◌, None, Some, get_or}
 use Rattle.std.proofs.lemmas.Bool.{cases_lt}
 use Rattle.std.proofs.lemmas.List.{get_or_append_left, get_or_past, get_or_push, length-map, length_push, get_or_default}
@@ -94,14 +94,11 @@ module _ (clues : Clues) (facts picture : List (List ℕ)) (allowance : Option �
 
   pub judges_as : (old new : List KeptPart) (i : ℕ) (found : Ending) (verdict : Verdict) (m n : ℕ) → HasNoFilling old (length old) → Stops clues facts picture allowance old i found m n → Notes old new i found verdict → Judges clues facts picture allowance old new verdict m n
   judges_as old new i ending.Nothing verdict m n none s noted =
-      let P : Verdict → Type 0 = λ x. Judges clues facts picture allowance old new x m n in
-      subst P (sym noted.0) (record { none_kept = none; passes = s.1; noted = subst (Changes old new) s.0 noted.1 })
+      subst (λ (x : Verdict). Judges clues facts picture allowance old new x m n) (sym noted.0) (record { none_kept = none; passes = s.1; noted = subst (Changes old new) s.0 noted.1 })
   judges_as old new i (ending.Found other) verdict m n none s noted =
-      let P : Verdict → Type 0 = λ x. Judges clues facts picture allowance old new x m n in
-      subst P (sym noted.0) (inr (record { none_kept = none; at = i; other = other; stops = s; noted = noted.1 }))
+      subst (λ (x : Verdict). Judges clues facts picture allowance old new x m n) (sym noted.0) (inr (record { none_kept = none; at = i; other = other; stops = s; noted = noted.1 }))
   judges_as old new i ending.BrokenOff verdict m n none s noted =
-      let P : Verdict → Type 0 = λ x. Judges clues facts picture allowance old new x m n in
-      subst P (sym noted.0) (record { none_kept = none; at = i; stops = s; noted = noted.1 })
+      subst (λ (x : Verdict). Judges clues facts picture allowance old new x m n) (sym noted.0) (record { none_kept = none; at = i; stops = s; noted = noted.1 })
 
   -- what is kept already
   pub keeps_other : (kept : List KeptPart) (other : List (List ℕ)) → FirstFilling kept other → Judges clues facts picture allowance kept kept Other 0 0
@@ -132,12 +129,6 @@ raised_both start before after m n a b = omega arith
 
 raised_from : (start made after n : ℕ) → made ≡ raised 0 n → after ≡ raised start made → after ≡ raised start n
 raised_from start made after n a b = omega arith
-
-no_work : (p t e f : ℕ) → (p ≡ 0 → e ≡ 0) → (t ≡ 0 → f ≡ 0) → p + t ≡ 0 → e + f ≡ 0
-no_work p t e f a b z =
-    let x = a (omega arith) in
-    let y = b (omega arith) in
-    omega arith
 
 pub done_none : (meter : Meter) (calls : ℕ) (Is : ℕ → ℕ → Type 0) → meter.evaluations < 2 ^ 64 → meter.trials < 2 ^ 64 → calls < 2 ^ 64 → Is 0 0 → Done 0 0 0 0 meter meter calls calls Is
 done_none meter calls Is c d e is = record {
@@ -174,7 +165,7 @@ done_both s t u a b c start between end p q r One Two Is d f join = record {
   searched_is = raised_both s t u d.searched f.searched d.searched_is f.searched_is;
   splits_is = raised_both a b c d.splits f.splits d.splits_is f.splits_is;
   counts = counting_adds d.evaluations 0 f.evaluations 0 start between end p q r d.counts f.counts;
-  none = no_work d.searched f.searched d.evaluations f.evaluations d.none f.none;
+  none = λ z. (let one = d.none (omega arith) in let other = f.none (omega arith) in omega arith);
   at_least = (let one = d.at_least in let other = f.at_least in omega arith);
 }
 

@@ -1,4 +1,5 @@
--- How the search of a part ends where no allowance is set: within some splits of the fixed order, or by what is true.
+-- How the search of a part ends where no allowance is set: within some splits of the fixed order, or by what is true; and what is
+-- found in a window.
 use Rattle.std.proofs.Common.{◌≡◌, ℕ, ◌+◌, ◌<◌, Option, None, Some, List, refl, subst, arith, inl, inr, [], ◌∷◌, length, sym, ap}
 use Rattle.std.specs.Prelude.{IfSome}
 use Rattle.clues.specs.ClueBook.{Clues}
@@ -63,8 +64,7 @@ counts_some_more start between end p q r a b =
 
 pub near_true : FillingsAreOfFacts → (clues : Clues) (givens : List ℕ) (facts picture : List (List ℕ)) → IsScene clues givens facts picture → (cells : List ℕ) (near : Option (List (List ℕ))) (other : List (List ℕ)) → near ≡ Some other → IfSome near (IsOtherFilling clues givens picture cells) → EndsTrue clues picture (alone cells facts picture) (ending.Found other)
 near_true fillings clues givens facts picture scene cells near other e h =
-    let P : Option (List (List ℕ)) → Type 0 = λ x. IfSome x (IsOtherFilling clues givens picture cells) in
-    (fillings clues givens facts picture other cells scene).0 (subst P e h)
+    (fillings clues givens facts picture other cells scene).0 (subst (λ (x : Option (List (List ℕ))). IfSome x (IsOtherFilling clues givens picture cells)) e h)
 
 -- ---- what is found in a window is another picture
 
@@ -96,9 +96,8 @@ more_open facts part old cells lines splits row col h l has is puts both = recor
 
 pub found_inside : CluesAreOfLines → BooksAreTheirClues → ClosingKeepsFillings → OnlyIsClosed → FillingsAreOfFacts → (clues : Clues) (givens : List ℕ) (facts picture : List (List ℕ)) → IsScene clues givens facts picture → (cells : List ℕ) (new : List (List ℕ)) → new ≡ alone cells facts picture → (most : Option ℕ) (count : ℕ) (ending : Ending) (other : List (List ℕ)) → ending ≡ Found other → (part : List ℕ) → ((r c : ℕ) → HasCell cells r c → HasCell part r c) → (n : ℕ) × ((count ≡ raised 0 n) × EndsAs clues picture new most ending n) → IsOtherFilling clues givens picture part other
 found_inside law books closing own fillings clues givens facts picture scene cells new same most count ending other f part among h =
-    let Q : Ending → Type 0 = λ x. EndsAs clues picture new most x h.0 in
     let R : List (List ℕ) → Type 0 = λ x. Searches clues picture (x ∷ []) (Some other) h.0 in
-    let one = one_found law books closing own fillings clues givens facts picture scene cells other h.0 (subst R same (subst Q f h.1.1).0) in
+    let one = one_found law books closing own fillings clues givens facts picture scene cells other h.0 (subst R same (subst (λ (x : Ending). EndsAs clues picture new most x h.0) f h.1.1).0) in
     record { is_other = one.is_other; elsewhere = λ row col off. one.elsewhere row col (λ has. off (among row col has)) }
 
 -- ---- closed facts of a scene

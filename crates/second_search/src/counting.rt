@@ -8,8 +8,8 @@ ghost use Rattle.second_search.specs.Looking.{AreRowsSettled};
 ghost use Rattle.second_search.specs.Searching.{CountsAny, CountsSome, EndsAs, raised};
 ghost use Rattle.second_search.specs.Stepping.{Compares, Spends, Steps};
 
-use crate::cell_lines::lines_at;
 use crate::coming::{Coming, Due, come_to};
+use crate::part_search::lines_at;
 use crate::pending::Pending;
 use clues::ClueBook;
 use line_settle::{Facts, LineEngine, Meter};

@@ -32,11 +32,10 @@ ghost use Rattle.second_search.specs.Judging.{
 ghost use Rattle.second_search.specs.Searching.{CountsAny};
 ghost use Rattle.second_search.specs.Scene.{CanSearch, IsWhole};
 
-use crate::carrying::{answer_for, are_named, first_cell};
+use crate::carrying::{answer_for, are_named, first_cell, same_lines};
 use crate::counting::{Ending, Searched};
 use crate::part_decision::decide_part;
 use crate::parts::Parts;
-use crate::same_lines::same_lines;
 use crate::scene::Scene;
 use line_settle::{Facts, LineEngine, Meter};
 use picture::{CellSet, LineSet, MAX_SIDE, Picture};

@@ -16,6 +16,7 @@ pub fn parts_are_one_list()
     ensures { PartsAreOneList }
 {}
 
+#[tactic(auto, using(crate::proofs::PartLemmas::apart))]
 /// Two parts that share a cell are one, and a part has with a cell all open cells of each line through it. Its cells are
 /// open and lie in the picture; a cell of the picture that is not open has the picture's colour alone left.
 pub fn parts_are_apart()
@@ -46,11 +47,13 @@ pub fn costs_are_unique()
     ensures { CostsAreUnique }
 {}
 
+#[tactic(auto, using(crate::proofs::CostLemmas::costs_are_there))]
 /// The search of facts in the fixed order ends, so that each part of a scene has a cost.
 pub fn costs_are_there()
     ensures { CostsAreThere }
 {}
 
+#[tactic(auto, using(crate::proofs::CostLemmas::costs_decide))]
 /// Under an allowance a picture is left undecided exactly where a part costs more: the first such part is the one at which its
 /// search is broken off.
 pub fn costs_decide()

@@ -7,9 +7,8 @@ ghost use Rattle.second_search.specs.Near.{IsWindow};
 ghost use Rattle.second_search.specs.Parts.{IsOtherFilling, IsScene};
 ghost use Rattle.second_search.specs.Scene.{CanSearch};
 
-use crate::cell_lines::put_both;
 use crate::counting::{Ending, Searched, Start, search_counted};
-use crate::part_search::{facts_on, lines_through};
+use crate::part_search::{facts_on, lines_through, put_both};
 use crate::parts::Parts;
 use crate::scene::Scene;
 use fixpoint::{CloseFault, settle_afresh};

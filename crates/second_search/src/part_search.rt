@@ -1,4 +1,4 @@
-//! The search of one part: the facts on it, with the picture's colours alone left elsewhere.
+//! The search of one part: the facts on it, with the picture's colours alone left elsewhere, and the lines through its cells.
 
 ghost use Rattle.std.specs.Prelude.{◌≡◌, ◌<◌, ℕ, length, IfOk, OnOk};
 ghost use Rattle.picture.specs.Rows.{width_of};
@@ -6,14 +6,14 @@ ghost use Rattle.line_settle.specs.FactSets.{SameShape};
 ghost use Rattle.fixpoint.specs.LineNames.{AreLinesOf};
 ghost use Rattle.second_search.specs.Parts.{IsPart};
 ghost use Rattle.second_search.specs.Searching.{CountsAny, CountsSome, EndsAs, KeepsOutside, alone, raised};
-ghost use Rattle.second_search.specs.Through.{LeavesRowAlone, PutsRow, PutsThrough};
+ghost use Rattle.second_search.specs.Through.{LeavesRowAlone, NamesBoth, PutsBoth, PutsRow, PutsThrough};
 ghost use Rattle.second_search.specs.Scene.{CanSearch, IsWhole};
 
-use crate::cell_lines::put_both;
 use crate::counting::{Searched, Start, search_counted};
 use crate::scene::Scene;
 use line_settle::{Facts, LineEngine, Meter};
-use picture::{CellSet, LineSet, Picture};
+use picture::{Axis, CellSet, LineId, LineSet, MAX_SIDE, Picture};
+use split_choice::Cell;
 use std::alloc::{AllocError, Global};
 
 // Searches one part for another filling. Only the lines through the part are evaluated.
@@ -96,4 +96,33 @@ fn leave_row_alone(facts: &mut Facts, picture: &Picture, cells: &CellSet, row: u
             facts.set_left(row, col, 1 << picture.cell(row, col));
         }
     }
+}
+
+// The names of the lines through a cell.
+pub(crate) fn lines_at(facts: &Facts, cell: Cell) -> LineSet
+    requires in_rows { cell.row < length facts.now }
+    requires in_columns { cell.col < width_of facts.now }
+    ensures lines { AreLinesOf facts.now result }
+    ensures both { NamesBoth result cell.row cell.col }
+{
+    let _ = facts.height();
+    let mut lines = LineSet::empty();
+    put_both(&mut lines, cell.row, cell.col);
+    lines
+}
+
+// Puts the names of the lines through a cell into a set.
+pub(crate) fn put_both(lines: &mut LineSet, row: u8, col: u8)
+    requires in_rows { row < MAX_SIDE }
+    requires in_columns { col < MAX_SIDE }
+    ensures { PutsBoth row col lines.old lines.new }
+{
+    lines.put(LineId {
+        axis: Axis::Across,
+        at: row,
+    });
+    lines.put(LineId {
+        axis: Axis::Down,
+        at: col,
+    });
 }

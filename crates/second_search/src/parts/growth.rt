@@ -110,13 +110,11 @@ impl Growth {
             ((line : LineId) → HasName self.now.waiting line → ⊥)
             (λ line. (line.at < MAX_SIDE) × HasName self.now.waiting line) }
     {
-        match self.waiting.first_from(Axis::Down, 0) {
-            Some(at) => Some(LineId {
-                axis: Axis::Down,
-                at,
-            }),
-            None => None,
-        }
+        let at = self.waiting.first_from(Axis::Down, 0)?;
+        Some(LineId {
+            axis: Axis::Down,
+            at,
+        })
     }
 
     // Takes in the open cells of a line that waits.

@@ -1,4 +1,4 @@
-use Rattle.std.proofs.Common.{ℕ, ◌<◌, ◌∙◌, List, length, Option, None, Some, arith, refl, rules, subst, sym}
+use Rattle.std.proofs.Common.{ℕ, ◌∙◌, List, Option, Some, arith, refl, subst}
 use Rattle.fixpoint.specs.LineNames.{AreLinesOf}
 use Rattle.split_choice.specs.declared.cell.Cell.{Cell}
 use Rattle.second_search.specs.Branching.{GoesOn}

@@ -3,7 +3,7 @@ use Rattle.picture.specs.Rows.{line_of}
 use Rattle.clues.specs.ClueBook.{clue_at}
 use Rattle.line_settle.specs.Fitting.{CanFit}
 use Rattle.second_search.proofs.LookLemmas.{below_next}
-use Rattle.second_search.proofs.tree_dead.dead_along.Goals as goal
+use Rattle.second_search.proofs.tree_step.dead_along.Goals as goal
 
 pub loop-at-preserved : goal.loop-at-preserved
 loop-at-preserved g c = record {

@@ -1,7 +1,7 @@
 use Rattle.std.proofs.Common.{inl, inr, refl}
 use Rattle.second_search.specs.Through.{across, down}
 use Rattle.second_search.proofs.AloneLemmas.{lines_more}
-use Rattle.second_search.proofs.cell_lines.lines_at.Goals as goal
+use Rattle.second_search.proofs.part_search.lines_at.Goals as goal
 
 pub returns-clause-lines : goal.returns-clause-lines
 returns-clause-lines c =
