@@ -1,11 +1,12 @@
 -- What is known of parts, carried from one scene to another.
 use Rattle.std.proofs.Common.{◌≡◌, ℕ, ◌+◌, ◌<◌, ◌≤◌, List, [], ◌∷◌, ◌++◌, length, get_or, refl, sym, ap, subst, ◌∙◌, arith, inl, inr}
 use Rattle.std.specs.Prelude.{slice_index}
-use Rattle.std.proofs.lemmas.List.{get_or_past, length-map}
-use Rattle.std.proofs.lemmas.Bool.{cases_eq, cases_lt}
+use Rattle.std.proofs.lemmas.List.{get_or_past, length-map, length_push}
+use Rattle.std.proofs.lemmas.Bool.{cases_lt}
 use Rattle.picture.specs.declared.line_id.Axis.{Axis}
 use Rattle.picture.specs.declared.line_id.Axis.TheVariants.{Across, Down}
 use Rattle.picture.specs.declared.line_id.LineId.{LineId}
+use Rattle.picture.specs.declared.picture.TheConstants.{MAX_SIDE}
 use Rattle.picture.specs.CellSet.{HasCell}
 use Rattle.picture.specs.Laws.{SameCellsAreEqual}
 use Rattle.picture.specs.LineSet.{Lines}
@@ -17,16 +18,16 @@ use Rattle.second_search.specs.declared.keeper.Answer.{Answer}
 use Rattle.second_search.specs.declared.keeper.Answer.TheVariants.{Filling, Nothing, Unknown}
 use Rattle.second_search.specs.declared.keeper.KeptPart.{KeptPart}
 use Rattle.second_search.specs.Carrying.{AreSameLines, Carries, CarriesFirst, HoldsCells, IsCarried, KnowsNothing, LieInside, NamesThrough, PutsOn, carried}
-use Rattle.second_search.specs.Judging.{IsTrueOf, Starts, answer_at, cells_at, kept_at, parts_of}
+use Rattle.second_search.specs.Judging.{IsTrueOf, Starts, answer_at, cells_at, parts_of}
 use Rattle.second_search.specs.Laws.{FillingsStay}
 use Rattle.second_search.specs.Parts.{AreParts, GoesThrough, IsPart, IsScene, KeepsLines, part_at, picked}
 use Rattle.second_search.proofs.AloneLemmas.{part_inside}
 use Rattle.second_search.proofs.ChainLemmas.{bit_or_not}
 use Rattle.second_search.proofs.GrowLemmas.{at_place, line_inside}
-use Rattle.second_search.proofs.OneListLemmas.{has_first, same_part}
+use Rattle.second_search.proofs.RowLemmas.{has_first, same_part}
 use Rattle.second_search.proofs.PartLemmas.{open_in_picture, part_open}
 use Rattle.second_search.proofs.PickLemmas.{off_part, on_part, outside_is_0, same_cells, shape_back, shape_of_picked, shape_on}
-use Rattle.second_search.proofs.VerdictLemmas.{each_is_part, front_at, last_at, one_longer, part_of_kept, same_parts}
+use Rattle.second_search.proofs.VerdictLemmas.{each_is_part, each_more, part_of_kept, same_parts}
 
 -- ---- colours put on some cells
 
@@ -36,8 +37,6 @@ is_picked cells other old new rows is full p =
     let like = shape_of_picked cells other old rect in
     let shape = shape_on new old (picked cells other old) (shape_back old new p.same_shape) (shape_back (picked cells other old) old like) in
     let outside : (row col : ℕ) → length (row_at old row) ≤ col → cell_at new row col ≡ cell_at (picked cells other old) row col = λ row col q.
-    let a = p.same_shape.each row in
-    let b = like.each row in
     outside_is_0 new row col (omega arith) ∙ sym (outside_is_0 (picked cells other old) row col (omega arith))
     in
     same_cells new (picked cells other old) shape (λ row col. elim (bit_or_not (slice_index cells row) col) [
@@ -53,6 +52,10 @@ is_picked cells other old new rows is full p =
 
 -- ---- a line through some cells
 
+pub few_lines : (axis : Axis) (rows : List (List ℕ)) → IsPicture rows → lines_along axis rows ≤ MAX_SIDE
+few_lines Across rows is = is.rows_fit
+few_lines Down rows is = is.columns_fit
+
 near_on : (facts : List (List ℕ)) (axis : Axis) (at row col i : ℕ) → IsFacts facts → at < lines_along axis facts → row < length facts → col < width_of facts → row ≡ row_on axis at i → col ≡ col_on axis at i → i < length (line_along axis at facts)
 near_on facts Across at row col i is l h w e f = let r = is.rectangular at l in omega arith
 near_on facts Down at row col i is l h w e f = let m = length-map facts (λ (line : List ℕ). get_or line at 0) in omega arith
@@ -62,9 +65,7 @@ stands_there cells facts line count is inside has e none t =
     let p = at_place line.axis line.at t.row t.col t.on_line in
     let i = inside t.row t.col t.has in
     let near = near_on facts line.axis line.at t.row t.col p.0 is has i.0 i.1 p.1.0 p.1.1 in
-    let P : ℕ → Type 0 = λ r. HasCell cells r t.col in
-    let Q : ℕ → Type 0 = λ c. HasCell cells (row_on line.axis line.at p.0) c in
-    none p.0 (omega arith) (subst Q p.1.1 (subst P p.1.0 t.has))
+    none p.0 (omega arith) (subst (λ (c : ℕ). HasCell cells (row_on line.axis line.at p.0) c) p.1.1 (subst (λ (r : ℕ). HasCell cells r t.col) p.1.0 t.has))
 
 -- a line through some cells inside a grid is one of its lines
 through_inside : (rows : List (List ℕ)) (cells : List ℕ) (line : LineId) → LieInside cells rows → GoesThrough line cells → HasLine rows line
@@ -107,9 +108,7 @@ module _ (clues : Clues) (facts picture : List (List ℕ)) (clues_after : Clues)
 
   pub carried_true : FillingsStay → (givens : List ℕ) (cells known_cells : List ℕ) (known answer : Answer) → IsScene clues givens facts picture → IsScene clues_after givens_after facts_after picture_after → KeepsLines clues facts picture clues_after facts_after picture_after cells → IsPart facts cells → known_cells ≡ cells → answer ≡ carried cells picture_after known → IsTrueOf clues givens picture known_cells known → IsTrueOf clues_after givens_after picture_after cells answer
   carried_true law givens cells known_cells known answer s t keeps p e same is =
-      let P : List ℕ → Type 0 = λ x. IsTrueOf clues givens picture x known in
-      let Q : Answer → Type 0 = λ a. IsTrueOf clues_after givens_after picture_after cells a in
-      subst Q (sym same) (still_true law givens cells s t keeps p known (subst P e is))
+      subst (λ (a : Answer). IsTrueOf clues_after givens_after picture_after cells a) (sym same) (still_true law givens cells s t keeps p known (subst (λ (x : List ℕ). IsTrueOf clues givens picture x known) e is))
 
 -- what is known of a part has a picture that holds its cells
 holds_cells : (clues : Clues) (givens : List ℕ) (facts picture : List (List ℕ)) (cells : List ℕ) → IsScene clues givens facts picture → IsPart facts cells → (answer : Answer) → IsTrueOf clues givens picture cells answer → HoldsCells cells answer
@@ -117,14 +116,12 @@ holds_cells clues givens facts picture cells s p Unknown known = tt
 holds_cells clues givens facts picture cells s p Nothing known = tt
 holds_cells clues givens facts picture cells s p (Filling other) known = λ row col h.
     let i = part_in_picture clues givens facts picture cells s p row col h in
-    let rows = known.is_other.solves.rows in
     let wide : width_of other ≡ width_of picture = known.is_other.solves.columns 0 in
     ((omega (arith, i.0)), (omega (arith, i.1)))
 
 pub holds_known : (clues : Clues) (givens : List ℕ) (facts picture : List (List ℕ)) (cells known_cells : List ℕ) (known : Answer) → IsScene clues givens facts picture → IsPart facts cells → known_cells ≡ cells → IsTrueOf clues givens picture known_cells known → HoldsCells cells known
 holds_known clues givens facts picture cells known_cells known s p e is =
-    let P : List ℕ → Type 0 = λ x. IsTrueOf clues givens picture x known in
-    holds_cells clues givens facts picture cells s p known (subst P e is)
+    holds_cells clues givens facts picture cells s p known (subst (λ (x : List ℕ). IsTrueOf clues givens picture x known) e is)
 
 -- ---- the parts that are kept
 
@@ -135,9 +132,7 @@ pub none_lacks : (facts : List (List ℕ)) (kept : List KeptPart) (cells : List 
 none_lacks facts kept cells row col are p h none =
     let held = are.all row col (part_open facts cells row col p h) in
     let count = length-map kept (λ (part : KeptPart). part.cells) in
-    let P : List ℕ → Type 0 = λ x. HasCell x row col in
-    let l = held.1.0 in
-    none held.0 (omega arith) (subst P (part_of_kept kept held.0) held.1.1)
+    none held.0 (omega arith) (subst (λ (x : List ℕ). HasCell x row col) (part_of_kept kept held.0) held.1.1)
 
 pub has_a_cell : (facts : List (List ℕ)) (cells : List ℕ) → IsFacts facts → IsPart facts cells → ((row col : ℕ) → row < length facts → col < width_of facts → HasCell cells row col → ⊥) → ⊥
 has_a_cell facts cells is p none =
@@ -151,18 +146,15 @@ kept_place same facts kept cells are p =
     let h = has_first facts cells p in
     let held = are.all p.row p.col (part_open facts cells p.row p.col p h) in
     let count = length-map kept (λ (part : KeptPart). part.cells) in
-    let P : List ℕ → Type 0 = λ x. HasCell x p.row p.col in
-    let l = held.1.0 in
     let near : held.0 < length kept = omega arith in
-    (held.0, (near, same_place same facts kept cells held.0 p.row p.col are p near (subst P (part_of_kept kept held.0) held.1.1) h))
+    (held.0, (near, same_place same facts kept cells held.0 p.row p.col are p near (subst (λ (x : List ℕ). HasCell x p.row p.col) (part_of_kept kept held.0) held.1.1) h))
 
 -- where nothing is known of any part, nothing is carried
 pub nothing_known : FillingsStay → SameCellsAreEqual → (clues : Clues) (facts picture : List (List ℕ)) (clues_after : Clues) (givens_after : List ℕ) (facts_after picture_after : List (List ℕ)) (old new : List KeptPart) → AreParts facts (parts_of old) → KnowsNothing old (length old) → Starts facts_after new → Carries clues facts picture clues_after facts_after picture_after old new
 nothing_known law same clues facts picture clues_after givens_after facts_after picture_after old new are none starts = λ i l.
     let cells = cells_at new i in
     let p = each_is_part facts_after new starts.parts i l in
-    let P : Answer → Type 0 = λ answer. IsCarried clues facts picture clues_after facts_after picture_after old cells answer in
-    subst P (sym (starts.unknown i)) (record {
+    subst (λ (answer : Answer). IsCarried clues facts picture clues_after facts_after picture_after old cells answer) (sym (starts.unknown i)) (record {
       keeps = λ keeps.
           let at = kept_place same facts old cells are (part_before clues facts picture clues_after givens_after facts_after picture_after law cells p keeps) in
           (Unknown, (record { at = at.0; place = at.1.0; cells_are = at.1.1; answer_is = none at.0 at.1.0 }, refl));
@@ -173,27 +165,12 @@ pub carries_more : (clues : Clues) (facts picture : List (List ℕ)) (clues_afte
     → more ≡ kept ++ ((record { cells = cells; answer = answer }) ∷ []) → cells ≡ part_at parts count → IsCarried clues facts picture clues_after facts_after picture_after old cells answer → IsTrueOf clues_after givens_after picture_after cells answer → CarriesFirst clues facts picture clues_after givens_after facts_after picture_after old parts more (count + 1)
 carries_more clues facts picture clues_after givens_after facts_after picture_after old parts kept more cells answer count c e same is known =
     let part : KeptPart = record { cells = cells; answer = answer } in
-    let all = kept ++ (part ∷ []) in
     let n = c.count_is in
-    let P : List KeptPart → Type 0 = λ xs. CarriesFirst clues facts picture clues_after givens_after facts_after picture_after old parts xs (count + 1) in
-    let L : ℕ → Type 0 = λ k. kept_at all k ≡ part in
-    let last : kept_at all count ≡ part = subst L n (last_at kept part) in
-    let Is : KeptPart → Type 0 = λ x. IsCarried clues facts picture clues_after facts_after picture_after old x.cells x.answer in
-    let True : KeptPart → Type 0 = λ x. IsTrueOf clues_after givens_after picture_after x.cells x.answer in
-    let each : (Q : KeptPart → Type 0) → Q part → ((i : ℕ) → i < count → Q (kept_at kept i)) → (i : ℕ) → i < count + 1 → Q (kept_at all i) = λ Q here before i l. elim (cases_eq i count) [
-      | inl q ↦ (let R : ℕ → Type 0 = λ k. Q (kept_at all k) in subst R (sym q) (subst Q (sym last) here))
-      | inr d ↦ subst Q (sym (front_at kept part i (omega arith))) (before i (omega arith))
-    ] in
-    subst P (sym e) (record {
-      count_is = (let m = one_longer kept part in omega arith);
-      cells = λ i l. elim (cases_eq i count) [
-        | inl q ↦
-            let R : ℕ → Type 0 = λ k. cells_at all k ≡ part_at parts k in
-            subst R (sym q) (ap (λ (x : KeptPart). x.cells) last ∙ same)
-        | inr d ↦ ap (λ (x : KeptPart). x.cells) (front_at kept part i (omega arith)) ∙ c.cells i (omega arith)
-      ];
-      carries = each Is is c.carries;
-      true_answers = each True known c.true_answers;
+    subst (λ (xs : List KeptPart). CarriesFirst clues facts picture clues_after givens_after facts_after picture_after old parts xs (count + 1)) (sym e) (record {
+      count_is = (let m = length_push kept part in omega arith);
+      cells = each_more (λ i x. x.cells ≡ part_at parts i) kept part count n c.cells same;
+      carries = each_more (λ i x. IsCarried clues facts picture clues_after facts_after picture_after old x.cells x.answer) kept part count n c.carries is;
+      true_answers = each_more (λ i x. IsTrueOf clues_after givens_after picture_after x.cells x.answer) kept part count n c.true_answers known;
     })
 
 pub all_carried : (facts parts : List (List ℕ)) (kept : List KeptPart) (count : ℕ) → AreParts facts parts → length kept ≡ count → ((i : ℕ) → i < count → cells_at kept i ≡ part_at parts i) → count ≡ length parts → AreParts facts (parts_of kept)

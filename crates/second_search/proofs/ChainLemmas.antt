@@ -79,11 +79,9 @@ one_colour mask some small e h = h.differ (only_lowest mask h.one some small e h
 pub tests_two : (mask : ℕ) → 0 < mask → mask < 2 ^ 16 → IsTrue (not (nat_eq (but_lowest mask) 0)) ↔ HasTwoColours mask
 tests_two mask some small = elim (cases_eq (but_lowest mask) 0) [
   | inl e ↦
-      let P : Bool → Type 0 = λ b. IsTrue (not b) ↔ HasTwoColours mask in
-      subst P (sym (eq-eqb (but_lowest mask) 0 e)) ((λ (t : false ≡ true). absurd cc), (λ h. absurd (one_colour mask some small e h)))
+      subst (λ (b : Bool). IsTrue (not b) ↔ HasTwoColours mask) (sym (eq-eqb (but_lowest mask) 0 e)) ((λ (t : false ≡ true). absurd cc), (λ h. absurd (one_colour mask some small e h)))
   | inr d ↦
-      let P : Bool → Type 0 = λ b. IsTrue (not b) ↔ HasTwoColours mask in
-      subst P (sym (ne_eqb (but_lowest mask) 0 d)) ((λ t. two_colours mask some small (lower_mask mask small) d), (λ h. refl))
+      subst (λ (b : Bool). IsTrue (not b) ↔ HasTwoColours mask) (sym (ne_eqb (but_lowest mask) 0 d)) ((λ t. two_colours mask some small (lower_mask mask small) d), (λ h. refl))
 ]
 
 -- ---- chains

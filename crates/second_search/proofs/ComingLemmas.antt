@@ -43,8 +43,6 @@ one_only mask other j k e a b = let P : ℕ → Type 0 = λ m. IsBitSet m j in (
 -- settled facts show one picture
 one_shown : (settled p q : List (List ℕ)) → IsFacts settled → Shows settled p → Shows settled q → p ≡ q
 one_shown settled p q is a b =
-    let rows = b.same_shape.rows in
-    let wide : width_of q ≡ width_of settled = b.same_shape.each 0 in
     same_inside p q (width_of q) (shape_trans a.same_shape (shape_sym b.same_shape)) b.is_picture.rectangular (λ r c h l.
     one_only (cell_at settled r c) (cell_at settled r c) (cell_at p r c) (cell_at q r c) refl (a.only r c (omega arith) (omega arith)) (b.only r c (omega arith) (omega arith)))
 
@@ -71,8 +69,7 @@ one_first facts c d a b = elim (cases_lt c.row d.row) [
 
 not_both : (settled facts picture : List (List ℕ)) (cell : Cell) → settled ≡ facts → Shows settled picture → IsFirstUnsettled facts cell → ⊥
 not_both settled facts picture cell e s f =
-    let P : List (List ℕ) → Type 0 = λ x. Shows x picture in
-    let t : Shows facts picture = subst P e s in
+    let t : Shows facts picture = subst (λ (x : List (List ℕ)). Shows x picture) e s in
     f.is.unsettled (cell_at picture cell.row cell.col) (t.only cell.row cell.col f.is.in_rows f.is.in_columns)
 
 module _ (unique : LeastIsUnique) (clues : Clues) (facts : List (List ℕ)) where
@@ -85,15 +82,13 @@ module _ (unique : LeastIsUnique) (clues : Clues) (facts : List (List ℕ)) wher
   agree Dies (Splits t d) h k = alive clues facts t k.0 h
   agree (Ends p) Dies h k = alive clues facts h.0 h.1.0 k
   agree (Ends p) (Ends q) h k =
-      let P : List (List ℕ) → Type 0 = λ x. Shows x p in
-      one_shown k.0 p q k.1.0.are_facts (subst P (one_settled h.0 k.0 h.1.0 k.1.0) h.1.1) k.1.1
+      one_shown k.0 p q k.1.0.are_facts (subst (λ (x : List (List ℕ)). Shows x p) (one_settled h.0 k.0 h.1.0 k.1.0) h.1.1) k.1.1
   agree (Ends p) (Splits t d) h k = not_both h.0 t p d (one_settled h.0 t h.1.0 k.0) h.1.1 k.1
   agree (Splits s c) Dies h k = alive clues facts s h.0 k
   agree (Splits s c) (Ends q) h k = not_both k.0 s q c (one_settled k.0 s k.1.0 h.0) k.1.1 h.1
   agree (Splits s c) (Splits t d) h k =
       let e = one_settled s t h.0 k.0 in
-      let P : List (List ℕ) → Type 0 = λ x. IsFirstUnsettled x c in
-      (e, one_first t c d (subst P e h.1) k.1)
+      (e, one_first t c d (subst (λ (x : List (List ℕ)). IsFirstUnsettled x c) e h.1) k.1)
 
 -- ---- what a search does next
 
@@ -124,9 +119,7 @@ leads_as clues known others found n (Ends p) (Splits t d) g l = absurd g
 leads_as clues known others found n (Splits s c) Dies g l = absurd g
 leads_as clues known others found n (Splits s c) (Ends q) g l = absurd g
 leads_as clues known others found n (Splits s c) (Splits t d) g l =
-    let P : List (List ℕ) → Type 0 = λ x. Leads clues known others (Splits x c) found n in
-    let Q : Cell → Type 0 = λ x. Leads clues known others (Splits t x) found n in
-    subst Q g.1 (subst P g.0 l)
+    subst (λ (x : Cell). Leads clues known others (Splits t x) found n) g.1 (subst (λ (x : List (List ℕ)). Leads clues known others (Splits x c) found n) g.0 l)
 
 -- a search of facts that come to something goes on as that leads
 pub leads : LeastIsUnique → (clues : Clues) (known facts : List (List ℕ)) (others : List (List (List ℕ))) (coming : Coming) (found : Option (List (List ℕ))) (n : ℕ) → Comes clues facts coming → Searches clues known (facts ∷ others) found n → Leads clues known others coming found n
@@ -143,13 +136,11 @@ comes_of : (clues : Clues) (facts settled : List (List ℕ)) (outcome : Outcome)
 comes_of clues facts settled outcome c e Dies h = absurd h
 comes_of clues facts settled outcome c e (Ends picture) h = (settled, (record { are_facts = h.0; least = c.least e; fits = c.fits e }, h.1))
 comes_of clues facts settled outcome c e (Splits more cell) h =
-    let P : List (List ℕ) → Type 0 = λ x. SettlesTo clues facts x × IsFirstUnsettled x cell in
-    subst P (sym h.0) (record { are_facts = h.1.0; least = c.least e; fits = c.fits e }, h.1.1)
+    subst (λ (x : List (List ℕ)). SettlesTo clues facts x × IsFirstUnsettled x cell) (sym h.0) (record { are_facts = h.1.0; least = c.least e; fits = c.fits e }, h.1.1)
 
 pub comes_closed : (clues : Clues) (facts first settled : List (List ℕ)) (outcome : Outcome) (coming : Result Coming AllocError) → first ≡ facts → Closes clues first settled outcome → outcome ≡ Narrowed → IfOk coming (ComesClosed settled) → IfOk coming (Comes clues facts)
 comes_closed clues facts first settled outcome (Ok coming) same c e h =
-    let P : List (List ℕ) → Type 0 = λ x. Closes clues x settled outcome in
-    comes_of clues facts settled outcome (subst P same c) e coming h
+    comes_of clues facts settled outcome (subst (λ (x : List (List ℕ)). Closes clues x settled outcome) same c) e coming h
 comes_closed clues facts first settled outcome (Err fault) same c e h = h
 
 -- what holds whatever facts come to

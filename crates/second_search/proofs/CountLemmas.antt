@@ -1,5 +1,5 @@
 -- A search that counts its splits: what waits ends as the first facts do, but for the splits made so far.
-use Rattle.std.proofs.Common.{◌≡◌, ℕ, suc, ◌+◌, ◌*◌, ◌^◌, ◌<◌, ◌⊎◌, Option, None, Some, List, [], ◌∷◌, ◌++◌, length, refl, sym, ap, subst, ◌∙◌, arith, inl, inr}
+use Rattle.std.proofs.Common.{◌≡◌, ℕ, suc, ◌+◌, ◌^◌, ◌<◌, ◌⊎◌, Option, None, Some, List, [], ◌∷◌, ◌++◌, refl, sym, ap, subst, ◌∙◌, arith, inl, inr}
 use Rattle.picture.specs.Rows.{cell_at}
 use Rattle.clues.specs.ClueBook.{Clues}
 use Rattle.line_settle.specs.declared.meter.Meter.{Meter}
@@ -10,17 +10,15 @@ use Rattle.split_choice.specs.declared.cell.Cell.{Cell}
 use Rattle.second_search.specs.declared.coming.Coming.{Coming}
 use Rattle.second_search.specs.declared.coming.Coming.TheVariants.{Dies, Ends, Splits}
 use Rattle.second_search.specs.declared.counting.Ending.TheVariants as ending
-use Rattle.second_search.specs.declared.counting.Step.{Step}
-use Rattle.second_search.specs.declared.counting.Step.TheVariants as step
+use Rattle.second_search.specs.declared.counting.Ending.{Ending}
 use Rattle.second_search.specs.Branching.{AreSameAbove, Search, search_of}
 use Rattle.second_search.specs.Looking.{AreRowsSettled}
 use Rattle.second_search.specs.Searching.{Allows, Comes, CountsSome, EndsAs, Searches, SplitsPast, none_waits, is_dead, is_known, is_other, is_split, once_more, past_dead, past_known, past_split, raised}
 use Rattle.second_search.specs.Stepping.{Compares, IsOneLess, Steps}
 use Rattle.second_search.proofs.ComingLemmas.{leads}
 use Rattle.second_search.proofs.LookLemmas.{rows_same}
-use Rattle.second_search.proofs.WeightLemmas.{branches_lighter, load, load_append, load_more, weight, weight_within}
-use Rattle.std.proofs.Math.Pow.{pow_mono, pow_pos}
-use Rattle.picture.specs.Rows.{row_at}
+use Rattle.second_search.proofs.TreeLemmas.{ended_lighter, split_lighter, within_lighter}
+use Rattle.second_search.proofs.WeightLemmas.{load}
 use Rattle.line_settle.specs.Branches.{branches}
 
 -- the search of what waits ends as that of the first facts, with n splits less
@@ -61,17 +59,13 @@ going_passes unique clues known first facts others n g (inr c) = record {
 pub going_splits : LeastIsUnique → (clues : Clues) (known first facts settled : List (List ℕ)) (cell : Cell) (others : List (List (List ℕ))) (n : ℕ) → Going clues known first (facts ∷ others) n → Comes clues facts (Splits settled cell) → Going clues known first (branches settled cell.row cell.col (cell_at settled cell.row cell.col) ++ others) (suc n)
 going_splits unique clues known first facts settled cell others n g c = record {
   on = λ found m s.
-      let P : ℕ → Type 0 = λ x. Searches clues known (first ∷ []) found x in
-      subst P (let e : suc m + n ≡ m + suc n = omega arith in e) (g.on found (suc m) (is_split facts others settled cell found m c s));
+      subst (λ (x : ℕ). Searches clues known (first ∷ []) found x) (let e : suc m + n ≡ m + suc n = omega arith in e) (g.on found (suc m) (is_split facts others settled cell found m c s));
   back = λ found m s.
       let b = g.back found m s in
       let l = leads unique clues known facts others (Splits settled cell) found b.0 c b.1.1 in
-      let same = b.1.0 in
-      let more = l.1.0 in
       (l.0, ((let e : m ≡ l.0 + suc n = omega arith in e), l.1.1));
   past = λ m s.
-      let P : ℕ → Type 0 = λ x. SplitsPast clues known (first ∷ []) x in
-      subst P (let e : suc m + n ≡ m + suc n = omega arith in e) (g.past (suc m) (past_split facts others settled cell m c s));
+      subst (λ (x : ℕ). SplitsPast clues known (first ∷ []) x) (let e : suc m + n ≡ m + suc n = omega arith in e) (g.past (suc m) (past_split facts others settled cell m c s));
 }
 
 -- ---- how it ends
@@ -88,10 +82,7 @@ all_left (Some most) = (most, (refl, (let e : most ≡ most + 0 = omega arith in
 pub one_less : (allowance left rest : Option ℕ) (n : ℕ) → IsLeft allowance n left → IsOneLess left rest → IsLeft allowance (suc n) rest
 one_less None left rest n h l = let P : Option ℕ → Type 0 = λ x. IsOneLess x rest in subst P h l
 one_less (Some most) left rest n h l =
-    let P : Option ℕ → Type 0 = λ x. IsOneLess x rest in
-    let less : IsOneLess (Some h.0) rest = subst P h.1.0 l in
-    let a = less.1.0 in
-    let b = h.1.1 in
+    let less : IsOneLess (Some h.0) rest = subst (λ (x : Option ℕ). IsOneLess x rest) h.1.0 l in
     (less.0, (less.1.1, (let e : most ≡ less.0 + suc n = omega arith in e)))
 
 allowed : (allowance left : Option ℕ) (n : ℕ) → IsLeft allowance n left → Allows allowance n
@@ -106,21 +97,17 @@ used : (allowance left : Option ℕ) (n : ℕ) → IsLeft allowance n left → l
 used None left n h e = absurd (let x : None ≡ Some 0 = sym h ∙ e in absurd cc)
 used (Some most) left n h e =
     let z : h.0 ≡ 0 = ap some_left (sym h.1.0 ∙ e) in
-    let b = h.1.1 in
     ap Some (let s : most ≡ n = omega arith in s)
 
 pub ends_with_nothing : (clues : Clues) (known first : List (List ℕ)) (waiting : List (List (List ℕ))) (n : ℕ) (allowance left : Option ℕ) → Going clues known first waiting n → waiting ≡ [] → IsLeft allowance n left → EndsAs clues known first allowance ending.Nothing n
 ends_with_nothing clues known first waiting n allowance left g e l =
-    let P : List (List (List ℕ)) → Type 0 = λ x. Searches clues known x None 0 in
-    let s : Searches clues known (first ∷ []) None (0 + n) = g.on None 0 (subst P (sym e) none_waits) in
-    let Q : ℕ → Type 0 = λ x. Searches clues known (first ∷ []) None x in
-    (subst Q (let z : 0 + n ≡ n = omega arith in z) s, allowed allowance left n l)
+    let s : Searches clues known (first ∷ []) None (0 + n) = g.on None 0 (subst (λ (x : List (List (List ℕ))). Searches clues known x None 0) (sym e) none_waits) in
+    (subst (λ (x : ℕ). Searches clues known (first ∷ []) None x) (let z : 0 + n ≡ n = omega arith in z) s, allowed allowance left n l)
 
 pub ends_with_other : (clues : Clues) (known first facts picture : List (List ℕ)) (others : List (List (List ℕ))) (n : ℕ) (allowance left : Option ℕ) → Going clues known first (facts ∷ others) n → Comes clues facts (Ends picture) → (picture ≡ known → ⊥) → IsLeft allowance n left → EndsAs clues known first allowance (ending.Found picture) n
 ends_with_other clues known first facts picture others n allowance left g c d l =
     let s : Searches clues known (first ∷ []) (Some picture) (0 + n) = g.on (Some picture) 0 (is_other facts others picture c d) in
-    let Q : ℕ → Type 0 = λ x. Searches clues known (first ∷ []) (Some picture) x in
-    (subst Q (let z : 0 + n ≡ n = omega arith in z) s, allowed allowance left n l)
+    (subst (λ (x : ℕ). Searches clues known (first ∷ []) (Some picture) x) (let z : 0 + n ≡ n = omega arith in z) s, allowed allowance left n l)
 
 pub ends_broken_off : LeastIsUnique → (clues : Clues) (known first facts settled : List (List ℕ)) (cell : Cell) (others : List (List (List ℕ))) (n : ℕ) (allowance left : Option ℕ) → Going clues known first (facts ∷ others) n → Comes clues facts (Splits settled cell) → left ≡ Some 0 → IsLeft allowance n left → EndsAs clues known first allowance ending.BrokenOff n
 ends_broken_off unique clues known first facts settled cell others n allowance left g c z l = (
@@ -131,8 +118,6 @@ ends_broken_off unique clues known first facts settled cell others n allowance l
     (λ cost h.
         let b = g.back h.0 cost h.1 in
         let m = leads unique clues known facts others (Splits settled cell) h.0 b.0 c b.1.1 in
-        let e = b.1.0 in
-        let f = m.1.0 in
         omega arith),
   ),
 )
@@ -156,8 +141,7 @@ pub record Counting (clues : Clues) (known first : List (List ℕ)) (allowance :
 
 pub counting_starts : (clues : Clues) (known first : List (List ℕ)) (allowance : Option ℕ) (start : ℕ) (s : Search) → start < 2 ^ 32 → s ≡ search_of first [] [] → Counting clues known first allowance start (s.at_hand ∷ s.behind) allowance start
 counting_starts clues known first allowance start s l e =
-    let P : Search → Type 0 = λ x. Counting clues known first allowance start (x.at_hand ∷ x.behind) allowance start in
-    subst P (sym e) (record {
+    subst (λ (x : Search). Counting clues known first allowance start (x.at_hand ∷ x.behind) allowance start) (sym e) (record {
       made = 0;
       going = going_starts clues known first;
       is_left = all_left allowance;
@@ -166,11 +150,10 @@ counting_starts clues known first allowance start s l e =
 
 pub counting_at : (clues : Clues) (known first : List (List ℕ)) (allowance : Option ℕ) (start : ℕ) (waiting : List (List (List ℕ))) (s : Search) (left : Option ℕ) (count : ℕ) → Counting clues known first allowance start waiting left count → waiting ≡ s.at_hand ∷ s.behind → Counting clues known first allowance start (s.at_hand ∷ s.behind) left count
 counting_at clues known first allowance start waiting s left count c e =
-    let P : List (List (List ℕ)) → Type 0 = λ x. Counting clues known first allowance start x left count in
-    subst P e c
+    subst (λ (x : List (List (List ℕ))). Counting clues known first allowance start x left count) e c
 
-pub counting_passes : LeastIsUnique → (clues : Clues) (known first : List (List ℕ)) (allowance : Option ℕ) (start : ℕ) (s t : Search) (left rest : Option ℕ) (count more : ℕ) → Counting clues known first allowance start (s.at_hand ∷ s.behind) left count → Steps clues known s t left rest count more step.Passed → Counting clues known first allowance start t.behind rest more
-counting_passes unique clues known first allowance start s t left rest count more c h =
+pub counting_goes : LeastIsUnique → (clues : Clues) (known first : List (List ℕ)) (allowance : Option ℕ) (start : ℕ) (s t : Search) (left rest : Option ℕ) (count more : ℕ) → Counting clues known first allowance start (s.at_hand ∷ s.behind) left count → Steps clues known s t left rest count more None → Counting clues known first allowance start t.behind rest more
+counting_goes unique clues known first allowance start s t left rest count more c (inl h) =
     let P : Option ℕ → Type 0 = λ x. IsLeft allowance c.made x in
     let Q : List (List (List ℕ)) → Type 0 = λ x. Going clues known first x c.made in
     let e = ap (λ (x : Search). x.behind) (sym h.1.0) in
@@ -180,9 +163,7 @@ counting_passes unique clues known first allowance start s t left rest count mor
       is_left = subst P (sym h.1.1.0) c.is_left;
       counted = h.1.1.1 ∙ c.counted;
     }
-
-pub counting_splits : LeastIsUnique → (clues : Clues) (known first : List (List ℕ)) (allowance : Option ℕ) (start : ℕ) (s t : Search) (left rest : Option ℕ) (count more : ℕ) → Counting clues known first allowance start (s.at_hand ∷ s.behind) left count → Steps clues known s t left rest count more step.Split → Counting clues known first allowance start t.behind rest more
-counting_splits unique clues known first allowance start s t left rest count more c h =
+counting_goes unique clues known first allowance start s t left rest count more c (inr h) =
     let Q : List (List (List ℕ)) → Type 0 = λ x. Going clues known first x (suc c.made) in
     let e = ap (λ (x : Search). x.behind) (sym h.0.new_is) in
     record {
@@ -197,12 +178,11 @@ counting_splits unique clues known first allowance start s t left rest count mor
 pub counted_nothing : (clues : Clues) (known first : List (List ℕ)) (allowance : Option ℕ) (start : ℕ) (waiting : List (List (List ℕ))) (left : Option ℕ) (count : ℕ) → Counting clues known first allowance start waiting left count → waiting ≡ [] → (n : ℕ) × ((count ≡ raised start n) × EndsAs clues known first allowance ending.Nothing n)
 counted_nothing clues known first allowance start waiting left count c e = (c.made, (c.counted, ends_with_nothing clues known first waiting c.made allowance left c.going e c.is_left))
 
-pub counted_other : (clues : Clues) (known first picture : List (List ℕ)) (allowance : Option ℕ) (start : ℕ) (s t : Search) (left rest : Option ℕ) (count more : ℕ) → Counting clues known first allowance start (s.at_hand ∷ s.behind) left count → Steps clues known s t left rest count more (step.Other picture) → (n : ℕ) × ((more ≡ raised start n) × EndsAs clues known first allowance (ending.Found picture) n)
-counted_other clues known first picture allowance start s t left rest count more c h =
+pub counted_ending : LeastIsUnique → (clues : Clues) (known first : List (List ℕ)) (allowance : Option ℕ) (start : ℕ) (s t : Search) (left rest : Option ℕ) (count more : ℕ) → Counting clues known first allowance start (s.at_hand ∷ s.behind) left count → (found : Ending) → Steps clues known s t left rest count more (Some found) → (n : ℕ) × ((more ≡ raised start n) × EndsAs clues known first allowance found n)
+counted_ending unique clues known first allowance start s t left rest count more c ending.Nothing h = absurd h
+counted_ending unique clues known first allowance start s t left rest count more c (ending.Found picture) h =
     (c.made, (h.1 ∙ c.counted, ends_with_other clues known first s.at_hand picture s.behind c.made allowance left c.going h.0.0 h.0.1 c.is_left))
-
-pub counted_halted : LeastIsUnique → (clues : Clues) (known first : List (List ℕ)) (allowance : Option ℕ) (start : ℕ) (s t : Search) (left rest : Option ℕ) (count more : ℕ) → Counting clues known first allowance start (s.at_hand ∷ s.behind) left count → Steps clues known s t left rest count more step.Halted → (n : ℕ) × ((more ≡ raised start n) × EndsAs clues known first allowance ending.BrokenOff n)
-counted_halted unique clues known first allowance start s t left rest count more c h =
+counted_ending unique clues known first allowance start s t left rest count more c ending.BrokenOff h =
     (c.made, (h.1.1 ∙ c.counted, ends_broken_off unique clues known first s.at_hand h.0.0 h.0.1.0 s.behind c.made allowance left c.going h.0.1.1 h.1.0 c.is_left))
 
 -- ---- what a split leaves
@@ -210,36 +190,24 @@ counted_halted unique clues known first allowance start s t left rest count more
 -- the rows that were settled are the same in the facts that are split
 pub split_same : (clues : Clues) (facts first settled : List (List ℕ)) (coming : Coming) (cell : Cell) (rows : ℕ) → first ≡ facts → coming ≡ Splits settled cell → Comes clues first coming → AreRowsSettled facts rows → AreSameAbove facts settled rows
 split_same clues facts first settled coming cell rows e f c above =
-    let P : List (List ℕ) → Type 0 = λ x. Comes clues x coming in
-    let Q : Coming → Type 0 = λ x. Comes clues facts x in
-    let h : Comes clues facts (Splits settled cell) = subst Q f (subst P e c) in
+    let h : Comes clues facts (Splits settled cell) = subst (λ (x : Coming). Comes clues facts x) f (subst (λ (x : List (List ℕ)). Comes clues x coming) e c) in
     rows_same clues facts settled rows h.0.are_facts h.0.least.holds h.0.fits above
 
 -- ---- what waits weighs less
 
-pub passes_lighter : (clues : Clues) (known : List (List ℕ)) (s t u : Search) (left rest : Option ℕ) (count more : ℕ) → Steps clues known s t left rest count more step.Passed → t.behind ≡ u.at_hand ∷ u.behind → load (u.at_hand ∷ u.behind) < load (s.at_hand ∷ s.behind)
-passes_lighter clues known s t u left rest count more h e =
+pub goes_lighter : (clues : Clues) (known : List (List ℕ)) (s t u : Search) (left rest : Option ℕ) (count more : ℕ) → Steps clues known s t left rest count more None → t.behind ≡ u.at_hand ∷ u.behind → load (u.at_hand ∷ u.behind) < load (s.at_hand ∷ s.behind)
+goes_lighter clues known s t u left rest count more (inl h) e =
     let all : load s.behind ≡ load (u.at_hand ∷ u.behind) = ap load (ap (λ (x : Search). x.behind) (sym h.1.0) ∙ e) in
-    let head = load_more s.at_hand s.behind in
-    let p = pow_pos (5 * weight s.at_hand) in
+    let less = ended_lighter s.at_hand s.behind in
     omega arith
-
-pub splits_lighter : (clues : Clues) (known : List (List ℕ)) (s t u : Search) (left rest : Option ℕ) (count more : ℕ) → Steps clues known s t left rest count more step.Split → t.behind ≡ u.at_hand ∷ u.behind → load (u.at_hand ∷ u.behind) < load (s.at_hand ∷ s.behind)
-splits_lighter clues known s t u left rest count more h e =
+goes_lighter clues known s t u left rest count more (inr h) e =
     let settled = h.0.settled in
     let cell = h.0.cell in
     let to = h.0.comes.0 in
-    let at = h.0.comes.1.is in
     let front = branches settled cell.row cell.col (cell_at settled cell.row cell.col) in
-    let rect = to.are_facts.rectangular cell.row at.in_rows in
-    let inside = at.in_columns in
-    let wide : cell.col < length (row_at settled cell.row) = omega arith in
-    let less = weight_within s.at_hand settled to.least.holds in
-    let most = pow_mono {i = 5 * weight settled} {j = 5 * weight s.at_hand} (omega arith) in
-    let light = branches_lighter settled cell.row cell.col at.in_rows wide at.unsettled in
     let all : load (front ++ s.behind) ≡ load (u.at_hand ∷ u.behind) = ap load (ap (λ (x : Search). x.behind) (sym h.0.new_is) ∙ e) in
-    let both = load_append front s.behind in
-    let head = load_more s.at_hand s.behind in
+    let less = split_lighter settled s.behind cell to.are_facts h.0.comes.1.is in
+    let most = within_lighter s.at_hand settled s.behind to.least.holds in
     omega arith
 
 -- ---- the engine's work
@@ -253,27 +221,23 @@ counts_more start between end p q r a b = (a.0 + b.0, counting_adds a.0 0 b.0 0 
 -- with one evaluation at least behind the others there is one
 pub counts_some : (start between end : Meter) (p q r : ℕ) → (evaluations : ℕ) × Counts evaluations 0 start between p q → CountsSome between end q r → CountsSome start end p r
 counts_some start between end p q r a b =
-    let m = b.1.0 in
     (a.0 + b.0, (omega arith, counting_adds a.0 0 b.0 0 start between end p q r a.1 b.1.1))
 
 -- ---- one look
 
 -- a picture compared with the known one
-pub compared : (clues : Clues) (known facts picture : List (List ℕ)) (s : Search) (coming : Coming) (left : Option ℕ) (count : ℕ) (found : Step) → facts ≡ s.at_hand → coming ≡ Ends picture → Comes clues facts coming → Compares known picture found → Steps clues known s s left left count count found
+pub compared : (clues : Clues) (known facts picture : List (List ℕ)) (s : Search) (coming : Coming) (left : Option ℕ) (count : ℕ) (found : Option Ending) → facts ≡ s.at_hand → coming ≡ Ends picture → Comes clues facts coming → Compares known picture found → Steps clues known s s left left count count found
 compared clues known facts picture s coming left count found e f c h =
-    let P : List (List ℕ) → Type 0 = λ x. Comes clues x coming in
-    let Q : Coming → Type 0 = λ x. Comes clues s.at_hand x in
-    by found (subst Q f (subst P e c)) h
+    by found (subst (λ (x : Coming). Comes clues s.at_hand x) f (subst (λ (x : List (List ℕ)). Comes clues x coming) e c)) h
   where
-    by : (found : Step) → Comes clues s.at_hand (Ends picture) → Compares known picture found → Steps clues known s s left left count count found
-    by step.Passed c e = let R : List (List ℕ) → Type 0 = λ x. Comes clues s.at_hand (Ends x) in (inr (subst R e c), (refl, (refl, refl)))
-    by step.Split c e = absurd e
-    by (step.Other other) c e =
+    by : (found : Option Ending) → Comes clues s.at_hand (Ends picture) → Compares known picture found → Steps clues known s s left left count count found
+    by None c e = let R : List (List ℕ) → Type 0 = λ x. Comes clues s.at_hand (Ends x) in inl (inr (subst R e c), (refl, (refl, refl)))
+    by (Some ending.Nothing) c e = absurd e
+    by (Some (ending.Found other)) c e =
         let R : List (List ℕ) → Type 0 = λ x. Comes clues s.at_hand (Ends x) in
         ((subst R (sym e.0) c, (λ d. e.1 (sym e.0 ∙ d))), refl)
-    by step.Halted c e = absurd e
+    by (Some ending.BrokenOff) c e = absurd e
 
-pub steps_as : (clues : Clues) (known : List (List ℕ)) (s t : Search) (left rest : Option ℕ) (count more : ℕ) (found named : Step) → found ≡ named → Steps clues known s t left rest count more found → Steps clues known s t left rest count more named
+pub steps_as : (clues : Clues) (known : List (List ℕ)) (s t : Search) (left rest : Option ℕ) (count more : ℕ) (found named : Option Ending) → found ≡ named → Steps clues known s t left rest count more found → Steps clues known s t left rest count more named
 steps_as clues known s t left rest count more found named e h =
-    let P : Step → Type 0 = λ x. Steps clues known s t left rest count more x in
-    subst P e h
+    subst (λ (x : Option Ending). Steps clues known s t left rest count more x) e h

@@ -5,7 +5,7 @@ use Rattle.picture.specs.declared.line_id.Axis.{Axis}
 use Rattle.picture.specs.declared.line_id.Axis.TheVariants.{Across, Down}
 use Rattle.picture.specs.declared.line_id.LineId.{LineId}
 use Rattle.picture.specs.Picture.{IsPicture}
-use Rattle.picture.specs.Rows.{width_of, row_at, cell_at, line_of, lines_along, HasLine}
+use Rattle.picture.specs.Rows.{width_of, cell_at, line_of, lines_along, HasLine}
 use Rattle.clues.specs.Clue.{clue_of}
 use Rattle.clues.specs.ClueBook.{Clues, clues_along, clues_of}
 use Rattle.clues.specs.Laws.{BooksAreTheirClues, CluesAreOfLines}
@@ -16,8 +16,6 @@ use Rattle.line_settle.specs.Branches.{branches, colours_of, held}
 use Rattle.fixpoint.specs.Closing.{EachFits}
 use Rattle.fixpoint.specs.Filling.{Fills, only}
 use Rattle.fixpoint.specs.Laws.{ClosingKeepsFillings, OnlyIsClosed}
-use Rattle.second_search.specs.declared.counting.Ending.{Ending}
-use Rattle.second_search.specs.declared.counting.Ending.TheVariants.{BrokenOff, Found, Nothing}
 use Rattle.second_search.specs.Branching.{FillsSome}
 use Rattle.second_search.specs.Looking.{Shows}
 use Rattle.second_search.specs.Searching.{Searches, alone, none_waits, is_dead, is_known, is_other, is_split}
@@ -25,7 +23,7 @@ use Rattle.second_search.specs.Laws.{FillingsAreOfFacts}
 use Rattle.second_search.specs.Parts.{IsOtherFilling, IsScene}
 use Rattle.second_search.proofs.FindLemmas.{some_behind, some_both, some_front, split_fills}
 use Rattle.second_search.proofs.LookLemmas.{one_filling, shown_fills}
-use Rattle.second_search.proofs.PickLemmas.{shape_of_picked}
+use Rattle.second_search.proofs.PickLemmas.{rect_like, shape_of_picked}
 
 -- ---- the clues of a picture that settled facts show
 
@@ -49,8 +47,7 @@ shown_line clues settled picture line own is s has len keeps =
     let col = col_on line.axis line.at i in
     let p = place_on settled line i is has (omega arith) in
     let only = s.only row col p.0 p.1 in
-    let P : ℕ → Type 0 = λ m. IsBitSet m (get_or own i 0) in
-    (only (get_or own i 0)).0 (subst P (cell_on settled line i) (keeps i (omega arith))) ∙ sym (cell_on picture line i))
+    (only (get_or own i 0)).0 (subst (λ (m : ℕ). IsBitSet m (get_or own i 0)) (cell_on settled line i) (keeps i (omega arith))) ∙ sym (cell_on picture line i))
 
 pub shown_clues : CluesAreOfLines → BooksAreTheirClues → (clues : Clues) (settled picture : List (List ℕ)) → IsFacts settled → EachFits clues settled → Shows settled picture → IsSized clues settled → clues_of picture ≡ clues
 shown_clues law books clues settled picture is fits s sized = books (clues_of picture) clues
@@ -121,10 +118,7 @@ module _ (law : CluesAreOfLines) (books : BooksAreTheirClues) (closing : Closing
 sized_alone : CluesAreOfLines → OnlyIsClosed → (clues : Clues) (facts picture : List (List ℕ)) (cells : List ℕ) → IsPicture picture → clues_of picture ≡ clues → IsSized clues (alone cells facts picture)
 sized_alone law own clues facts picture cells is e =
     let shape = own.same_shape picture in
-    let wide : width_of picture ≡ width_of (only picture) = shape.each 0 in
-    let high = shape.rows in
-    let rect : (i : ℕ) → i < length (only picture) → length (row_at (only picture) i) ≡ width_of (only picture) = λ i l. (let each = shape.each i in let r = is.rectangular i (omega arith) in omega arith) in
-    let onto = shape_of_picked cells facts (only picture) rect in
+    let onto = shape_of_picked cells facts (only picture) (rect_like picture (only picture) shape is.rectangular) in
     let P : Clues → Type 0 = λ c. IsSized c picture in
     sized_like clues picture (alone cells facts picture) (shape_trans shape (shape_sym onto)) (subst P e (record { rows = sym (law.sizes picture Across); columns = sym (law.sizes picture Down) }))
 
@@ -139,9 +133,3 @@ module _ (law : CluesAreOfLines) (books : BooksAreTheirClues) (closing : Closing
   one_found cells other n s =
       let among : FindsAmong clues picture (alone cells facts picture ∷ []) (Some other) = finds_among law books closing clues picture (alone cells facts picture ∷ []) (Some other) n s (sized_alone law own clues facts picture cells scene.is_picture scene.has_clues, tt) in
       (fillings clues givens facts picture other cells scene).1 (elim among.1 [ inl f ↦ f | inr none ↦ absurd none ], among.0)
-
--- a search that ended with another picture
-abbrev pub IsFound : Ending → Type 0
-IsFound Nothing = ⊥
-IsFound (Found picture) = Unit {0}
-IsFound BrokenOff = ⊥

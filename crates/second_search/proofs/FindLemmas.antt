@@ -1,4 +1,4 @@
--- What is searched while facts wait: nothing that fills the first facts gets lost.
+-- What is searched while facts wait: nothing that fills the first facts gets lost; and sound facts.
 use Rattle.std.proofs.Common.{◌≡◌, ℕ, zero, suc, ◌+◌, ◌^◌, ◌<◌, ◌≤◌, ◌⊎◌, ◌↔◌, ◌==◌, Bool, true, false, cond, eq-eqb, eqb-true, Option, None, Some, List, [], ◌∷◌, ◌++◌, length, replicate, refl, sym, ap, subst, ◌∙◌, arith, inl, inr}
 use Rattle.std.specs.Prelude.{IsBitSet}
 use Rattle.std.specs.List.{filter, range_with_len}
@@ -7,22 +7,26 @@ use Rattle.std.proofs.lemmas.Bool.{cases_eq, cases_lt}
 use Rattle.std.proofs.lemmas.List.{get_or_past, get_or-replicate, length-replicate}
 use Rattle.picture.specs.declared.line_id.Axis.{Axis}
 use Rattle.picture.specs.declared.line_id.Axis.TheVariants.{Across, Down}
-use Rattle.picture.specs.CellSet.{HasCell}
+use Rattle.picture.specs.CellSet.{HasCell, PutsCell}
 use Rattle.picture.specs.Picture.{IsPicture}
 use Rattle.picture.specs.Rows.{width_of, row_at, cell_at, lines_along, with_cell}
 use Rattle.clues.specs.ClueBook.{Clues, clues_along, clues_of}
-use Rattle.line_settle.specs.FactSets.{IsFacts, IsWithin, Leaves, SameShape}
+use Rattle.line_settle.specs.FactSets.{IsFacts, IsWithin, Leaves, SameShape, IsBase, IsLeast, nothing_excluded, with_given}
 use Rattle.fixpoint.specs.Closing.{AreClosable}
 use Rattle.fixpoint.specs.FillingLaws.{fills_fewer}
 use Rattle.fixpoint.specs.Filling.{Fills}
 use Rattle.second_search.specs.Branching.{FillsSome}
 use Rattle.second_search.specs.Looking.{FindsFilling}
 use Rattle.second_search.specs.Other.{AreSound, FindsFirst, FindsOther, HasClues}
-use Rattle.line_settle.specs.GridLaws.{shape_refl, shape_sym, shape_trans, at_with_cell, off_with_cell, shape_with_cell}
-use Rattle.picture.specs.BitLaws.{bit_below, bit_is_set, power_has, set_bit}
+use Rattle.line_settle.specs.GridLaws.{shape_refl, shape_sym, shape_trans, shape_with_cell, full_shape, all_left, at_with_cell, off_with_cell}
+use Rattle.picture.specs.BitLaws.{bit_below, bit_is_set, power_has, set_bit, no_bit}
 use Rattle.clues.specs.Solution.{Solves}
 use Rattle.line_settle.specs.SolutionLaws.{solved_shape}
 use Rattle.line_settle.specs.Branches.{branches, colours_of, held}
+use Rattle.second_search.proofs.GridLemmas.{set_each}
+use Rattle.fixpoint.specs.Laws.{ClosingKeepsFillings}
+use Rattle.second_search.specs.Laws.{SoundFacts}
+use Rattle.clues.specs.SolutionLaws.{solves_fewer}
 
 -- ---- a cell held to each of its colours
 
@@ -32,41 +36,14 @@ held_fills clues facts picture row col k h l f e = record {
   is_picture = f.is_picture;
   same_shape = shape_trans f.same_shape (shape_with_cell facts row col (2 ^ k));
   has_clues = f.has_clues;
-  leaves = λ r c m. elim (cases_eq r row) [
-    | inr d ↦ let P : ℕ → Type 0 = λ x. IsBitSet x (cell_at picture r c) in subst P (sym (off_with_cell facts row col (2 ^ k) r c (λ p. d p.0))) (f.leaves r c m)
-    | inl er ↦ elim (cases_eq c col) [
-      | inr d ↦ let P : ℕ → Type 0 = λ x. IsBitSet x (cell_at picture r c) in subst P (sym (off_with_cell facts row col (2 ^ k) r c (λ p. d p.1))) (f.leaves r c m)
-      | inl ec ↦
-          let P : ℕ → ℕ → Type 0 = λ i j. IsBitSet (cell_at (with_cell facts row col (2 ^ k)) i j) (cell_at picture i j) in
-          let Q : ℕ → Type 0 = λ x. IsBitSet x (cell_at picture row col) in
-          let here : P row col = subst Q (sym (at_with_cell facts row col (2 ^ k) h l)) ((power_has k (cell_at picture row col)).1 e) in
-          let R : ℕ → Type 0 = λ i. P i c in
-          let S : ℕ → Type 0 = λ j. P row j in
-          subst R (sym er) (subst S (sym ec) here)
-    ]
-  ];
+  leaves = set_each facts row col (2 ^ k) h l (λ r c x. c < length (row_at picture r) → IsBitSet x (cell_at picture r c)) (λ m. (power_has k (cell_at picture row col)).1 e) (λ r c d. f.leaves r c);
 }
 
 pub held_within : (facts : List (List ℕ)) (row col k : ℕ) → row < length facts → col < length (row_at facts row) → Leaves facts row col k → IsWithin facts (with_cell facts row col (2 ^ k))
 held_within facts row col k h l s = record {
   same_shape = shape_with_cell facts row col (2 ^ k);
-  leaves = λ r c x t. elim (cases_eq r row) [
-    | inr d ↦ let P : ℕ → Type 0 = λ m. IsBitSet m x in subst P (off_with_cell facts row col (2 ^ k) r c (λ p. d p.0)) t
-    | inl er ↦ elim (cases_eq c col) [
-      | inr d ↦ let P : ℕ → Type 0 = λ m. IsBitSet m x in subst P (off_with_cell facts row col (2 ^ k) r c (λ p. d p.1)) t
-      | inl ec ↦
-          let P : ℕ → ℕ → Type 0 = λ i j. IsBitSet (cell_at (with_cell facts row col (2 ^ k)) i j) x in
-          let R : ℕ → Type 0 = λ i. P i c in
-          let S : ℕ → Type 0 = λ j. P row j in
-          let at : P row col = subst S ec (subst R er t) in
-          let Q : ℕ → Type 0 = λ m. IsBitSet m x in
-          let e = (power_has k x).0 (subst Q (at_with_cell facts row col (2 ^ k) h l) at) in
-          let V : ℕ → Type 0 = λ i. Leaves facts i c x in
-          let W : ℕ → Type 0 = λ j. Leaves facts row j x in
-          let X : ℕ → Type 0 = λ y. Leaves facts row col y in
-          subst V (sym er) (subst W (sym ec) (subst X (sym e) s))
-    ]
-  ];
+  leaves = λ r c j.
+      set_each facts row col (2 ^ k) h l (λ r c x. IsBitSet x j → Leaves facts r c j) (λ t. subst (λ (i : ℕ). Leaves facts row col i) (sym ((power_has k j).0 t)) s) (λ r c d t. t) r c;
 }
 
 -- a number in a list of numbers
@@ -131,10 +108,8 @@ each_colour mask = each_kept (λ k. bit_at mask k == 1) (λ k. IsBitSet mask k) 
 -- a picture fills facts exactly where it fills one of the branches of a cell
 pub split_fills : (clues : Clues) (facts picture : List (List ℕ)) (row col : ℕ) → IsFacts facts → row < length facts → col < width_of facts → Fills clues facts picture ↔ FillsSome clues (branches facts row col (cell_at facts row col)) picture
 split_fills clues facts picture row col is h l =
-    let rect = is.rectangular row h in
     let l' : col < length (row_at facts row) = omega arith in (
       (λ f.
-          let each = f.same_shape.each row in
           some_held clues facts picture row col h l' f (colours_of (cell_at facts row col)) (among_colours (cell_at facts row col) (cell_at picture row col) (is.masks row col) (f.leaves row col (omega arith)))),
       (λ s. held_some clues facts picture row col h l' (colours_of (cell_at facts row col)) (each_colour (cell_at facts row col)) s),
     )
@@ -199,19 +174,15 @@ solves_fills clues givens picture facts other s h = record {
 
 pub finds_other : (clues : Clues) (givens : List ℕ) (picture facts first : List (List ℕ)) (found : Option (List (List ℕ))) → AreSound clues givens picture facts → first ≡ facts → FindsFilling clues first picture found → FindsOther clues givens picture found
 finds_other clues givens picture facts first None s e h = λ other o.
-    let P : List (List ℕ) → Type 0 = λ x. Fills clues x other in
-    h other (subst P (sym e) (solves_fills clues givens picture facts other s o.solves)) o.differs
+    h other (subst (λ (x : List (List ℕ)). Fills clues x other) (sym e) (solves_fills clues givens picture facts other s o.solves)) o.differs
 finds_other clues givens picture facts first (Some other) s e h =
-    let P : List (List ℕ) → Type 0 = λ x. Fills clues x other in
-    record { solves = fills_solves clues givens picture facts other s (subst P e h.0); differs = h.1 }
+    record { solves = fills_solves clues givens picture facts other s (subst (λ (x : List (List ℕ)). Fills clues x other) e h.0); differs = h.1 }
 
 pub can_close : (clues : Clues) (picture facts first : List (List ℕ)) (longest : ℕ) → ((axis : Axis) → length (clues_along axis (clues_of picture)) ≡ lines_along axis picture) → clues_of picture ≡ clues → SameShape picture facts → first ≡ facts → length clues.rows ≤ longest → length clues.columns ≤ longest → AreClosable clues longest first
 can_close clues picture facts first longest sizes e s same tall wide =
     let P : List (List ℕ) → Type 0 = AreClosable clues longest in
     let rows : length clues.rows ≡ length picture = ap (λ (c : Clues). length c.rows) (sym e) ∙ sizes Across in
     let columns : length clues.columns ≡ width_of picture = ap (λ (c : Clues). length c.columns) (sym e) ∙ sizes Down in
-    let high = s.rows in
-    let each : width_of picture ≡ width_of facts = s.each 0 in
     subst P (sym same) (record { rows = omega arith; columns = omega arith; wide = omega arith; tall = omega arith })
 
 -- a picture with the clues fills facts of the clues' size that exclude nothing
@@ -241,6 +212,68 @@ all_fills clues picture facts height width sizes h tall wide shape left =
 pub finds_first : (clues : Clues) (facts blank : List (List ℕ)) (height width : ℕ) (found : Option (List (List ℕ))) → ((picture : List (List ℕ)) (axis : Axis) → length (clues_along axis (clues_of picture)) ≡ lines_along axis picture) → height ≡ length clues.rows → width ≡ length clues.columns → facts ≡ replicate height (replicate {A = ℕ} width 65535) → ((row col k : ℕ) → row < height → col < width → k < 16 → Leaves facts row col k) → (clues_of blank ≡ clues → ⊥) → FindsFilling clues facts blank found → FindsFirst clues found
 finds_first clues facts blank height width None sizes tall wide e left n h = λ picture has.
     let P : List (List ℕ) → Type 0 = λ x. SameShape (replicate height (replicate {A = ℕ} width 65535)) x in
-    let Q : List (List ℕ) → Type 0 = λ x. clues_of x ≡ clues in
-    h picture (all_fills clues picture facts height width (sizes picture) has tall wide (subst P (sym e) (shape_refl _)) left) (λ same. n (subst Q same has.has_clues))
+    h picture (all_fills clues picture facts height width (sizes picture) has tall wide (subst P (sym e) (shape_refl _)) left) (λ same. n (subst (λ (x : List (List ℕ)). clues_of x ≡ clues) same has.has_clues))
 finds_first clues facts blank height width (Some picture) sizes tall wide e left n h = record { is_picture = h.0.is_picture; has_clues = h.0.has_clues }
+
+-- ---- sound facts
+
+-- a cell of a row of a picture lies in the picture
+row_inside : (picture : List (List ℕ)) (row col : ℕ) → IsPicture picture → col < length (row_at picture row) → (row < length picture) × (col < width_of picture)
+row_inside picture row col is l = elim (cases_lt row (length picture)) [
+  | inl h ↦ (h, (let r = is.rectangular row h in omega arith))
+  | inr p ↦ absurd (let none : length (row_at picture row) ≡ 0 = ap length (get_or_past picture row [] p) in omega arith)
+]
+
+-- a cell where a colour is left lies in the facts
+left_inside : (facts : List (List ℕ)) (row col k : ℕ) → Leaves facts row col k → col < length (row_at facts row)
+left_inside facts row col k s = elim (cases_lt col (length (row_at facts row))) [
+  | inl l ↦ l
+  | inr p ↦ absurd (no_bit k (let P : ℕ → Type 0 = λ m. IsBitSet m k in subst P (get_or_past (row_at facts row) col 0 p) s))
+]
+
+none_sound : (clues : Clues) (givens : List ℕ) (picture : List (List ℕ)) → IsPicture picture → ((row col : ℕ) → HasCell givens row col → ⊥) → AreSound clues givens picture (nothing_excluded (length picture) (width_of picture))
+none_sound clues givens picture is n = record {
+  same_shape = full_shape picture is;
+  hold_givens = λ row col k g s. absurd (n row col g);
+  leave = λ other h row col l.
+      let i = row_inside other row col h.is_picture l in
+      all_left (length picture) (width_of picture) row col (cell_at other row col) (omega arith) (omega arith) (h.is_picture.colours row col);
+}
+
+base_sound : (clues : Clues) (givens : List ℕ) (picture base : List (List ℕ)) → IsPicture picture → IsBase givens picture base → AreSound clues givens picture base
+base_sound clues givens picture base is b = record {
+  same_shape = b.same_shape;
+  hold_givens = λ row col k g s.
+      let l = left_inside base row col k s in
+      let i = row_inside picture row col is (omega arith) in
+      ((b.left row col k i.0 i.1).0 s).1 g;
+  leave = λ other h row col l.
+      let i = row_inside other row col h.is_picture l in
+      (b.left row col (cell_at other row col) (omega arith) (omega arith)).1 (h.is_picture.colours row col, h.keeps_givens row col);
+}
+
+more_sound : (clues : Clues) (givens more : List ℕ) (picture facts : List (List ℕ)) (row col : ℕ) → IsPicture picture → row < length picture → col < width_of picture → PutsCell givens more row col → AreSound clues givens picture facts → AreSound clues more picture (with_given picture facts row col)
+more_sound clues givens more picture facts row col is h l p s =
+    let colour = cell_at picture row col in
+    let rect = is.rectangular row h in
+    record {
+      same_shape = shape_trans s.same_shape (shape_with_cell facts row col (2 ^ colour));
+      hold_givens = λ r c k g. set_each facts row col (2 ^ colour) (omega arith) (omega arith) (λ r c m. HasCell more r c → IsBitSet m k → k ≡ cell_at picture r c)
+          (λ g. (power_has colour k).0)
+          (λ r c d g. s.hold_givens r c k (elim ((p r c).0 g) [ inl old ↦ old | inr e ↦ absurd (d e) ])) r c g;
+      leave = λ other o. set_each facts row col (2 ^ colour) (omega arith) (omega arith) (λ r c m. c < length (row_at other r) → IsBitSet m (cell_at other r c))
+          (λ i. (power_has colour (cell_at other row col)).1 (o.keeps_givens row col ((p row col).1 (inr (refl, refl)))))
+          (λ r c d. s.leave other (solves_fewer clues (HasCell more) (HasCell givens) picture other (λ r c g. (p r c).1 (inl g)) o) r c);
+    }
+
+settled_sound : ClosingKeepsFillings → (clues : Clues) (givens : List ℕ) (picture facts settled : List (List ℕ)) → IsLeast clues facts settled → AreSound clues givens picture facts → AreSound clues givens picture settled
+settled_sound closing clues givens picture facts settled t s = record {
+  same_shape = shape_trans s.same_shape t.holds.same_shape;
+  hold_givens = λ row col k g x. s.hold_givens row col k g (t.holds.leaves row col k x);
+  leave = λ other h.
+      let fills : Fills clues facts other = record { is_picture = h.is_picture; same_shape = shape_trans (solved_shape h) s.same_shape; has_clues = h.has_clues; leaves = s.leave other h } in
+      ((closing.least clues facts settled other t).0 fills).leaves;
+}
+
+pub all_sound : ClosingKeepsFillings → SoundFacts
+all_sound closing = record { none = none_sound; base = base_sound; one_more = more_sound; settled = settled_sound closing }

@@ -1,5 +1,5 @@
 -- Grids of one shape, and a cell set and set back.
-use Rattle.std.proofs.Common.{◌≡◌, ℕ, ◌<◌, List, [], length, get_or, sym, ap, subst, ◌∙◌, arith, inl, inr}
+use Rattle.std.proofs.Common.{◌≡◌, ℕ, ◌<◌, ◌⊎◌, List, [], length, get_or, refl, sym, ap, subst, ◌∙◌, arith, inl, inr}
 use Rattle.std.proofs.lemmas.Bool.{cases_eq, cases_lt}
 use Rattle.std.proofs.lemmas.List.{ext_get_or, get_or_past}
 use Rattle.picture.specs.Rows.{row_at, cell_at, with_cell}
@@ -27,13 +27,26 @@ same_inside a b width s rect h = same_grid a b s (λ r c. elim (cases_lt r (leng
     | inl m ↦ h r c l m
     | inr p ↦
         let wide = rect r l in
-        let each = s.each r in
         get_or_past (row_at a r) c 0 (omega arith) ∙ sym (get_or_past (row_at b r) c 0 (omega arith))
   ]
   | inr p ↦
-      let rows = s.rows in
       ap (λ (row : List ℕ). get_or row c 0) (get_or_past a r [] (omega arith)) ∙ sym (ap (λ (row : List ℕ). get_or row c 0) (get_or_past b r [] p))
 ])
+
+-- two things that are so or not
+pub both_or_not : {A B : Type 0} → A ⊎ (A → ⊥) → B ⊎ (B → ⊥) → (A × B) ⊎ (A × B → ⊥)
+both_or_not (inl a) (inl b) = inl (a, b)
+both_or_not (inl a) (inr n) = inr (λ p. n p.1)
+both_or_not (inr n) b = inr (λ p. n p.0)
+
+-- what holds of the cell that is set, and of each other one as it was, holds of each
+pub set_each : (facts : List (List ℕ)) (row col x : ℕ) → row < length facts → col < length (row_at facts row) → (P : ℕ → ℕ → ℕ → Type 0) → P row col x → ((r c : ℕ) → ((r ≡ row) × (c ≡ col) → ⊥) → P r c (cell_at facts r c)) → (r c : ℕ) → P r c (cell_at (with_cell facts row col x) r c)
+set_each facts row col x h l P here off r c = elim (both_or_not (cases_eq r row) (cases_eq c col)) [
+  | inr d ↦ subst (P r c) (sym (off_with_cell facts row col x r c d)) (off r c d)
+  | inl e ↦
+      let R : ℕ → Type 0 = λ j. P row j (cell_at (with_cell facts row col x) row j) in
+      subst (λ (i : ℕ). P i c (cell_at (with_cell facts row col x) i c)) (sym e.0) (subst R (sym e.1) (subst (P row col) (sym (at_with_cell facts row col x h l)) here))
+]
 
 -- a cell that is set and set back
 pub cell_back : (facts : List (List ℕ)) (i j x : ℕ) → i < length facts → j < length (row_at facts i) → with_cell (with_cell facts i j x) i j (cell_at facts i j) ≡ facts
@@ -41,28 +54,8 @@ cell_back facts i j x h l =
     let one = with_cell facts i j x in
     let shape = shape_with_cell facts i j x in
     let again = shape_with_cell one i j (cell_at facts i j) in
-    same_grid (with_cell one i j (cell_at facts i j)) facts (shape_sym (shape_trans shape again)) (λ r c. elim (cases_eq r i) [
-      | inr d ↦ off_with_cell one i j (cell_at facts i j) r c (λ p. d p.0) ∙ off_with_cell facts i j x r c (λ p. d p.0)
-      | inl e ↦ elim (cases_eq c j) [
-        | inr d ↦ off_with_cell one i j (cell_at facts i j) r c (λ p. d p.1) ∙ off_with_cell facts i j x r c (λ p. d p.1)
-        | inl f ↦
-            let P : ℕ → Type 0 = λ n. cell_at (with_cell one i j (cell_at facts i j)) n c ≡ cell_at facts n c in
-            let Q : ℕ → Type 0 = λ n. cell_at (with_cell one i j (cell_at facts i j)) i n ≡ cell_at facts i n in
-            let rows = shape.rows in
-            let each = shape.each i in
-            subst P (sym e) (subst Q (sym f) (at_with_cell one i j (cell_at facts i j) (omega arith) (omega arith)))
-      ]
-    ])
+    same_grid (with_cell one i j (cell_at facts i j)) facts (shape_sym (shape_trans shape again)) (set_each one i j (cell_at facts i j) (omega arith) (omega arith) (λ r c y. y ≡ cell_at facts r c) refl (off_with_cell facts i j x))
 
 -- a cell that is given the mask that it has
 pub same_cell : (facts : List (List ℕ)) (i j : ℕ) → i < length facts → j < length (row_at facts i) → with_cell facts i j (cell_at facts i j) ≡ facts
-same_cell facts i j h l = same_grid (with_cell facts i j (cell_at facts i j)) facts (shape_sym (shape_with_cell facts i j (cell_at facts i j))) (λ r c. elim (cases_eq r i) [
-  | inr d ↦ off_with_cell facts i j (cell_at facts i j) r c (λ p. d p.0)
-  | inl e ↦ elim (cases_eq c j) [
-    | inr d ↦ off_with_cell facts i j (cell_at facts i j) r c (λ p. d p.1)
-    | inl f ↦
-        let P : ℕ → Type 0 = λ n. cell_at (with_cell facts i j (cell_at facts i j)) n c ≡ cell_at facts n c in
-        let Q : ℕ → Type 0 = λ n. cell_at (with_cell facts i j (cell_at facts i j)) i n ≡ cell_at facts i n in
-        subst P (sym e) (subst Q (sym f) (at_with_cell facts i j (cell_at facts i j) h l))
-  ]
-])
+same_cell facts i j h l = same_grid (with_cell facts i j (cell_at facts i j)) facts (shape_sym (shape_with_cell facts i j (cell_at facts i j))) (set_each facts i j (cell_at facts i j) h l (λ r c y. y ≡ cell_at facts r c) refl (λ r c d. refl))

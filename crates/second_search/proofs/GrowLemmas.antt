@@ -15,6 +15,7 @@ use Rattle.second_search.specs.declared.parts.growth.Growth.{Growth}
 use Rattle.second_search.specs.Growing.{HasOpenCellsOf, IsGrown, Leaves, TakesIn}
 use Rattle.second_search.specs.Parts.{IsChained, IsOpenCell, ShareLine, begins, goes_on}
 use Rattle.second_search.proofs.ChainLemmas.{open_inside}
+use Rattle.second_search.proofs.LookLemmas.{below_next}
 
 -- ---- lines
 
@@ -24,7 +25,7 @@ same_axis Down Down = inl refl
 same_axis Across Down = inr (λ (e : Across ≡ Down). absurd cc)
 same_axis Down Across = inr (λ (e : Down ≡ Across). absurd cc)
 
-abbrev line_named : Axis → ℕ → LineId
+abbrev pub line_named : Axis → ℕ → LineId
 line_named axis at = record { axis = axis; at = at }
 
 pub same_line : (one other : LineId) → (one ≡ other) ⊎ (one ≡ other → ⊥)
@@ -72,13 +73,9 @@ whole_line facts line cells count is has e h r c on o =
     let p = at_place line.axis line.at r c on in
     let row = row_on line.axis line.at p.0 in
     let col = col_on line.axis line.at p.0 in
-    let P : ℕ → Type 0 = λ i. IsOpenCell facts i c in
-    let Q : ℕ → Type 0 = λ j. IsOpenCell facts row j in
-    let there : IsOpenCell facts row col = subst Q p.1.1 (subst P p.1.0 o) in
-    let R : ℕ → Type 0 = λ j. HasCell cells row j in
-    let S : ℕ → Type 0 = λ i. HasCell cells i c in
+    let there : IsOpenCell facts row col = subst (λ (j : ℕ). IsOpenCell facts row j) p.1.1 (subst (λ (i : ℕ). IsOpenCell facts i c) p.1.0 o) in
     let near = none_past facts line.axis line.at p.0 is has there in
-    subst S (sym p.1.0) (subst R (sym p.1.1) (h p.0 (omega arith) there))
+    subst (λ (i : ℕ). HasCell cells i c) (sym p.1.0) (subst (λ (j : ℕ). HasCell cells row j) (sym p.1.1) (h p.0 (omega arith) there))
 
 -- ---- cells and lines
 
@@ -88,23 +85,17 @@ grown_first facts row col old new is o all no_cell no_line t = record {
   chained = λ r c h. elim ((t.cells r c).0 h) [
     | inl was ↦ absurd (no_cell r c was)
     | inr e ↦
-        let P : ℕ → Type 0 = λ i. IsChained facts row col i col in
-        let Q : ℕ → Type 0 = λ j. IsChained facts row col r j in
-        subst Q (sym e.1) (subst P (sym e.0) (begins o))
+        subst (λ (j : ℕ). IsChained facts row col r j) (sym e.1) (subst (λ (i : ℕ). IsChained facts row col i col) (sym e.0) (begins o))
   ];
   waits = λ r c line h on un. (t.waiting line).1 (elim ((t.cells r c).0 h) [
     | inl was ↦ absurd (no_cell r c was)
     | inr e ↦
-        let Q : ℕ → Type 0 = λ i. IsOnLine line i c in
-        let R : ℕ → Type 0 = λ j. IsOnLine line row j in
-        let U : Lines → Type 0 = λ names. HasName names line in
-        inr (subst U t.unvisited un, subst R e.1 (subst Q e.0 on))
+        inr (subst (λ (names : Lines). HasName names line) t.unvisited un, subst (λ (j : ℕ). IsOnLine line row j) e.1 (subst (λ (i : ℕ). IsOnLine line i c) e.0 on))
   ]);
   reached = λ line w. elim ((t.waiting line).0 w) [
     | inl was ↦ absurd (no_line line was)
     | inr p ↦
-        let U : Lines → Type 0 = λ names. HasName names line in
-        (subst U (sym t.unvisited) p.0, record { row = row; col = col; has = (t.cells row col).1 (inr (refl, refl)); on_line = p.1 })
+        (subst (λ (names : Lines). HasName names line) (sym t.unvisited) p.0, record { row = row; col = col; has = (t.cells row col).1 (inr (refl, refl)); on_line = p.1 })
   ];
   visited = λ r c line on un o.
       let U : Lines → Type 0 = λ names. HasName names line in
@@ -119,18 +110,14 @@ grown_more facts row col r c old new chain t g = record {
   chained = λ s d h. elim ((t.cells s d).0 h) [
     | inl was ↦ g.chained s d was
     | inr e ↦
-        let P : ℕ → Type 0 = λ i. IsChained facts row col i c in
-        let Q : ℕ → Type 0 = λ j. IsChained facts row col s j in
-        subst Q (sym e.1) (subst P (sym e.0) chain)
+        subst (λ (j : ℕ). IsChained facts row col s j) (sym e.1) (subst (λ (i : ℕ). IsChained facts row col i c) (sym e.0) chain)
   ];
   waits = λ s d line h on un.
       let U : Lines → Type 0 = λ names. HasName names line in
       (t.waiting line).1 (elim ((t.cells s d).0 h) [
         | inl was ↦ inl (g.waits s d line was on (subst U t.unvisited un))
         | inr e ↦
-            let Q : ℕ → Type 0 = λ i. IsOnLine line i d in
-            let R : ℕ → Type 0 = λ j. IsOnLine line r j in
-            inr (subst U t.unvisited un, subst R e.1 (subst Q e.0 on))
+            inr (subst U t.unvisited un, subst (λ (j : ℕ). IsOnLine line r j) e.1 (subst (λ (i : ℕ). IsOnLine line i d) e.0 on))
       ]);
   reached = λ line w.
       let U : Lines → Type 0 = λ names. HasName names line in
@@ -159,15 +146,7 @@ pub record Gathering (facts : List (List ℕ)) (line : LineId) (first now : Grow
 
 place_is : (line : LineId) (i row col : ℕ) → row ≡ row_on line.axis line.at i → col ≡ col_on line.axis line.at i → IsOnLine line row col
 place_is line i row col e f =
-    let P : ℕ → Type 0 = λ x. IsOnLine line x col in
-    let Q : ℕ → Type 0 = λ y. IsOnLine line (row_on line.axis line.at i) y in
-    subst P (sym e) (subst Q (sym f) (place_on line.axis line.at i))
-
-below_next : (P : ℕ → Type 0) (n : ℕ) → ((i : ℕ) → i < n → P i) → P n → (i : ℕ) → i < n + 1 → P i
-below_next P n h here i l = elim (cases_eq i n) [
-  | inl e ↦ subst P (sym e) here
-  | inr d ↦ h i (omega arith)
-]
+    subst (λ (x : ℕ). IsOnLine line x col) (sym e) (subst (λ (y : ℕ). IsOnLine line (row_on line.axis line.at i) y) (sym f) (place_on line.axis line.at i))
 
 pub gathered_open : (facts : List (List ℕ)) (line : LineId) (first old new : Growth) (i row col : ℕ) → row ≡ row_on line.axis line.at i → col ≡ col_on line.axis line.at i → IsOpenCell facts row col → TakesIn row col old new → Gathering facts line first old i → Gathering facts line first new (i + 1)
 gathered_open facts line first old new i row col e f o t g = record {
@@ -187,9 +166,7 @@ gathered_shut facts line first old i row col e f n g = record {
   here = below_next (λ k. IsOpenCell facts (row_on line.axis line.at k) (col_on line.axis line.at k) → HasCell old.cells (row_on line.axis line.at k) (col_on line.axis line.at k)) i
       g.here
       (λ p. absurd (
-      let P : ℕ → Type 0 = λ x. IsOpenCell facts x col in
-      let Q : ℕ → Type 0 = λ y. IsOpenCell facts (row_on line.axis line.at i) y in
-      n (subst P (sym e) (subst Q (sym f) p))));
+      n (subst (λ (x : ℕ). IsOpenCell facts x col) (sym e) (subst (λ (y : ℕ). IsOpenCell facts (row_on line.axis line.at i) y) (sym f) p))));
   waits = g.waits;
   unvisited = g.unvisited;
 }

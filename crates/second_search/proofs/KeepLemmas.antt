@@ -1,6 +1,6 @@
 -- Which lines are quiet while a search goes on: at first those that go past a part, and after a split all but the two through the
 -- split cell.
-use Rattle.std.proofs.Common.{◌≡◌, ℕ, ◌^◌, ◌<◌, Option, Some, List, [], ◌∷◌, ◌++◌, length, get_or, map, refl, sym, ap, subst, ◌∙◌, arith, inl, inr}
+use Rattle.std.proofs.Common.{◌≡◌, ℕ, ◌^◌, ◌<◌, Option, None, Some, List, [], ◌∷◌, ◌++◌, length, get_or, map, refl, sym, ap, subst, ◌∙◌, arith, inl, inr}
 use Rattle.std.specs.Prelude.{IsBitSet}
 use Rattle.std.proofs.lemmas.Bool.{cases_lt}
 use Rattle.std.proofs.lemmas.List.{get_or_past, length-map}
@@ -10,9 +10,9 @@ use Rattle.picture.specs.declared.line_id.LineId.{LineId}
 use Rattle.picture.specs.CellSet.{HasCell}
 use Rattle.picture.specs.LineSet.{Lines, HasName}
 use Rattle.picture.specs.Picture.{IsPicture}
-use Rattle.picture.specs.Rows.{width_of, row_at, cell_at, line_along, line_of, HasLine, with_cell}
+use Rattle.picture.specs.Rows.{width_of, row_at, cell_at, line_along, line_of, lines_along, HasLine, with_cell}
 use Rattle.clues.specs.Laws.{CluesAreOfLines}
-use Rattle.clues.specs.ClueBook.{Clues, clue_at, clues_of}
+use Rattle.clues.specs.ClueBook.{Clues, clue_at, clues_along, clues_of}
 use Rattle.line_settle.specs.Masks.{IsOnly}
 use Rattle.line_settle.specs.FactSets.{IsClosed, SameShape, col_on, row_on}
 use Rattle.line_settle.specs.Fitting.{Fits}
@@ -22,7 +22,6 @@ use Rattle.line_settle.specs.Branches.{branches, colours_of, held}
 use Rattle.fixpoint.specs.Closing.{AreClosable, EachFits, IsQuietLine, QuietOutside}
 use Rattle.fixpoint.specs.LineNames.{AreLinesOf}
 use Rattle.split_choice.specs.declared.cell.Cell.{Cell}
-use Rattle.second_search.specs.declared.counting.Step.TheVariants as step
 use Rattle.second_search.specs.Branching.{GoesOn, Search, place, places, search_of}
 use Rattle.second_search.specs.Looking.{AreRowsSettled, IsFirstUnsettled}
 use Rattle.second_search.specs.Searching.{KeepsOutside, NamesLinesOf}
@@ -33,18 +32,16 @@ use Rattle.second_search.specs.Through.{NamesBoth, across, down}
 
 closable_like : (clues : Clues) (longest : ℕ) (a b : List (List ℕ)) → SameShape a b → AreClosable clues longest a → AreClosable clues longest b
 closable_like clues longest a b s c =
-    let r = s.rows in
-    let w : width_of a ≡ width_of b = s.each 0 in
-    let h1 = c.rows in
-    let h2 = c.columns in
-    let h3 = c.wide in
-    let h4 = c.tall in
     record { rows = omega arith; columns = omega arith; wide = omega arith; tall = omega arith }
 
 pub can_close_like : (clues : Clues) (before after : ℕ) (first facts : List (List ℕ)) → SameShape first facts → after ≡ before → AreClosable clues before first → AreClosable clues after facts
 can_close_like clues before after first facts s e c =
-    let P : ℕ → Type 0 = λ n. AreClosable clues n facts in
-    subst P (sym e) (closable_like clues before first facts s c)
+    subst (λ (n : ℕ). AreClosable clues n facts) (sym e) (closable_like clues before first facts s c)
+
+-- the clues have as many lines as the facts
+pub sized_lines : (clues : Clues) (longest : ℕ) (facts : List (List ℕ)) (axis : Axis) → AreClosable clues longest facts → length (clues_along axis clues) ≡ lines_along axis facts
+sized_lines clues longest facts Across c = let e = c.rows in omega arith
+sized_lines clues longest facts Down c = let e = c.columns in omega arith
 
 -- ---- the lines that are not named
 
@@ -56,7 +53,6 @@ along_inside : (axis : Axis) (at i : ℕ) (picture : List (List ℕ)) → IsPict
 along_inside Across at i picture is l h = l
 along_inside Down at i picture is l h =
     let m = length-map picture (λ (row : List ℕ). get_or row at 0) in
-    let r = is.rectangular i (omega arith) in
     omega arith
 
 -- a line outside of the part leaves the picture's line alone
@@ -66,11 +62,8 @@ outside_line cells picture facts lines line is k n has not i l =
     let col = col_on line.axis line.at i in
     let len = same_line_length picture facts line k.same_shape in
     let inside = along_inside line.axis line.at i picture is (omega arith) (same_has_line facts picture line (shape_sym k.same_shape) has) in
-    let each = k.same_shape.each row in
     let only = k.outside row col (omega arith) (λ h. not (row_has line.axis line.at i cells lines n h)) in
-    let P : ℕ → Type 0 = λ m. IsOnly m (get_or (line_of picture line) i 0) in
-    let Q : ℕ → Type 0 = λ c. IsOnly (cell_at facts row col) c in
-    subst P (sym (cell_on facts line i)) (subst Q (sym (cell_on picture line i)) only)
+    subst (λ (m : ℕ). IsOnly m (get_or (line_of picture line) i 0)) (sym (cell_on facts line i)) (subst (λ (c : ℕ). IsOnly (cell_at facts row col) c) (sym (cell_on picture line i)) only)
 
 pub quiet_outside : CluesAreOfLines → (clues : Clues) (cells : List ℕ) (picture facts : List (List ℕ)) (lines : Lines) → IsPicture picture → clues_of picture ≡ clues → KeepsOutside cells picture facts → NamesLinesOf cells lines → QuietOutside clues facts lines
 quiet_outside law clues cells picture facts lines is e k n line has not =
@@ -120,19 +113,15 @@ quiet_held : (clues : Clues) (settled : List (List ℕ)) (row col x : ℕ) → I
 quiet_held clues settled row col x closed fits h l above =
     let held_to = with_cell settled row col x in
     let shape = shape_with_cell settled row col x in
-    let tall = shape.rows in
-    let wide : width_of settled ≡ width_of held_to = shape.each 0 in
     record {
       in_rows = omega arith;
       in_columns = omega arith;
       quiet = λ lines both line has not.
           let there = same_has_line held_to settled line (shape_sym shape) has in
-          let P : List ℕ → Type 0 = λ left. IsQuietLine (clue_at clues line) left in
-          subst P (sym (same_line_off settled row col x lines line both not)) (record { closed = closed line there; fits = fits line there });
+          subst (λ (left : List ℕ). IsQuietLine (clue_at clues line) left) (sym (same_line_off settled row col x lines line both not)) (record { closed = closed line there; fits = fits line there });
       above = λ r c m w.
           let at = above r c m (omega arith) in
-          let P : ℕ → Type 0 = λ y. IsOnly y at.0 in
-          (at.0, subst P (sym (off_with_cell settled row col x r c (λ e. absurd (let p = e.0 in omega arith)))) at.1);
+          (at.0, subst (λ (y : ℕ). IsOnly y at.0) (sym (off_with_cell settled row col x r c (λ e. absurd (let p = e.0 in omega arith)))) at.1);
     }
 
 -- Each of some facts has the shape of the first ones, and is quiet but for the lines through its cell.
@@ -172,22 +161,16 @@ ready_first clues first lines s e of quiet =
 
 pub quiet_at : (clues : Clues) (first : List (List ℕ)) (s t : Search) (cell : Cell) → EachQuiet clues first s.behind s.cells → GoesOn s t (Some cell) → (SameShape first t.at_hand × IsQuietBut clues t.at_hand cell) × EachQuiet clues first t.behind t.cells
 quiet_at clues first s t cell q on =
-    let P : List (List (List ℕ)) → Type 0 = λ x. EachQuiet clues first x s.cells in
-    let R : List Cell → Type 0 = λ x. EachQuiet clues first (t.at_hand ∷ t.behind) x in
-    subst R on.1 (subst P on.0 q)
+    subst (λ (x : List Cell). EachQuiet clues first (t.at_hand ∷ t.behind) x) on.1 (subst (λ (x : List (List (List ℕ))). EachQuiet clues first x s.cells) on.0 q)
 
 pub ready_at : (clues : Clues) (first facts : List (List ℕ)) (cell : Cell) (lines : Lines) → SameShape first facts → IsQuietBut clues facts cell → AreLinesOf facts lines → NamesBoth lines cell.row cell.col → IsReady clues first facts lines cell.row
 ready_at clues first facts cell lines s q of both = record { same_shape = s; are_lines = of; quiet = q.quiet lines both; above = q.above }
 
--- where a look passed, nothing changed
-pub quiet_passes : (clues : Clues) (known first : List (List ℕ)) (s t : Search) (left rest : Option ℕ) (count more : ℕ) → EachQuiet clues first s.behind s.cells → Steps clues known s t left rest count more step.Passed → EachQuiet clues first t.behind t.cells
-quiet_passes clues known first s t left rest count more q h =
-    let P : Search → Type 0 = λ x. EachQuiet clues first x.behind x.cells in
-    subst P (sym h.1.0) q
-
--- where it split, what waits now are branches of closed facts
-pub quiet_splits : (clues : Clues) (known first : List (List ℕ)) (s t : Search) (left rest : Option ℕ) (count more : ℕ) → SameShape first s.at_hand → EachQuiet clues first s.behind s.cells → Steps clues known s t left rest count more step.Split → EachQuiet clues first t.behind t.cells
-quiet_splits clues known first s t left rest count more shape q h =
+-- where a look goes on, nothing changed, or what waits now are branches of closed facts
+pub quiet_goes : (clues : Clues) (known first : List (List ℕ)) (s t : Search) (left rest : Option ℕ) (count more : ℕ) → SameShape first s.at_hand → EachQuiet clues first s.behind s.cells → Steps clues known s t left rest count more None → EachQuiet clues first t.behind t.cells
+quiet_goes clues known first s t left rest count more shape q (inl h) =
+    subst (λ (x : Search). EachQuiet clues first x.behind x.cells) (sym h.1.0) q
+quiet_goes clues known first s t left rest count more shape q (inr h) =
     let to = h.0.comes.0 in
     let at = h.0.comes.1.is in
     let cell = h.0.cell in

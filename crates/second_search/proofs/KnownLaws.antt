@@ -10,11 +10,10 @@ use Rattle.fixpoint.specs.Laws.{ClosingKeepsFillings, OnlyIsClosed}
 use Rattle.fixpoint.proofs.PictureLemmas as picture
 use Rattle.second_search.specs.Laws.{AllowancesBreakOff, FillingsAreOfFacts, FillingsStay, PartsDecide, SoundFacts}
 use Rattle.second_search.specs.Searching.{CostsAreUnique}
-use Rattle.second_search.proofs.BreakLemmas.{break_off}
+use Rattle.second_search.proofs.VerdictLemmas.{break_off}
 use Rattle.second_search.proofs.ComingLemmas as coming
-use Rattle.second_search.proofs.PartLaws.{decide}
-use Rattle.second_search.proofs.PartLemmas.{facts_filled}
-use Rattle.second_search.proofs.SoundLemmas.{all_sound}
+use Rattle.second_search.proofs.PartLemmas.{decide, facts_filled}
+use Rattle.second_search.proofs.FindLemmas.{all_sound}
 use Rattle.second_search.proofs.StayLemmas.{all_stays}
 
 pub same_cells_are_equal : SameCellsAreEqual

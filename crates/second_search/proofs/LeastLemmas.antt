@@ -1,5 +1,5 @@
 -- Facts have least closed facts over them: while some line forces an exclusion, one colour more is excluded.
-use Rattle.std.proofs.Common.{◌≡◌, ℕ, zero, suc, ◌^◌, ◌<◌, ◌≤◌, ◌⊎◌, ◌↔◌, List, length, get_or, bit_and, refl, sym, subst, arith, inl, inr}
+use Rattle.std.proofs.Common.{◌≡◌, ℕ, zero, suc, ◌^◌, ◌<◌, ◌≤◌, ◌⊎◌, ◌↔◌, List, length, get_or, bit_and, refl, sym, subst, arith, inl, inr, [], ◌∷◌, ap, ◌∙◌}
 use Rattle.std.specs.Prelude.{IsBitSet}
 use Rattle.std.specs.Int.{bit_not, w16}
 use Rattle.std.proofs.lemmas.Bool.{cases_eq, cases_lt}
@@ -12,19 +12,101 @@ use Rattle.picture.specs.Rows.{width_of, row_at, cell_at, with_cell, line_of, li
 use Rattle.picture.specs.BitLaws.{bit_below, bit_or_not, fewer_le, no_bit, power_has}
 use Rattle.clues.specs.declared.block.Block.{Block}
 use Rattle.clues.specs.ClueBook.{Clues, clue_at}
-use Rattle.line_settle.specs.Fitting.{CanFit, Forces}
+use Rattle.line_settle.specs.Fitting.{CanFit, Forces, CanHave}
 use Rattle.line_settle.specs.FactSets.{IsClosed, IsClosedLine, IsFacts, IsLeast, IsWithin, Leaves, SameShape, col_on, row_on}
 use Rattle.line_settle.specs.FitLaws.{tighter_can_fit, tighter_have, within_tighter}
-use Rattle.line_settle.specs.GridLaws.{at_with_cell, cell_on, off_with_cell, same_has_line, shape_refl, shape_sym, shape_trans, shape_with_cell}
+use Rattle.line_settle.specs.GridLaws.{cell_on, same_has_line, shape_refl, shape_sym, shape_trans, shape_with_cell}
 use Rattle.line_settle.specs.MaskLaws.{without_bit}
 use Rattle.fixpoint.specs.Closing.{EachFits, HasDeadLine}
-use Rattle.second_search.proofs.FitLemmas.{AreSmall, both_or_not, fit_or_not, have_or_not}
-use Rattle.second_search.proofs.GrowLemmas.{place_inside}
-use Rattle.second_search.proofs.PickLemmas.{find_below}
+use Rattle.second_search.proofs.GridLemmas.{both_or_not, set_each}
+use Rattle.second_search.proofs.GrowLemmas.{line_named, place_inside}
+use Rattle.second_search.proofs.PickLemmas.{find_below, same_list}
 use Rattle.second_search.proofs.WeightLemmas.{weight, weight_with_cell}
+use Rattle.clues.specs.Clue.{block, clue_of}
 
-abbrev line_named : Axis → ℕ → LineId
-line_named axis at = record { axis = axis; at = at }
+-- ---- equal or not
+
+same_block : (a b : Block) → (a ≡ b) ⊎ (a ≡ b → ⊥)
+same_block a b = elim (cases_eq a.len b.len) [
+  | inr d ↦ inr (λ e. d (ap (λ (x : Block). x.len) e))
+  | inl e ↦ elim (cases_eq a.colour b.colour) [
+    | inr d ↦ inr (λ e. d (ap (λ (x : Block). x.colour) e))
+    | inl f ↦ inl (let p : block a.len a.colour ≡ block b.len a.colour = ap (λ n. block n a.colour) e in p ∙ ap (block b.len) f)
+  ]
+]
+
+same_blocks : (a b : List Block) → (a ≡ b) ⊎ (a ≡ b → ⊥)
+same_blocks = same_list same_block
+
+-- ---- the lists of colours that are left
+
+record IsAmong (left line : List ℕ) : Type 0 where
+  same_length : length line ≡ length left
+  keeps : (i : ℕ) → i < length left → IsBitSet (get_or left i 0) (get_or line i 0)
+
+abbrev pub AreSmall : List ℕ → Type 0
+AreSmall left = (i : ℕ) → get_or left i 0 < 2 ^ 16
+
+none_left : (line : List ℕ) → IsAmong [] line → line ≡ []
+none_left [] a = refl
+none_left (x ∷ xs) a = absurd (let e = a.same_length in omega arith)
+
+one_more : (m k : ℕ) (ms line : List ℕ) → IsBitSet m k → IsAmong ms line → IsAmong (m ∷ ms) (k ∷ line)
+one_more m k ms line s a = record { same_length = ap suc a.same_length; keeps = keeps }
+  where
+    keeps : (i : ℕ) → i < length (m ∷ ms) → IsBitSet (get_or (m ∷ ms) i 0) (get_or (k ∷ line) i 0)
+    keeps zero l = s
+    keeps (suc i) l = a.keeps i (omega arith)
+
+rest_of : (m k : ℕ) (ms line : List ℕ) → IsAmong (m ∷ ms) (k ∷ line) → IsAmong ms line
+rest_of m k ms line a = record { same_length = (let e = a.same_length in omega arith); keeps = λ i l. a.keeps (suc i) (omega arith) }
+
+-- some such list has a property, or none has
+some_list : (left : List ℕ) (P : List ℕ → Type 0) → ((line : List ℕ) → P line ⊎ (P line → ⊥)) → AreSmall left
+    → ((line : List ℕ) × (IsAmong left line × P line)) ⊎ ((line : List ℕ) → IsAmong left line → P line → ⊥)
+some_list [] P by small = elim (by []) [
+  | inl p ↦ inl ([], (record { same_length = refl; keeps = λ i l. absurd (omega arith) }, p))
+  | inr n ↦ inr (λ line a p. n (subst P (none_left line a) p))
+]
+some_list (m ∷ ms) P by small =
+    let rest = λ (k : ℕ). some_list ms (λ line. P (k ∷ line)) (λ line. by (k ∷ line)) (λ i. small (suc i)) in
+    let Q : ℕ → Type 0 = λ k. IsBitSet m k × ((line : List ℕ) × (IsAmong ms line × P (k ∷ line))) in
+    let each : (k : ℕ) → Q k ⊎ (Q k → ⊥) = λ k. both_or_not (bit_or_not m k) (elim (rest k) [
+      | inl found ↦ inl found
+      | inr none ↦ inr (λ p. none p.0 p.1.0 p.1.1)
+    ]) in
+    elim (find_below Q each 16) [
+      | inl found ↦ inl (found.0 ∷ found.1.1.1.0, (one_more m found.0 ms found.1.1.1.0 found.1.1.0 found.1.1.1.1.0, found.1.1.1.1.1))
+      | inr none ↦ inr (λ line a p. no_list m ms P (small 0) none line a p)
+    ]
+  where
+    no_list : (m : ℕ) (ms : List ℕ) (P : List ℕ → Type 0) → m < 2 ^ 16 → ((k : ℕ) → k < 16 → IsBitSet m k × ((line : List ℕ) × (IsAmong ms line × P (k ∷ line))) → ⊥) → (line : List ℕ) → IsAmong (m ∷ ms) line → P line → ⊥
+    no_list m ms P l none [] a p = absurd (let e = a.same_length in omega arith)
+    no_list m ms P l none (k ∷ line) a p =
+        let s = a.keeps 0 (omega arith) in
+        none k (bit_below m 16 k l s) (s, (line, (rest_of m k ms line a, p)))
+
+-- ---- lists that fit
+
+pub fit_or_not : (clue : List Block) (left : List ℕ) → AreSmall left → CanFit clue left ⊎ (CanFit clue left → ⊥)
+fit_or_not clue left small = elim (some_list left (λ line. clue_of line ≡ clue) (λ line. same_blocks (clue_of line) clue) small) [
+  | inl found ↦ inl (found.0, record { same_length = found.1.0.same_length; has_clue = found.1.1; keeps = found.1.0.keeps })
+  | inr none ↦ inr (λ fit. none fit.0 (record { same_length = fit.1.same_length; keeps = fit.1.keeps }) fit.1.has_clue)
+]
+
+pub have_or_not : (clue : List Block) (left : List ℕ) (i k : ℕ) → AreSmall left → CanHave clue left i k ⊎ (CanHave clue left i k → ⊥)
+have_or_not clue left i k small = elim (cases_lt i (length left)) [
+  | inr p ↦ inr (λ h. let w = h.within in absurd (omega arith))
+  | inl l ↦ elim (some_list left (λ line. (clue_of line ≡ clue) × (get_or line i 0 ≡ k)) (λ line. both_or_not (same_blocks (clue_of line) clue) (cases_eq (get_or line i 0) k)) small) [
+    | inl found ↦ inl (record {
+      line = found.0;
+      fits = record { same_length = found.1.0.same_length; has_clue = found.1.1.0; keeps = found.1.0.keeps };
+      within = l;
+      has = found.1.1.1;
+    })
+    | inr none ↦ inr (λ h. none h.line (record { same_length = h.fits.same_length; keeps = h.fits.keeps }) (h.fits.has_clue, h.has))
+  ]
+]
 
 small_line : (facts : List (List ℕ)) (line : LineId) → IsFacts facts → AreSmall (line_of facts line)
 small_line facts line is i =
@@ -100,7 +182,7 @@ closed_line clue left small none i k s = elim (have_or_not clue left i k small) 
 pub within_refl : (a : List (List ℕ)) → IsWithin a a
 within_refl a = record { same_shape = shape_refl a; leaves = λ row col k l. l }
 
-within_trans : (a b c : List (List ℕ)) → IsWithin a b → IsWithin b c → IsWithin a c
+pub within_trans : (a b c : List (List ℕ)) → IsWithin a b → IsWithin b c → IsWithin a c
 within_trans a b c x y = record { same_shape = shape_trans x.same_shape y.same_shape; leaves = λ r d k s. x.leaves r d k (y.leaves r d k s) }
 
 abbrev less : ℕ → ℕ → ℕ
@@ -126,21 +208,11 @@ less_is_less mask k m l s =
 
 -- facts with a smaller mask in a cell are facts
 lower : (facts : List (List ℕ)) (row col x : ℕ) → row < length facts → col < length (row_at facts row) → x ≤ cell_at facts row col → (r c : ℕ) → cell_at (with_cell facts row col x) r c ≤ cell_at facts r c
-lower facts row col x h wide le r c = elim (both_or_not (cases_eq r row) (cases_eq c col)) [
-  | inr off ↦ let e = off_with_cell facts row col x r c off in omega arith
-  | inl e ↦
-      let P : ℕ → Type 0 = λ i. cell_at (with_cell facts row col x) i c ≤ cell_at facts i c in
-      let Q : ℕ → Type 0 = λ i. cell_at (with_cell facts row col x) row i ≤ cell_at facts row i in
-      let same = at_with_cell facts row col x h wide in
-      subst P (sym e.0) (subst Q (sym e.1) (omega arith))
-]
+lower facts row col x h wide le = set_each facts row col x h wide (λ r c y. y ≤ cell_at facts r c) le (λ r c d. omega arith)
 
 pub facts_lower : (facts : List (List ℕ)) (row col x : ℕ) → IsFacts facts → row < length facts → col < width_of facts → x ≤ cell_at facts row col → IsFacts (with_cell facts row col x)
 facts_lower facts row col x is h w le =
     let shape = shape_with_cell facts row col x in
-    let rect = is.rectangular row h in
-    let rows = shape.rows in
-    let first = shape.each 0 in
     let small = lower facts row col x h (omega arith) le in
     record {
       has_row = (let a = is.has_row in omega arith);
@@ -163,21 +235,9 @@ module _ (facts : List (List ℕ)) (row col k : ℕ) (is : IsFacts facts) (h : r
 
   -- what is left then is what was left, but for that colour there
   left_then : (r c j : ℕ) → Leaves facts r c j → ((r ≡ row) × ((c ≡ col) × (j ≡ k)) → ⊥) → Leaves (with_less facts row col k) r c j
-  left_then r c j s n = elim (same_place r c) [
-    | inr off ↦ let P : ℕ → Type 0 = λ m. IsBitSet m j in subst P (sym (off_with_cell facts row col (less (cell_at facts row col) k) r c off)) s
-    | inl e ↦
-        let P : ℕ → Type 0 = λ i. Leaves facts i c j in
-        let Q : ℕ → Type 0 = λ i. Leaves facts row i j in
-        let V : ℕ → Type 0 = λ i. Leaves (with_less facts row col k) i c j in
-        let W : ℕ → Type 0 = λ i. Leaves (with_less facts row col k) row i j in
-        let here : Leaves facts row col j = subst Q e.1 (subst P e.0 s) in
-        let M : ℕ → Type 0 = λ m. IsBitSet m j in
-        let there : Leaves (with_less facts row col k) row col j = subst M (sym (at_with_cell facts row col (less (cell_at facts row col) k) h wide)) ((has_less (cell_at facts row col) k (is.masks row col) l j).1 (here, (λ f. n (e.0, (e.1, f))))) in
-        subst V (sym e.0) (subst W (sym e.1) there)
-  ]
-    where
-      same_place : (r c : ℕ) → ((r ≡ row) × (c ≡ col)) ⊎ ((r ≡ row) × (c ≡ col) → ⊥)
-      same_place r c = both_or_not (cases_eq r row) (cases_eq c col)
+  left_then r c j = set_each facts row col (less (cell_at facts row col) k) h wide (λ r c m. Leaves facts r c j → ((r ≡ row) × ((c ≡ col) × (j ≡ k)) → ⊥) → IsBitSet m j)
+      (λ s n. (has_less (cell_at facts row col) k (is.masks row col) l j).1 (s, (λ f. n (refl, (refl, f)))))
+      (λ r c d s n. s) r c
 
   facts_then : IsFacts (with_less facts row col k)
   facts_then = facts_lower facts row col (less (cell_at facts row col) k) is h w (fewer_le (less (cell_at facts row col) k) (cell_at facts row col) (λ j t. ((has_less (cell_at facts row col) k (is.masks row col) l j).0 t).0))
@@ -185,17 +245,7 @@ module _ (facts : List (List ℕ)) (row col k : ℕ) (is : IsFacts facts) (h : r
   within_then : IsWithin facts (with_less facts row col k)
   within_then = record {
     same_shape = shape;
-    leaves = λ r c j s. elim (both_or_not (cases_eq r row) (cases_eq c col)) [
-      | inr off ↦ let P : ℕ → Type 0 = λ m. IsBitSet m j in subst P (off_with_cell facts row col (less (cell_at facts row col) k) r c off) s
-      | inl e ↦
-          let P : ℕ → Type 0 = λ i. Leaves (with_less facts row col k) i c j in
-          let Q : ℕ → Type 0 = λ i. Leaves (with_less facts row col k) row i j in
-          let V : ℕ → Type 0 = λ i. Leaves facts i c j in
-          let W : ℕ → Type 0 = λ i. Leaves facts row i j in
-          let M : ℕ → Type 0 = λ m. IsBitSet m j in
-          let here : IsBitSet (less (cell_at facts row col) k) j = subst M (at_with_cell facts row col (less (cell_at facts row col) k) h wide) (subst Q e.1 (subst P e.0 s)) in
-          subst V (sym e.0) (subst W (sym e.1) ((has_less (cell_at facts row col) k (is.masks row col) l j).0 here).0)
-    ];
+    leaves = λ r c j. set_each facts row col (less (cell_at facts row col) k) h wide (λ r c m. IsBitSet m j → Leaves facts r c j) (λ s. ((has_less (cell_at facts row col) k (is.masks row col) l j).0 s).0) (λ r c d s. s) r c;
   }
 
   lighter_then : Leaves facts row col k → weight (with_less facts row col k) < weight facts
@@ -237,10 +287,7 @@ force_one clues base facts line i k a has l small forced =
               record {
                 same_shape = shape_trans (shape_sym (shape facts row col k is place.0 place.1 small)) in_facts.same_shape;
                 leaves = λ r c j t. left_then facts row col k is place.0 place.1 small r c j (in_facts.leaves r c j t) (λ e.
-                    let P : ℕ → Type 0 = λ x. Leaves others x c j in
-                    let Q : ℕ → Type 0 = λ x. Leaves others row x j in
-                    let R : ℕ → Type 0 = λ x. Leaves others row col x in
-                    let here : Leaves others row col k = subst R e.1.1 (subst Q e.1.0 (subst P e.0 t)) in
+                    let here : Leaves others row col k = subst (λ (x : ℕ). Leaves others row col x) e.1.1 (subst (λ (x : ℕ). Leaves others row x j) e.1.0 (subst (λ (x : ℕ). Leaves others x c j) e.0 t)) in
                     let on : IsBitSet (get_or (line_of others line) i 0) k = subst M (sym (cell_on others line i)) here in
                     let have = closed line (same_has_line facts others line in_facts.same_shape has) i k on in
                     forced.forces (tighter_have (clue_at clues line) (line_of facts line) (line_of others line) (within_tighter facts others in_facts line) i k have));

@@ -39,9 +39,6 @@ more_shown facts picture row col colour is s h l only before = below_next (λ c.
     let P : ℕ → Type 0 = λ x. IsOnly (cell_at facts row c) x in
     subst P (sym (off_with_cell picture row col colour row c (λ p. absurd (let e = p.1 in omega arith)))) (before c m))
     (let P : ℕ → Type 0 = λ x. IsOnly (cell_at facts row col) x in
-    let rows = s.rows in
-    let each = s.each row in
-    let wide = is.rectangular row h in
     subst P (sym (at_with_cell picture row col colour (omega arith) (omega arith))) only)
 
 pub others_shown : (first picture : List (List ℕ)) (row col colour : ℕ) → ((r c : ℕ) → (r ≡ row → ⊥) → cell_at picture r c ≡ cell_at first r c) → (r c : ℕ) → (r ≡ row → ⊥) → cell_at (with_cell picture row col colour) r c ≡ cell_at first r c
@@ -63,11 +60,7 @@ blank_shape facts height width is h w = record {
 -- what fills settled facts is the picture that they show
 pub one_filling : (clues : Clues) (facts picture other : List (List ℕ)) → IsFacts facts → Shows facts picture → Fills clues facts other → other ≡ picture
 one_filling clues facts picture other is s f =
-    let rows = s.same_shape.rows in
-    let wide : width_of picture ≡ width_of facts = s.same_shape.each 0 in
     same_inside other picture (width_of picture) (shape_trans f.same_shape (shape_sym s.same_shape)) s.is_picture.rectangular (λ r c h l.
-    let each = f.same_shape.each r in
-    let rect = is.rectangular r (omega arith) in
     (s.only r c (omega arith) (omega arith) (cell_at other r c)).0 (f.leaves r c (omega arith)))
 
 pub shown_fills : (clues : Clues) (facts picture : List (List ℕ)) → IsFacts facts → Shows facts picture → clues_of picture ≡ clues → Fills clues facts picture
@@ -77,11 +70,8 @@ shown_fills clues facts picture is s e = record {
   has_clues = e;
   leaves = λ row col l. elim (cases_lt row (length facts)) [
     | inl h ↦
-        let each = s.same_shape.each row in
-        let rect = is.rectangular row h in
         (s.only row col h (omega arith) (cell_at picture row col)).1 refl
     | inr p ↦ absurd (
-        let rows = s.same_shape.rows in
         let none : length (row_at picture row) ≡ 0 = ap length (get_or_past picture row [] (omega arith)) in
         omega arith)
   ];
@@ -93,26 +83,21 @@ shown_fills clues facts picture is s e = record {
 stays_only : (clues : Clues) (facts settled : List (List ℕ)) (row col k : ℕ) → IsWithin facts settled → EachFits clues settled → IsOnly (cell_at facts row col) k → IsOnly (cell_at settled row col) k
 stays_only clues facts settled row col k w fits only = elim (cases_lt col (length (row_at settled row))) [
   | inr p ↦ absurd (
-      let wide = w.same_shape.each row in
-      let P : ℕ → Type 0 = λ x. IsBitSet x k in
-      no_bit k (subst P (get_or_past (row_at facts row) col 0 (omega arith)) ((only k).1 refl)))
+      no_bit k (subst (λ (x : ℕ). IsBitSet x k) (get_or_past (row_at facts row) col 0 (omega arith)) ((only k).1 refl)))
   | inl l ↦ elim (cases_lt row (length settled)) [
     | inr p ↦ absurd (let none : length (row_at settled row) ≡ 0 = ap length (get_or_past settled row [] p) in omega arith)
     | inl h ↦
         let list = fits (across row) h in
         let there = list.1.keeps col l in
         let e = (only (get_or list.0 col 0)).0 (w.leaves row col (get_or list.0 col 0) there) in
-        let P : ℕ → Type 0 = λ x. IsBitSet (cell_at settled row col) x in
-        λ j. ((λ s. (only j).0 (w.leaves row col j s)), (λ f. subst P (e ∙ sym f) there))
+        λ j. ((λ s. (only j).0 (w.leaves row col j s)), (λ f. subst (λ (x : ℕ). IsBitSet (cell_at settled row col) x) (e ∙ sym f) there))
   ]
 ]
 
 -- rows that are settled stay so where facts are closed and some list fits each line
 pub rows_stay : (clues : Clues) (facts first settled : List (List ℕ)) (outcome : Outcome) (rows : ℕ) → first ≡ facts → Closes clues first settled outcome → outcome ≡ Narrowed → AreRowsSettled facts rows → AreRowsSettled settled rows
 rows_stay clues facts first settled outcome rows same c e h r col l w =
-    let P : List (List ℕ) → Type 0 = λ x. IsWithin x settled in
-    let within : IsWithin facts settled = subst P same c.holds in
-    let wide : width_of facts ≡ width_of settled = within.same_shape.each 0 in
+    let within : IsWithin facts settled = subst (λ (x : List (List ℕ)). IsWithin x settled) same c.holds in
     let at = h r col l (omega arith) in
     (at.0, stays_only clues facts settled r col at.0 within (c.fits e) at.1)
 
@@ -125,14 +110,10 @@ same_only a b k p q =
 -- and are the same
 pub rows_same : (clues : Clues) (facts settled : List (List ℕ)) (rows : ℕ) → IsFacts settled → IsWithin facts settled → EachFits clues settled → AreRowsSettled facts rows → AreSameAbove facts settled rows
 rows_same clues facts settled rows is w fits h r col l =
-    let wide : width_of facts ≡ width_of settled = w.same_shape.each 0 in
     elim (cases_lt col (width_of facts)) [
       | inl m ↦ let at = h r col l m in same_only (cell_at facts r col) (cell_at settled r col) at.0 at.1 (stays_only clues facts settled r col at.0 w fits at.1)
       | inr p ↦
           let rect : (i : ℕ) → i < length facts → length (row_at facts i) ≡ width_of facts = λ i m.
-          let rows = w.same_shape.rows in
-          let each = w.same_shape.each i in
-          let e = is.rectangular i (omega arith) in
           omega arith in
           cell_outside facts (width_of facts) rect r col (λ _ m. absurd (omega arith))
           ∙ sym (cell_outside settled (width_of settled) is.rectangular r col (λ _ m. absurd (omega arith)))

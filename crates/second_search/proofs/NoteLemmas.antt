@@ -95,7 +95,6 @@ holds s facts new notes more cell mask v is h w m n e =
     let front = ap (λ (x : Search). x.at_hand) v in
     let tall = ap length front in
     let wide = ap width_of front in
-    let r = is.rectangular cell.row (omega arith) in
     let P : List (List ℕ) → Type 0 = λ x. search_of x (waiting x (reverse more)) (cells_held (reverse more)) ≡ search_of (with_cell s.at_hand cell.row cell.col mask) s.behind s.cells in
     let back : with_cell (with_cell facts cell.row cell.col mask) cell.row cell.col cell.mask ≡ facts =
     ap (λ x. with_cell (with_cell facts cell.row cell.col mask) cell.row cell.col x) m ∙ cell_back facts cell.row cell.col mask (omega arith) (omega arith) in

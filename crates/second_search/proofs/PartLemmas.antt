@@ -20,11 +20,11 @@ use Rattle.line_settle.specs.Masks.{IsOnly}
 use Rattle.line_settle.specs.SolutionLaws.{solved_shape}
 use Rattle.fixpoint.specs.Filling.{Fills, only}
 use Rattle.fixpoint.specs.Laws.{OnlyIsClosed}
-use Rattle.second_search.specs.Laws.{FillingsAreOfFacts}
+use Rattle.second_search.specs.Laws.{FillingsAreOfFacts, PartsAreApart, PartsDecide}
 use Rattle.second_search.specs.Parts.{AreParts, GoesThrough, IsBefore, IsOpenCell, IsOtherFilling, IsPart, IsScene, goes_on, part_at, picked}
 use Rattle.second_search.proofs.ChainLemmas.{bit_or_not, chain_back, chain_end, chain_on, none_has_two}
 use Rattle.second_search.proofs.GrowLemmas.{on_one_line}
-use Rattle.second_search.proofs.PickLemmas.{IsRectangle, clue_known, differing_cell, find_below, off_part, on_cells, outside_is_0, same_along, same_clues, same_count, same_len, shape_back, shape_of_picked, shape_on}
+use Rattle.second_search.proofs.PickLemmas.{clue_known, differing_cell, find_below, off_part, on_cells, outside_is_0, rect_like, same_along, same_clues, same_count, same_len, shape_back, shape_of_picked, shape_on}
 
 -- ---- parts
 
@@ -58,14 +58,12 @@ through_at : (cells : List ℕ) (axis : Axis) (at : ℕ) → CellsAreMembers →
 through_at cells Across at members set = elim (find_below (λ c. HasCell cells at c) (λ c. members.decided cells at c) MAX_SIDE) [
   | inl found ↦ inl (record { row = at; col = found.0; has = found.1.1; on_line = refl })
   | inr none ↦ inr (λ t.
-      let P : ℕ → Type 0 = λ r. HasCell cells r t.col in
-      none t.col (members.inside cells t.row t.col set t.has).1 (subst P t.on_line t.has))
+      none t.col (members.inside cells t.row t.col set t.has).1 (subst (λ (r : ℕ). HasCell cells r t.col) t.on_line t.has))
 ]
 through_at cells Down at members set = elim (find_below (λ r. HasCell cells r at) (λ r. members.decided cells r at) MAX_SIDE) [
   | inl found ↦ inl (record { row = found.0; col = at; has = found.1.1; on_line = refl })
   | inr none ↦ inr (λ t.
-      let P : ℕ → Type 0 = λ c. HasCell cells t.row c in
-      none t.row (members.inside cells t.row t.col set t.has).0 (subst P t.on_line t.has))
+      none t.row (members.inside cells t.row t.col set t.has).0 (subst (λ (c : ℕ). HasCell cells t.row c) t.on_line t.has))
 ]
 
 pub through_or_not : (cells : List ℕ) (line : LineId) → CellsAreMembers → IsCellSet cells → GoesThrough line cells ⊎ (GoesThrough line cells → ⊥)
@@ -77,12 +75,7 @@ through_or_not cells line members set = through_at cells line.axis line.at membe
 pub picked_picture : (cells : List ℕ) (one other : List (List ℕ)) → ((row col : ℕ) → cell_at one row col < MAX_COLOURS) → IsPicture other → ((row col : ℕ) → HasCell cells row col → cell_at (picked cells one other) row col ≡ cell_at one row col) → IsPicture (picked cells one other)
 picked_picture cells one other few q on =
     let t = shape_of_picked cells one other q.rectangular in
-    let rows = t.rows in
     let first : width_of (picked cells one other) ≡ width_of other = t.each 0 in
-    let a = q.has_row in
-    let b = q.rows_fit in
-    let c = q.has_column in
-    let d = q.columns_fit in
     let P : ℕ → Type 0 = λ n. n < MAX_COLOURS in
     record {
       has_row = omega arith;
@@ -109,7 +102,6 @@ solves_itself clues givens facts picture s = record {
 -- a cell at which another picture differs is open
 pub differs_open : (clues : Clues) (givens : List ℕ) (facts picture other : List (List ℕ)) (row col : ℕ) → IsScene clues givens facts picture → Solves clues (HasCell givens) picture other → (cell_at other row col ≡ cell_at picture row col → ⊥) → IsOpenCell facts row col
 differs_open clues givens facts picture other row col s o d =
-    let each = o.columns row in
     elim (cases_lt col (length (row_at other row))) [
       | inl l ↦ record {
         one = cell_at other row col;
@@ -131,7 +123,6 @@ same_off_part clues givens facts picture other cells line row col s p o t on n =
 -- an open cell lies in the picture
 pub open_in_picture : (clues : Clues) (givens : List ℕ) (facts picture : List (List ℕ)) (row col : ℕ) → IsScene clues givens facts picture → IsOpenCell facts row col → (row < length picture) × (col < width_of picture)
 open_in_picture clues givens facts picture row col s o =
-    let each = s.sound.same_shape.each row in
     let near : col < length (row_at picture row) = elim (cases_lt col (length (row_at facts row))) [
       | inl l ↦ omega arith
       | inr p ↦ absurd (none_has_two (cell_at facts row col) (outside_is_0 facts row col p) o)
@@ -209,12 +200,7 @@ pub facts_filled : OnlyIsClosed → FillingsAreOfFacts
 facts_filled closed clues givens facts picture other cells s =
     let alone = only picture in
     let like = closed.same_shape picture in
-    let rect : IsRectangle alone = λ i l.
-    let rows = like.rows in
-    let each = like.each i in
-    let first : width_of picture ≡ width_of alone = like.each 0 in
-    let w = s.is_picture.rectangular i (omega arith) in
-    omega arith in
+    let rect = rect_like picture alone like s.is_picture.rectangular in
     let facts_like = shape_on facts picture alone (shape_back picture facts s.sound.same_shape) like in
     let shape = shape_of_picked cells facts alone rect in
     let on : (r c : ℕ) → HasCell cells r c → cell_at (picked cells facts alone) r c ≡ cell_at facts r c = λ r c x. on_cells cells facts alone r c rect facts_like x in
@@ -226,7 +212,6 @@ facts_filled closed clues givens facts picture other cells s =
           has_clues = f.is_other.solves.has_clues;
           leaves = λ r c l.
               let P : ℕ → Type 0 = λ m. IsBitSet m (cell_at other r c) in
-              let each = f.is_other.solves.columns r in
               elim (bit_or_not (slice_index cells r) c) [
                 | inl x ↦ subst P (sym (on r c x)) (s.sound.leave other f.is_other.solves r c l)
                 | inr n ↦ subst P (sym (off r c n)) ((closed.leaves picture r c (cell_at other r c)).1 (omega arith, f.elsewhere r c n))
@@ -243,7 +228,6 @@ facts_filled closed clues givens facts picture other cells s =
     filled_back clues givens facts picture other cells s closed alone same on off fills d =
         let elsewhere : (r c : ℕ) → (HasCell cells r c → ⊥) → cell_at other r c ≡ cell_at picture r c = λ r c n.
         let P : ℕ → Type 0 = λ m. IsBitSet m (cell_at other r c) in
-        let each = same.each r in
         elim (cases_lt c (length (row_at other r))) [
           | inl l ↦ ((closed.leaves picture r c (cell_at other r c)).0 (subst P (off r c n) (fills.leaves r c l))).1
           | inr p ↦ outside_is_0 other r c p ∙ sym (outside_is_0 picture r c (omega arith))
@@ -259,7 +243,6 @@ facts_filled closed clues givens facts picture other cells s =
                 | inr n ↦ elsewhere r c n
                 | inl x ↦
                     let P : ℕ → Type 0 = λ m. IsBitSet m (cell_at other r c) in
-                    let each = same.each r in
                     elim (cases_lt c (length (row_at other r))) [
                       | inl l ↦ s.sound.hold_givens r c (cell_at other r c) g (subst P (on r c x) (fills.leaves r c l))
                       | inr p ↦ outside_is_0 other r c p ∙ sym (outside_is_0 picture r c (omega arith))
@@ -270,3 +253,17 @@ facts_filled closed clues givens facts picture other cells s =
           };
           elsewhere = elsewhere;
         }
+
+-- ---- the laws of parts
+
+pub apart : PartsAreApart
+apart = record {
+  one = one_part_each;
+  whole_lines = whole_lines;
+  open_cells = part_open;
+  inside = open_in_picture;
+  settled = settled_there;
+}
+
+pub decide : CluesAreOfLines → BooksAreTheirClues → CellsAreMembers → PartsDecide
+decide of_lines books members = record { one_part = one_filling of_lines books members; some_part = some_filling of_lines books members }

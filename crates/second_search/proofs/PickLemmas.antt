@@ -1,5 +1,5 @@
 -- Grids picked cell by cell, lines of grids, and pictures with the same clues on each line.
-use Rattle.std.proofs.Common.{◌≡◌, ◌≢◌, ℕ, zero, suc, ◌^◌, ◌<◌, ◌≤◌, ◌⊎◌, Bool, cond, not, List, [], length, get_or, map, bit_and, refl, sym, ap, subst, ◌∙◌, arith, inl, inr, eq-eqb, ne_eqb}
+use Rattle.std.proofs.Common.{◌≡◌, ◌≢◌, ℕ, zero, suc, ◌^◌, ◌<◌, ◌≤◌, ◌⊎◌, Bool, cond, not, List, [], ◌∷◌, length, get_or, map, bit_and, refl, sym, ap, subst, ◌∙◌, arith, inl, inr, eq-eqb, ne_eqb}
 use Rattle.std.specs.Prelude.{slice_index}
 use Rattle.std.specs.List.{range_with_len}
 use Rattle.std.proofs.lemmas.Bool.{cases_eq, cases_lt}
@@ -16,20 +16,38 @@ use Rattle.clues.specs.Laws.{BooksAreTheirClues, CluesAreOfLines, IsAtPlace}
 use Rattle.line_settle.specs.FactSets.{SameShape}
 use Rattle.second_search.specs.Parts.{picked, picked_cell, picked_row}
 
+-- ---- equal or not
+
+pub same_list : {X : Type 0} → ((x y : X) → (x ≡ y) ⊎ (x ≡ y → ⊥)) → (xs ys : List X) → (xs ≡ ys) ⊎ (xs ≡ ys → ⊥)
+same_list same [] [] = inl refl
+same_list same [] (y ∷ ys) = inr (λ e. absurd cc)
+same_list same (x ∷ xs) [] = inr (λ e. absurd cc)
+same_list same (x ∷ xs) (y ∷ ys) = elim (same x y) [
+  | inr d ↦ inr (λ e. d cc)
+  | inl e ↦ elim (same_list same xs ys) [ inr d ↦ inr (λ f. d cc) | inl f ↦ inl cc ]
+]
+
 -- ---- looking for a place
+
+-- the first place below a bound that has a property, or there is none
+pub first_below : (P : ℕ → Type 0) → ((i : ℕ) → P i ⊎ (P i → ⊥)) → (n : ℕ) → ((i : ℕ) × ((i < n) × (P i × ((j : ℕ) → j < i → P j → ⊥)))) ⊎ ((i : ℕ) → i < n → P i → ⊥)
+first_below P by zero = inr (λ i l. absurd (omega arith))
+first_below P by (suc n) = elim (first_below P by n) [
+  | inl found ↦ inl (found.0, ((let l = found.1.0 in omega arith), found.1.1))
+  | inr none ↦ elim (by n) [
+    | inl here ↦ inl (n, (omega arith, (here, none)))
+    | inr not_here ↦ inr (λ i l. elim (cases_eq i n) [
+      | inl e ↦ (λ p. not_here (subst P e p))
+      | inr d ↦ none i (omega arith)
+    ])
+  ]
+]
 
 -- a place below a bound that has a property, or there is none
 pub find_below : (P : ℕ → Type 0) → ((i : ℕ) → P i ⊎ (P i → ⊥)) → (n : ℕ) → ((i : ℕ) × ((i < n) × P i)) ⊎ ((i : ℕ) → i < n → P i → ⊥)
-find_below P by zero = inr (λ i l. absurd (omega arith))
-find_below P by (suc n) = elim (by n) [
-  | inl here ↦ inl (n, (omega arith, here))
-  | inr none ↦ elim (find_below P by n) [
-    | inl found ↦ inl (found.0, ((let l = found.1.0 in omega arith), found.1.1))
-    | inr before ↦ inr (λ i l. elim (cases_eq i n) [
-      | inl e ↦ (λ p. none (subst P e p))
-      | inr d ↦ before i (omega arith)
-    ])
-  ]
+find_below P by n = elim (first_below P by n) [
+  | inl found ↦ inl (found.0, (found.1.0, found.1.1.0))
+  | inr none ↦ inr none
 ]
 
 -- ---- shapes
@@ -51,6 +69,11 @@ same_cells a b s h = ext_get_or [] a b s.rows (λ r _. ext_get_or 0 (row_at a r)
 -- a rectangle: each row is as long as the first
 abbrev pub IsRectangle : List (List ℕ) → Type 0
 IsRectangle a = (i : ℕ) → i < length a → length (row_at a i) ≡ width_of a
+
+pub rect_like : (a b : List (List ℕ)) → SameShape a b → IsRectangle a → IsRectangle b
+rect_like a b s rect i l =
+    let r = rect i (omega arith) in
+    omega arith
 
 -- ---- picked grids
 
@@ -89,7 +112,6 @@ on_part cells one other row col l m h = cell_of_picked cells one other row col l
 pub off_part : (cells : List ℕ) (one other : List (List ℕ)) (row col : ℕ) → IsRectangle other → (HasCell cells row col → ⊥) → cell_at (picked cells one other) row col ≡ cell_at other row col
 off_part cells one other row col rect h =
     let shape = shape_of_picked cells one other rect in
-    let each = shape.each row in
     elim (cases_lt col (length (row_at other row))) [
       | inr p ↦ outside_is_0 (picked cells one other) row col (omega arith) ∙ sym (outside_is_0 other row col p)
       | inl m ↦ elim (cases_lt row (length other)) [
@@ -102,8 +124,6 @@ off_part cells one other row col rect h =
 pub on_cells : (cells : List ℕ) (one other : List (List ℕ)) (row col : ℕ) → IsRectangle other → SameShape one other → HasCell cells row col → cell_at (picked cells one other) row col ≡ cell_at one row col
 on_cells cells one other row col rect s h =
     let shape = shape_of_picked cells one other rect in
-    let each = shape.each row in
-    let there = s.each row in
     elim (cases_lt col (length (row_at other row))) [
       | inr p ↦ outside_is_0 (picked cells one other) row col (omega arith) ∙ sym (outside_is_0 one row col (omega arith))
       | inl m ↦ elim (cases_lt row (length other)) [
@@ -123,7 +143,6 @@ pub differing_cell : (a b : List (List ℕ)) → SameShape a b → (a ≡ b → 
 differing_cell a b s d = elim (find_below (λ row. (col : ℕ) × ((col < length (row_at b row)) × (cell_at a row col ≢ cell_at b row col))) (differs_in_row a b) (length b)) [
   | inl found ↦ (found.0, (found.1.1.0, found.1.1.1.1))
   | inr none ↦ absurd (d (same_cells a b s (λ row col.
-      let each = s.each row in
       elim (cases_lt col (length (row_at b row))) [
         | inr p ↦ outside_is_0 a row col (omega arith) ∙ sym (outside_is_0 b row col p)
         | inl m ↦ elim (cases_eq (cell_at a row col) (cell_at b row col)) [
@@ -155,11 +174,9 @@ same_along a b Down at e h =
 -- the cells of lines that are one
 pub cells_along : (a b : List (List ℕ)) (axis : Axis) (at row col : ℕ) → line_along axis at a ≡ line_along axis at b → IsAtPlace axis at row col → cell_at a row col ≡ cell_at b row col
 cells_along a b Across at row col e on =
-    let P : ℕ → Type 0 = λ x. cell_at a x col ≡ cell_at b x col in
-    subst P (sym on) (ap (λ (xs : List ℕ). get_or xs col 0) e)
+    subst (λ (x : ℕ). cell_at a x col ≡ cell_at b x col) (sym on) (ap (λ (xs : List ℕ). get_or xs col 0) e)
 cells_along a b Down at row col e on =
-    let P : ℕ → Type 0 = λ y. cell_at a row y ≡ cell_at b row y in
-    subst P (sym on) (sym (read_down a at row) ∙ (ap (λ (xs : List ℕ). get_or xs row 0) e ∙ read_down b at row))
+    subst (λ (y : ℕ). cell_at a row y ≡ cell_at b row y) (sym on) (sym (read_down a at row) ∙ (ap (λ (xs : List ℕ). get_or xs row 0) e ∙ read_down b at row))
   where
     read_down : (a : List (List ℕ)) (at row : ℕ) → get_or (line_along Down at a) row 0 ≡ cell_at a row at
     read_down a at row = elim (cases_lt row (length a)) [

@@ -99,7 +99,6 @@ module _ (of_lines : CluesAreOfLines) (books : BooksAreTheirClues) (members : Ce
               | inr n ↦ off r c n ∙ (sym (shown line r c through at) ∙ sym (f.elsewhere r c n))
             ]) in
             let n = same_count other picture like line.axis in
-            let here = same.before in
             ap clue_of one ∙ (clue_known of_lines clues other line f.is_other.solves.has_clues (omega arith) ∙ (same.clue ∙ sym (clue_known of_lines clues_after picture_after line t.has_clues same.after)))
         | inr none ↦ ap clue_of (same_along new picture_after line.axis line.at (same_len new picture_after shape line.axis line.at) (λ r c at. off r c (λ h. none (record { row = r; col = c; has = h; on_line = at }))))
       ] in

@@ -47,6 +47,7 @@ use Rattle.second_search.specs.Looking.{FindsFilling, Shows}
 use Rattle.second_search.specs.Trees.{Adds, Advances, AreNone, AreTree, Continues, Decides, EachFitsAlong, ForcesMore, HasCellNumber, HasLineNumber, IsComparedTo, IsDeadLine, IsOtherIn, IsUnsettledAt, Says, Settles, ShowsOnly, Stands, Turns, TurnsOn, Walks, line_id, split_at}
 use Rattle.second_search.proofs.FindLemmas.{Among, AreAlike, alike_both, among_kept, each_colour, held_alike, held_some, some_behind, some_both, some_front, some_held}
 use Rattle.second_search.proofs.EndLemmas.{shown_clues}
+use Rattle.second_search.proofs.LeastLemmas.{within_refl, within_trans}
 use Rattle.second_search.proofs.LookLemmas.{shown_fills}
 use Rattle.second_search.proofs.PickLemmas.{same_cells}
 use Rattle.second_search.proofs.WeightLemmas.{branches_lighter, load, load_append, load_more, weight, weight_within}
@@ -77,17 +78,11 @@ says_on clues known a b front l m n p q = record {
   walks = λ others. walks_on clues known p.lines q.lines (a ∷ others) (b ∷ others) (front ++ others) (p.walks others) (q.walks others);
 }
 
-within_refl : (a : List (List ℕ)) → IsWithin a a
-within_refl a = record { same_shape = shape_refl a; leaves = λ row col k l. l }
-
-within_on : (a b c : List (List ℕ)) → IsWithin a b → IsWithin b c → IsWithin a c
-within_on a b c p q = record { same_shape = shape_trans p.same_shape q.same_shape; leaves = λ row col k l. p.leaves row col k (q.leaves row col k l) }
-
 pub settles_none : (clues : Clues) (facts : List (List ℕ)) (l : Lines) → Settles clues facts facts l l Narrowed
 settles_none clues facts l = (within_refl facts, λ known. record { lines = []; adds = adds_none l; walks = λ others. refl })
 
 pub settles_on : (clues : Clues) (a b c : List (List ℕ)) (l m n : Lines) (outcome : Outcome) → Settles clues a b l m Narrowed → Settles clues b c m n outcome → Settles clues a c l n outcome
-settles_on clues a b c l m n Narrowed p q = (within_on a b c p.0 q.0, λ known. says_on clues known a b (c ∷ []) l m n (p.1 known) (q.1 known))
+settles_on clues a b c l m n Narrowed p q = (within_trans a b c p.0 q.0, λ known. says_on clues known a b (c ∷ []) l m n (p.1 known) (q.1 known))
 settles_on clues a b c l m n NoneFits p q = λ known. says_on clues known a b [] l m n (p.1 known) (q known)
 
 -- ---- a line evaluated
@@ -99,8 +94,7 @@ number_is line number a n =
 
 has_number : (facts : List (List ℕ)) (line : LineId) (number : LineNumber) → HasLine facts line → number.axis ≡ line.axis → number.number ≡ line.at + 1 → HasLineNumber facts number
 has_number facts line number h a n =
-    let P : Axis → Type 0 = λ x. (0 < number.number) × (number.number ≤ lines_along x facts) in
-    subst P (sym a) ((let p : 0 < number.number = omega arith in p), (let q : number.number ≤ lines_along line.axis facts = omega arith in q))
+    subst (λ (x : Axis). (0 < number.number) × (number.number ≤ lines_along x facts)) (sym a) ((let p : 0 < number.number = omega arith in p), (let q : number.number ≤ lines_along line.axis facts = omega arith in q))
 
 -- where no line crosses a change, nothing has changed
 same_line : (before after : List ℕ) (line : LineId) → length before ≡ length after → ((other : LineId) → CrossesChange line before after other → ⊥) → (i : ℕ) → i < length before → get_or before i 0 ≡ get_or after i 0
@@ -135,8 +129,7 @@ quiet_settles clues clue line facts new names l g changed none =
           at facts ∙ (places o.0 on ∙ sym (at new))
       | inr off ↦ sym (g.elsewhere row col off)
     ]) in
-    let R : List (List ℕ) → Type 0 = λ f. Settles clues facts f l l Narrowed in
-    subst R all (settles_none clues facts l)
+    subst (λ (f : List (List ℕ)). Settles clues facts f l l Narrowed) all (settles_none clues facts l)
   where
     places : (i : ℕ) → ((j : ℕ) → j < length (line_of facts line) → get_or (line_of facts line) j 0 ≡ get_or (line_of new line) j 0) → get_or (line_of facts line) i 0 ≡ get_or (line_of new line) i 0
     places i h = elim (cases_lt i (length (line_of facts line))) [
@@ -162,9 +155,7 @@ forced_settles clues clue line number facts new names l m has e g changed some a
 
     more : ForcesMore clues facts (line_id number) new
     more =
-        let P : LineId → Type 0 = λ x. ForcesMore clues facts x new in
-        let Q : List Block → Type 0 = λ bs. Gains bs line facts new Narrowed in
-        subst P (sym (number_is line number a n)) (record { outcome = Narrowed; gains = subst Q e g; more = differ })
+        subst (λ (x : LineId). ForcesMore clues facts x new) (sym (number_is line number a n)) (record { outcome = Narrowed; gains = subst (λ (bs : List Block). Gains bs line facts new Narrowed) e g; more = differ })
 
 -- a dead line is written
 pub dead_settles : (clues : Clues) (clue : List Block) (line : LineId) (number : LineNumber) (facts new : List (List ℕ)) (l m : Lines) → HasLine facts line → clue ≡ clue_at clues line → Gains clue line facts new NoneFits → number.axis ≡ line.axis → number.number ≡ line.at + 1 → Adds l m (Dead number ∷ []) → Settles clues facts new l m NoneFits
@@ -176,24 +167,20 @@ dead_settles clues clue line number facts new l m has e g a n adds = λ known. r
   where
     unfit : CanFit (clue_at clues line) (line_of facts line) → ⊥
     unfit fit =
-        let P : List Block → Type 0 = λ bs. CanFit bs (line_of facts line) in
-        let other : NoneFits ≡ Narrowed = g.narrows.fits.1 (subst P (sym e) fit) in
+        let other : NoneFits ≡ Narrowed = g.narrows.fits.1 (subst (λ (bs : List Block). CanFit bs (line_of facts line)) (sym e) fit) in
         cc
 
     dead : CanFit (clue_at clues (line_id number)) (line_of facts (line_id number)) → ⊥
     dead =
-        let P : LineId → Type 0 = λ x. CanFit (clue_at clues x) (line_of facts x) → ⊥ in
-        subst P (sym (number_is line number a n)) unfit
+        subst (λ (x : LineId). CanFit (clue_at clues x) (line_of facts x) → ⊥) (sym (number_is line number a n)) unfit
 
 -- ---- what fills the branches that wait
 
 inside_row : (facts picture : List (List ℕ)) (cell : CellNumber) → IsPicture picture → SameShape picture facts → HasCellNumber facts cell → (cell.row - 1 < length facts) × (cell.col - 1 < length (row_at facts (cell.row - 1)))
 inside_row facts picture cell is s h =
-    let rows = s.rows in
     let here : cell.row - 1 < length picture = omega arith in
     let rect = is.rectangular (cell.row - 1) here in
     let each = s.each (cell.row - 1) in
-    let first = s.each 0 in
     ((let p : cell.row - 1 < length facts = omega arith in p), (let p : cell.col - 1 < length (row_at facts (cell.row - 1)) = omega arith in p))
 
 left_there : (facts : List (List ℕ)) (row col k : ℕ) → Leaves facts row col k → (row < length facts) × (col < length (row_at facts row))
@@ -236,7 +223,6 @@ among_left clues facts picture row col f s = among_kept (λ k. bit_at (cell_at f
 
 split_some : (clues : Clues) (facts picture : List (List ℕ)) (row col : ℕ) → row < length facts → col < length (row_at facts row) → Fills clues facts picture → FillsSome clues (branches facts row col (cell_at facts row col)) picture
 split_some clues facts picture row col h l fills =
-    let each = fills.same_shape.each row in
     some_held clues facts picture row col h l fills (colours_of (cell_at facts row col)) (among_left clues facts picture row col fills (fills.leaves row col (omega arith)))
 
 held_shape : (clues : Clues) (facts picture : List (List ℕ)) (row col : ℕ) (ks : List ℕ) → FillsSome clues (held facts row col ks) picture → IsPicture picture × SameShape picture facts
@@ -260,8 +246,6 @@ only_known : (clues : Clues) (known facts picture : List (List ℕ)) → SameSha
 only_known clues known facts picture s only f = same_cells picture known (shape_trans f.same_shape (shape_sym s)) (λ row col. elim (cases_lt col (length (row_at picture row))) [
   | inl l ↦ only row col (cell_at picture row col) (f.leaves row col l)
   | inr p ↦
-      let a = f.same_shape.each row in
-      let b = s.each row in
       get_or_past (row_at picture row) col 0 p ∙ sym (get_or_past (row_at known row) col 0 (omega arith))
 ])
 
@@ -286,32 +270,26 @@ module _ (own : OnlyIsClosed) (closing : ClosingKeepsFillings) (clues : Clues) (
   -- what fills a branch and is not the known picture fills one of the branches that a line leads to
   step_fills : (facts picture : List (List ℕ)) (line : CertLine) (next : List (List (List ℕ))) → SameShape known facts → Stands clues known facts line next → (picture ≡ known → ⊥) → Fills clues facts picture → FillsSome clues next picture
   step_fills facts picture (Line number) next e s d f =
-      let P : List (List (List ℕ)) → Type 0 = λ x. FillsSome clues x picture in
-      subst P (sym s.1.1.1) (inl (forced_fills own clues facts s.1.0 picture (line_id number) (line_there facts number s.0) s.1.1.0 f))
+      subst (λ (x : List (List (List ℕ))). FillsSome clues x picture) (sym s.1.1.1) (inl (forced_fills own clues facts s.1.0 picture (line_id number) (line_there facts number s.0) s.1.1.0 f))
   step_fills facts picture (Split cell) next e s d f =
-      let P : List (List (List ℕ)) → Type 0 = λ x. FillsSome clues x picture in
       let i = inside_row facts picture cell f.is_picture f.same_shape s.0 in
-      subst P (sym s.1.0) (split_some clues facts picture (cell.row - 1) (cell.col - 1) i.0 i.1 f)
+      subst (λ (x : List (List (List ℕ))). FillsSome clues x picture) (sym s.1.0) (split_some clues facts picture (cell.row - 1) (cell.col - 1) i.0 i.1 f)
   step_fills facts picture (Dead number) next e s d f = absurd (dead_has_none closing clues facts picture (line_id number) (line_there facts number s.0) s.1.0 f)
   step_fills facts picture Done next e s d f = absurd (d (only_known clues known facts picture e s.0 f))
 
   -- what fills a branch that a line leads to fills the branch
   step_back : (facts picture : List (List ℕ)) (line : CertLine) (next : List (List (List ℕ))) → Stands clues known facts line next → FillsSome clues next picture → Fills clues facts picture
   step_back facts picture (Line number) next s f =
-      let P : List (List (List ℕ)) → Type 0 = λ x. FillsSome clues x picture in
-      elim (subst P s.1.1.1 f) [
+      elim (subst (λ (x : List (List (List ℕ))). FillsSome clues x picture) s.1.1.1 f) [
         | inl here ↦ fills_fewer clues facts s.1.0 picture (gains_grows (clue_at clues (line_id number)) (line_id number) facts s.1.0 s.1.1.0.outcome s.1.1.0.gains) here
         | inr none ↦ absurd none
       ]
   step_back facts picture (Split cell) next s f =
-      let P : List (List (List ℕ)) → Type 0 = λ x. FillsSome clues x picture in
-      split_back clues facts picture cell s.0 (subst P s.1.0 f)
+      split_back clues facts picture cell s.0 (subst (λ (x : List (List (List ℕ))). FillsSome clues x picture) s.1.0 f)
   step_back facts picture (Dead number) next s f =
-      let P : List (List (List ℕ)) → Type 0 = λ x. FillsSome clues x picture in
-      absurd (subst P s.1.1 f)
+      absurd (subst (λ (x : List (List (List ℕ))). FillsSome clues x picture) s.1.1 f)
   step_back facts picture Done next s f =
-      let P : List (List (List ℕ)) → Type 0 = λ x. FillsSome clues x picture in
-      absurd (subst P s.1 f)
+      absurd (subst (λ (x : List (List (List ℕ))). FillsSome clues x picture) s.1 f)
 
   pub walk_fills : (first picture : List (List ℕ)) (lines : List CertLine) (waits rest : List (List (List ℕ))) → SameShape known first → AreAlike first waits → Walks clues known lines waits rest → (picture ≡ known → ⊥) → FillsSome clues waits picture → FillsSome clues rest picture
   walk_fills first picture [] waits rest e a w d f = let P : List (List (List ℕ)) → Type 0 = λ x. FillsSome clues x picture in subst P w f
@@ -342,8 +320,6 @@ ended_lighter facts others = let more = load_more facts others in let some = pow
 
 pub split_lighter : (facts : List (List ℕ)) (others : List (List (List ℕ))) (cell : Cell) → IsFacts facts → IsUnsettled facts cell → load (branches facts cell.row cell.col (cell_at facts cell.row cell.col) ++ others) < load (facts ∷ others)
 split_lighter facts others cell is at =
-    let rect = is.rectangular cell.row at.in_rows in
-    let inside = at.in_columns in
     let light = branches_lighter facts cell.row cell.col at.in_rows (omega arith) at.unsettled in
     let both = load_append (branches facts cell.row cell.col (cell_at facts cell.row cell.col)) others in
     let more = load_more facts others in
@@ -362,23 +338,18 @@ within_lighter facts settled others w =
 shown_only : (known facts picture : List (List ℕ)) → IsFacts facts → Shows facts picture → picture ≡ known → ShowsOnly known facts
 shown_only known facts picture is s e row col k l =
     let at = left_there facts row col k l in
-    let rect = is.rectangular row at.0 in
-    let inside = at.1 in
     ((s.only row col at.0 (omega arith)) k).0 l ∙ ap (λ (p : List (List ℕ)). cell_at p row col) e
 
 pub compare_continues : (clues : Clues) (known facts picture : List (List ℕ)) (step : TreeStep) → IsFacts facts → Shows facts picture → clues_of picture ≡ clues → IsComparedTo known picture step → Continues clues known facts step
 compare_continues clues known facts picture (Ends line) is s has h =
-    let P : CertLine → Type 0 = λ l. Stands clues known facts l [] in
-    subst P (sym h.0) (shown_only known facts picture is s h.1, refl)
+    subst (λ (l : CertLine). Stands clues known facts l []) (sym h.0) (shown_only known facts picture is s h.1, refl)
 compare_continues clues known facts picture (Splits cell) is s has h = absurd h
 compare_continues clues known facts picture (Other other) is s has h =
-    let P : List (List ℕ) → Type 0 = λ p. IsOtherIn clues known facts p in
-    subst P (sym h.0) (shown_fills clues facts picture is s has, h.1)
+    subst (λ (p : List (List ℕ)). IsOtherIn clues known facts p) (sym h.0) (shown_fills clues facts picture is s has, h.1)
 
 pub dead_continues : (clues : Clues) (known facts : List (List ℕ)) (line : LineId) (number : LineNumber) → IsDeadLine clues facts line → number.axis ≡ line.axis → number.number ≡ line.at + 1 → Continues clues known facts (Ends (Dead number))
 dead_continues clues known facts line number d a n =
-    let P : LineId → Type 0 = λ x. CanFit (clue_at clues x) (line_of facts x) → ⊥ in
-    (has_number facts line number d.has a n, (subst P (sym (number_is line number a n)) d.dead, refl))
+    (has_number facts line number d.has a n, (subst (λ (x : LineId). CanFit (clue_at clues x) (line_of facts x) → ⊥) (sym (number_is line number a n)) d.dead, refl))
 
 pub none_dead : CluesAreOfLines → BooksAreTheirClues → (clues : Clues) (longest : ℕ) (facts picture : List (List ℕ)) → IsFacts facts → AreClosable clues longest facts → EachFits clues facts → Shows facts picture → clues_of picture ≡ clues
 none_dead law books clues longest facts picture is can fits s = shown_clues law books clues facts picture is fits s (record { rows = can.rows; columns = can.columns })
@@ -405,11 +376,7 @@ splits_turn clues known old new cell number is at er ec e adds =
     let r : cell.row ≡ number.row - 1 = omega (arith, er) in
     let c : cell.col ≡ number.col - 1 = omega (arith, ec) in
     let split : front ≡ split_at facts number = ap (λ (x : ℕ). branches facts x cell.col (cell_at facts x cell.col)) r ∙ ap (λ (y : ℕ). branches facts (number.row - 1) y (cell_at facts (number.row - 1) y)) c in
-    let rows = at.in_rows in
-    let columns = at.in_columns in
-    let R : ℕ → Type 0 = λ x. (k : ℕ) → IsOnly (cell_at facts x cell.col) k → ⊥ in
-    let C : ℕ → Type 0 = λ y. (k : ℕ) → IsOnly (cell_at facts (number.row - 1) y) k → ⊥ in
-    let open_there : IsUnsettledAt facts number = subst C c (subst R r at.unsettled) in
+    let open_there : IsUnsettledAt facts number = subst (λ (y : ℕ). (k : ℕ) → IsOnly (cell_at facts (number.row - 1) y) k → ⊥) c (subst (λ (x : ℕ). (k : ℕ) → IsOnly (cell_at facts x cell.col) k → ⊥) r at.unsettled) in
     let P : List (List (List ℕ)) → Type 0 = λ x. load x < load (facts ∷ old.pending.behind) in
     record {
       lines = Split number ∷ [];
@@ -439,10 +406,8 @@ turns_on clues known first settled old mid new f h e t =
     let behind : mid.pending.behind ≡ old.pending.behind = ap (λ (x : Search). x.behind) e in
     let hand : mid.pending.at_hand ≡ settled = ap (λ (x : Search). x.at_hand) e in
     let waits : mid.pending.at_hand ∷ mid.pending.behind ≡ settled ∷ old.pending.behind = ap (λ (x : Search). x.at_hand ∷ x.behind) e in
-    let P : List (List ℕ) → Type 0 = λ x. IsWithin x settled in
-    let light = within_lighter old.pending.at_hand settled old.pending.behind (subst P f h.0) in
-    let Q : List (List (List ℕ)) → Type 0 = λ x. load new.pending.behind < load x in
-    let lighter = subst Q waits t.lighter in
+    let light = within_lighter old.pending.at_hand settled old.pending.behind (subst (λ (x : List (List ℕ)). IsWithin x settled) f h.0) in
+    let lighter = subst (λ (x : List (List (List ℕ))). load new.pending.behind < load x) waits t.lighter in
     let R : List (List ℕ) → Type 0 = λ x. Walks clues known says.lines (x ∷ old.pending.behind) (settled ∷ old.pending.behind) in
     let S : List (List (List ℕ)) → Type 0 = λ x. Walks clues known t.lines x new.pending.behind in
     record {
@@ -456,9 +421,7 @@ pub turn_on : (clues : Clues) (known first settled : List (List ℕ)) (old mid n
 turn_on clues known first settled old mid new f h e None t = turns_on clues known first settled old mid new f h e t
 turn_on clues known first settled old mid new f h e (Some picture) t =
     let hand : mid.pending.at_hand ≡ settled = ap (λ (x : Search). x.at_hand) e in
-    let P : List (List ℕ) → Type 0 = λ x. Fills clues x picture in
-    let Q : List (List ℕ) → Type 0 = λ x. IsWithin x settled in
-    (fills_fewer clues old.pending.at_hand settled picture (subst Q f h.0) (subst P hand t.0), t.1)
+    (fills_fewer clues old.pending.at_hand settled picture (subst (λ (x : List (List ℕ)). IsWithin x settled) f h.0) (subst (λ (x : List (List ℕ)). Fills clues x picture) hand t.0), t.1)
 
 -- ---- a tree
 
@@ -473,8 +436,7 @@ LeadsToEnd clues known facts start end = (lines : List CertLine) × (Adds start 
 pub starts_said : (clues : Clues) (known facts first : List (List ℕ)) (start : Lines) (g : Growing) → first ≡ facts → g.pending ≡ search_of first [] [] → g.lines ≡ start → Said clues known facts start g
 starts_said clues known facts first start g f e l =
     let waits : facts ∷ [] ≡ g.pending.at_hand ∷ g.pending.behind = sym (ap (λ (x : Search). x.at_hand ∷ x.behind) e ∙ ap (λ (x : List (List ℕ)). x ∷ []) f) in
-    let P : Lines → Type 0 = λ x. Adds start x [] in
-    ([], (subst P (sym l) (adds_none start), waits))
+    ([], (subst (λ (x : Lines). Adds start x []) (sym l) (adds_none start), waits))
 
 pub goes_said : (clues : Clues) (known facts : List (List ℕ)) (start : Lines) (old mid new : Growing) → Said clues known facts start old → TurnsOn clues known old mid → Advances mid new true → Said clues known facts start new
 goes_said clues known facts start old mid new s t a =
@@ -512,15 +474,13 @@ found_said own closing clues known facts picture start g s h = (
 
 pub said_lighter : (clues : Clues) (known : List (List ℕ)) (old mid new : Growing) → TurnsOn clues known old mid → Advances mid new true → load (new.pending.at_hand ∷ new.pending.behind) < load (old.pending.at_hand ∷ old.pending.behind)
 said_lighter clues known old mid new t a =
-    let P : List (List (List ℕ)) → Type 0 = λ x. load x < load (old.pending.at_hand ∷ old.pending.behind) in
-    subst P a.0 t.lighter
+    subst (λ (x : List (List (List ℕ))). load x < load (old.pending.at_hand ∷ old.pending.behind)) a.0 t.lighter
 
 -- what a tree decides
 pub tree_decides : (clues : Clues) (known facts : List (List ℕ)) (keeps : Bool) (start end : Lines) → AreNone keeps start → LeadsToEnd clues known facts start end → Decides clues known facts keeps (Tree end)
 tree_decides clues known facts keeps (Kept start) (Kept end) none w =
     let same : end.items ≡ w.0 = w.1.0 ∙ ap (λ (x : List CertLine). x ++ w.0) none in
-    let P : List CertLine → Type 0 = λ x. Walks clues known x (facts ∷ []) [] in
-    (subst P (sym same) w.1.1, λ e. tt)
+    (subst (λ (x : List CertLine). Walks clues known x (facts ∷ []) []) (sym same) w.1.1, λ e. tt)
 tree_decides clues known facts keeps (Kept start) Dropped none w = absurd w.1.0
 tree_decides clues known facts keeps Dropped (Kept end) none w = absurd w.1.0
 tree_decides clues known facts keeps Dropped Dropped none w = ((w.0, w.1.1), λ e. absurd (false≢true (sym none ∙ e)))

@@ -1,4 +1,4 @@
--- What is kept after a picture is judged is true, and so is the verdict.
+-- What is kept after a picture is judged is true, and so are the verdict and what is answered.
 use Rattle.std.proofs.Common.{ℕ, zero, suc, ◌<◌, Option, List, length, sym, subst, arith, inl, inr}
 use Rattle.std.proofs.lemmas.Bool.{cases_eq, cases_lt}
 use Rattle.std.proofs.lemmas.List.{length-map}
@@ -13,10 +13,12 @@ use Rattle.second_search.specs.declared.keeper.Verdict.{Verdict}
 use Rattle.second_search.specs.declared.keeper.Verdict.TheVariants.{Other, Undecided, Unique}
 use Rattle.second_search.specs.Laws.{FillingsAreOfFacts, PartsDecide}
 use Rattle.second_search.specs.Parts.{AreParts, IsOtherFilling, IsScene}
-use Rattle.second_search.specs.Judging.{AreTrue, Changes, EndsBy, EndsPart, Finds, HasNoFilling, IsFilling, IsTrueOf, IsVerdict, Judges, Passes, answer_at, cells_at, kept_at, parts_of}
-use Rattle.second_search.proofs.EndLemmas.{IsFound}
+use Rattle.second_search.specs.Judging.{AreTrue, Changes, EndsBy, EndsPart, Finds, HasNoFilling, IsFilling, IsTrueOf, IsVerdict, Judges, Passes, answer_at, cells_at, kept_at, parts_of, AnswersAs}
 use Rattle.second_search.proofs.WithinLemmas.{within_none, within_one}
 use Rattle.second_search.proofs.VerdictLemmas.{part_of_kept}
+use Rattle.second_search.specs.declared.keeper.Judged.{Judged}
+use Rattle.second_search.specs.declared.keeper.Judged.TheVariants as judged
+use Rattle.second_search.specs.Answering.{IsAnswer}
 
 module _ (clues : Clues) (givens : List ℕ) (picture : List (List ℕ)) where
   abbrev HasNone : List ℕ → Type 0
@@ -29,34 +31,25 @@ module _ (clues : Clues) (givens : List ℕ) (picture : List (List ℕ)) where
 
   changes_true : (old new : List KeptPart) (end : ℕ) → Changes old new end → ((i : ℕ) → i < end → i < length old → HasNone (cells_at old i)) → AreTrue clues givens picture old → AreTrue clues givens picture new
   changes_true old new end c none t i l =
-      let n = c.count in
       elim (cases_lt i end) [
         | inl m ↦
-            let P : Answer → Type 0 = λ a. IsTrueOf clues givens picture (cells_at new i) a in
-            let Q : List ℕ → Type 0 = λ cells. HasNone cells in
-            subst P (sym (c.before i m)) (subst Q (sym (c.cells i)) (none i m (omega arith)))
+            subst (λ (a : Answer). IsTrueOf clues givens picture (cells_at new i) a) (sym (c.before i m)) (subst (λ (cells : List ℕ). HasNone cells) (sym (c.cells i)) (none i m (omega arith)))
         | inr p ↦
-            let P : KeptPart → Type 0 = λ part. IsTrueOf clues givens picture part.cells part.answer in
-            subst P (sym (c.behind i p)) (t i (omega arith))
+            subst (λ (part : KeptPart). IsTrueOf clues givens picture part.cells part.answer) (sym (c.behind i p)) (t i (omega arith))
       ]
 
   finds_true : (old new : List KeptPart) (at : ℕ) (other : List (List ℕ)) → Finds old new at other → ((i : ℕ) → i < at → i < length old → HasNone (cells_at old i)) → IsOtherFilling clues givens picture (cells_at old at) other → AreTrue clues givens picture old → AreTrue clues givens picture new
   finds_true old new at other c none one t i l =
-      let n = c.count in
       let Q : List ℕ → Type 0 = λ cells. HasNone cells in
       elim (cases_eq i at) [
         | inl q ↦
             let R : ℕ → Type 0 = λ k. IsTrueOf clues givens picture (cells_at new k) (answer_at new k) in
-            let P : Answer → Type 0 = λ a. IsTrueOf clues givens picture (cells_at new at) a in
-            let S : List ℕ → Type 0 = λ cells. IsOtherFilling clues givens picture cells other in
-            subst R (sym q) (subst P (sym c.here) (subst S (sym (c.cells at)) one))
+            subst R (sym q) (subst (λ (a : Answer). IsTrueOf clues givens picture (cells_at new at) a) (sym c.here) (subst (λ (cells : List ℕ). IsOtherFilling clues givens picture cells other) (sym (c.cells at)) one))
         | inr d ↦ elim (cases_lt i at) [
           | inl m ↦
-              let P : Answer → Type 0 = λ a. IsTrueOf clues givens picture (cells_at new i) a in
-              subst P (sym (c.before i m)) (subst Q (sym (c.cells i)) (none i m (omega arith)))
+              subst (λ (a : Answer). IsTrueOf clues givens picture (cells_at new i) a) (sym (c.before i m)) (subst Q (sym (c.cells i)) (none i m (omega arith)))
           | inr p ↦
-              let P : KeptPart → Type 0 = λ part. IsTrueOf clues givens picture part.cells part.answer in
-              subst P (sym (c.behind i (omega arith))) (t i (omega arith))
+              subst (λ (part : KeptPart). IsTrueOf clues givens picture part.cells part.answer) (sym (c.behind i (omega arith))) (t i (omega arith))
         ]
       ]
 
@@ -64,8 +57,7 @@ passes_each : (clues : Clues) (facts picture : List (List ℕ)) (allowance : Opt
 passes_each clues facts picture allowance kept zero s t p i l = absurd (omega arith)
 passes_each clues facts picture allowance kept (suc n) s t p i l = elim (cases_eq i n) [
   | inl q ↦
-      let P : ℕ → Type 0 = λ k. (x : ℕ) × ((y : ℕ) × EndsPart clues facts picture allowance (kept_at kept k) ending.Nothing x y) in
-      subst P (sym q) (p.1.1.0, (p.1.1.1.0, p.1.1.1.1.1.0))
+      subst (λ (k : ℕ). (x : ℕ) × ((y : ℕ) × EndsPart clues facts picture allowance (kept_at kept k) ending.Nothing x y)) (sym q) (p.1.1.0, (p.1.1.1.0, p.1.1.1.1.1.0))
   | inr d ↦ passes_each clues facts picture allowance kept n p.0 p.1.0 p.1.1.1.1.0 i (omega arith)
 ]
 
@@ -77,8 +69,8 @@ module _ (law : CluesAreOfLines) (books : BooksAreTheirClues) (closing : Closing
 
   part_found : (cells : List ℕ) (answer : Answer) (other : List (List ℕ)) (x y : ℕ) → EndsBy clues facts picture allowance cells answer (ending.Found other) x y → IsOtherFilling clues givens picture cells other
   part_found cells Unknown other x y e = within_one law books closing own fillings clues givens facts picture scene cells other allowance y e.1
-  part_found cells Nothing other x y e = absurd (subst IsFound e.0 tt)
-  part_found cells (Filling known) other x y e = absurd (subst IsFound e.0 tt)
+  part_found cells Nothing other x y e = let f = e.0 in absurd cc
+  part_found cells (Filling known) other x y e = let f = e.0 in absurd cc
 
   all_passed : (kept : List KeptPart) (n s t : ℕ) → HasNoFilling kept (length kept) → AreTrue clues givens picture kept → Passes clues facts picture allowance kept n s t → (i : ℕ) → i < n → i < length kept → HasNone clues givens picture (cells_at kept i)
   all_passed kept n s t none are p i l m =
@@ -100,9 +92,7 @@ module _ (law : CluesAreOfLines) (books : BooksAreTheirClues) (closing : Closing
       let count = length-map old (λ (part : KeptPart). part.cells) in
       let some = (decide.some_part clues givens facts picture (parts_of old) scene are).0 (other, is) in
       let i = some.0 in
-      let P : List ℕ → Type 0 = λ cells. IsOtherFilling clues givens picture cells some.1.1.0 in
-      let l = some.1.0 in
-      all_passed old (length old) m n j.none_kept t j.passes i (omega arith) (omega arith) some.1.1.0 (subst P (part_of_kept old i) some.1.1.1)
+      all_passed old (length old) m n j.none_kept t j.passes i (omega arith) (omega arith) some.1.1.0 (subst (λ (cells : List ℕ). IsOtherFilling clues givens picture cells some.1.1.0) (part_of_kept old i) some.1.1.1)
   verdict_true old new Other m n are t (inl j) =
       let f = kept_filling_is clues givens picture (cells_at old j.at) (answer_at old j.at) j.is.is (t j.at j.is.place) in
       (f.0, f.1.is_other)
@@ -110,3 +100,14 @@ module _ (law : CluesAreOfLines) (books : BooksAreTheirClues) (closing : Closing
       let s = j.stops in
       (j.other, (part_found (cells_at old j.at) (answer_at old j.at) j.other s.searched_here s.splits_here s.here).is_other)
   verdict_true old new Undecided m n are t j = tt
+
+-- ---- what is answered
+
+-- what is answered is true where the verdict is, and what is kept
+pub answer_true : (clues : Clues) (givens : List ℕ) (picture : List (List ℕ)) (kept : List KeptPart) (answer : Judged) (verdict : Verdict) → AreTrue clues givens picture kept → IsVerdict clues givens picture verdict → AnswersAs kept answer verdict → IsAnswer clues givens picture answer
+answer_true clues givens picture kept judged.Unique verdict t v a = subst (IsVerdict clues givens picture) a v
+answer_true clues givens picture kept (judged.Other other) verdict t v a =
+    let f = a.1 in
+    let filling : IsOtherFilling clues givens picture (cells_at kept f.at) other.now = subst (λ (x : Answer). IsTrueOf clues givens picture (cells_at kept f.at) x) f.is (t f.at f.place) in
+    filling.is_other
+answer_true clues givens picture kept judged.Undecided verdict t v a = tt

@@ -1,17 +1,23 @@
--- What is kept of the parts: from the start, after a search, and what it makes of the picture.
-use Rattle.std.proofs.Common.{◌≡◌, ℕ, zero, suc, ◌+◌, ◌<◌, Option, List, [], ◌∷◌, ◌++◌, length, refl, sym, ap, subst, ◌∙◌, arith, inl, inr}
-use Rattle.std.proofs.lemmas.Bool.{cases_eq, cases_lt}
-use Rattle.std.proofs.lemmas.List.{length-map}
+-- What is kept of the parts: from the start, after a search, and what it makes of the picture; and going along them, with counts.
+use Rattle.std.proofs.Common.{◌≡◌, ℕ, zero, suc, ◌+◌, ◌<◌, Option, List, [], ◌∷◌, ◌++◌, length, refl, sym, ap, subst, ◌∙◌, arith, inl, inr, ◌^◌, None, Some, get_or}
+use Rattle.std.proofs.lemmas.Bool.{cases_lt}
+use Rattle.std.proofs.lemmas.List.{get_or_append_left, get_or_past, get_or_push, length-map, length_push, get_or_default}
 use Rattle.clues.specs.ClueBook.{Clues}
 use Rattle.second_search.specs.declared.keeper.Answer.{Answer}
-use Rattle.second_search.specs.declared.keeper.Answer.TheVariants.{Filling, Unknown}
+use Rattle.second_search.specs.declared.keeper.Answer.TheVariants.{Filling, Unknown, Nothing}
 use Rattle.second_search.specs.declared.keeper.KeptPart.{KeptPart}
-use Rattle.second_search.specs.declared.keeper.Stop.{Stop}
-use Rattle.second_search.specs.declared.keeper.Stop.TheVariants.{BrokenOff, Found, Through}
+use Rattle.second_search.specs.declared.counting.Ending.{Ending}
+use Rattle.second_search.specs.declared.counting.Ending.TheVariants as ending
 use Rattle.second_search.specs.declared.keeper.Verdict.{Verdict}
 use Rattle.second_search.specs.declared.keeper.Verdict.TheVariants.{Other, Undecided, Unique}
 use Rattle.second_search.specs.Parts.{AreParts, IsPart, part_at}
-use Rattle.second_search.specs.Judging.{HasFilling, HasNoFilling, IsFilling, IsShown, IsTrueOf, Judges, Notes, Starts, StartsWith, Stops, answer_at, cells_at, kept_at, parts_of}
+use Rattle.second_search.specs.Judging.{Changes, FirstFilling, HasFilling, HasNoFilling, IsFilling, IsPlace, IsShown, IsTrueOf, Judges, Notes, Starts, StartsWith, Stops, answer_at, cells_at, kept_at, parts_of, AddsUp, Done, DoneBy, EndsBy, EndsPart, Passes, StopsAt}
+use Rattle.second_search.proofs.LookLemmas.{below_next}
+use Rattle.line_settle.specs.declared.meter.Meter.{Meter}
+use Rattle.line_settle.specs.FitLaws.{counting_adds}
+use Rattle.second_search.specs.declared.keeper.Spent.{Spent}
+use Rattle.second_search.specs.Searching.{CountsSome, EndsWithin, alone, raised}
+use Rattle.second_search.specs.Laws.{AllowancesBreakOff}
 
 -- ---- the parts that are kept
 
@@ -42,78 +48,61 @@ kept_cells old new e h =
 -- ---- from the start
 
 pub starts_none : (parts : List (List ℕ)) (kept : List KeptPart) → kept ≡ [] → StartsWith parts kept 0
-starts_none parts kept e =
-    let P : List KeptPart → Type 0 = λ xs. StartsWith parts xs 0 in
-    subst P (sym e) (record { count_is = refl; cells = λ i l. absurd (omega arith); unknown = λ i. refl })
+starts_none parts kept e = record { count_is = ap length e; cells = λ i l. absurd (omega arith); unknown = λ i l. absurd (omega arith) }
 
-pub last_at : (kept : List KeptPart) (part : KeptPart) → kept_at (kept ++ (part ∷ [])) (length kept) ≡ part
-last_at [] part = refl
-last_at (first ∷ kept) part = last_at kept part
+abbrev pub no_part : KeptPart
+no_part = record { cells = []; answer = Unknown }
 
-pub front_at : (kept : List KeptPart) (part : KeptPart) (i : ℕ) → i < length kept → kept_at (kept ++ (part ∷ [])) i ≡ kept_at kept i
-front_at [] part i l = absurd (omega arith)
-front_at (first ∷ kept) part zero l = refl
-front_at (first ∷ kept) part (suc i) l = front_at kept part i (omega arith)
-
-behind_at : (kept : List KeptPart) (part : KeptPart) (i : ℕ) → length kept < i → kept_at (kept ++ (part ∷ [])) i ≡ (record { cells = []; answer = Unknown })
-behind_at [] part zero l = absurd (omega arith)
-behind_at [] part (suc i) l = refl
-behind_at (first ∷ kept) part zero l = absurd (omega arith)
-behind_at (first ∷ kept) part (suc i) l = behind_at kept part i (omega arith)
-
-pub one_longer : (kept : List KeptPart) (part : KeptPart) → length (kept ++ (part ∷ [])) ≡ length kept + 1
-one_longer [] part = refl
-one_longer (first ∷ kept) part = (let e = one_longer kept part in omega arith)
+-- what holds of the parts that are kept and of one more holds of all
+pub each_more : (Q : ℕ → KeptPart → Type 0) (kept : List KeptPart) (part : KeptPart) (count : ℕ) → length kept ≡ count → ((i : ℕ) → i < count → Q i (kept_at kept i)) → Q count part → (i : ℕ) → i < count + 1 → Q i (kept_at (kept ++ part ∷ []) i)
+each_more Q kept part count n before here = below_next (λ i. Q i (kept_at (kept ++ part ∷ []) i)) count
+    (λ i l. subst (Q i) (sym (get_or_append_left kept (part ∷ []) no_part i (omega arith))) (before i l))
+    (subst (Q count) (sym (get_or_push kept part no_part count n)) here)
 
 pub starts_more : (parts : List (List ℕ)) (kept more : List KeptPart) (part : KeptPart) (count : ℕ) → StartsWith parts kept count → more ≡ kept ++ (part ∷ []) → part.cells ≡ part_at parts count → part.answer ≡ Unknown → StartsWith parts more (count + 1)
 starts_more parts kept more part count s e same gone =
-    let all = kept ++ (part ∷ []) in
     let n = s.count_is in
-    let P : List KeptPart → Type 0 = λ xs. StartsWith parts xs (count + 1) in
-    let L : ℕ → Type 0 = λ k. kept_at all k ≡ part in
-    let last : kept_at all count ≡ part = subst L n (last_at kept part) in
-    subst P (sym e) (record {
-      count_is = (let m = one_longer kept part in omega arith);
-      cells = λ i l. elim (cases_eq i count) [
-        | inl q ↦
-            let Q : ℕ → Type 0 = λ k. cells_at all k ≡ part_at parts k in
-            subst Q (sym q) (ap (λ (x : KeptPart). x.cells) last ∙ same)
-        | inr d ↦ ap (λ (x : KeptPart). x.cells) (front_at kept part i (omega arith)) ∙ s.cells i (omega arith)
-      ];
-      unknown = λ i. elim (cases_eq i count) [
-        | inl q ↦
-            let Q : ℕ → Type 0 = λ k. answer_at all k ≡ Unknown in
-            subst Q (sym q) (ap (λ (x : KeptPart). x.answer) last ∙ gone)
-        | inr d ↦ elim (cases_lt i count) [
-          | inl l ↦ ap (λ (x : KeptPart). x.answer) (front_at kept part i (omega arith)) ∙ s.unknown i
-          | inr p ↦ ap (λ (x : KeptPart). x.answer) (behind_at kept part i (omega arith))
-        ]
-      ];
+    subst (λ (xs : List KeptPart). StartsWith parts xs (count + 1)) (sym e) (record {
+      count_is = (let m = length_push kept part in omega arith);
+      cells = each_more (λ i x. x.cells ≡ part_at parts i) kept part count n s.cells same;
+      unknown = each_more (λ i x. x.answer ≡ Unknown) kept part count n s.unknown gone;
     })
 
 pub all_started : (facts parts : List (List ℕ)) (kept : List KeptPart) (count : ℕ) → AreParts facts parts → StartsWith parts kept count → count ≡ length parts → Starts facts kept
 all_started facts parts kept count are s e =
-    let n = s.count_is in
+    let unknown : (i : ℕ) → answer_at kept i ≡ Unknown = λ i. elim (cases_lt i count) [
+      | inl l ↦ s.unknown i l
+      | inr p ↦ ap (λ (x : KeptPart). x.answer) (get_or_past kept i no_part (omega arith))
+    ] in
     record {
       parts = subst (AreParts facts) (sym (same_parts kept parts (omega arith) (λ i l. s.cells i (omega arith)))) are;
-      unknown = s.unknown;
+      unknown = unknown;
       true_answers = λ clues givens picture i l.
-          let P : Answer → Type 0 = λ a. IsTrueOf clues givens picture (cells_at kept i) a in
-          subst P (sym (s.unknown i)) tt;
+          subst (λ (a : Answer). IsTrueOf clues givens picture (cells_at kept i) a) (sym (unknown i)) tt;
     }
 
 -- ---- what is noted
 
-pub judges_as : (clues : Clues) (facts picture : List (List ℕ)) (allowance : Option ℕ) (old new : List KeptPart) (stop : Stop) (verdict : Verdict) (m n : ℕ) → HasNoFilling old (length old) → Stops clues facts picture allowance old stop m n → Notes old new stop verdict → Judges clues facts picture allowance old new verdict m n
-judges_as clues facts picture allowance old new Through verdict m n none s noted =
-    let P : Verdict → Type 0 = λ x. Judges clues facts picture allowance old new x m n in
-    subst P (sym noted.0) (record { none_kept = none; passes = s; noted = noted.1 })
-judges_as clues facts picture allowance old new (Found i other) verdict m n none s noted =
-    let P : Verdict → Type 0 = λ x. Judges clues facts picture allowance old new x m n in
-    subst P (sym noted.0) (inr (record { none_kept = none; at = i; other = other; stops = s; noted = noted.1 }))
-judges_as clues facts picture allowance old new (BrokenOff i) verdict m n none s noted =
-    let P : Verdict → Type 0 = λ x. Judges clues facts picture allowance old new x m n in
-    subst P (sym noted.0) (record { none_kept = none; at = i; stops = s; noted = noted.1 })
+answered : (kept : List KeptPart) (i : ℕ) (other : List (List ℕ)) → i < length kept → answer_at kept i ≡ Filling other → HasFilling kept i
+answered kept i other l e = record { place = l; is = subst IsFilling (sym e) tt }
+
+module _ (clues : Clues) (facts picture : List (List ℕ)) (allowance : Option ℕ) where
+  pub stops_place : (kept : List KeptPart) (i : ℕ) (found : Ending) (m n : ℕ) → Stops clues facts picture allowance kept i found m n → IsPlace kept i found
+  stops_place kept i ending.Nothing m n s = let e = s.0 in omega arith
+  stops_place kept i (ending.Found other) m n s = s.place
+  stops_place kept i ending.BrokenOff m n s = let l = s.place in omega arith
+
+  pub judges_as : (old new : List KeptPart) (i : ℕ) (found : Ending) (verdict : Verdict) (m n : ℕ) → HasNoFilling old (length old) → Stops clues facts picture allowance old i found m n → Notes old new i found verdict → Judges clues facts picture allowance old new verdict m n
+  judges_as old new i ending.Nothing verdict m n none s noted =
+      subst (λ (x : Verdict). Judges clues facts picture allowance old new x m n) (sym noted.0) (record { none_kept = none; passes = s.1; noted = subst (Changes old new) s.0 noted.1 })
+  judges_as old new i (ending.Found other) verdict m n none s noted =
+      subst (λ (x : Verdict). Judges clues facts picture allowance old new x m n) (sym noted.0) (inr (record { none_kept = none; at = i; other = other; stops = s; noted = noted.1 }))
+  judges_as old new i ending.BrokenOff verdict m n none s noted =
+      subst (λ (x : Verdict). Judges clues facts picture allowance old new x m n) (sym noted.0) (record { none_kept = none; at = i; stops = s; noted = noted.1 })
+
+  -- what is kept already
+  pub keeps_other : (kept : List KeptPart) (other : List (List ℕ)) → FirstFilling kept other → Judges clues facts picture allowance kept kept Other 0 0
+  keeps_other kept other f = inl (record { at = f.at; is = answered kept f.at other f.place f.is; same = refl; searched_none = refl; splits_none = refl })
 
 pub same_kept : (clues : Clues) (facts picture : List (List ℕ)) (allowance : Option ℕ) (old new : List KeptPart) (verdict : Verdict) (m n : ℕ) → Judges clues facts picture allowance old new verdict m n → parts_of new ≡ parts_of old
 same_kept clues facts picture allowance old new Unique m n j = kept_cells old new j.noted.count j.noted.cells
@@ -126,13 +115,139 @@ IsNotOther Unique = Unit {0}
 IsNotOther Other = ⊥
 IsNotOther Undecided = Unit {0}
 
-answered : (kept : List KeptPart) (i : ℕ) (other : List (List ℕ)) → i < length kept → answer_at kept i ≡ Filling other → HasFilling kept i
-answered kept i other l e = record { place = l; is = subst IsFilling (sym e) tt }
-
 pub is_shown : (clues : Clues) (facts picture : List (List ℕ)) (allowance : Option ℕ) (old new : List KeptPart) (verdict : Verdict) (m n : ℕ) → Judges clues facts picture allowance old new verdict m n → IsShown new verdict
 is_shown clues facts picture allowance old new Unique m n j = λ e. absurd (subst IsNotOther e tt)
 is_shown clues facts picture allowance old new Other m n (inl j) = λ e.
-    let P : List KeptPart → Type 0 = λ kept. (i : ℕ) × HasFilling kept i in
-    subst P (sym j.same) (j.at, j.is)
+    subst (λ (kept : List KeptPart). (i : ℕ) × HasFilling kept i) (sym j.same) (j.at, j.is)
 is_shown clues facts picture allowance old new Other m n (inr j) = λ e. (j.at, answered new j.at j.other (let l = j.stops.place in let c = j.noted.count in omega arith) j.noted.here)
 is_shown clues facts picture allowance old new Undecided m n j = λ e. absurd (subst IsNotOther e tt)
+
+-- ---- going along the parts, with the counts of what is done
+
+raised_both : (start before after m n : ℕ) → before ≡ raised start m → after ≡ raised before n → after ≡ raised start (m + n)
+raised_both start before after m n a b = omega arith
+
+raised_from : (start made after n : ℕ) → made ≡ raised 0 n → after ≡ raised start made → after ≡ raised start n
+raised_from start made after n a b = omega arith
+
+pub done_none : (meter : Meter) (calls : ℕ) (Is : ℕ → ℕ → Type 0) → meter.evaluations < 2 ^ 64 → meter.trials < 2 ^ 64 → calls < 2 ^ 64 → Is 0 0 → Done 0 0 0 0 meter meter calls calls Is
+done_none meter calls Is c d e is = record {
+  searched = 0;
+  splits = 0;
+  evaluations = 0;
+  is = is;
+  searched_is = omega arith;
+  splits_is = omega arith;
+  counts = record { evaluations = omega arith; trials = omega arith; calls = omega arith };
+  none = λ z. refl;
+  at_least = omega arith;
+}
+
+pub done_as : (s t a b : ℕ) (start end : Meter) (p q : ℕ) (One Is : ℕ → ℕ → Type 0) → Done s t a b start end p q One → ((m n : ℕ) → One m n → Is m n) → Done s t a b start end p q Is
+done_as s t a b start end p q One Is d turn = record {
+  searched = d.searched;
+  splits = d.splits;
+  evaluations = d.evaluations;
+  is = turn d.searched d.splits d.is;
+  searched_is = d.searched_is;
+  splits_is = d.splits_is;
+  counts = d.counts;
+  none = d.none;
+  at_least = d.at_least;
+}
+
+pub done_both : (s t u a b c : ℕ) (start between end : Meter) (p q r : ℕ) (One Two Is : ℕ → ℕ → Type 0) → Done s t a b start between p q One → Done t u b c between end q r Two → ((m n x y : ℕ) → One m n → Two x y → Is (m + x) (n + y)) → Done s u a c start end p r Is
+done_both s t u a b c start between end p q r One Two Is d f join = record {
+  searched = d.searched + f.searched;
+  splits = d.splits + f.splits;
+  evaluations = d.evaluations + f.evaluations;
+  is = join d.searched d.splits f.searched f.splits d.is f.is;
+  searched_is = raised_both s t u d.searched f.searched d.searched_is f.searched_is;
+  splits_is = raised_both a b c d.splits f.splits d.splits_is f.splits_is;
+  counts = counting_adds d.evaluations 0 f.evaluations 0 start between end p q r d.counts f.counts;
+  none = λ z. (let one = d.none (omega arith) in let other = f.none (omega arith) in omega arith);
+  at_least = (let one = d.at_least in let other = f.at_least in omega arith);
+}
+
+-- what was done is added to counts from before
+pub done_added : (s t a b : ℕ) (spent : Spent) (start end : Meter) (p q : ℕ) (Is : ℕ → ℕ → Type 0) → DoneBy spent start end p q Is → t ≡ raised s spent.searched → b ≡ raised a spent.splits → Done s t a b start end p q Is
+done_added s t a b spent start end p q Is d x y = record {
+  searched = d.searched;
+  splits = d.splits;
+  evaluations = d.evaluations;
+  is = d.is;
+  searched_is = raised_from s spent.searched t d.searched d.searched_is x;
+  splits_is = raised_from a spent.splits b d.splits d.splits_is y;
+  counts = d.counts;
+  none = d.none;
+  at_least = d.at_least;
+}
+
+-- what is done first and what is done then, counted together
+pub done_then : (before here after : Spent) (start between end : Meter) (p q r : ℕ) (One Two Is : ℕ → ℕ → Type 0) → DoneBy before start between p q One → DoneBy here between end q r Two → AddsUp before here after → ((m n x y : ℕ) → One m n → Two x y → Is (m + x) (n + y)) → DoneBy after start end p r Is
+done_then before here after start between end p q r One Two Is d f up join =
+    done_both 0 before.searched after.searched 0 before.splits after.splits start between end p q r One Two Is d (done_added before.searched after.searched before.splits after.splits here between end q r Two f up.searched up.splits) join
+
+module _ (clues : Clues) (facts picture : List (List ℕ)) (allowance : Option ℕ) (kept : List KeptPart) where
+  pub passes_more : (i : ℕ) (m n x y : ℕ) → Passes clues facts picture allowance kept i m n → EndsPart clues facts picture allowance (kept_at kept i) ending.Nothing x y → Passes clues facts picture allowance kept (suc i) (m + x) (n + y)
+  passes_more i m n x y p e = (m, (n, (x, (y, (p, (e, (refl, refl)))))))
+
+  pub stops_here : (i : ℕ) (found : Ending) (m n x y : ℕ) → i < length kept → Passes clues facts picture allowance kept i m n → EndsPart clues facts picture allowance (kept_at kept i) found x y → StopsAt clues facts picture allowance kept i found (m + x) (n + y)
+  stops_here i found m n x y l p e = record { place = l; searched_before = m; splits_before = n; searched_here = x; splits_here = y; before = p; here = e; searched_is = refl; splits_is = refl }
+
+-- where going along stopped before the end
+pub stops_found : (clues : Clues) (facts picture : List (List ℕ)) (allowance : Option ℕ) (kept : List KeptPart) (i : ℕ) (found : Ending) (m n : ℕ) → (found ≡ ending.Nothing → ⊥) → StopsAt clues facts picture allowance kept i found m n → Stops clues facts picture allowance kept i found m n
+stops_found clues facts picture allowance kept i ending.Nothing m n d s = absurd (d refl)
+stops_found clues facts picture allowance kept i (ending.Found other) m n d s = s
+stops_found clues facts picture allowance kept i ending.BrokenOff m n d s = s
+
+-- ---- a part at its place
+
+pub part_is : (items kept : List KeptPart) (i : ℕ) (part : KeptPart) → items ≡ kept → i < length kept → part ≡ get_or items i part → part ≡ kept_at kept i
+part_is items kept i part e l p = p ∙ (ap (λ (xs : List KeptPart). get_or xs i part) e ∙ get_or_default kept i part no_part l)
+
+pub answer_is : (items kept : List KeptPart) (i : ℕ) (part : KeptPart) → items ≡ kept → i < length kept → part ≡ get_or items i part → answer_at kept i ≡ part.answer
+answer_is items kept i part e l p = ap (λ (x : KeptPart). x.answer) (sym (part_is items kept i part e l p))
+
+-- a part of which something is known is passed
+pub known_before : (clues : Clues) (facts picture : List (List ℕ)) (allowance : Option ℕ) (kept : List KeptPart) (i : ℕ) (part : KeptPart) → part ≡ kept_at kept i → (part.answer ≡ Unknown → ⊥) → EndsPart clues facts picture allowance (kept_at kept i) ending.Nothing 0 0
+known_before clues facts picture allowance kept i part e d =
+    subst (λ (x : KeptPart). EndsPart clues facts picture allowance x ending.Nothing 0 0) e (by part.answer d)
+  where
+    by : (answer : Answer) → (answer ≡ Unknown → ⊥) → EndsBy clues facts picture allowance part.cells answer ending.Nothing 0 0
+    by Unknown d = absurd (d refl)
+    by Nothing d = (refl, (refl, refl))
+    by (Filling other) d = (refl, (refl, refl))
+
+-- a part of which nothing was known was searched, which took an evaluation at least
+pub searched_once : (clues : Clues) (facts picture : List (List ℕ)) (allowance : Option ℕ) (kept : List KeptPart) (i : ℕ) (part : KeptPart) (found : Ending) (splits : ℕ) (start end : Meter) (p q : ℕ) → part ≡ kept_at kept i → part.answer ≡ Unknown → (n : ℕ) × ((splits ≡ raised 0 n) × EndsWithin clues picture (alone part.cells facts picture) allowance found n) → CountsSome start end p q → DoneBy (record { searched = 1; splits = splits }) start end p q (EndsPart clues facts picture allowance (kept_at kept i) found)
+searched_once clues facts picture allowance kept i part found splits start end p q here unknown ends some =
+    let P : KeptPart → Type 0 = λ x. EndsPart clues facts picture allowance x found 1 ends.0 in
+    let Q : Answer → Type 0 = λ x. EndsBy clues facts picture allowance part.cells x found 1 ends.0 in
+    record {
+      searched = 1;
+      splits = ends.0;
+      evaluations = some.0;
+      is = subst P here (subst Q (sym unknown) (refl, ends.1.1));
+      searched_is = refl;
+      splits_is = ends.1.0;
+      counts = some.1.1;
+      none = λ z. absurd (omega arith);
+      at_least = omega arith;
+    }
+
+-- ---- where an allowance is set
+
+stopped : (clues : Clues) (facts picture : List (List ℕ)) (allowance : Option ℕ) (cells : List ℕ) (answer : Answer) (searched splits : ℕ) → EndsBy clues facts picture allowance cells answer ending.BrokenOff searched splits → (most : ℕ) × (allowance ≡ Some most)
+stopped clues facts picture (Some most) cells Unknown searched splits h = (most, refl)
+stopped clues facts picture None cells Unknown searched splits h = elim h.1 [
+  | inl e ↦ absurd (e.1 refl)
+  | inr e ↦ absurd e.1
+]
+stopped clues facts picture allowance cells Nothing searched splits h = let e = h.0 in absurd cc
+stopped clues facts picture allowance cells (Filling other) searched splits h = let e = h.0 in absurd cc
+
+pub break_off : AllowancesBreakOff
+break_off clues facts picture allowance old new searched splits b =
+    let part = kept_at old b.at in
+    stopped clues facts picture allowance part.cells part.answer _ _ b.stops.here

@@ -1,26 +1,29 @@
--- How the search of a part ends where no allowance is set: within some splits of the fixed order, or by what is true.
-use Rattle.std.proofs.Common.{◌≡◌, ℕ, ◌+◌, ◌<◌, false, Option, None, Some, List, refl, subst, arith, inl, inr}
+-- How the search of a part ends where no allowance is set: within some splits of the fixed order, or by what is true; and what is
+-- found in a window.
+use Rattle.std.proofs.Common.{◌≡◌, ℕ, ◌+◌, ◌<◌, Option, None, Some, List, refl, subst, arith, inl, inr, [], ◌∷◌, length, sym, ap}
 use Rattle.std.specs.Prelude.{IfSome}
 use Rattle.clues.specs.ClueBook.{Clues}
 use Rattle.clues.specs.Laws.{BooksAreTheirClues, CluesAreOfLines}
 use Rattle.line_settle.specs.declared.meter.Meter.{Meter}
 use Rattle.line_settle.specs.Counting.{Counts}
 use Rattle.line_settle.specs.FitLaws.{counting_adds}
-use Rattle.line_settle.specs.FactSets.{SameShape}
 use Rattle.fixpoint.specs.Laws.{ClosingKeepsFillings, OnlyIsClosed}
 use Rattle.second_search.specs.declared.counting.Ending.{Ending}
 use Rattle.second_search.specs.declared.counting.Ending.TheVariants as ending
-use Rattle.second_search.specs.declared.counting.Searched.{Searched}
-use Rattle.second_search.specs.declared.ladder.Decided.{Decided}
-use Rattle.second_search.specs.declared.ladder.Decided.TheVariants.{OtherPicture, Tree}
-use Rattle.second_search.specs.declared.tree_lines.Lines.{Lines}
-use Rattle.second_search.specs.Laws.{AnswersPart, FillingsAreOfFacts}
-use Rattle.second_search.specs.Looking.{FindsFilling}
+use Rattle.second_search.specs.Laws.{AnswersPart, FillingsAreOfFacts, SoundFacts}
 use Rattle.second_search.specs.Parts.{IsOtherFilling, IsScene}
-use Rattle.second_search.specs.Searching.{CountsAny, CountsSome, EndsAs, EndsPast, EndsTrue, EndsWithin, alone, fixed_splits, raised}
-use Rattle.second_search.specs.Trees.{Decides}
+use Rattle.second_search.specs.Searching.{CountsAny, CountsSome, EndsAs, EndsPast, EndsTrue, EndsWithin, alone, fixed_splits, Searches, raised}
 use Rattle.second_search.proofs.EndLemmas.{none_found, one_found}
-use Rattle.second_search.proofs.TreeLemmas.{none_fills}
+use Rattle.picture.specs.CellSet.{HasCell, PutsCell}
+use Rattle.picture.specs.LineSet.{Lines}
+use Rattle.picture.specs.Rows.{width_of}
+use Rattle.second_search.specs.declared.counting.Ending.TheVariants.{Found}
+use Rattle.second_search.specs.declared.near.Window.{Window}
+use Rattle.second_search.specs.Near.{IsWindow}
+use Rattle.second_search.specs.Through.{PutsBoth, across, down}
+use Rattle.second_search.proofs.AloneLemmas.{lines_more}
+use Rattle.line_settle.specs.FactSets.{IsLeast}
+use Rattle.fixpoint.specs.Closing.{EachFits}
 
 -- ---- what an ending says of a part
 
@@ -41,46 +44,67 @@ module _ (law : CluesAreOfLines) (books : BooksAreTheirClues) (closing : Closing
   within_one cells other (Some most) n e = one_found law books closing own fillings clues givens facts picture scene cells other n e.0
   within_one cells other None n e = part_answered cells fixed_splits (ending.Found other) n e
 
-  pub fixed_none : (cells : List ℕ) (allowance : Option ℕ) (searched : Searched) → searched.ending ≡ ending.Nothing → (n : ℕ) × ((searched.splits ≡ raised 0 n) × EndsAs clues picture (alone cells facts picture) allowance searched.ending n) → EndsTrue clues picture (alone cells facts picture) ending.Nothing
-  fixed_none cells allowance searched is e =
-      let P : Ending → Type 0 = λ x. EndsAs clues picture (alone cells facts picture) allowance x e.0 in
-      let s = subst P is e.1.1 in
-      λ other fills differs. none_found law books closing own fillings clues givens facts picture scene cells e.0 s.0 other ((fillings clues givens facts picture other cells scene).1 (fills, differs))
-
-  pub fixed_one : (cells : List ℕ) (other : List (List ℕ)) (allowance : Option ℕ) (searched : Searched) → searched.ending ≡ ending.Found other → (n : ℕ) × ((searched.splits ≡ raised 0 n) × EndsAs clues picture (alone cells facts picture) allowance searched.ending n) → EndsTrue clues picture (alone cells facts picture) (ending.Found other)
-  fixed_one cells other allowance searched is e =
-      let P : Ending → Type 0 = λ x. EndsAs clues picture (alone cells facts picture) allowance x e.0 in
-      let s = subst P is e.1.1 in
-      (fillings clues givens facts picture other cells scene).0 (one_found law books closing own fillings clues givens facts picture scene cells other e.0 s.0)
+  pub fixed_true : (cells : List ℕ) (allowance : Option ℕ) (found : Ending) (n : ℕ) → (found ≡ ending.BrokenOff → ⊥) → EndsAs clues picture (alone cells facts picture) allowance found n → EndsTrue clues picture (alone cells facts picture) found
+  fixed_true cells allowance ending.Nothing n d s = λ other fills differs. none_found law books closing own fillings clues givens facts picture scene cells n s.0 other ((fillings clues givens facts picture other cells scene).1 (fills, differs))
+  fixed_true cells allowance (ending.Found other) n d s = (fillings clues givens facts picture other cells scene).0 (one_found law books closing own fillings clues givens facts picture scene cells other n s.0)
+  fixed_true cells allowance ending.BrokenOff n d s = absurd (d refl)
 
 -- ---- within some splits, or past them
 
 -- counts from a number that is that of the calls
 pub counts_from : (start end : Meter) (p q before : ℕ) → before ≡ p → CountsAny start end before q → CountsAny start end p q
 counts_from start end p q before e counts =
-    let P : ℕ → Type 0 = λ n. CountsAny start end n q in
-    subst P e counts
+    subst (λ (n : ℕ). CountsAny start end n q) e counts
 
 pub counts_some_more : (start between end : Meter) (p q r : ℕ) → CountsSome start between p q → (evaluations : ℕ) × Counts evaluations 0 between end q r → CountsSome start end p r
 counts_some_more start between end p q r a b =
-    let some = a.1.0 in
     (a.0 + b.0, ((let m : 0 < a.0 + b.0 = omega arith in m), counting_adds a.0 0 b.0 0 start between end p q r a.1.1 b.1))
 
 -- ---- what the ladder says of a part
 
 pub near_true : FillingsAreOfFacts → (clues : Clues) (givens : List ℕ) (facts picture : List (List ℕ)) → IsScene clues givens facts picture → (cells : List ℕ) (near : Option (List (List ℕ))) (other : List (List ℕ)) → near ≡ Some other → IfSome near (IsOtherFilling clues givens picture cells) → EndsTrue clues picture (alone cells facts picture) (ending.Found other)
 near_true fillings clues givens facts picture scene cells near other e h =
-    let P : Option (List (List ℕ)) → Type 0 = λ x. IfSome x (IsOtherFilling clues givens picture cells) in
-    (fillings clues givens facts picture other cells scene).0 (subst P e h)
+    (fillings clues givens facts picture other cells scene).0 (subst (λ (x : Option (List (List ℕ))). IfSome x (IsOtherFilling clues givens picture cells)) e h)
 
-pub tree_true : OnlyIsClosed → ClosingKeepsFillings → (clues : Clues) (picture facts new : List (List ℕ)) (decided : Decided) (lines : Lines) → new ≡ facts → SameShape picture new → decided ≡ Tree lines → Decides clues picture new false decided → EndsTrue clues picture facts ending.Nothing
-tree_true own closing clues picture facts new decided lines e s f d =
-    let P : Decided → Type 0 = λ x. Decides clues picture new false x in
-    let Q : List (List ℕ) → Type 0 = λ x. FindsFilling clues x picture None in
-    subst Q e (none_fills own closing clues picture new lines s (subst P f d).0)
+-- ---- what is found in a window is another picture
 
-pub other_true : (clues : Clues) (picture facts new other : List (List ℕ)) (decided : Decided) → new ≡ facts → decided ≡ OtherPicture other → Decides clues picture new false decided → EndsTrue clues picture facts (ending.Found other)
-other_true clues picture facts new other decided e f d =
-    let P : Decided → Type 0 = λ x. Decides clues picture new false x in
-    let Q : List (List ℕ) → Type 0 = λ x. FindsFilling clues x picture (Some other) in
-    subst Q e (subst P f d)
+-- a window stays one when an open cell of the part is put in with its lines
+pub more_open : (facts : List (List ℕ)) (part : List ℕ) (old : Window) (cells : List ℕ) (lines : Lines) (splits row col : ℕ) → row < length facts → col < width_of facts → HasCell part row col → IsWindow facts part old → PutsCell old.cells cells row col → PutsBoth row col old.lines lines → IsWindow facts part (record { cells = cells; lines = lines; splits = splits })
+more_open facts part old cells lines splits row col h l has is puts both = record {
+  among = λ r c m. elim ((puts r c).0 m) [
+    | inl before ↦ is.among r c before
+    | inr e ↦
+        let P : ℕ → Type 0 = λ x. HasCell part x c in
+        subst P (sym e.0) (subst (λ (y : ℕ). HasCell part row y) (sym e.1) has)
+  ];
+  inside = λ r c m. elim ((puts r c).0 m) [
+    | inl before ↦ is.inside r c before
+    | inr e ↦ (
+      (let P : ℕ → Type 0 = λ x. x < length facts in subst P (sym e.0) h),
+      (let P : ℕ → Type 0 = λ x. x < width_of facts in subst P (sym e.1) l),
+    )
+  ];
+  lines = lines_more facts old.lines lines row col h l is.lines both;
+  through = λ r c m. elim ((puts r c).0 m) [
+    | inl before ↦ let n = is.through r c before in ((both (across r)).1 (inl n.0), (both (down c)).1 (inl n.1))
+    | inr e ↦ (
+      (both (across r)).1 (inr (inl (ap across e.0))),
+      (both (down c)).1 (inr (inr (ap down e.1))),
+    )
+  ];
+}
+
+pub found_inside : CluesAreOfLines → BooksAreTheirClues → ClosingKeepsFillings → OnlyIsClosed → FillingsAreOfFacts → (clues : Clues) (givens : List ℕ) (facts picture : List (List ℕ)) → IsScene clues givens facts picture → (cells : List ℕ) (new : List (List ℕ)) → new ≡ alone cells facts picture → (most : Option ℕ) (count : ℕ) (ending : Ending) (other : List (List ℕ)) → ending ≡ Found other → (part : List ℕ) → ((r c : ℕ) → HasCell cells r c → HasCell part r c) → (n : ℕ) × ((count ≡ raised 0 n) × EndsAs clues picture new most ending n) → IsOtherFilling clues givens picture part other
+found_inside law books closing own fillings clues givens facts picture scene cells new same most count ending other f part among h =
+    let R : List (List ℕ) → Type 0 = λ x. Searches clues picture (x ∷ []) (Some other) h.0 in
+    let one = one_found law books closing own fillings clues givens facts picture scene cells other h.0 (subst R same (subst (λ (x : Ending). EndsAs clues picture new most x h.0) f h.1.1).0) in
+    record { is_other = one.is_other; elsewhere = λ row col off. one.elsewhere row col (λ has. off (among row col has)) }
+
+-- ---- closed facts of a scene
+
+pub scene_settled : SoundFacts → (clues : Clues) (givens : List ℕ) (picture facts settled : List (List ℕ)) → IsScene clues givens facts picture → IsLeast clues facts settled × EachFits clues settled → IsScene clues givens settled picture
+scene_settled law clues givens picture facts settled s h = record {
+  is_picture = s.is_picture;
+  has_clues = s.has_clues;
+  sound = law.settled clues givens picture facts settled h.0 s.sound;
+}

@@ -15,8 +15,6 @@ use Rattle.second_search.specs.declared.keeper.Judged.{Judged}
 use Rattle.second_search.specs.declared.keeper.Judged.TheVariants as judged
 use Rattle.second_search.specs.declared.keeper.KeptPart.{KeptPart}
 use Rattle.second_search.specs.declared.keeper.Spent.{Spent}
-use Rattle.second_search.specs.declared.keeper.Stop.{Stop}
-use Rattle.second_search.specs.declared.keeper.Stop.TheVariants.{Through, Found, BrokenOff}
 use Rattle.second_search.specs.Parts.{AreParts, IsOtherFilling}
 use Rattle.second_search.specs.Searching.{EndsWithin, alone, raised}
 
@@ -38,7 +36,7 @@ parts_of kept = map (λ (part : KeptPart). part.cells) kept
 pub record StartsWith (parts : List (List ℕ)) (kept : List KeptPart) (count : ℕ) : Type 0 where
   pub count_is : length kept ≡ count
   pub cells : (i : ℕ) → i < count → cells_at kept i ≡ slice_index_or parts i []
-  pub unknown : (i : ℕ) → answer_at kept i ≡ Unknown
+  pub unknown : (i : ℕ) → i < count → answer_at kept i ≡ Unknown
 
 -- ---- kept fillings
 
@@ -93,10 +91,11 @@ pub record StopsAt (clues : Clues) (facts picture : List (List ℕ)) (allowance 
   pub searched_is : searched ≡ searched_before + searched_here
   pub splits_is : splits ≡ splits_before + splits_here
 
-abbrev pub Stops : Clues → List (List ℕ) → List (List ℕ) → Option ℕ → List KeptPart → Stop → ℕ → ℕ → Type 0
-Stops clues facts picture allowance kept Through searched splits = Passes clues facts picture allowance kept (length kept) searched splits
-Stops clues facts picture allowance kept (Found i other) searched splits = StopsAt clues facts picture allowance kept i (ending.Found other) searched splits
-Stops clues facts picture allowance kept (BrokenOff i) searched splits = StopsAt clues facts picture allowance kept i ending.BrokenOff searched splits
+-- all parts are passed, or the next one ends it
+abbrev pub Stops : Clues → List (List ℕ) → List (List ℕ) → Option ℕ → List KeptPart → ℕ → Ending → ℕ → ℕ → Type 0
+Stops clues facts picture allowance kept i ending.Nothing searched splits = (i ≡ length kept) × Passes clues facts picture allowance kept (length kept) searched splits
+Stops clues facts picture allowance kept i (ending.Found other) searched splits = StopsAt clues facts picture allowance kept i (ending.Found other) searched splits
+Stops clues facts picture allowance kept i ending.BrokenOff searched splits = StopsAt clues facts picture allowance kept i ending.BrokenOff searched splits
 
 -- ---- the counts
 
@@ -146,17 +145,17 @@ pub record Finds (old new : List KeptPart) (i : ℕ) (other : List (List ℕ)) :
   pub here : answer_at new i ≡ Filling other
   pub behind : (j : ℕ) → i < j → kept_at new j ≡ kept_at old j
 
--- where going along the parts stopped is one of them
-abbrev pub IsPlace : List KeptPart → Stop → Type 0
-IsPlace kept Through = Unit {0}
-IsPlace kept (Found i other) = i < length kept
-IsPlace kept (BrokenOff i) = i < length kept
+-- where going along the parts stopped is behind the last, or one of them
+abbrev pub IsPlace : List KeptPart → ℕ → Ending → Type 0
+IsPlace kept i ending.Nothing = i ≤ length kept
+IsPlace kept i (ending.Found other) = i < length kept
+IsPlace kept i ending.BrokenOff = i ≤ length kept
 
 -- what is known then is noted, and the verdict is as it says
-abbrev pub Notes : List KeptPart → List KeptPart → Stop → Verdict → Type 0
-Notes old new Through verdict = (verdict ≡ Unique) × Changes old new (length old)
-Notes old new (Found i other) verdict = (verdict ≡ Other) × Finds old new i other
-Notes old new (BrokenOff i) verdict = (verdict ≡ Undecided) × Changes old new i
+abbrev pub Notes : List KeptPart → List KeptPart → ℕ → Ending → Verdict → Type 0
+Notes old new i ending.Nothing verdict = (verdict ≡ Unique) × Changes old new i
+Notes old new i (ending.Found other) verdict = (verdict ≡ Other) × Finds old new i other
+Notes old new i ending.BrokenOff verdict = (verdict ≡ Undecided) × Changes old new i
 
 -- ---- a picture judged
 

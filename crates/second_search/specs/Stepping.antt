@@ -5,8 +5,8 @@ use Rattle.clues.specs.ClueBook.{Clues}
 use Rattle.split_choice.specs.declared.cell.Cell.{Cell}
 use Rattle.line_settle.specs.Branches.{branches}
 use Rattle.second_search.specs.declared.coming.Coming.TheVariants.{Dies, Ends, Splits}
-use Rattle.second_search.specs.declared.counting.Step.{Step}
-use Rattle.second_search.specs.declared.counting.Step.TheVariants.{Passed, Split, Other, Halted}
+use Rattle.second_search.specs.declared.counting.Ending.{Ending}
+use Rattle.second_search.specs.declared.counting.Ending.TheVariants.{Nothing, Found, BrokenOff}
 use Rattle.second_search.specs.Branching.{Search, places, search_of}
 use Rattle.second_search.specs.Searching.{Comes, raised}
 
@@ -21,11 +21,11 @@ Spends old new count more true = IsOneLess old new × (more ≡ raised count 1)
 Spends old new count more false = (old ≡ Some 0) × ((new ≡ old) × (more ≡ count))
 
 -- a picture is the known one, or another
-abbrev pub Compares : List (List ℕ) → List (List ℕ) → Step → Type 0
-Compares known picture Passed = picture ≡ known
-Compares known picture Split = ⊥
-Compares known picture (Other other) = (other ≡ picture) × (picture ≡ known → ⊥)
-Compares known picture Halted = ⊥
+abbrev pub Compares : List (List ℕ) → List (List ℕ) → Option Ending → Type 0
+Compares known picture None = picture ≡ known
+Compares known picture (Some Nothing) = ⊥
+Compares known picture (Some (Found other)) = (other ≡ picture) × (picture ≡ known → ⊥)
+Compares known picture (Some BrokenOff) = ⊥
 
 -- the facts at hand have a first open cell, and are split there
 pub record SplitsAt (clues : Clues) (old new : Search) : Type 0 where
@@ -34,10 +34,12 @@ pub record SplitsAt (clues : Clues) (old new : Search) : Type 0 where
   pub comes : Comes clues old.at_hand (Splits settled cell)
   pub new_is : new ≡ search_of settled (branches settled cell.row cell.col (cell_at settled cell.row cell.col) ++ old.behind) (places cell.row cell.col (cell_at settled cell.row cell.col) ++ old.cells)
 
--- What a look at the facts at hand led to: they are done with, and others wait in their place where they were split; or another
--- picture was found; or no split is left.
-abbrev pub Steps : Clues → List (List ℕ) → Search → Search → Option ℕ → Option ℕ → ℕ → ℕ → Step → Type 0
-Steps clues known old new left rest count more Passed = (Comes clues old.at_hand Dies ⊎ Comes clues old.at_hand (Ends known)) × ((new ≡ old) × ((rest ≡ left) × (more ≡ count)))
-Steps clues known old new left rest count more Split = SplitsAt clues old new × (IsOneLess left rest × (more ≡ raised count 1))
-Steps clues known old new left rest count more (Other picture) = (Comes clues old.at_hand (Ends picture) × (picture ≡ known → ⊥)) × (more ≡ count)
-Steps clues known old new left rest count more Halted = ((settled : List (List ℕ)) × ((cell : Cell) × Comes clues old.at_hand (Splits settled cell))) × ((left ≡ Some 0) × (more ≡ count))
+-- What a look at the facts at hand led to: the search goes on, since they are done with, or others wait in their place where they
+-- were split; or another picture was found; or no split is left.
+abbrev pub Steps : Clues → List (List ℕ) → Search → Search → Option ℕ → Option ℕ → ℕ → ℕ → Option Ending → Type 0
+Steps clues known old new left rest count more None =
+    ((Comes clues old.at_hand Dies ⊎ Comes clues old.at_hand (Ends known)) × ((new ≡ old) × ((rest ≡ left) × (more ≡ count))))
+    ⊎ (SplitsAt clues old new × (IsOneLess left rest × (more ≡ raised count 1)))
+Steps clues known old new left rest count more (Some Nothing) = ⊥
+Steps clues known old new left rest count more (Some (Found picture)) = (Comes clues old.at_hand (Ends picture) × (picture ≡ known → ⊥)) × (more ≡ count)
+Steps clues known old new left rest count more (Some BrokenOff) = ((settled : List (List ℕ)) × ((cell : Cell) × Comes clues old.at_hand (Splits settled cell))) × ((left ≡ Some 0) × (more ≡ count))

@@ -1,15 +1,16 @@
-//! What is known of a part, said of another scene.
+//! What is known of a part, said of another scene, and the lines that are the same in both.
 
 ghost use Rattle.std.specs.Prelude.{◌≡◌, ℕ, ◌<◌, ◌↔◌, length, IfOk, IsTrue, MatchOption};
 ghost use Rattle.picture.specs.CellSet.{HasCell};
-ghost use Rattle.picture.specs.Rows.{lines_along, width_of, HasLine};
-ghost use Rattle.second_search.specs.Carrying.{HoldsCells, LieInside, NamesAlong, NamesThrough, PutsRowOn, carried};
-ghost use Rattle.second_search.specs.Parts.{GoesThrough, picked};
+ghost use Rattle.picture.specs.Rows.{lines_along, line_of, width_of, HasLine};
+ghost use Rattle.second_search.specs.Carrying.{AreSameLines, HoldsCells, LieInside, NamesAlong, NamesThrough, PutsRowOn, PutsSame, carried};
+ghost use Rattle.second_search.specs.Parts.{GoesThrough, IsSameLine, picked};
+ghost use Rattle.second_search.specs.Scene.{IsWhole};
 
 use crate::keeper::Answer;
-use crate::parts::cell_on;
+use crate::scene::Scene;
 use line_settle::Facts;
-use picture::{Axis, CellSet, LineId, LineSet, Picture};
+use picture::{Axis, CellSet, LineId, LineSet, LineView, Picture};
 use split_choice::Cell;
 use std::alloc::AllocError;
 
@@ -91,7 +92,7 @@ fn goes_through(line: LineId, cells: &CellSet, facts: &Facts) -> bool
     ensures { IsTrue result ↔ GoesThrough line cells.now }
 {
     for i in 0..facts.line_len(line) {
-        let cell = cell_on(line, i);
+        let cell = Cell::on(line, i);
         if cells.has(cell.row, cell.col) {
             return true;
         }
@@ -107,9 +108,8 @@ pub(crate) fn first_cell(cells: &CellSet, facts: &Facts) -> Option<Cell>
         (λ cell. (cell.row < length facts.now) × ((cell.col < width_of facts.now) × HasCell cells.now cell.row cell.col)) }
 {
     for row in 0..facts.height() {
-        match first_in_row(cells, facts, row) {
-            Some(cell) => return Some(cell),
-            None => {}
+        if let Some(cell) = first_in_row(cells, facts, row) {
+            return Some(cell);
         }
     }
     None
@@ -129,4 +129,85 @@ fn first_in_row(cells: &CellSet, facts: &Facts, row: u8) -> Option<Cell>
         }
     }
     None
+}
+
+// The names of the lines that are the same in two scenes.
+pub(crate) fn same_lines(before: &Scene, after: &Scene) -> LineSet
+    requires before { IsWhole before.now }
+    requires after { IsWhole after.now }
+    ensures { AreSameLines before.now.clues.now before.now.facts.now before.now.picture.now
+        after.now.clues.now after.now.facts.now after.now.picture.now result }
+{
+    let mut lines = LineSet::empty();
+    put_same(before, after, Axis::Across, &mut lines);
+    put_same(before, after, Axis::Down, &mut lines);
+    lines
+}
+
+#[tactic(auto, using(crate::proofs::CarryLemmas::few_lines))]
+// Puts the names of the lines along an axis that are the same in two scenes into a set.
+fn put_same(before: &Scene, after: &Scene, axis: Axis, lines: &mut LineSet)
+    requires before { IsWhole before.now }
+    requires after { IsWhole after.now }
+    ensures { PutsSame before.now.clues.now before.now.facts.now before.now.picture.now
+        after.now.clues.now after.now.facts.now after.now.picture.now axis
+        (lines_along axis after.now.picture.now) lines.old lines.new }
+{
+    for at in 0..after.picture.line_count(axis) {
+        let line = LineId { axis, at };
+        if is_same_line(before, after, line) {
+            lines.put(line);
+        }
+    }
+}
+
+#[tactic(auto, using(clues::proofs::LawLemmas::of_lines))]
+// Whether a line of the scene after is the same in both.
+fn is_same_line(before: &Scene, after: &Scene, line: LineId) -> bool
+    requires before { IsWhole before.now }
+    requires after { IsWhole after.now }
+    requires has { HasLine after.now.picture.now line }
+    ensures { IsTrue result ↔ IsSameLine before.now.clues.now before.now.facts.now
+        before.now.picture.now after.now.clues.now after.now.facts.now after.now.picture.now line }
+{
+    if line.at >= before.picture.line_count(line.axis) {
+        return false;
+    }
+    let same_clue = before.clues.clue(line).same(after.clues.clue(line));
+    let same_left = leaves_same(before.facts, after.facts, line);
+    let same_cells = has_same_cells(before.picture.line(line), after.picture.line(line));
+    same_clue && same_left && same_cells
+}
+
+// Whether two facts leave the same colours in the cells of a line.
+fn leaves_same(one: &Facts, other: &Facts, line: LineId) -> bool
+    requires one { HasLine one.now line }
+    requires other { HasLine other.now line }
+    ensures { IsTrue result ↔ (line_of one.now line ≡ line_of other.now line) }
+{
+    let len = one.line_len(line);
+    if len != other.line_len(line) {
+        return false;
+    }
+    for place in 0..len {
+        if one.left_on(line, place) != other.left_on(line, place) {
+            return false;
+        }
+    }
+    true
+}
+
+// Whether two lines have the same cells.
+fn has_same_cells(one: LineView<'_>, other: LineView<'_>) -> bool
+    ensures { IsTrue result ↔ (one.entry ≡ other.entry) }
+{
+    if one.len() != other.len() {
+        return false;
+    }
+    for place in 0..one.len() {
+        if one.get(place) != other.get(place) {
+            return false;
+        }
+    }
+    true
 }

@@ -8,8 +8,8 @@ ghost use Rattle.second_search.specs.Looking.{AreRowsSettled};
 ghost use Rattle.second_search.specs.Searching.{CountsAny, CountsSome, EndsAs, raised};
 ghost use Rattle.second_search.specs.Stepping.{Compares, Spends, Steps};
 
-use crate::cell_lines::lines_at;
 use crate::coming::{Coming, Due, come_to};
+use crate::part_search::lines_at;
 use crate::pending::Pending;
 use clues::ClueBook;
 use line_settle::{Facts, LineEngine, Meter};
@@ -39,15 +39,6 @@ pub(crate) struct Start {
     pub facts: Facts,
     pub lines: LineSet,
     pub allowance: Option<u32>,
-}
-
-// What one look at the facts at hand led to.
-#[derive(Drop)]
-pub(crate) enum Step {
-    Passed,
-    Split,
-    Other(Picture),
-    Halted,
 }
 
 // A search under way: the branches that wait, what is due at the one at hand, how many splits are left, if there is an allowance,
@@ -89,26 +80,18 @@ pub(crate) fn search_counted<E: LineEngine>(
         lines,
         allowance,
     } = start;
-    let pending = Pending::start(alloc, facts);
     let mut search = Counted {
-        pending,
+        pending: Pending::start(alloc, facts),
         due: Due { lines, top: 0 },
         left: allowance,
         splits: 0,
     };
     loop {
-        let step = search.look_once(alloc, engine, book, known, meter)?;
-        match step {
-            Step::Other(picture) => return Ok(Searched {
-                ending: Ending::Found(picture),
-                splits: search.splits,
-            }),
-            Step::Halted => return Ok(Searched {
-                ending: Ending::BrokenOff,
-                splits: search.splits,
-            }),
-            Step::Passed => {}
-            Step::Split => {}
+        let found = search.look_once(alloc, engine, book, known, meter)?;
+        let splits = search.splits;
+        match found {
+            Some(ending) => return Ok(Searched { ending, splits }),
+            None => {}
         }
         let next = search.pending.advance()?;
         match next {
@@ -120,14 +103,14 @@ pub(crate) fn search_counted<E: LineEngine>(
             }
             None => return Ok(Searched {
                 ending: Ending::Nothing,
-                splits: search.splits,
+                splits,
             }),
         }
     }
 }
 
 impl Counted {
-    // Looks at the facts at hand once, and splits them where a split is still allowed.
+    // Looks at the facts at hand once, and splits them where a split is still allowed. None where the search goes on.
     fn look_once<E: LineEngine>(
         &mut self,
         alloc: Global,
@@ -135,7 +118,7 @@ impl Counted {
         book: &ClueBook,
         known: &Picture,
         meter: &mut Meter,
-    ) -> Result<Step, AllocError>
+    ) -> Result<Option<Ending>, AllocError>
         requires closable { AreClosable book.now (E.longest engine.old) self.old.pending.at_hand }
         requires lines { AreLinesOf self.old.pending.at_hand self.old.due.lines }
         requires quiet { QuietOutside book.now self.old.pending.at_hand self.old.due.lines }
@@ -157,28 +140,28 @@ impl Counted {
             meter,
         )?;
         match coming {
-            Coming::Dies => Ok(Step::Passed),
+            Coming::Dies => Ok(None),
             Coming::Ends(picture) => Ok(compare(picture, known)),
             Coming::Splits(settled, cell) => {
                 if !spend(&mut self.left, &mut self.splits) {
-                    return Ok(Step::Halted);
+                    return Ok(Some(Ending::BrokenOff));
                 }
                 self.pending.narrow(&settled, self.due.top)?;
                 self.pending.split(cell)?;
-                Ok(Step::Split)
+                Ok(None)
             }
         }
     }
 }
 
 // Goes on where a picture is the known one.
-fn compare(picture: Picture, known: &Picture) -> Step
+fn compare(picture: Picture, known: &Picture) -> Option<Ending>
     ensures { Compares known.now picture result }
 {
     if picture.same(known) {
-        Step::Passed
+        None
     } else {
-        Step::Other(picture)
+        Some(Ending::Found(picture))
     }
 }
 

@@ -41,8 +41,7 @@ pub fn find_first<E: LineEngine>(
         facts: &facts,
         picture: &blank,
     };
-    let found = find_filling(alloc, engine, &scene, false)?;
-    Ok(found)
+    find_filling(alloc, engine, &scene, false, BOUNDS.first_bound)
 }
 
 /// Another picture with these clues, which has the picture's colours in the givens. There is none exactly where the answer
@@ -70,31 +69,32 @@ pub fn find_other<E: LineEngine>(
         facts,
         picture,
     };
-    let splits = BOUNDS.window_splits;
-    let near = find_near_other(alloc, engine, &scene, splits)?;
+    let near = find_near_other(alloc, engine, &scene, BOUNDS.window_splits)?;
     if near.is_some() {
         return Ok(near);
     }
-    let found = find_filling(alloc, engine, &scene, true)?;
-    Ok(found)
+    find_filling(alloc, engine, &scene, true, BOUNDS.first_bound)
 }
 
 // A picture that fills the facts of a scene and is not the scene's. There is none exactly where the answer is None. The scene's
-// picture need not have the clues, and is held on to where that is said.
-fn find_filling<E: LineEngine>(
+// picture need not have the clues, and is held on to where that is said. A tree may evaluate so many lines at first.
+pub(crate) fn find_filling<E: LineEngine>(
     alloc: Global,
     engine: &mut E,
     scene: &Scene,
     holds: bool,
+    first_bound: u64,
 ) -> Result<Option<Picture>, AllocError>
     requires closable { AreClosable scene.now.clues.now (E.longest engine.old) scene.now.facts.now }
     requires same_shape { SameShape scene.now.picture.now scene.now.facts.now }
     ensures finds { IfOk result
         (FindsFilling scene.now.clues.now scene.now.facts.now scene.now.picture.now) }
+    ensures calls { E.calls engine.old ≤ E.calls engine.new }
     ensures same_longest { E.longest engine.new ≡ E.longest engine.old }
 {
+    let _ = engine.calls();
     let ladder = Ladder {
-        first_bound: BOUNDS.first_bound,
+        first_bound,
         holds,
         keeps: false,
     };

@@ -16,7 +16,6 @@ ghost use Rattle.second_search.specs.Judging.{
   EndsPart,
   Fills,
   FirstFilling,
-  HasFilling,
   HasNoFilling,
   IsPlace,
   IsShown,
@@ -33,11 +32,10 @@ ghost use Rattle.second_search.specs.Judging.{
 ghost use Rattle.second_search.specs.Searching.{CountsAny};
 ghost use Rattle.second_search.specs.Scene.{CanSearch, IsWhole};
 
-use crate::carrying::{answer_for, are_named, first_cell};
+use crate::carrying::{answer_for, are_named, first_cell, same_lines};
 use crate::counting::{Ending, Searched};
 use crate::part_decision::decide_part;
 use crate::parts::Parts;
-use crate::same_lines::same_lines;
 use crate::scene::Scene;
 use line_settle::{Facts, LineEngine, Meter};
 use picture::{CellSet, LineSet, MAX_SIDE, Picture};
@@ -90,14 +88,6 @@ pub enum Verdict {
     Unique,
     Other,
     Undecided,
-}
-
-// Where going along the parts stopped: behind the last, or at a part with another filling, or at one that costs too much.
-#[derive(Drop)]
-pub(crate) enum Stop {
-    Through,
-    Found(usize, Picture),
-    BrokenOff(usize),
 }
 
 // How many parts were searched, and how often they split. Both stay at the largest number.
@@ -185,10 +175,9 @@ impl Keeper {
         ensures { IsTrue result ↔ KnowsNothing self.now (length self.now) }
     {
         for i in 0..self.kept.len() {
-            match self.kept[i].answer {
-                Answer::Unknown => {}
-                _ => return false,
-            }
+            let Answer::Unknown = self.kept[i].answer else {
+                return false;
+            };
         }
         true
     }
@@ -267,7 +256,7 @@ impl Keeper {
     /// least, and where nothing is searched, no line is evaluated. Want of memory leaves what is kept as it was, and neither
     /// count falls by it. The parts kept are those of the scene's facts, and what is known of them is true; no line is longer
     /// than the engine's `longest`.
-    #[tactic(auto, using(crate::proofs::AnswerLemmas::answer_true))]
+    #[tactic(auto, using(crate::proofs::TruthLemmas::answer_true))]
     pub fn judge<E: LineEngine>(
         &mut self,
         engine: &mut E,
@@ -346,11 +335,11 @@ impl Keeper {
         ensures same_longest { E.longest engine.new ≡ E.longest engine.old }
     {
         let (_calls, _evaluations, _trials) = (engine.calls(), meter.evaluations, meter.trials);
-        match self.kept_filling() {
+        match self.other() {
             Some(_) => Ok((Verdict::Other, NOTHING_SPENT)),
             None => {
-                let (stop, spent) = self.search_parts(engine, scene, allowance, meter)?;
-                let verdict = self.note(stop);
+                let (at, ending, spent) = self.search_parts(engine, scene, allowance, meter)?;
+                let verdict = self.note(at, ending);
                 Ok((verdict, spent))
             }
         }
@@ -369,34 +358,21 @@ impl Keeper {
         None
     }
 
-    // The first part of which another filling is kept.
-    fn kept_filling(&self) -> Option<usize>
-        ensures { MatchOption result (HasNoFilling self.now (length self.now))
-            (λ i. HasNoFilling self.now i × HasFilling self.now i) }
-    {
-        for i in 0..self.kept.len() {
-            if let Answer::Filling(_) = &self.kept[i].answer {
-                return Some(i);
-            }
-        }
-        None
-    }
-
     // Goes along the parts, and searches those of which nothing is known, up to the first that has another filling or costs
-    // more than is allowed.
+    // more than is allowed. Tells at which it stopped, behind the last where there is none, and how the search there ended.
     fn search_parts<E: LineEngine>(
         &self,
         engine: &mut E,
         scene: &Scene,
         allowance: Option<u32>,
         meter: &mut Meter,
-    ) -> Result<(Stop, Spent), AllocError>
+    ) -> Result<(usize, Ending, Spent), AllocError>
         requires can { CanSearch scene.now (E.longest engine.old) }
         requires parts { (i : ℕ) → i < length self.now
             → IsPart scene.now.facts.now (cells_at self.now i) }
-        ensures stops { IfOk result (λ gone. DoneBy gone.1 meter.old meter.new
+        ensures stops { IfOk result (λ gone. DoneBy gone.2 meter.old meter.new
             (E.calls engine.old) (E.calls engine.new) (Stops scene.now.clues.now
-            scene.now.facts.now scene.now.picture.now allowance self.now gone.0)) }
+            scene.now.facts.now scene.now.picture.now allowance self.now gone.0 gone.1)) }
         ensures counts { CountsAny meter.old meter.new (E.calls engine.old) (E.calls engine.new) }
         ensures same_longest { E.longest engine.new ≡ E.longest engine.old }
     {
@@ -405,13 +381,11 @@ impl Keeper {
         for i in 0..self.kept.len() {
             let (ending, here) = self.search_one(i, engine, scene, allowance, meter)?;
             spent = spent.plus(here);
-            match ending {
-                Ending::Nothing => {}
-                Ending::Found(picture) => return Ok((Stop::Found(i, picture), spent)),
-                Ending::BrokenOff => return Ok((Stop::BrokenOff(i), spent)),
-            }
+            let Ending::Nothing = ending else {
+                return Ok((i, ending, spent));
+            };
         }
-        Ok((Stop::Through, spent))
+        Ok((self.kept.len(), Ending::Nothing, spent))
     }
 
     // Searches a part, unless something is known of it already, and tells what that took.
@@ -434,45 +408,33 @@ impl Keeper {
     {
         let (_calls, _evaluations, _trials) = (engine.calls(), meter.evaluations, meter.trials);
         let part = &self.kept[i];
-        match part.answer {
-            Answer::Unknown => {
-                let alloc = *self.kept.allocator();
-                let searched = decide_part(alloc, engine, scene, &part.cells, allowance, meter)?;
-                let Searched { ending, splits } = searched;
-                Ok((
-                    ending,
-                    Spent {
-                        searched: 1,
-                        splits,
-                    },
-                ))
-            }
-            Answer::Nothing => Ok((Ending::Nothing, NOTHING_SPENT)),
-            // Not met here, since a kept filling is answered before: nothing is searched.
-            Answer::Filling(_) => Ok((Ending::Nothing, NOTHING_SPENT)),
-        }
+        // A kept filling is not met here, since it is answered before.
+        let Answer::Unknown = part.answer else {
+            return Ok((Ending::Nothing, NOTHING_SPENT));
+        };
+        let alloc = *self.kept.allocator();
+        let searched = decide_part(alloc, engine, scene, &part.cells, allowance, meter)?;
+        let Searched { ending, splits } = searched;
+        let spent = Spent {
+            searched: 1,
+            splits,
+        };
+        Ok((ending, spent))
     }
 
-    // Notes what going along the parts found, where it stopped.
-    fn note(&mut self, stop: Stop) -> Verdict
-        requires { IsPlace self.old stop }
-        ensures { Notes self.old self.new stop result }
+    // Notes what going along the parts found, at the part where it stopped.
+    fn note(&mut self, at: usize, ending: Ending) -> Verdict
+        requires { IsPlace self.old at ending }
+        ensures { Notes self.old self.new at ending result }
     {
-        match stop {
-            Stop::Through => {
-                let end = self.kept.len();
-                self.pass_to(end);
-                Verdict::Unique
-            }
-            Stop::Found(i, picture) => {
-                self.pass_to(i);
-                self.fill(i, picture);
+        self.pass_to(at);
+        match ending {
+            Ending::Nothing => Verdict::Unique,
+            Ending::Found(picture) => {
+                self.fill(at, picture);
                 Verdict::Other
             }
-            Stop::BrokenOff(i) => {
-                self.pass_to(i);
-                Verdict::Undecided
-            }
+            Ending::BrokenOff => Verdict::Undecided,
         }
     }
 

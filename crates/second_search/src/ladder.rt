@@ -52,16 +52,14 @@ pub fn climb<E: LineEngine>(
         for choice in [Choice::Look, Choice::First].iter() {
             let until = engine.calls().saturating_add(bound);
             let way = way_of(ladder, *choice, Some(until));
-            let tried = write_tree(alloc, engine, scene, way, ladder.keeps)?;
-            if let Some(decided) = tried {
+            if let Some(decided) = write_tree(alloc, engine, scene, way, ladder.keeps)? {
                 return Ok(decided);
             }
         }
         bound = bound.saturating_mul(4);
     }
     let way = way_of(ladder, Choice::First, None);
-    let last = write_tree(alloc, engine, scene, way, ladder.keeps)?;
-    match last {
+    match write_tree(alloc, engine, scene, way, ladder.keeps)? {
         Some(decided) => Ok(decided),
         None => unreachable!(),
     }

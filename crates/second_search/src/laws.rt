@@ -4,6 +4,7 @@ ghost use Rattle.second_search.specs.Costs.{CostsAreThere, CostsDecide};
 ghost use Rattle.second_search.specs.Laws.{AllowancesBreakOff, EndingsAreTrue, FillingsAreOfFacts, FillingsStay, PartsAreApart, PartsAreOneList, PartsDecide, SoundFacts, TreesAreWhole};
 ghost use Rattle.second_search.specs.Searching.{CostsAreUnique};
 
+#[tactic(auto, using(crate::proofs::KnownLaws::sound_facts))]
 /// Facts that exclude nothing are sound where there is no given, and so is the base of any givens; facts stay sound with
 /// a given more, and when they are closed.
 pub fn sound_facts()
@@ -15,12 +16,14 @@ pub fn parts_are_one_list()
     ensures { PartsAreOneList }
 {}
 
+#[tactic(auto, using(crate::proofs::PartLemmas::apart))]
 /// Two parts that share a cell are one, and a part has with a cell all open cells of each line through it. Its cells are
 /// open and lie in the picture; a cell of the picture that is not open has the picture's colour alone left.
 pub fn parts_are_apart()
     ensures { PartsAreApart }
 {}
 
+#[tactic(auto, using(crate::proofs::KnownLaws::parts_decide))]
 /// Another picture exists exactly where some part has another filling: with its colours on one part where it differs, and
 /// the picture's elsewhere, there is another filling of that part.
 pub fn parts_decide()
@@ -32,6 +35,7 @@ pub fn fillings_are_of_facts()
     ensures { FillingsAreOfFacts }
 {}
 
+#[tactic(auto, using(crate::proofs::KnownLaws::fillings_stay))]
 /// A part whose lines are the same in two scenes is a part in both, and has another filling in the one exactly where it
 /// has one in the other: its colours on the part, with the other scene's picture elsewhere.
 pub fn fillings_stay()
@@ -43,18 +47,20 @@ pub fn costs_are_unique()
     ensures { CostsAreUnique }
 {}
 
+#[tactic(auto, using(crate::proofs::CostLemmas::costs_are_there))]
 /// The search of facts in the fixed order ends, so that each part of a scene has a cost.
 pub fn costs_are_there()
     ensures { CostsAreThere }
 {}
 
+#[tactic(auto, using(crate::proofs::CostLemmas::costs_decide))]
 /// Under an allowance a picture is left undecided exactly where a part costs more: the first such part is the one at which its
 /// search is broken off.
 pub fn costs_decide()
     ensures { CostsDecide }
 {}
 
-#[tactic(auto, using(crate::proofs::BreakLemmas::break_off))]
+#[tactic(auto, using(crate::proofs::KnownLaws::allowances_break_off))]
 /// A picture is left undecided only where an allowance is set.
 pub fn allowances_break_off()
     ensures { AllowancesBreakOff }

@@ -3,7 +3,6 @@
 
 mod bounds;
 mod carrying;
-mod cell_lines;
 mod coming;
 mod counting;
 mod finding;
@@ -17,11 +16,9 @@ mod part_decision;
 mod part_search;
 mod parts;
 mod pending;
-mod same_lines;
 mod scene;
 mod tree;
 mod tree_closing;
-mod tree_dead;
 mod tree_lines;
 mod tree_step;
 

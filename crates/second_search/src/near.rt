@@ -7,9 +7,8 @@ ghost use Rattle.second_search.specs.Near.{IsWindow};
 ghost use Rattle.second_search.specs.Parts.{IsOtherFilling, IsScene};
 ghost use Rattle.second_search.specs.Scene.{CanSearch};
 
-use crate::cell_lines::put_both;
 use crate::counting::{Ending, Searched, Start, search_counted};
-use crate::part_search::{leave_alone, lines_through};
+use crate::part_search::{facts_on, lines_through, put_both};
 use crate::parts::Parts;
 use crate::scene::Scene;
 use fixpoint::{CloseFault, settle_afresh};
@@ -64,10 +63,8 @@ pub fn find_near_other<E: LineEngine>(
         return Ok(None);
     };
     let closed = Scene {
-        clues: scene.clues,
-        givens: scene.givens,
         facts: &facts,
-        picture: scene.picture,
+        ..*scene
     };
     let parts = Parts::of(alloc, &facts)?;
     for i in 0..parts.len() {
@@ -152,21 +149,17 @@ fn find_inside<E: LineEngine>(
     if window.lines.len() < FEWEST {
         return Ok(None);
     }
-    let _ = scene.facts.height();
-    let mut facts = scene.facts.copy()?;
-    leave_alone(&mut facts, scene.picture, &window.cells);
     let start = Start {
-        facts,
+        facts: facts_on(scene, &window.cells)?,
         lines: window.lines,
         allowance: Some(window.splits),
     };
     let mut meter = NOTHING_DONE;
     let searched = search_counted(alloc, engine, scene.clues, scene.picture, start, &mut meter)?;
-    let Searched { ending, splits: _ } = searched;
+    let Searched { ending, .. } = searched;
     match ending {
         Ending::Found(picture) => Ok(Some(picture)),
-        Ending::Nothing => Ok(None),
-        Ending::BrokenOff => Ok(None),
+        Ending::Nothing | Ending::BrokenOff => Ok(None),
     }
 }
 
@@ -180,19 +173,11 @@ fn window_of(facts: &Facts, cells: &CellSet, rows: &[u8], columns: &[u8], splits
         splits,
     };
     for row in rows {
-        open_row(facts, cells, *row, columns, &mut window);
+        for col in columns {
+            open_cell(facts, cells, *row, *col, &mut window);
+        }
     }
     window
-}
-
-// Puts the open cells of a row and of some columns into a window.
-fn open_row(facts: &Facts, cells: &CellSet, row: u8, columns: &[u8], window: &mut Window)
-    requires { IsWindow facts.now cells.now window.old }
-    ensures { IsWindow facts.now cells.now window.new }
-{
-    for col in columns {
-        open_cell(facts, cells, row, *col, window);
-    }
 }
 
 // Puts a cell into a window, where it is an open cell of the part.

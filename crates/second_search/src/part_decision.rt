@@ -9,12 +9,12 @@ ghost use Rattle.second_search.specs.Scene.{CanSearch};
 
 use crate::bounds::{BOUNDS, Bounds};
 use crate::counting::{Ending, Searched};
-use crate::ladder::{Decided, Ladder, climb};
+use crate::finding::find_filling;
 use crate::near::{NOTHING_DONE, SIZES, SMALL, find_near};
-use crate::part_search::{leave_alone, search_part};
+use crate::part_search::{facts_on, search_part};
 use crate::scene::Scene;
 use line_settle::{LineEngine, Meter};
-use picture::{CellSet, Picture};
+use picture::CellSet;
 use std::alloc::{AllocError, Global};
 
 // How many times as many splits of the fixed order may be made as at first, when it is begun anew after the small windows.
@@ -78,32 +78,14 @@ pub fn decide_within<E: LineEngine>(
     let (_calls, _evaluations, _trials) = (engine.calls(), meter.evaluations, meter.trials);
     let most = Some(bounds.fixed_splits);
     let Searched { ending, splits } = search_part(alloc, engine, scene, cells, most, meter)?;
-    match ending {
-        Ending::Nothing => Ok(Searched {
-            ending: Ending::Nothing,
-            splits,
-        }),
-        Ending::Found(picture) => Ok(Searched {
-            ending: Ending::Found(picture),
-            splits,
-        }),
-        Ending::BrokenOff => {
-            let before = engine.calls();
-            match climb_part(alloc, engine, scene, cells, bounds) {
-                Ok(climbed) => {
-                    count_since(before, engine, meter);
-                    Ok(Searched {
-                        ending: climbed,
-                        splits,
-                    })
-                }
-                Err(refused) => {
-                    count_since(before, engine, meter);
-                    Err(refused)
-                }
-            }
-        }
-    }
+    let Ending::BrokenOff = ending else {
+        return Ok(Searched { ending, splits });
+    };
+    let before = engine.calls();
+    let climbed = climb_part(alloc, engine, scene, cells, bounds);
+    count_since(before, engine, meter);
+    let ending = climbed?;
+    Ok(Searched { ending, splits })
 }
 
 // Counts the calls of an engine beyond so many as evaluations.
@@ -132,41 +114,28 @@ fn climb_part<E: LineEngine>(
     ensures calls { E.calls engine.old ≤ E.calls engine.new }
     ensures same_longest { E.longest engine.new ≡ E.longest engine.old }
 {
-    let _ = (scene.facts.height(), engine.calls());
+    let _ = engine.calls();
     let splits = bounds.window_splits;
-    let small = find_near(alloc, engine, scene, cells, &SIZES[..SMALL], splits)?;
-    if let Some(picture) = small {
+    if let Some(picture) = find_near(alloc, engine, scene, cells, &SIZES[..SMALL], splits)? {
         return Ok(Ending::Found(picture));
     }
     let again = Some(bounds.fixed_splits.saturating_mul(AGAIN));
     let mut meter = NOTHING_DONE;
-    let searched = search_part(alloc, engine, scene, cells, again, &mut meter)?;
-    let Searched { ending, splits: _ } = searched;
-    match ending {
-        Ending::Nothing => return Ok(Ending::Nothing),
-        Ending::Found(picture) => return Ok(Ending::Found(picture)),
-        Ending::BrokenOff => {}
-    }
-    let large = find_near(alloc, engine, scene, cells, &SIZES[SMALL..], splits)?;
-    if let Some(picture) = large {
+    let Searched { ending, .. } = search_part(alloc, engine, scene, cells, again, &mut meter)?;
+    let Ending::BrokenOff = ending else {
+        return Ok(ending);
+    };
+    if let Some(picture) = find_near(alloc, engine, scene, cells, &SIZES[SMALL..], splits)? {
         return Ok(Ending::Found(picture));
     }
-    let mut facts = scene.facts.copy()?;
-    leave_alone(&mut facts, scene.picture, cells);
+    let facts = facts_on(scene, cells)?;
     let part = Scene {
-        clues: scene.clues,
-        givens: scene.givens,
         facts: &facts,
-        picture: scene.picture,
+        ..*scene
     };
-    let ladder = Ladder {
-        first_bound: bounds.first_bound.saturating_mul(LONGER),
-        holds: true,
-        keeps: false,
-    };
-    let decided = climb(alloc, engine, &part, ladder)?;
-    match decided {
-        Decided::Tree(_) => Ok(Ending::Nothing),
-        Decided::OtherPicture(picture) => Ok(Ending::Found(picture)),
+    let first_bound = bounds.first_bound.saturating_mul(LONGER);
+    match find_filling(alloc, engine, &part, true, first_bound)? {
+        None => Ok(Ending::Nothing),
+        Some(picture) => Ok(Ending::Found(picture)),
     }
 }

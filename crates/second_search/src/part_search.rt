@@ -1,19 +1,19 @@
-//! The search of one part: the facts on it, with the picture's colours alone left elsewhere.
+//! The search of one part: the facts on it, with the picture's colours alone left elsewhere, and the lines through its cells.
 
 ghost use Rattle.std.specs.Prelude.{◌≡◌, ◌<◌, ℕ, length, IfOk, OnOk};
 ghost use Rattle.picture.specs.Rows.{width_of};
 ghost use Rattle.line_settle.specs.FactSets.{SameShape};
 ghost use Rattle.fixpoint.specs.LineNames.{AreLinesOf};
 ghost use Rattle.second_search.specs.Parts.{IsPart};
-ghost use Rattle.second_search.specs.Searching.{CountsAny, CountsSome, EndsAs, alone, raised};
-ghost use Rattle.second_search.specs.Through.{LeavesAlone, LeavesRowAlone, PutsRow, PutsThrough};
-ghost use Rattle.second_search.specs.Scene.{CanSearch};
+ghost use Rattle.second_search.specs.Searching.{CountsAny, CountsSome, EndsAs, KeepsOutside, alone, raised};
+ghost use Rattle.second_search.specs.Through.{LeavesRowAlone, NamesBoth, PutsBoth, PutsRow, PutsThrough};
+ghost use Rattle.second_search.specs.Scene.{CanSearch, IsWhole};
 
-use crate::cell_lines::put_both;
 use crate::counting::{Searched, Start, search_counted};
 use crate::scene::Scene;
 use line_settle::{Facts, LineEngine, Meter};
-use picture::{CellSet, LineSet, Picture};
+use picture::{Axis, CellSet, LineId, LineSet, MAX_SIDE, Picture};
+use split_choice::Cell;
 use std::alloc::{AllocError, Global};
 
 // Searches one part for another filling. Only the lines through the part are evaluated.
@@ -37,12 +37,9 @@ pub(crate) fn search_part<E: LineEngine>(
 {
     let _ = scene.facts.height();
     let (_calls, _evaluations, _trials) = (engine.calls(), meter.evaluations, meter.trials);
-    let lines = lines_through(cells, scene.facts);
-    let mut facts = scene.facts.copy()?;
-    leave_alone(&mut facts, scene.picture, cells);
     let start = Start {
-        facts,
-        lines,
+        facts: facts_on(scene, cells)?,
+        lines: lines_through(cells, scene.facts),
         allowance,
     };
     search_counted(alloc, engine, scene.clues, scene.picture, start, meter)
@@ -74,14 +71,18 @@ fn put_through(cells: &CellSet, facts: &Facts, row: u8, lines: &mut LineSet)
     }
 }
 
-// Leaves outside of some cells a picture's colours alone.
-pub(crate) fn leave_alone(facts: &mut Facts, picture: &Picture, cells: &CellSet)
-    requires { SameShape picture.now facts.old }
-    ensures { LeavesAlone cells.now picture.now facts.old facts.new (length facts.old) }
+// The facts of a scene on some cells, with the picture's colours alone left elsewhere.
+pub(crate) fn facts_on(scene: &Scene, cells: &CellSet) -> Result<Facts, AllocError>
+    requires { IsWhole scene.now }
+    ensures alone { IfOk result
+        (λ facts. facts ≡ alone cells.now scene.now.facts.now scene.now.picture.now) }
+    ensures outside { IfOk result (KeepsOutside cells.now scene.now.picture.now) }
 {
-    for row in 0..facts.height() {
-        leave_row_alone(facts, picture, cells, row);
+    let mut facts = scene.facts.copy()?;
+    for row in 0..scene.facts.height() {
+        leave_row_alone(&mut facts, scene.picture, cells, row);
     }
+    Ok(facts)
 }
 
 // The same in one row.
@@ -95,4 +96,33 @@ fn leave_row_alone(facts: &mut Facts, picture: &Picture, cells: &CellSet, row: u
             facts.set_left(row, col, 1 << picture.cell(row, col));
         }
     }
+}
+
+// The names of the lines through a cell.
+pub(crate) fn lines_at(facts: &Facts, cell: Cell) -> LineSet
+    requires in_rows { cell.row < length facts.now }
+    requires in_columns { cell.col < width_of facts.now }
+    ensures lines { AreLinesOf facts.now result }
+    ensures both { NamesBoth result cell.row cell.col }
+{
+    let _ = facts.height();
+    let mut lines = LineSet::empty();
+    put_both(&mut lines, cell.row, cell.col);
+    lines
+}
+
+// Puts the names of the lines through a cell into a set.
+pub(crate) fn put_both(lines: &mut LineSet, row: u8, col: u8)
+    requires in_rows { row < MAX_SIDE }
+    requires in_columns { col < MAX_SIDE }
+    ensures { PutsBoth row col lines.old lines.new }
+{
+    lines.put(LineId {
+        axis: Axis::Across,
+        at: row,
+    });
+    lines.put(LineId {
+        axis: Axis::Down,
+        at: col,
+    });
 }

@@ -14,7 +14,6 @@ use std::marker::Model;
 mod growth;
 mod open_cells;
 
-pub(crate) use growth::cell_on;
 use growth::part_of;
 use open_cells::first_open;
 

@@ -80,22 +80,17 @@ impl Pending {
         Ok(())
     }
 
-    // Gives a cell of the facts at hand a mask, and notes the one that it had where they differ.
-    fn hold(&mut self, row: u8, col: u8, mask: u16) -> Result<(), AllocError>
+    // Holds a cell of the facts at hand to some colours, and notes the mask that it had where they differ.
+    fn hold(&mut self, row: u8, col: u8, held: u16) -> Result<(), AllocError>
         requires in_rows { row < length self.old.at_hand }
         requires in_columns { col < width_of self.old.at_hand }
         ensures { OnOk result (self.new
-            ≡ search_of (with_cell self.old.at_hand row col mask) self.old.behind self.old.cells) }
+            ≡ search_of (with_cell self.old.at_hand row col held) self.old.behind self.old.cells) }
     {
-        let left = self.facts.left(row, col);
-        if left != mask {
-            let cell = CellMask {
-                row,
-                col,
-                mask: left,
-            };
-            self.notes.push(Note::Restore(cell))?;
-            self.facts.set_left(row, col, mask);
+        let mask = self.facts.left(row, col);
+        if mask != held {
+            self.notes.push(Note::Restore(CellMask { row, col, mask }))?;
+            self.facts.set_left(row, col, held);
         }
         Ok(())
     }
@@ -108,12 +103,9 @@ impl Pending {
             (branches self.old.at_hand cell.row cell.col (cell_at self.old.at_hand cell.row cell.col) ++ self.old.behind)
             (places cell.row cell.col (cell_at self.old.at_hand cell.row cell.col) ++ self.old.cells)) }
     {
-        let mask = self.facts.left(cell.row, cell.col);
-        self.push_branch(CellMask {
-            row: cell.row,
-            col: cell.col,
-            mask,
-        })
+        let Cell { row, col } = cell;
+        let mask = self.facts.left(row, col);
+        self.push_branch(CellMask { row, col, mask })
     }
 
     // Puts the branches of a cell for the colours of a mask before the facts that wait.
@@ -135,16 +127,12 @@ impl Pending {
     pub(crate) fn advance(&mut self) -> Result<Option<Cell>, AllocError>
         ensures { IfOk result (GoesOn self.old self.new) }
     {
-        match put_back(&mut self.facts, &mut self.notes) {
-            Some(cell) => {
-                self.begin(cell)?;
-                Ok(Some(Cell {
-                    row: cell.row,
-                    col: cell.col,
-                }))
-            }
-            None => Ok(None),
-        }
+        let Some(cell) = put_back(&mut self.facts, &mut self.notes) else {
+            return Ok(None);
+        };
+        self.begin(cell)?;
+        let CellMask { row, col, .. } = cell;
+        Ok(Some(Cell { row, col }))
     }
 
     // Holds a cell to the lowest colour of a mask, and puts the branches of the others before the facts that wait.
@@ -157,11 +145,8 @@ impl Pending {
             ≡ place cell.row cell.col ∷ self.new.cells) }
     {
         let lowest = 1 << cell.mask.trailing_zeros();
-        self.push_branch(CellMask {
-            row: cell.row,
-            col: cell.col,
-            mask: cell.mask & !lowest,
-        })?;
+        let mask = cell.mask & !lowest;
+        self.push_branch(CellMask { mask, ..cell })?;
         self.hold(cell.row, cell.col, lowest)?;
         Ok(())
     }

@@ -5,7 +5,6 @@ ghost use Rattle.std.specs.Prelude.{◌≡◌, ◌≤◌, None, IfOk, IfSome, Is
 ghost use Rattle.fixpoint.specs.Closing.{AreClosable};
 ghost use Rattle.second_search.specs.Trees.{Advances, AreNone, Decides, Turns};
 
-use crate::cell_lines::put_both;
 use crate::ladder::Decided;
 use crate::pending::Pending;
 use crate::scene::Scene;
@@ -15,8 +14,7 @@ use crate::tree_step::{TreeStep, Way, next_step};
 use cert_text::CertLine;
 use fixpoint::all_lines;
 use line_settle::{LineEngine, Outcome};
-use picture::{LineSet, MAX_SIDE, Picture};
-use split_choice::Cell;
+use picture::{LineSet, Picture};
 use std::alloc::{AllocError, Global};
 
 // A tree that is being written: the branches that wait, the lines so far, and those that are due at the branch at hand.
@@ -44,13 +42,10 @@ pub(crate) fn write_tree<E: LineEngine>(
     ensures same_longest { E.longest engine.new ≡ E.longest engine.old }
 {
     let _ = engine.calls();
-    let due = all_lines(scene.facts);
-    let pending = Pending::start(alloc, scene.facts.copy()?);
-    let lines = no_lines(alloc, keeps);
     let mut growing = Growing {
-        pending,
-        lines,
-        due,
+        pending: Pending::start(alloc, scene.facts.copy()?),
+        lines: no_lines(alloc, keeps),
+        due: all_lines(scene.facts),
     };
     loop {
         let found = growing.turn(alloc, engine, scene, way)?;
@@ -60,7 +55,8 @@ pub(crate) fn write_tree<E: LineEngine>(
         }
         let goes = growing.advance()?;
         if !goes {
-            return Ok(Some(Decided::Tree(growing.into_lines())));
+            let Growing { lines, .. } = growing;
+            return Ok(Some(Decided::Tree(lines)));
         }
         if is_over(way, engine.calls()) {
             return Ok(None);
@@ -83,19 +79,7 @@ fn no_lines(alloc: Global, keeps: bool) -> Lines
 fn is_over(way: Way, calls: u64) -> bool
     ensures { IsTrue result → way.until ≡ None → ⊥ }
 {
-    match way.until {
-        Some(until) => calls >= until,
-        None => false,
-    }
-}
-
-// The lines through the cell that is held on a branch: those that are due where it begins.
-fn due_at(cell: Cell) -> LineSet {
-    let mut due = LineSet::empty();
-    if cell.row < MAX_SIDE && cell.col < MAX_SIDE {
-        put_both(&mut due, cell.row, cell.col);
-    }
-    due
+    way.until.is_some_and(|until| calls >= until)
 }
 
 impl Growing {
@@ -143,22 +127,10 @@ impl Growing {
     {
         match self.pending.advance()? {
             Some(cell) => {
-                self.due = due_at(cell);
+                self.due = cell.lines();
                 Ok(true)
             }
             None => Ok(false),
         }
-    }
-
-    // The lines that were written.
-    fn into_lines(self) -> Lines
-        ensures { result ≡ self.lines }
-    {
-        let Growing {
-            pending: _,
-            lines,
-            due: _,
-        } = self;
-        lines
     }
 }

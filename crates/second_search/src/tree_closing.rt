@@ -11,13 +11,14 @@ use crate::tree_lines::{Lines, line_number};
 use cert_text::CertLine;
 use clues::ClueBook;
 use line_settle::{Facts, Forced, LineEngine, Outcome, force_crossing};
-use picture::{Axis, LineId, LineSet};
+use picture::{LineId, LineSet};
 use std::alloc::AllocError;
 use worklist::{Agenda, InOrder};
 
 // More lines are never due on one branch: each evaluation but the first of a line goes with a colour that was excluded.
 const MOST_LINES: u32 = 100_000_000;
 
+#[tactic(auto, using(crate::proofs::KeepLemmas::sized_lines))]
 // Closes facts from some lines on, and writes the lines that force something, or a dead one, where there is one.
 pub(crate) fn close_written<E: LineEngine>(
     engine: &mut E,
@@ -38,7 +39,7 @@ pub(crate) fn close_written<E: LineEngine>(
         let Some(line) = agenda.take() else {
             return Ok(Outcome::Narrowed);
         };
-        if !is_line_of(facts, line) {
+        if line.at >= clues.line_count(line.axis) {
             continue;
         }
         let forced = take_line(engine, clues, facts, line, lines)?;
@@ -49,16 +50,6 @@ pub(crate) fn close_written<E: LineEngine>(
         agenda.put_all(&forced.changed);
     }
     Ok(Outcome::Narrowed)
-}
-
-// Whether the facts have a line.
-fn is_line_of(facts: &Facts, line: LineId) -> bool
-    ensures { IsTrue result → HasLine facts.now line }
-{
-    match line.axis {
-        Axis::Across => line.at < facts.height(),
-        Axis::Down => line.at < facts.width(),
-    }
 }
 
 #[tactic(auto, using(crate::proofs::TreeLemmas::taking, line_settle::proofs::LawLemmas::closes_a_line))]

@@ -1,25 +1,21 @@
 //! What comes next on a closed branch of a tree.
 
-ghost use Rattle.std.specs.Prelude.{◌≡◌, ◌<◌, ◌≤◌, ◌↔◌, ℕ, length, IfOk, IfSome, IsTrue, MatchOption};
-ghost use Rattle.picture.specs.Picture.{IsPicture};
-ghost use Rattle.picture.specs.Rows.{cell_at, width_of};
-ghost use Rattle.line_settle.specs.FactSets.{Leaves, SameShape};
-ghost use Rattle.fixpoint.specs.Closing.{AreClosable};
-ghost use Rattle.fixpoint.specs.Filling.{LeavesPicture};
-ghost use Rattle.second_search.specs.Trees.{Continues, IsComparedTo, IsOtherIn};
+ghost use Rattle.std.specs.Prelude.{◌≡◌, ◌≤◌, ◌↔◌, IfOk, IfSome, IsTrue, MatchOption};
+ghost use Rattle.picture.specs.Rows.{HasLine, line_of};
+ghost use Rattle.clues.specs.ClueBook.{clue_at};
+ghost use Rattle.line_settle.specs.Fitting.{CanFit};
+ghost use Rattle.fixpoint.specs.Closing.{AreClosable, EachFits};
+ghost use Rattle.second_search.specs.Trees.{Continues, EachFitsAlong, IsComparedTo, IsDeadLine, IsOtherIn};
 
 use crate::looking::{first_unsettled, shown_picture};
 use crate::scene::Scene;
-use crate::tree_dead::dead_line;
 use crate::tree_lines::line_number;
 use cert_text::CertLine;
-use line_settle::{Facts, LineEngine};
-use picture::Picture;
-use split_choice::{Cell, Choice, Chosen, Node, Plan, Puzzle, choose, filled, fills_all, leaves};
+use clues::ClueBook;
+use line_settle::{Facts, LineEngine, Outcome, force};
+use picture::{Axis, LineId, Picture};
+use split_choice::{Cell, Choice, Chosen, Node, Puzzle, choose, filled, fills_all, leaves};
 use std::alloc::{AllocError, Global};
-
-// How many of the most telling cells are looked at. A native model closes as many pictures with 12 of them.
-const MOST_CELLS: usize = 40;
 
 // What comes next: a line that ends the branch, a cell to split, or another picture than the known one.
 #[derive(Drop)]
@@ -56,17 +52,20 @@ pub(crate) fn next_step<E: LineEngine>(
 {
     let _ = (facts.height(), engine.calls());
     let node = node_at(scene, facts, way);
-    let here = other_here(alloc, scene, &node)?;
-    if let Some(picture) = here {
+    if let Some(picture) = other_here(alloc, scene, &node)? {
         return Ok(TreeStep::Other(picture));
     }
-    let chosen = choose(alloc, engine, &node, plan_of(way))?;
-    match chosen {
+    match choose(
+        alloc,
+        engine,
+        &node,
+        way.choice,
+        way.until.unwrap_or(u64::MAX),
+    )? {
         Chosen::Splits(cell) => return Ok(TreeStep::Splits(cell)),
         Chosen::Nothing => {}
         Chosen::Fills(trial) => {
-            let there = other_in(alloc, scene, &node.puzzle, facts, &trial)?;
-            if let Some(picture) = there {
+            if let Some(picture) = other_in(alloc, scene, &node.puzzle, facts, &trial)? {
                 return Ok(TreeStep::Other(picture));
             }
         }
@@ -97,15 +96,6 @@ fn node_at<'a>(scene: &Scene<'a>, facts: &'a Facts, way: Way) -> Node<'a>
         },
         facts,
         own: way.holds && leaves(facts, scene.picture),
-    }
-}
-
-// How its cells are chosen.
-fn plan_of(way: Way) -> Plan {
-    Plan {
-        choice: way.choice,
-        most: MOST_CELLS,
-        until: way.until.unwrap_or(u64::MAX),
     }
 }
 
@@ -144,40 +134,7 @@ fn is_other_in(scene: &Scene, facts: &Facts, picture: &Picture) -> bool
     ensures { IsTrue result → IsOtherIn scene.now.clues.now
         scene.now.picture.now facts.now picture.now }
 {
-    !picture.same(scene.picture) && scene.clues.has_clues(picture) && allows(facts, picture)
-}
-
-// Whether facts have the size of a picture and leave its colours.
-fn allows(facts: &Facts, picture: &Picture) -> bool
-    ensures shape { IsTrue result → SameShape picture.now facts.now }
-    ensures leaves { IsTrue result → LeavesPicture picture.now facts.now }
-    ensures picture { IsPicture picture.now }
-{
-    if picture.height() != facts.height() || picture.width() != facts.width() {
-        return false;
-    }
-    for row in 0..facts.height() {
-        if !allows_row(facts, picture, row) {
-            return false;
-        }
-    }
-    true
-}
-
-// The same of a row.
-fn allows_row(facts: &Facts, picture: &Picture, row: u8) -> bool
-    requires here { row < length facts.now }
-    requires there { row < length picture.now }
-    requires width { width_of picture.now ≡ width_of facts.now }
-    ensures { IsTrue result → (col : ℕ) → col < width_of facts.now → Leaves facts.now row col
-        (cell_at picture.now row col) }
-{
-    for col in 0..facts.width() {
-        if facts.excluded(row, col, picture.cell(row, col)) {
-            return false;
-        }
-    }
-    true
+    !picture.same(scene.picture) && scene.clues.has_clues(picture) && leaves(facts, picture)
 }
 
 // What a picture that has the clues is: the known one, which ends the branch, or another.
@@ -188,5 +145,72 @@ fn compared(picture: Picture, known: &Picture) -> TreeStep
         TreeStep::Ends(CertLine::Done)
     } else {
         TreeStep::Other(picture)
+    }
+}
+
+#[tactic(auto, using(crate::proofs::TreeLemmas::all_fit))]
+// The first line that no list fits, if there is one.
+fn dead_line<E: LineEngine>(
+    engine: &mut E,
+    clues: &ClueBook,
+    facts: &Facts,
+) -> Result<Option<LineId>, AllocError>
+    requires { AreClosable clues.now (E.longest engine.old) facts.now }
+    ensures dead { IfOk result (λ found.
+        MatchOption found (EachFits clues.now facts.now) (IsDeadLine clues.now facts.now)) }
+    ensures calls { E.calls engine.old ≤ E.calls engine.new }
+    ensures same_longest { E.longest engine.new ≡ E.longest engine.old }
+{
+    let _ = engine.calls();
+    if let Some(line) = dead_along(engine, clues, facts, Axis::Across)? {
+        return Ok(Some(line));
+    }
+    dead_along(engine, clues, facts, Axis::Down)
+}
+
+#[tactic(auto, using(crate::proofs::KeepLemmas::sized_lines))]
+// The first such line along an axis.
+fn dead_along<E: LineEngine>(
+    engine: &mut E,
+    clues: &ClueBook,
+    facts: &Facts,
+    axis: Axis,
+) -> Result<Option<LineId>, AllocError>
+    requires { AreClosable clues.now (E.longest engine.old) facts.now }
+    ensures dead { IfOk result (λ found. MatchOption found (EachFitsAlong clues.now facts.now axis)
+        (IsDeadLine clues.now facts.now)) }
+    ensures calls { E.calls engine.old ≤ E.calls engine.new }
+    ensures same_longest { E.longest engine.new ≡ E.longest engine.old }
+{
+    let _ = engine.calls();
+    for at in 0..clues.line_count(axis) {
+        let line = LineId { axis, at };
+        if !some_fits(engine, clues, facts, line)? {
+            return Ok(Some(line));
+        }
+    }
+    Ok(None)
+}
+
+// Whether some list fits a line.
+fn some_fits<E: LineEngine>(
+    engine: &mut E,
+    clues: &ClueBook,
+    facts: &Facts,
+    line: LineId,
+) -> Result<bool, AllocError>
+    requires closable { AreClosable clues.now (E.longest engine.old) facts.now }
+    requires line { HasLine facts.now line }
+    ensures fits { IfOk result (λ fits.
+        IsTrue fits ↔ CanFit (clue_at clues.now line) (line_of facts.now line)) }
+    ensures calls { E.calls engine.old ≤ E.calls engine.new }
+    ensures same_longest { E.longest engine.new ≡ E.longest engine.old }
+{
+    let _ = (facts.height(), engine.calls());
+    let mut trial = facts.copy()?;
+    let mut count = 0;
+    match force(engine, &mut trial, clues.clue(line), line, &mut count) {
+        Outcome::Dead => Ok(false),
+        Outcome::Narrowed => Ok(true),
     }
 }

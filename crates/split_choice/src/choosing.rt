@@ -1,15 +1,13 @@
 //! The cell that a search splits.
 
-ghost use Rattle.std.specs.Prelude.{◌≡◌, ◌≤◌, IfOk, IsTrue};
-ghost use Rattle.split_choice.specs.Choosing.{CanSplit, IsUnsettled};
+ghost use Rattle.std.specs.Prelude.{◌≡◌, ◌≤◌, IfOk};
+ghost use Rattle.split_choice.specs.Choosing.{CanSplit};
 
 use crate::cell::Cell;
 use crate::looking::{Look, look_at};
-use crate::open_cells::OpenCells;
-use crate::pool::Place;
-use crate::puzzle::{Choice, Node, Plan};
-use crate::regions::{Region, smallest_unfilled};
-use crate::telling::most_telling;
+use crate::puzzle::{Choice, Node};
+use crate::regions::{OpenCells, Region, smallest_unfilled};
+use crate::telling::{Place, most_telling};
 use line_settle::{Facts, LineEngine};
 use picture::MAX_SIDE;
 use std::alloc::{AllocError, Global};
@@ -22,13 +20,15 @@ pub enum Chosen {
     Nothing,
 }
 
-/// Chooses a cell in which not just one colour is left. Where there is such a cell, none may be chosen all the same, and of
-/// facts that are answered nothing is promised. The engine's calls do not fall.
+/// Chooses a cell in which not just one colour is left, and ends looking ahead at so many of the engine's calls. Where there is
+/// such a cell, none may be chosen all the same, and of facts that are answered nothing is promised. The engine's calls do not
+/// fall.
 pub fn choose<E: LineEngine>(
     alloc: Global,
     engine: &mut E,
     node: &Node,
-    plan: Plan,
+    choice: Choice,
+    until: u64,
 ) -> Result<Chosen, AllocError>
     ensures can_split { IfOk result (CanSplit node.now.facts.now) }
     ensures calls { E.calls engine.old ≤ E.calls engine.new }
@@ -39,47 +39,34 @@ pub fn choose<E: LineEngine>(
     let Some(region) = smallest_unfilled(node, &open) else {
         return Ok(Chosen::Nothing);
     };
-    let chosen = match plan.choice {
-        Choice::First => first_in(&open, &region),
+    match choice {
+        Choice::First => Ok(split_at(node.facts, first_in(&open, &region))),
         Choice::Look => {
-            let pool = most_telling(alloc, node, &open, &region, plan.most)?;
-            look_ahead(engine, node, pool.places(), plan.until)?
+            let places = most_telling(alloc, node, &open, &region)?;
+            look_ahead(engine, node, &places, until)
         }
-    };
-    Ok(tested(node.facts, chosen))
-}
-
-// What was chosen, where it can be split.
-fn tested(facts: &Facts, chosen: Chosen) -> Chosen
-    ensures { CanSplit facts.now result }
-{
-    match chosen {
-        Chosen::Splits(cell) if !can_split(facts, cell) => Chosen::Nothing,
-        chosen => chosen,
     }
 }
 
-// Whether a cell is one of the facts in which not just one colour is left.
-fn can_split(facts: &Facts, cell: Cell) -> bool
-    ensures { IsTrue result → IsUnsettled facts.now cell }
+// A cell to split, where it is one of the facts in which not just one colour is left.
+fn split_at(facts: &Facts, cell: Cell) -> Chosen
+    ensures { CanSplit facts.now result }
 {
-    cell.row < facts.height()
+    if cell.row < facts.height()
         && cell.col < facts.width()
         && facts.shown(cell.row, cell.col).is_none()
+    {
+        Chosen::Splits(cell)
+    } else {
+        Chosen::Nothing
+    }
 }
 
 // The first open cell of a part in row order.
-fn first_in(open: &OpenCells, region: &Region) -> Chosen {
-    for row in 0..MAX_SIDE {
-        if region.rows >> row & 1 == 1 {
-            let col = open.in_row(usize::from(row)).trailing_zeros();
-            return Chosen::Splits(Cell {
-                row,
-                col: col.min(127) as u8,
-            });
-        }
-    }
-    Chosen::Nothing
+fn first_in(open: &OpenCells, region: &Region) -> Cell {
+    let row = region.rows.trailing_zeros().min(u32::from(MAX_SIDE) - 1) as u8;
+    let col = open.rows[usize::from(row)].trailing_zeros() as u8;
+    Cell { row, col }
 }
 
 // The cell that tells most when its colours are held; at once one of which at most one branch goes on, on the held picture's own
@@ -90,6 +77,7 @@ fn look_ahead<E: LineEngine>(
     places: &[Place],
     until: u64,
 ) -> Result<Chosen, AllocError>
+    ensures can_split { IfOk result (CanSplit node.now.facts.now) }
     ensures calls { E.calls engine.old ≤ E.calls engine.new }
     ensures same_longest { E.longest engine.new ≡ E.longest engine.old }
 {
@@ -100,25 +88,21 @@ fn look_ahead<E: LineEngine>(
     for place in places {
         match look_at(engine, node, place.cell)? {
             Look::Fills(facts) => return Ok(Chosen::Fills(facts)),
-            Look::Seen(tally) if tally.alive <= enough => return Ok(Chosen::Splits(place.cell)),
-            Look::Seen(tally) => {
-                if best.is_none() || tally.worth() > most {
-                    most = tally.worth();
-                    best = Some(place.cell);
-                }
+            Look::Seen(tally) if tally.alive <= enough => {
+                return Ok(split_at(node.facts, place.cell));
             }
+            Look::Seen(tally) if best.is_none() || tally.worth() > most => {
+                most = tally.worth();
+                best = Some(place.cell);
+            }
+            Look::Seen(_) => {}
         }
         if engine.calls() >= until {
-            return Ok(split_at(best));
+            break;
         }
     }
-    Ok(split_at(best))
-}
-
-// A cell to split, if there is one.
-fn split_at(cell: Option<Cell>) -> Chosen {
-    match cell {
-        Some(cell) => Chosen::Splits(cell),
+    Ok(match best {
+        Some(cell) => split_at(node.facts, cell),
         None => Chosen::Nothing,
-    }
+    })
 }

@@ -1,9 +1,12 @@
 //! Lines with the held picture's colours in their open cells.
 
-ghost use Rattle.std.specs.Prelude.{◌<◌, length, IsTrue};
-ghost use Rattle.picture.specs.Rows.{HasLine, width_of};
+ghost use Rattle.std.specs.Prelude.{ℕ, ◌<◌, length, IsTrue};
+ghost use Rattle.picture.specs.Picture.{IsPicture};
+ghost use Rattle.picture.specs.Rows.{HasLine, cell_at, row_at, width_of};
 ghost use Rattle.clues.specs.ClueBook.{HasClue};
+ghost use Rattle.line_settle.specs.FactSets.{Leaves, SameShape};
 
+use crate::cell::Cell;
 use crate::puzzle::Puzzle;
 use clues::{Block, ClueBook, without_run};
 use line_settle::Facts;
@@ -46,11 +49,7 @@ pub(crate) fn is_filled(puzzle: &Puzzle, facts: &Facts, line: LineId) -> bool {
     let mut blocks = puzzle.clues.clue(line).blocks();
     let mut run = Block { len: 0, colour: 0 };
     for place in 0..facts.line_len(line) {
-        let (row, col) = match line.axis {
-            Axis::Across => (line.at, place),
-            Axis::Down => (place, line.at),
-        };
-        let Some(colour) = colour_at(puzzle.held, facts, row, col) else {
+        let Some(colour) = colour_at(puzzle.held, facts, Cell::on(line, place)) else {
             return false;
         };
         if colour == run.colour {
@@ -63,10 +62,7 @@ pub(crate) fn is_filled(puzzle: &Puzzle, facts: &Facts, line: LineId) -> bool {
             run = Block { len: 1, colour };
         }
     }
-    match without_run(blocks, run) {
-        Some(rest) => rest.is_empty(),
-        None => false,
-    }
+    without_run(blocks, run).is_some_and(|rest| rest.is_empty())
 }
 
 /// The picture of the colours that are shown, with those of the held picture in open cells, and background elsewhere.
@@ -74,7 +70,7 @@ pub fn filled(alloc: Global, puzzle: &Puzzle, facts: &Facts) -> Result<Picture, 
     let mut picture = Picture::blank(alloc, facts.height(), facts.width())?;
     for row in 0..facts.height() {
         for col in 0..facts.width() {
-            if let Some(colour) = colour_at(puzzle.held, facts, row, col) {
+            if let Some(colour) = colour_at(puzzle.held, facts, Cell { row, col }) {
                 show(&mut picture, row, col, colour);
             }
         }
@@ -89,11 +85,19 @@ fn show(picture: &mut Picture, row: u8, col: u8, colour: u8) {
     }
 }
 
-/// Whether the colours of a picture are left in all cells of facts of its size.
-pub fn leaves(facts: &Facts, picture: &Picture) -> bool {
+/// Whether facts have the size of a picture, and leave its colours.
+pub fn leaves(facts: &Facts, picture: &Picture) -> bool
+    ensures shape { IsTrue result → SameShape picture.now facts.now }
+    ensures leaves { IsTrue result → (row col : ℕ) → col < length (row_at picture.now row)
+        → Leaves facts.now row col (cell_at picture.now row col) }
+    ensures picture { IsPicture picture.now }
+{
+    if picture.height() != facts.height() || picture.width() != facts.width() {
+        return false;
+    }
     for row in 0..facts.height() {
         for col in 0..facts.width() {
-            if left_of(picture, facts, row, col).is_none() {
+            if facts.excluded(row, col, picture.cell(row, col)) {
                 return false;
             }
         }
@@ -102,24 +106,24 @@ pub fn leaves(facts: &Facts, picture: &Picture) -> bool {
 }
 
 // The colour that a cell shows, or, where it is open, the held picture's, if that is left there.
-fn colour_at(held: Option<&Picture>, facts: &Facts, row: u8, col: u8) -> Option<u8> {
-    if row >= facts.height() || col >= facts.width() {
+fn colour_at(held: Option<&Picture>, facts: &Facts, cell: Cell) -> Option<u8> {
+    if cell.row >= facts.height() || cell.col >= facts.width() {
         return None;
     }
-    match facts.shown(row, col) {
+    match facts.shown(cell.row, cell.col) {
         Some(colour) => Some(colour),
-        None => left_of(held?, facts, row, col),
+        None => left_of(held?, facts, cell),
     }
 }
 
-// The colour of a picture in a cell, if it has the cell, and the colour is left there.
-fn left_of(picture: &Picture, facts: &Facts, row: u8, col: u8) -> Option<u8>
-    requires in_rows { row < length facts.now }
-    requires in_columns { col < width_of facts.now }
+/// The colour of a picture in a cell, if it has the cell, and the colour is left there.
+pub(crate) fn left_of(picture: &Picture, facts: &Facts, cell: Cell) -> Option<u8>
+    requires in_rows { cell.row < length facts.now }
+    requires in_columns { cell.col < width_of facts.now }
 {
-    if row >= picture.height() || col >= picture.width() {
+    if cell.row >= picture.height() || cell.col >= picture.width() {
         return None;
     }
-    let colour = picture.cell(row, col);
-    (facts.left(row, col) >> colour & 1 == 1).then_some(colour)
+    let colour = picture.cell(cell.row, cell.col);
+    (facts.left(cell.row, cell.col) >> colour & 1 == 1).then_some(colour)
 }

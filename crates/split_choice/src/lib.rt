@@ -5,14 +5,11 @@ mod cell;
 mod choosing;
 mod filling;
 mod looking;
-mod open_cells;
-mod pool;
 mod puzzle;
 mod regions;
-mod settling;
 mod telling;
 
 pub use cell::Cell;
 pub use choosing::{Chosen, choose};
 pub use filling::{filled, fills_all, leaves};
-pub use puzzle::{Choice, Node, Plan, Puzzle};
+pub use puzzle::{Choice, Node, Puzzle};

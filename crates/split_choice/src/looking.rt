@@ -4,12 +4,16 @@ ghost use Rattle.std.specs.Prelude.{◌≡◌, ◌<◌, ◌≤◌, length, IsTru
 ghost use Rattle.picture.specs.Rows.{width_of};
 
 use crate::cell::Cell;
-use crate::filling::{fills_all, is_filled};
+use crate::filling::{fills_all, is_filled, is_there, left_of};
 use crate::puzzle::{Node, Puzzle};
-use crate::settling::settle;
-use line_settle::{Facts, LineEngine};
+use clues::ClueBook;
+use line_settle::{Facts, LineEngine, Outcome, force_crossing};
 use picture::{Axis, LineId, LineSet, MAX_COLOURS, MAX_SIDE};
 use std::alloc::AllocError;
+use worklist::{Agenda, InOrder};
+
+// More lines are not evaluated in one trial: each colour of each cell is excluded once at the most.
+const MOST_LINES: u32 = 10_000_000;
 
 /// What holding each colour of a cell came to; or facts that the held picture's colours fill.
 #[derive(Drop)]
@@ -21,7 +25,7 @@ pub(crate) enum Look {
 /// How many colours live, the sum and the product of their changes, and whether another colour dies.
 #[derive(Clone, Copy)]
 pub(crate) struct Tally {
-    pub alive: u32,
+    pub alive: u64,
     pub sum: u64,
     pub product: u64,
     pub dies: bool,
@@ -41,16 +45,10 @@ impl Tally {
         let narrows = match self.alive {
             0 | 1 => self.sum,
             2 => self.product,
-            alive => {
-                let alive = u64::from(alive);
-                self.sum.saturating_mul(self.sum) / alive.saturating_mul(alive).max(1)
-            }
+            alive => self.sum.saturating_mul(self.sum) / alive.saturating_mul(alive).max(1),
         };
-        if self.dies {
-            narrows.saturating_mul(4)
-        } else {
-            narrows
-        }
+        let times = if self.dies { 4 } else { 1 };
+        narrows.saturating_mul(times)
     }
 }
 
@@ -93,18 +91,59 @@ fn is_tried(node: &Node, cell: Cell, colour: u8) -> bool
     ensures in_rows { IsTrue result → cell.row < length node.now.facts.now }
     ensures in_columns { IsTrue result → cell.col < width_of node.now.facts.now }
 {
-    if cell.row >= node.facts.height() || cell.col >= node.facts.width() {
-        return false;
-    }
-    if node.facts.left(cell.row, cell.col) >> colour & 1 == 0 {
+    if cell.row >= node.facts.height()
+        || cell.col >= node.facts.width()
+        || node.facts.excluded(cell.row, cell.col, colour)
+    {
         return false;
     }
     match node.puzzle.held {
-        Some(picture) if node.own && cell.row < picture.height() && cell.col < picture.width() => {
-            picture.cell(cell.row, cell.col) != colour
-        }
+        Some(picture) if node.own => left_of(picture, node.facts, cell) != Some(colour),
         _ => true,
     }
+}
+
+// What a trial changed: the lines that crossed a change, and how many cells changed, once for each line that changed them.
+#[derive(Clone, Copy)]
+struct Settled {
+    touched: LineSet,
+    changes: usize,
+}
+
+// Closes facts in which a cell was held, from its two lines on. None where a line is dead.
+fn settle<E: LineEngine>(
+    engine: &mut E,
+    clues: &ClueBook,
+    facts: &mut Facts,
+    cell: Cell,
+) -> Option<Settled>
+    ensures calls { E.calls engine.old ≤ E.calls engine.new }
+    ensures same_longest { E.longest engine.new ≡ E.longest engine.old }
+{
+    let _ = engine.calls();
+    let mut agenda = InOrder::make();
+    let mut settled = Settled {
+        touched: cell.lines(),
+        changes: 0,
+    };
+    agenda.put_all(&settled.touched);
+    for _ in 0..MOST_LINES {
+        let Some(line) = agenda.take() else {
+            return Some(settled);
+        };
+        if !is_there(clues, facts, line) || facts.line_len(line) > engine.longest() {
+            continue;
+        }
+        let mut count = 0;
+        let forced = force_crossing(engine, facts, clues.clue(line), line, &mut count);
+        if forced.outcome == Outcome::Dead {
+            return None;
+        }
+        agenda.put_all(&forced.changed);
+        settled.touched.put_all(&forced.changed);
+        settled.changes = settled.changes.saturating_add(forced.changed.len());
+    }
+    Some(settled)
 }
 
 // Whether the held picture's colours fill all lines. Those that were touched are asked first.

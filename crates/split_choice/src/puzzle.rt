@@ -28,11 +28,3 @@ pub enum Choice {
     /// Of the most telling open cells the one whose colours die or narrow most when each is held and closed in turn.
     Look,
 }
-
-/// A way to choose: how many of the most telling cells are looked at, and at how many of the engine's calls looking ends.
-#[derive(Clone, Copy, Debug, PartialEq, Eq)]
-pub struct Plan {
-    pub choice: Choice,
-    pub most: usize,
-    pub until: u64,
-}

@@ -4,52 +4,67 @@ ghost use Rattle.std.specs.Prelude.{◌<◌, ◌≤◌};
 
 use crate::cell::Cell;
 use crate::filling::is_filled;
-use crate::open_cells::OpenCells;
-use crate::pool::{Place, Pool};
 use crate::puzzle::Node;
-use crate::regions::Region;
+use crate::regions::{OpenCells, Region};
 use picture::{Axis, LineId, MAX_SIDE};
 use std::alloc::{AllocError, Global};
+
+// How many of the most telling cells are looked at. A native model closes as many pictures with 12 of them.
+const MOST_CELLS: usize = 40;
 
 // What a settled neighbour counts, and a line that the held picture's colours do not fill.
 const NEIGHBOUR: u16 = 16;
 
 const UNFILLED: u16 = 12;
 
-/// The most telling open cells of a part: with many settled neighbours, on lines that the held picture's colours do not fill,
+/// A cell with its rank: the higher, the better.
+#[derive(Clone, Copy)]
+pub(crate) struct Place {
+    pub rank: u16,
+    pub cell: Cell,
+}
+
+/// The most telling open cells of a part, in order: with many settled neighbours, on lines that the held picture's colours do not
+/// fill,
 /// and on lines with few open cells.
 pub(crate) fn most_telling(
     alloc: Global,
     node: &Node,
     open: &OpenCells,
     region: &Region,
-    most: usize,
-) -> Result<Pool, AllocError> {
-    let mut pool = Pool::start(alloc, most);
+) -> Result<Vec<Place>, AllocError> {
+    let mut places = Vec::new(alloc);
     let rows = unfilled_along(node, Axis::Across, region.rows);
     let columns = unfilled_along(node, Axis::Down, region.columns);
     for row in 0..node.facts.height() {
         let along = region.rows >> row & 1;
         for col in 0..node.facts.width() {
-            if along == 1 && open.in_row(usize::from(row)) >> col & 1 == 1 {
-                let rank = rank_of(open, row, col)
-                    .saturating_add(extra_at(rows, row))
-                    .saturating_add(extra_at(columns, col));
-                pool.offer(Place {
-                    rank,
-                    cell: Cell { row, col },
-                })?;
+            if along == 1 && open.rows[usize::from(row)] >> col & 1 == 1 {
+                let unfilled = u16::from(rows >> row & 1 == 1) + u16::from(columns >> col & 1 == 1);
+                let rank = rank_of(open, row, col).saturating_add(unfilled * UNFILLED);
+                let cell = Cell { row, col };
+                offer(&mut places, Place { rank, cell })?;
             }
         }
     }
-    Ok(pool)
+    Ok(places)
 }
 
-// What it counts that a line is among those that the held picture's colours do not fill.
-fn extra_at(unfilled: u128, at: u8) -> u16
-    requires { at < MAX_SIDE }
-{
-    if unfilled >> at & 1 == 1 { UNFILLED } else { 0 }
+// Takes a place in among the best, the best first, of equal ones the earlier, unless there are enough better ones.
+fn offer(places: &mut Vec<Place>, place: Place) -> Result<(), AllocError> {
+    let behind = places.len();
+    let at = places
+        .iter()
+        .position(|other| other.rank < place.rank)
+        .unwrap_or(behind);
+    if at >= MOST_CELLS || at > behind {
+        return Ok(());
+    }
+    places.insert(at, place)?;
+    if places.len() > MOST_CELLS {
+        let _worst = places.pop();
+    }
+    Ok(())
 }
 
 // What the neighbours of a cell and the open cells on its lines count.
@@ -57,8 +72,8 @@ fn rank_of(open: &OpenCells, row: u8, col: u8) -> u16
     requires in_rows { row < MAX_SIDE }
     requires in_columns { col < MAX_SIDE }
 {
-    let along = open.in_row(usize::from(row));
-    let down = open.in_column(usize::from(col));
+    let along = open.rows[usize::from(row)];
+    let down = open.columns[usize::from(col)];
     let settled = settled_beside(along, col) + settled_beside(down, row);
     let fewest = along.count_ones().min(down.count_ones()).min(128);
     settled * NEIGHBOUR + (128 - fewest as u16)
@@ -69,13 +84,9 @@ fn settled_beside(line: u128, at: u8) -> u16
     requires { at < MAX_SIDE }
     ensures { result ≤ 2 }
 {
-    let before = if at > 0 && line >> (at - 1) & 1 == 1 {
-        0
-    } else {
-        1
-    };
-    let behind = if line >> (at + 1) & 1 == 1 { 0 } else { 1 };
-    before + behind
+    let before = at == 0 || line >> (at - 1) & 1 == 0;
+    let behind = line >> (at + 1) & 1 == 0;
+    u16::from(before) + u16::from(behind)
 }
 
 // The lines along an axis, of some, that the held picture's colours do not fill. Where none is held, there is no such line.

@@ -4,7 +4,6 @@ ghost use Rattle.std.specs.Prelude.{◌≡◌, ℕ, ◌+◌, ◌<◌, ◌⊎◌,
 ghost use Rattle.picture.specs.CellSet.{HasCell, IsCellSet};
 ghost use Rattle.picture.specs.LineSet.{HasName, IsClearFrom, name_count};
 ghost use Rattle.picture.specs.Rows.{width_of, line_of, HasLine};
-ghost use Rattle.line_settle.specs.FactSets.{col_on, row_on};
 ghost use Rattle.second_search.specs.Growing.{HasOpenCellsOf, IsGrown, Leaves, TakesIn};
 ghost use Rattle.second_search.specs.Parts.{IsChained, IsOpenCell};
 
@@ -111,13 +110,11 @@ impl Growth {
             ((line : LineId) → HasName self.now.waiting line → ⊥)
             (λ line. (line.at < MAX_SIDE) × HasName self.now.waiting line) }
     {
-        match self.waiting.first_from(Axis::Down, 0) {
-            Some(at) => Some(LineId {
-                axis: Axis::Down,
-                at,
-            }),
-            None => None,
-        }
+        let at = self.waiting.first_from(Axis::Down, 0)?;
+        Some(LineId {
+            axis: Axis::Down,
+            at,
+        })
     }
 
     // Takes in the open cells of a line that waits.
@@ -130,7 +127,7 @@ impl Growth {
         ensures unvisited { self.new.unvisited ≡ self.old.unvisited }
     {
         for i in 0..facts.line_len(line) {
-            let cell = cell_on(line, i);
+            let cell = Cell::on(line, i);
             if is_open(facts, cell) {
                 self.take_in(cell);
             }
@@ -146,22 +143,5 @@ impl Growth {
     {
         self.waiting.take_out(line);
         self.unvisited.take_out(line);
-    }
-}
-
-// The cell at a place of a line.
-pub(crate) fn cell_on(line: LineId, i: u8) -> Cell
-    ensures row { result.row ≡ row_on line.axis line.at i }
-    ensures col { result.col ≡ col_on line.axis line.at i }
-{
-    match line.axis {
-        Axis::Across => Cell {
-            row: line.at,
-            col: i,
-        },
-        Axis::Down => Cell {
-            row: i,
-            col: line.at,
-        },
     }
 }

@@ -1,6 +1,5 @@
-use Rattle.second_search.proofs.OneListLemmas.{all_one_list}
-use Rattle.second_search.proofs.KnownLaws.{same_cells_are_equal}
+use Rattle.second_search.proofs.RowLemmas.{all_one_list}
 use Rattle.second_search.proofs.laws.parts_are_one_list.Goals as goal
 
 pub returns : goal.returns
-returns c = all_one_list same_cells_are_equal
+returns c = all_one_list

@@ -1,6 +1,6 @@
 use Rattle.std.proofs.Common.{refl}
 use Rattle.second_search.proofs.FindLemmas.{can_close}
-use Rattle.second_search.proofs.NearClosedLemmas.{scene_settled}
+use Rattle.second_search.proofs.WithinLemmas.{scene_settled}
 use Rattle.second_search.proofs.KnownLaws.{clues_are_of_lines, sound_facts}
 use Rattle.second_search.proofs.near.closed.Goals as goal
 

@@ -1,5 +1,5 @@
 use Rattle.std.proofs.Common.{arith, refl}
-use Rattle.second_search.proofs.NearLemmas.{more_open}
+use Rattle.second_search.proofs.WithinLemmas.{more_open}
 use Rattle.second_search.proofs.near.open_cell.Goals as goal
 
 pub returns-then-is_none : goal.returns-then-is_none

@@ -24,7 +24,7 @@ returns-then-not-goes-clause-decides g c =
     let i = c.loop-growing.invariant in
     let P : Option (List (List ℕ)) → Type 0 = λ t. Turns s.clues.now s.picture.now c.loop-growing.growing c.turn.new.self t in
     let Q : Bool → Type 0 = λ b. Advances c.turn.new.self c.advance.new.self b in
-    tree_decides s.clues.now s.picture.now s.facts.now c.args.keeps i.said.0 c.into_lines.result i.said.1.0 (ends_said s.clues.now s.picture.now s.facts.now i.said.0 c.into_lines.result c.loop-growing.growing c.turn.new.self c.advance.new.self i.said.1.1 (subst P c.in-None.is c.in_ok-found.ensures.turns) (subst Q c.if-not-goes.true c.in_ok-goes.ensures) c.into_lines.ensures)
+    tree_decides s.clues.now s.picture.now s.facts.now c.args.keeps i.said.0 c.advance.new.self.lines i.said.1.0 (ends_said s.clues.now s.picture.now s.facts.now i.said.0 c.advance.new.self.lines c.loop-growing.growing c.turn.new.self c.advance.new.self i.said.1.1 (subst P c.in-None.is c.in_ok-found.ensures.turns) (subst Q c.if-not-goes.true c.in_ok-goes.ensures) refl)
 
 pub loop-growing-preserved : goal.loop-growing-preserved
 loop-growing-preserved g c =
@@ -49,7 +49,7 @@ pub loop-growing-init : goal.loop-growing-init
 loop-growing-init g c =
     let s = c.args.scene.now in
     record {
-      said = (c.no_lines-lines.result, (c.no_lines-lines.ensures, starts_said s.clues.now s.picture.now s.facts.now c.in_ok-copy.field-0 c.no_lines-lines.result (record { pending = c.start-pending.result; lines = c.no_lines-lines.result; due = c.all_lines-due.result }) c.in_ok-copy.ensures c.start-pending.ensures refl));
+      said = (c.no_lines.result, (c.no_lines.ensures, starts_said s.clues.now s.picture.now s.facts.now c.in_ok-copy.field-0 c.no_lines.result (record { pending = c.start.result; lines = c.no_lines.result; due = c.all_lines.result }) c.in_ok-copy.ensures c.start.ensures refl));
       calls = omega arith;
       same_longest = refl;
     }

@@ -5,8 +5,7 @@ use Rattle.second_search.proofs.counting.Counted.look_once.Goals as goal
 
 pub come_to-requires-clause-above : goal.come_to-requires-clause-above
 come_to-requires-clause-above g c =
-    let P : List (List ℕ) → Type 0 = λ x. AreRowsSettled x c.args.self.now.due.top in
-    subst P (sym c.at_hand.ensures) c.requires.above
+    subst (λ (x : List (List ℕ)). AreRowsSettled x c.args.self.now.due.top) (sym c.at_hand.ensures) c.requires.above
 
 pub narrow-requires-clause-above : goal.narrow-requires-clause-above
 narrow-requires-clause-above g c = split_same c.args.book.now c.args.self.now.pending.at_hand c.at_hand.result.now c.in-Splits.settled c.in_ok-coming.coming c.in-Splits.cell c.args.self.now.due.top c.at_hand.ensures c.in-Splits.is c.in_ok-coming.ensures.comes c.requires.above

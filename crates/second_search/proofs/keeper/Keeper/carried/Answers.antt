@@ -5,7 +5,7 @@ use Rattle.second_search.specs.declared.keeper.Answer.{Answer}
 use Rattle.second_search.specs.Carrying.{IsCarried, carried}
 use Rattle.second_search.specs.Judging.{IsTrueOf, answer_at, cells_at}
 use Rattle.second_search.proofs.CarryLemmas.{answer_carried, carried_true, holds_known, named_keeps, nothing_carried, part_before, part_in_facts}
-use Rattle.second_search.proofs.JudgeLemmas.{answer_is}
+use Rattle.second_search.proofs.VerdictLemmas.{answer_is}
 use Rattle.second_search.proofs.KnownLaws.{fillings_stay}
 use Rattle.second_search.proofs.keeper.Keeper.carried.Goals as goal
 
@@ -33,26 +33,12 @@ answer_for-requires c =
     let kept = c.args.self.now in
     let keeps = named_keeps b.clues.now b.facts.now b.picture.now a.clues.now a.givens.now a.facts.now a.picture.now c.args.same.now c.args.cells.now c.requires.after c.requires.part c.requires.same (c.if-not-are_named.ensures.0 refl) in
     let part = part_before b.clues.now b.facts.now b.picture.now a.clues.now a.givens.now a.facts.now a.picture.now fillings_stay c.args.cells.now c.requires.part keeps in
-    let same : answer_at kept at ≡ c.index.result.now.answer = answer_is c.self.inside.kept.items kept at c.index.result.now c.index.result.now.answer c.self.view_is c.place_of-at.ensures.place c.index.ensures refl in
+    let same = answer_is c.self.inside.kept.items kept at c.index.result.now c.self.view_is c.place_of-at.ensures.place c.index.ensures in
     let P : Answer → Type 0 = λ x. IsTrueOf b.clues.now b.givens.now b.picture.now (cells_at kept at) x in
     holds_known b.clues.now b.givens.now b.facts.now b.picture.now c.args.cells.now (cells_at kept at) c.index.result.now.answer c.requires.before part c.place_of-at.ensures.cells (subst P same (c.requires.true_answers at c.place_of-at.ensures.place))
 
-pub returns-clause-carried : goal.returns-clause-carried
-returns-clause-carried c =
-    let b = c.args.before.now in
-    let a = c.args.after.now in
-    let at = c.place_of-at.result in
-    let kept = c.args.self.now in
-    let cells = c.args.cells.now in
-    let keeps = named_keeps b.clues.now b.facts.now b.picture.now a.clues.now a.givens.now a.facts.now a.picture.now c.args.same.now cells c.requires.after c.requires.part c.requires.same (c.if-not-are_named.ensures.0 refl) in
-    let same : answer_at kept at ≡ c.index.result.now.answer = answer_is c.self.inside.kept.items kept at c.index.result.now c.index.result.now.answer c.self.view_is c.place_of-at.ensures.place c.index.ensures refl in
-    let P : Answer → Answer → Type 0 = λ known x. known ≡ carried cells a.picture.now x in
-    IfOk-weaker c.answer_for.result (λ (known : Answer). known ≡ carried cells a.picture.now c.index.result.now.answer) (IsCarried b.clues.now b.facts.now b.picture.now a.clues.now a.facts.now a.picture.now kept cells)
-    (λ known e. answer_carried b.clues.now b.facts.now b.picture.now a.clues.now a.givens.now a.facts.now a.picture.now kept at cells known keeps c.place_of-at.ensures.place c.place_of-at.ensures.cells (subst (P known) (sym same) e))
-    c.answer_for.ensures
-
-pub returns-clause-true_answer : goal.returns-clause-true_answer
-returns-clause-true_answer c =
+pub returns : goal.returns
+returns c =
     let b = c.args.before.now in
     let a = c.args.after.now in
     let at = c.place_of-at.result in
@@ -60,8 +46,10 @@ returns-clause-true_answer c =
     let cells = c.args.cells.now in
     let keeps = named_keeps b.clues.now b.facts.now b.picture.now a.clues.now a.givens.now a.facts.now a.picture.now c.args.same.now cells c.requires.after c.requires.part c.requires.same (c.if-not-are_named.ensures.0 refl) in
     let part = part_before b.clues.now b.facts.now b.picture.now a.clues.now a.givens.now a.facts.now a.picture.now fillings_stay cells c.requires.part keeps in
-    let same : answer_at kept at ≡ c.index.result.now.answer = answer_is c.self.inside.kept.items kept at c.index.result.now c.index.result.now.answer c.self.view_is c.place_of-at.ensures.place c.index.ensures refl in
+    let same = answer_is c.self.inside.kept.items kept at c.index.result.now c.self.view_is c.place_of-at.ensures.place c.index.ensures in
     let P : Answer → Answer → Type 0 = λ known x. known ≡ carried cells a.picture.now x in
-    IfOk-weaker c.answer_for.result (λ (known : Answer). known ≡ carried cells a.picture.now c.index.result.now.answer) (IsTrueOf a.clues.now a.givens.now a.picture.now cells)
-    (λ known e. carried_true b.clues.now b.facts.now b.picture.now a.clues.now a.givens.now a.facts.now a.picture.now fillings_stay b.givens.now cells (cells_at kept at) (answer_at kept at) known c.requires.before c.requires.after keeps part c.place_of-at.ensures.cells (subst (P known) (sym same) e) (c.requires.true_answers at c.place_of-at.ensures.place))
-    c.answer_for.ensures
+    let Is : Answer → Type 0 = λ known. known ≡ carried cells a.picture.now c.index.result.now.answer in
+    record {
+      carried = IfOk-weaker c.answer_for.result Is (IsCarried b.clues.now b.facts.now b.picture.now a.clues.now a.facts.now a.picture.now kept cells) (λ known e. answer_carried b.clues.now b.facts.now b.picture.now a.clues.now a.givens.now a.facts.now a.picture.now kept at cells known keeps c.place_of-at.ensures.place c.place_of-at.ensures.cells (subst (P known) (sym same) e)) c.answer_for.ensures;
+      true_answer = IfOk-weaker c.answer_for.result Is (IsTrueOf a.clues.now a.givens.now a.picture.now cells) (λ known e. carried_true b.clues.now b.facts.now b.picture.now a.clues.now a.givens.now a.facts.now a.picture.now fillings_stay b.givens.now cells (cells_at kept at) (answer_at kept at) known c.requires.before c.requires.after keeps part c.place_of-at.ensures.cells (subst (P known) (sym same) e) (c.requires.true_answers at c.place_of-at.ensures.place)) c.answer_for.ensures;
+    }

@@ -1,7 +1,7 @@
 use Rattle.std.proofs.Common.{arith, refl}
 use Rattle.second_search.specs.Judging.{Judges}
-use Rattle.second_search.proofs.AnswerLemmas.{answer_true}
-use Rattle.second_search.proofs.JudgeLemmas.{done_added}
+use Rattle.second_search.proofs.TruthLemmas.{answer_true}
+use Rattle.second_search.proofs.VerdictLemmas.{done_added}
 use Rattle.second_search.proofs.keeper.Keeper.judge.Goals as goal
 
 pub returns : goal.returns

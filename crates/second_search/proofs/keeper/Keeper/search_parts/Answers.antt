@@ -1,10 +1,10 @@
 use Rattle.std.proofs.Common.{ℕ, ◌+◌, ◌<◌, ◌∙◌, ◌≡◌, ap, arith, length, subst, suc, sym}
 use Rattle.second_search.specs.declared.counting.Ending.{Ending}
 use Rattle.second_search.specs.declared.counting.Ending.TheVariants as ending
-use Rattle.second_search.specs.Judging.{DoneBy, EndsPart, Passes, StopsAt, kept_at}
+use Rattle.second_search.specs.Judging.{DoneBy, EndsPart, Passes, Stops, kept_at}
 use Rattle.second_search.specs.Scene.{CanSearch}
 use Rattle.second_search.proofs.CountLemmas.{counts_more}
-use Rattle.second_search.proofs.JudgeLemmas.{done_then, passes_more, stops_here}
+use Rattle.second_search.proofs.VerdictLemmas.{done_then, passes_more, stops_found, stops_here}
 use Rattle.second_search.proofs.keeper.Keeper.search_parts.Goals as goal
 
 pub returns-in_err-ending-clause-counts : goal.returns-in_err-ending-clause-counts
@@ -12,40 +12,23 @@ returns-in_err-ending-clause-counts g c =
     let i = c.loop-i.invariant in
     counts_more _ _ _ _ _ _ (i.done.evaluations, i.done.counts) c.search_one.ensures.counts
 
-pub returns-in-Found-clause-counts : goal.returns-in-Found-clause-counts
-returns-in-Found-clause-counts g c =
+pub returns-in_default-clause-counts : goal.returns-in_default-clause-counts
+returns-in_default-clause-counts g c =
     let i = c.loop-i.invariant in
     counts_more _ _ _ _ _ _ (i.done.evaluations, i.done.counts) c.search_one.ensures.counts
 
-pub returns-in-BrokenOff-clause-counts : goal.returns-in-BrokenOff-clause-counts
-returns-in-BrokenOff-clause-counts g c =
-    let i = c.loop-i.invariant in
-    counts_more _ _ _ _ _ _ (i.done.evaluations, i.done.counts) c.search_one.ensures.counts
-
-pub returns-in-Found-clause-stops : goal.returns-in-Found-clause-stops
-returns-in-Found-clause-stops g c =
+pub returns-in_default-clause-stops : goal.returns-in_default-clause-stops
+returns-in_default-clause-stops g c =
     let s = c.args.scene.now in
     let kept = c.args.self.now in
     let n = c.loop-i.i in
     let same : length c.self.inside.kept.items ≡ length kept = ap length c.self.view_is in
     let inside : n < length kept = omega (arith, same) in
     let before = Passes s.clues.now s.facts.now s.picture.now c.args.allowance kept n in
-    let here = EndsPart s.clues.now s.facts.now s.picture.now c.args.allowance (kept_at kept n) in
-    let P : Ending → Type 0 = λ x. DoneBy c.in_ok-ending.here c.loop-i.meter c.search_one.new.meter (g.E.LineEngine.calls c.loop-i.engine) (g.E.LineEngine.calls c.search_one.new.engine) (here x) in
-    let found = ending.Found c.in-Found.picture in
-    done_then _ _ _ _ _ _ _ _ _ before (here found) (StopsAt s.clues.now s.facts.now s.picture.now c.args.allowance kept n found) c.loop-i.invariant.done (subst P c.in-Found.is c.in_ok-ending.ensures.ends) c.plus-spent.ensures (λ m k x y. stops_here s.clues.now s.facts.now s.picture.now c.args.allowance kept n found m k x y inside)
-
-pub returns-in-BrokenOff-clause-stops : goal.returns-in-BrokenOff-clause-stops
-returns-in-BrokenOff-clause-stops g c =
-    let s = c.args.scene.now in
-    let kept = c.args.self.now in
-    let n = c.loop-i.i in
-    let same : length c.self.inside.kept.items ≡ length kept = ap length c.self.view_is in
-    let inside : n < length kept = omega (arith, same) in
-    let before = Passes s.clues.now s.facts.now s.picture.now c.args.allowance kept n in
-    let here = EndsPart s.clues.now s.facts.now s.picture.now c.args.allowance (kept_at kept n) in
-    let P : Ending → Type 0 = λ x. DoneBy c.in_ok-ending.here c.loop-i.meter c.search_one.new.meter (g.E.LineEngine.calls c.loop-i.engine) (g.E.LineEngine.calls c.search_one.new.engine) (here x) in
-    done_then _ _ _ _ _ _ _ _ _ before (here ending.BrokenOff) (StopsAt s.clues.now s.facts.now s.picture.now c.args.allowance kept n ending.BrokenOff) c.loop-i.invariant.done (subst P c.in-BrokenOff.is c.in_ok-ending.ensures.ends) c.plus-spent.ensures (λ m k x y. stops_here s.clues.now s.facts.now s.picture.now c.args.allowance kept n ending.BrokenOff m k x y inside)
+    let ended = c.in_ok-ending in
+    let here = EndsPart s.clues.now s.facts.now s.picture.now c.args.allowance (kept_at kept n) ended.ending in
+    done_then _ _ _ _ _ _ _ _ _ before here (Stops s.clues.now s.facts.now s.picture.now c.args.allowance kept n ended.ending) c.loop-i.invariant.done ended.ensures.ends c.plus-spent.ensures
+    (λ m k x y p e. stops_found s.clues.now s.facts.now s.picture.now c.args.allowance kept n ended.ending (m + x) (k + y) c.in_default.not-Nothing (stops_here s.clues.now s.facts.now s.picture.now c.args.allowance kept n ended.ending m k x y inside p e))
 
 pub loop-i-preserved : goal.loop-i-preserved
 loop-i-preserved g c =

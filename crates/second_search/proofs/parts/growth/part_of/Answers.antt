@@ -15,8 +15,7 @@ gather-requires-clause-has c =
 pub leave-requires-clause-unvisited : goal.leave-requires-clause-unvisited
 leave-requires-clause-unvisited c =
     let line = c.in-Some.line in
-    let P : Lines → Type 0 = λ names. HasName names line in
-    subst P (sym c.gather.ensures.unvisited) (c.loop-line.invariant.reached line c.in-Some.ensures.1).0
+    subst (λ (names : Lines). HasName names line) (sym c.gather.ensures.unvisited) (c.loop-line.invariant.reached line c.in-Some.ensures.1).0
 
 pub loop-line-preserved : goal.loop-line-preserved
 loop-line-preserved c =

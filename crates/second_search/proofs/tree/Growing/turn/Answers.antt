@@ -20,10 +20,8 @@ returns-in-Dead-clause-turns g c =
 pub next_step-requires : goal.next_step-requires
 next_step-requires g c =
     let s = c.args.scene.now in
-    let P : Outcome → Type 0 = λ o. Settles s.clues.now c.in_ok-facts.facts c.close_written.new.facts c.args.self.now.lines c.close_written.new.lines o in
-    let here = subst P c.in-Narrowed.is c.in_ok-outcome.ensures.settles in
-    let Q : List (List ℕ) → Type 0 = λ x. AreClosable s.clues.now (g.E.LineEngine.longest c.args.engine.now) x in
-    let first = subst Q (sym (c.in_ok-facts.ensures ∙ c.at_hand.ensures)) c.requires in
+    let here = subst (λ (o : Outcome). Settles s.clues.now c.in_ok-facts.facts c.close_written.new.facts c.args.self.now.lines c.close_written.new.lines o) c.in-Narrowed.is c.in_ok-outcome.ensures.settles in
+    let first = subst (λ (x : List (List ℕ)). AreClosable s.clues.now (g.E.LineEngine.longest c.args.engine.now) x) (sym (c.in_ok-facts.ensures ∙ c.at_hand.ensures)) c.requires in
     can_close_like s.clues.now (g.E.LineEngine.longest c.args.engine.now) (g.E.LineEngine.longest c.close_written.new.engine) c.in_ok-facts.facts c.close_written.new.facts here.0.same_shape c.close_written.ensures.same_longest first
 
 pub returns-in-Other-clause-turns : goal.returns-in-Other-clause-turns
@@ -32,9 +30,8 @@ returns-in-Other-clause-turns g c =
     let settled = c.close_written.new.facts in
     let P : Outcome → Type 0 = λ o. Settles s.clues.now c.in_ok-facts.facts settled c.args.self.now.lines c.close_written.new.lines o in
     let mid : Growing = record { pending = c.narrow.new.self; lines = c.close_written.new.lines; due = c.args.self.now.due } in
-    let Q : TreeStep → Type 0 = λ x. Continues s.clues.now s.picture.now settled x in
     let R : List (List ℕ) → Type 0 = λ x. IsOtherIn s.clues.now s.picture.now x c.in-Other.picture in
-    let other = subst R (sym (ap (λ (x : Search). x.at_hand) c.in_ok-narrow.ensures)) (subst Q c.in-Other.is c.in_ok-step.ensures.continues) in
+    let other = subst R (sym (ap (λ (x : Search). x.at_hand) c.in_ok-narrow.ensures)) (subst (λ (x : TreeStep). Continues s.clues.now s.picture.now settled x) c.in-Other.is c.in_ok-step.ensures.continues) in
     turn_on s.clues.now s.picture.now c.in_ok-facts.facts settled c.args.self.now mid mid (c.in_ok-facts.ensures ∙ c.at_hand.ensures) (subst P c.in-Narrowed.is c.in_ok-outcome.ensures.settles) c.in_ok-narrow.ensures (Some c.in-Other.picture) other
 
 pub returns-in-Ends-clause-turns : goal.returns-in-Ends-clause-turns
@@ -43,9 +40,8 @@ returns-in-Ends-clause-turns g c =
     let settled = c.close_written.new.facts in
     let P : Outcome → Type 0 = λ o. Settles s.clues.now c.in_ok-facts.facts settled c.args.self.now.lines c.close_written.new.lines o in
     let mid : Growing = record { pending = c.narrow.new.self; lines = c.close_written.new.lines; due = c.args.self.now.due } in
-    let Q : TreeStep → Type 0 = λ x. Continues s.clues.now s.picture.now settled x in
     let R : List (List ℕ) → Type 0 = λ x. Continues s.clues.now s.picture.now x (ends c.in-Ends.line) in
-    let stands = subst R (sym (ap (λ (x : Search). x.at_hand) c.in_ok-narrow.ensures)) (subst Q c.in-Ends.is c.in_ok-step.ensures.continues) in
+    let stands = subst R (sym (ap (λ (x : Search). x.at_hand) c.in_ok-narrow.ensures)) (subst (λ (x : TreeStep). Continues s.clues.now s.picture.now settled x) c.in-Ends.is c.in_ok-step.ensures.continues) in
     turn_on s.clues.now s.picture.now c.in_ok-facts.facts settled c.args.self.now mid _ (c.in_ok-facts.ensures ∙ c.at_hand.ensures) (subst P c.in-Narrowed.is c.in_ok-outcome.ensures.settles) c.in_ok-narrow.ensures None (ends_turn s.clues.now s.picture.now mid _ c.in-Ends.line stands refl c.in_ok-add-in-Ends.ensures)
 
 pub returns-clause-turns : goal.returns-clause-turns
@@ -55,7 +51,6 @@ returns-clause-turns g c =
     let P : Outcome → Type 0 = λ o. Settles s.clues.now c.in_ok-facts.facts settled c.args.self.now.lines c.close_written.new.lines o in
     let mid : Growing = record { pending = c.narrow.new.self; lines = c.close_written.new.lines; due = c.args.self.now.due } in
     let hand = sym (ap (λ (x : Search). x.at_hand) c.in_ok-narrow.ensures) in
-    let Q : TreeStep → Type 0 = λ x. Continues s.clues.now s.picture.now settled x in
     let R : List (List ℕ) → Type 0 = λ x. Continues s.clues.now s.picture.now x (splits c.in-Splits.cell) in
-    let at = subst R hand (subst Q c.in-Splits.is c.in_ok-step.ensures.continues) in
+    let at = subst R hand (subst (λ (x : TreeStep). Continues s.clues.now s.picture.now settled x) c.in-Splits.is c.in_ok-step.ensures.continues) in
     turn_on s.clues.now s.picture.now c.in_ok-facts.facts settled c.args.self.now mid _ (c.in_ok-facts.ensures ∙ c.at_hand.ensures) (subst P c.in-Narrowed.is c.in_ok-outcome.ensures.settles) c.in_ok-narrow.ensures None (splits_turn s.clues.now s.picture.now mid _ c.in-Splits.cell c.cell_number.result (subst IsFacts hand c.height.ensures.facts) at c.cell_number.ensures.row c.cell_number.ensures.col c.in_ok-split-in-Splits.ensures c.in_ok-add-in-Splits.ensures)

@@ -1,5 +1,0 @@
-use Rattle.second_search.specs.Judging.{HasNoFilling}
-use Rattle.second_search.proofs.keeper.Keeper.kept_filling.Given as goal
-
-abbrev pub invariant-loop-i : goal.invariant-loop-i
-invariant-loop-i l = HasNoFilling l.self l.i

@@ -1,5 +1,0 @@
-use Rattle.second_search.proofs.PartLaws.{apart}
-use Rattle.second_search.proofs.laws.parts_are_apart.Goals as goal
-
-pub returns : goal.returns
-returns c = apart

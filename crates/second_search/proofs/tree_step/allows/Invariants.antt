@@ -1,7 +1,0 @@
-use Rattle.std.proofs.Common.{◌<◌, ℕ}
-use Rattle.picture.specs.Rows.{cell_at, width_of}
-use Rattle.line_settle.specs.FactSets.{Leaves}
-use Rattle.second_search.proofs.tree_step.allows.Given as goal
-
-abbrev pub invariant-loop-row : goal.invariant-loop-row
-invariant-loop-row l = (row col : ℕ) → row < l.row → col < width_of l.facts → Leaves l.facts row col (cell_at l.picture row col)
