@@ -98,7 +98,7 @@ pub fits_in_all : (room : ℕ) (lens : List ℕ) (i : ℕ) → length lens ≤ i
 unfolding fits_in
 fits_in_all room lens i le = at_drop_all (fits_in room) lens i le
 
-sum-cons : (n : ℕ) (ns : List ℕ) → sum (n ∷ ns) ≡ n + sum ns
+pub sum-cons : (n : ℕ) (ns : List ℕ) → sum (n ∷ ns) ≡ n + sum ns
 sum-cons n ns = sum_by-cons (λ k. k) n ns
 
 fits_in_sum : (room : ℕ) (lens : List ℕ) → fits_in room lens ≡ leb (sum lens + length lens) room
@@ -153,7 +153,7 @@ has_zero-capped : (numbers : List ℕ) → has_zero (map (min 255) numbers) ≡ 
 has_zero-capped [] = refl
 has_zero-capped (n ∷ numbers) = ap (λ t. t || has_zero (map (min 255) numbers)) (zero_capped n) ∙ ap (λ t. eqb n 0 || t) (has_zero-capped numbers)
 
-abbrev chosen : Bool → Bool → Bool → List Block → Result (List Block) NonFault
+abbrev pub chosen : Bool → Bool → Bool → List Block → Result (List Block) NonFault
 chosen lone other fits blocks = cond lone (Ok []) (cond other (Err BadClue) (cond fits (Ok blocks) (Err ClueTooLong)))
 
 clue_from_capped : (cells : ℕ) (numbers : List ℕ) → cells < 255 → clue_from cells (map (min 255) numbers) ≡ clue_from cells numbers

@@ -1,5 +1,5 @@
 -- Clues as they are written, read again.
-use Rattle.std.proofs.Common.{◌≡◌, ℕ, zero, suc, ◌+◌, ◌^◌, ◌<◌, ◌≤◌, Bool, true, false, cond, eqb, leb, List, [], ◌∷◌, ◌++◌, length, map, sum, Option, Some, Result, Ok, Err, refl, sym, ap, subst, ◌∙◌, arith, ◌&&◌, ◌||◌, decimal}
+use Rattle.std.proofs.Common.{◌≡◌, ℕ, zero, suc, ◌+◌, ◌^◌, ◌<◌, ◌≤◌, Bool, true, false, cond, eqb, leb, List, [], ◌∷◌, ◌++◌, length, map, sum, Option, Some, Result, Ok, refl, sym, ap, subst, ◌∙◌, arith, ◌&&◌, ◌||◌, decimal}
 use Rattle.std.specs.Char.{is_ascii_digit}
 use Rattle.std.specs.Str.{all_ascii_digits}
 use Rattle.std.specs.List.{slice_split, All}
@@ -7,14 +7,13 @@ use Rattle.std.specs.Option.{ok_or}
 use Rattle.std.proofs.lemmas.Bool.{le-leb, lt-leb, eq-eqb, ne_eqb, and_parts}
 use Rattle.std.proofs.lemmas.Fmt.{decimal_nonempty}
 use Rattle.std.proofs.lemmas.List.{length-map}
-use Rattle.std.proofs.lemmas.List.Sums.{sum_by-cons}
 use Rattle.std.proofs.lemmas.List.Splits.{slice_split_none, slice_split_at}
 use Rattle.picture.specs.declared.picture.TheConstants.{MAX_SIDE}
 use Rattle.picture.specs.Reading.{◌>>=◌}
 use Rattle.clues.specs.declared.block.Block.{Block}
 use Rattle.clues.specs.Clue.{block, longer, clue_of}
 use Rattle.non_text.specs.declared.fault.NonFault.{NonFault}
-use Rattle.non_text.specs.declared.fault.NonFault.TheVariants.{BadClue, ClueTooLong}
+use Rattle.non_text.specs.declared.fault.NonFault.TheVariants.{BadClue}
 use Rattle.non_text.specs.Bytes.{is_empty, is_blank, past_blanks, before_blanks, first_word}
 use Rattle.picture.specs.Numbers.{value_after, number_spelled}
 use Rattle.non_text.specs.Lines.{begins_comment, is_blank_line, is_comment, word_at, keyword_of}
@@ -22,6 +21,7 @@ use Rattle.non_text.specs.ClueLine.{numbers_in, is_lone_zero, has_zero, cells_ne
 use Rattle.non_text.specs.Written.{clue_text}
 use Rattle.picture.specs.NumberLaws.{decimal_digits, decimal_lacks, digit_range}
 use Rattle.picture.specs.SplitLaws.{none_there}
+use Rattle.non_text.proofs.ClueLineLemmas.{chosen, sum-cons}
 use Rattle.non_text.proofs.DigitTexts.{digit_not_blank, number_again}
 use Rattle.non_text.proofs.BytesLemmas.{past_blanks_other}
 
@@ -37,9 +37,6 @@ AreBlack (b ∷ blocks) = (0 < b.len) × (b.colour ≡ 1) × AreBlack blocks
 pub record IsWritable (cells : ℕ) (clue : List Block) : Type 0 where
   pub black : AreBlack clue
   pub fits : cells_needed (lens_of clue) ≤ cells
-
-sum-cons : (n : ℕ) (ns : List ℕ) → sum (n ∷ ns) ≡ n + sum ns
-sum-cons n ns = sum_by-cons (λ k. k) n ns
 
 -- ---- the numbers
 
@@ -80,9 +77,6 @@ black_again : (blocks : List Block) → AreBlack blocks → map (λ n. black n) 
 black_again [] is = refl
 black_again (b ∷ blocks) is =
     ap (λ colour. block b.len colour ∷ map (λ n. black n) (lens_of blocks)) (sym is.1) ∙ ap (λ (rest : List Block). b ∷ rest) (black_again blocks is.2)
-
-abbrev chosen : Bool → Bool → Bool → List Block → Result (List Block) NonFault
-chosen lone other fits blocks = cond lone (Ok []) (cond other (Err BadClue) (cond fits (Ok blocks) (Err ClueTooLong)))
 
 clue_from-lens : (cells : ℕ) (b : Block) (blocks : List Block) → IsWritable cells (b ∷ blocks) → clue_from cells (lens_of (b ∷ blocks)) ≡ Ok (b ∷ blocks)
 unfolding clue_from

@@ -1,6 +1,5 @@
 -- What is written of a picture is read again.
 use Rattle.std.proofs.Common.{◌≡◌, ℕ, ◌^◌, ◌<◌, ◌≤◌, Bool, true, false, cond, leb, List, [], ◌∷◌, ◌++◌, length, map, sum, Some, None, Ok, refl, sym, ap, ◌∙◌, arith, ◌&&◌, codes, decimal, is_none, nat_eq}
-use Rattle.std.proofs.lemmas.List.Sums.{sum_by-cons}
 use Rattle.std.specs.Option.{option_and_then}
 use Rattle.std.specs.Cmp.Lexicographic.{pointwise}
 use Rattle.std.specs.Str.{all_ascii_digits}
@@ -29,6 +28,7 @@ use Rattle.non_text.specs.Writing.{is_two_colour}
 use Rattle.non_text.specs.Written.{clue_text, digit_of, goal_text, written_lines, non_text_of}
 use Rattle.non_text.proofs.BytesLemmas.{before_blanks_other, past_blanks_blank}
 use Rattle.picture.specs.NumberLaws.{decimal_digits, digit_range, number_spelled-decimal}
+use Rattle.non_text.proofs.ClueLineLemmas.{sum-cons}
 use Rattle.non_text.proofs.DigitTexts.{trimmed_digits}
 use Rattle.non_text.proofs.LinesLemmas.{at_keyword_found, at_keyword_later}
 use Rattle.non_text.proofs.GoalLemmas.{goal_is}
@@ -218,9 +218,9 @@ decimal_printed n small = digits_are_printed (decimal n) (decimal_digits n small
 
 clue_printed : (clue : List Block) → sum (lens_of clue) < 2 ^ 64 → is_printed (clue_text clue) ≡ true
 clue_printed [] small = refl
-clue_printed (b ∷ []) small = decimal_printed b.len (omega (arith, small, sum_by-cons (λ k. k) b.len []))
+clue_printed (b ∷ []) small = decimal_printed b.len (omega (arith, small, sum-cons b.len []))
 clue_printed (b ∷ next ∷ blocks) small =
-    let parts = sum_by-cons (λ k. k) b.len (lens_of (next ∷ blocks)) in
+    let parts = sum-cons b.len (lens_of (next ∷ blocks)) in
     printed_append (decimal b.len) (44 ∷ clue_text (next ∷ blocks)) (decimal_printed b.len (omega (arith, small, parts))) (clue_printed (next ∷ blocks) (omega (arith, small, parts)))
 
 clues_shown : (cells : ℕ) (clues : List (List Block)) (rest : List (List ℕ)) → cells ≤ MAX_SIDE → AreWritable cells clues → AreShown rest → AreShown (map clue_text clues ++ rest)
