@@ -124,12 +124,6 @@ is_shown clues facts picture allowance old new Undecided m n j = λ e. absurd (s
 
 -- ---- going along the parts, with the counts of what is done
 
-raised_both : (start before after m n : ℕ) → before ≡ raised start m → after ≡ raised before n → after ≡ raised start (m + n)
-raised_both start before after m n a b = omega arith
-
-raised_from : (start made after n : ℕ) → made ≡ raised 0 n → after ≡ raised start made → after ≡ raised start n
-raised_from start made after n a b = omega arith
-
 pub done_none : (meter : Meter) (calls : ℕ) (Is : ℕ → ℕ → Type 0) → meter.evaluations < 2 ^ 64 → meter.trials < 2 ^ 64 → calls < 2 ^ 64 → Is 0 0 → Done 0 0 0 0 meter meter calls calls Is
 done_none meter calls Is c d e is = record {
   searched = 0;
@@ -162,8 +156,8 @@ done_both s t u a b c start between end p q r One Two Is d f join = record {
   splits = d.splits + f.splits;
   evaluations = d.evaluations + f.evaluations;
   is = join d.searched d.splits f.searched f.splits d.is f.is;
-  searched_is = raised_both s t u d.searched f.searched d.searched_is f.searched_is;
-  splits_is = raised_both a b c d.splits f.splits d.splits_is f.splits_is;
+  searched_is = omega arith;
+  splits_is = omega arith;
   counts = counting_adds d.evaluations 0 f.evaluations 0 start between end p q r d.counts f.counts;
   none = λ z. (let one = d.none (omega arith) in let other = f.none (omega arith) in omega arith);
   at_least = (let one = d.at_least in let other = f.at_least in omega arith);
@@ -176,8 +170,8 @@ done_added s t a b spent start end p q Is d x y = record {
   splits = d.splits;
   evaluations = d.evaluations;
   is = d.is;
-  searched_is = raised_from s spent.searched t d.searched d.searched_is x;
-  splits_is = raised_from a spent.splits b d.splits d.splits_is y;
+  searched_is = omega arith;
+  splits_is = omega arith;
   counts = d.counts;
   none = d.none;
   at_least = d.at_least;

@@ -9,13 +9,11 @@ use Rattle.second_search.proofs.keeper.Keeper.search_parts.Goals as goal
 
 pub returns-in_err-ending-clause-counts : goal.returns-in_err-ending-clause-counts
 returns-in_err-ending-clause-counts g c =
-    let i = c.loop-i.invariant in
-    counts_more _ _ _ _ _ _ (i.done.evaluations, i.done.counts) c.search_one.ensures.counts
+    counts_more _ _ _ _ _ _ (c.loop-i.invariant.done.evaluations, c.loop-i.invariant.done.counts) c.search_one.ensures.counts
 
 pub returns-in_default-clause-counts : goal.returns-in_default-clause-counts
 returns-in_default-clause-counts g c =
-    let i = c.loop-i.invariant in
-    counts_more _ _ _ _ _ _ (i.done.evaluations, i.done.counts) c.search_one.ensures.counts
+    counts_more _ _ _ _ _ _ (c.loop-i.invariant.done.evaluations, c.loop-i.invariant.done.counts) c.search_one.ensures.counts
 
 pub returns-in_default-clause-stops : goal.returns-in_default-clause-stops
 returns-in_default-clause-stops g c =
