@@ -92,11 +92,10 @@ module _ (clues : Clues) (line : LineId) (old new : List (List ℕ)) (outcome : 
 
   pub quiet_after : (agenda rest after : Lines) → outcome ≡ Narrowed → QuietOutside clues old agenda → TakesOutName agenda rest line → PutsCrossing line (line_of old line) (line_of new line) rest after → QuietOutside clues new after
   quiet_after agenda rest after e s t p other h not = elim (cases_name other line) [
-    | inl same ↦ let P : LineId → Type 0 = λ x. IsQuietLine (clue_at clues x) (line_of new x) in subst P (sym same) (quiet_here e)
+    | inl same ↦ rw same (quiet_here e)
     | inr d ↦
         let before = s other (same_has_line new old other (shape_sym g.same_shape) h) (λ m. not ((p.names other).1 (inl ((t other).1 (m, d))))) in
-        let P : List ℕ → Type 0 = λ left. IsQuietLine (clue_at clues other) left in
-        subst P (sym (unchanged_line other d (λ x. not ((p.names other).1 (inr x))))) before
+        rw (unchanged_line other d (λ x. not ((p.names other).1 (inr x)))) before
   ]
 
 crossing_has : (axis : Axis) (at i : ℕ) (rows : List (List ℕ)) → row_on axis at i < length rows → col_on axis at i < width_of rows → i < lines_along (crossing axis) rows
@@ -127,12 +126,7 @@ closing_starts clues longest base dirty c l s = record { closable = c; lines = l
 
 pub same_sizes : (clues : Clues) (longest : ℕ) (old new : List (List ℕ)) → SameShape old new → AreClosable clues longest old → AreClosable clues longest new
 same_sizes clues longest old new s c =
-    let r = s.rows in
     let w : width_of old ≡ width_of new = s.each 0 in
-    let a = c.rows in
-    let b = c.columns in
-    let d = c.wide in
-    let e = c.tall in
     record { rows = omega arith; columns = omega arith; wide = omega arith; tall = omega arith }
 
 pub closing_goes_on : (clues : Clues) (longest : ℕ) (base old new : List (List ℕ)) (agenda rest after : Lines) (line : LineId) (outcome : Outcome) → Closing clues longest base old agenda → HasName agenda line → TakesOutName agenda rest line → IsFacts old → Gains (clue_at clues line) line old new outcome → outcome ≡ Narrowed → PutsCrossing line (line_of old line) (line_of new line) rest after → Closing clues longest base new after

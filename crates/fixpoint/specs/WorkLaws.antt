@@ -129,7 +129,6 @@ pub less_to_do : (old new : List (List ℕ)) (agenda rest after : Lines) (line :
 unfolding left_to_do
 less_to_do old new agenda rest after line is has w h t p =
     let c = take_counts agenda rest line h t in
-    let m = p.at_most in
     let drop = weight_drops (length old) (width_of old) old new w in
     let on = changes_along line.axis line.at old new is has in
     let rows = ap (λ n. weight n (width_of new) new) (sym w.same_shape.rows) in
@@ -176,7 +175,6 @@ module _ (line : LineId) (before after : List ℕ) (changed : Lines) (is : (othe
   bit_past axis k past = elim (cases_eq (bit_at (mask_along axis changed) k) 1) [
     | inl e ↦
         let x = (is (record { axis = axis; at = k })).0 (bit_is_set (mask_along axis changed) k e) in
-        let w = x.within in
         absurd (omega arith)
     | inr d ↦ let l = bit_at-lt (mask_along axis changed) k in omega arith
   ]
@@ -260,10 +258,6 @@ module _ (clues : Clues) (dirty : Lines) (base old new : List (List ℕ)) (agend
   unfolding drawn
   working_goes_on =
       let c = take_counts agenda rest line h t in
-      let a = w.at_most in
-      let b = w.at_least in
-      let d = p.at_most in
-      let f = p.at_least in
       record {
         evaluations = suc w.evaluations;
         cells = w.cells + drawn;
@@ -277,7 +271,6 @@ module _ (clues : Clues) (dirty : Lines) (base old new : List (List ℕ)) (agend
   unfolding drawn
   working_dies dead =
       let c = take_counts agenda rest line h t in
-      let a = w.at_most in
       record {
         evaluations = suc w.evaluations;
         cells = w.cells + drawn;

@@ -2,7 +2,7 @@
 use Rattle.std.proofs.Common.{◌≡◌, ◌≢◌, ℕ, zero, suc, ◌+◌, ◌-◌, ◌<◌, ◌≤◌, Bool, true, false, not, ◌&&◌, ◌||◌, List, [], ◌∷◌, ◌++◌, replicate, ◌==◌, nat_lt, refl, sym, ap, ◌∙◌, arith, eq-eqb, ne_eqb, inl, inr, length, get_or, drop}
 use Rattle.std.proofs.lemmas.Bool.Decides.{nat_tests}
 use Rattle.std.proofs.Math.Seq.{drop-length}
-use Rattle.std.proofs.lemmas.Bool.{cases_eq, cases_lt, false≢true, eqb-false, lt-leb, or_left, or_right}
+use Rattle.std.proofs.lemmas.Bool.{cases_lt, false≢true, eqb-false, lt-leb, or_left, or_right}
 use Rattle.std.proofs.lemmas.List.{drop-drop, get_or-drop, get_or-replicate, get_or_append_left, drop_more, length-append, length-drop, length-replicate}
 use Rattle.clues.specs.declared.block.Block.{Block}
 use Rattle.clues.specs.Clue.{block, IsBlock, IsClue}

@@ -1,13 +1,11 @@
 -- From the tables to what narrowing a line promises.
-use Rattle.std.proofs.Common.{◌≡◌, ℕ, zero, suc, ◌+◌, ◌<◌, ◌≤◌, Bool, true, false, List, [], ◌∷◌, ◌++◌, replicate, ◌==◌, refl, sym, ap, subst, ◌∙◌, arith, ◌⊎◌, inl, inr, length, get_or, drop, take, ◌&&◌, ◌||◌, eq-eqb, ne_eqb}
+use Rattle.std.proofs.Common.{◌≡◌, ℕ, zero, suc, ◌+◌, ◌<◌, ◌≤◌, Bool, true, false, List, [], ◌∷◌, ◌++◌, replicate, ◌==◌, refl, sym, ap, subst, ◌∙◌, arith, ◌⊎◌, inl, inr, length, get_or, drop, take, ◌&&◌, ◌||◌, ne_eqb}
 use Rattle.std.proofs.lemmas.Bool.Decides.{nat_tests}
 use Rattle.std.specs.List.{All}
-use Rattle.std.specs.Int.{bit_at}
 use Rattle.std.proofs.Math.ListN.{get_or-eq_default}
 use Rattle.std.proofs.lemmas.List.{length-replicate, length-take, get_or-take, get_or_past}
 use Rattle.std.proofs.lemmas.List.Elements.{All-append, All-cons, All-nil, All-replicate, All-get_or, All-from_get_or}
 use Rattle.std.proofs.lemmas.Bool.{or_cases, or_left, or_right, cases_lt, cases_Bool, false≢true}
-use Rattle.std.proofs.lemmas.Nat.Bits.{bit_at-zero, same_from_bits, bit_at-lt}
 use Rattle.clues.specs.declared.block.Block.{Block}
 use Rattle.clues.specs.Clue.{block, IsBlock, IsClue}
 use Rattle.line_settle.specs.declared.line_engine.Outcome.TheVariants.{Narrowed, Dead}
@@ -17,7 +15,7 @@ use Rattle.line_settle.specs.Spelling.{gap, spelled_after, pattern_of, allows, f
 use Rattle.line_settle.specs.Positions.{has}
 use Rattle.line_settle.specs.Laying.{AreSeen}
 use Rattle.line_settle.proofs.PatternLemmas.{first_is, rest_are}
-use Rattle.line_settle.proofs.BitLemmas.{allows_none, allows_is}
+use Rattle.line_settle.proofs.BitLemmas.{allows_none}
 use Rattle.line_settle.proofs.PositionLemmas.{has_none}
 use Rattle.line_settle.proofs.TableLemmas.{Passing}
 use Rattle.line_settle.proofs.FittingLemmas.{allows_bit, bit_allows, fit_finishes, finishes_fit, have_shown, shown_have, have_fits, too_long}

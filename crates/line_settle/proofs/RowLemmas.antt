@@ -1,8 +1,8 @@
 -- A row of truths that is stepped in place, from one end to the other.
-use Rattle.std.proofs.Common.{◌≡◌, ◌≢◌, ℕ, ◌+◌, ◌-◌, ◌<◌, ◌≤◌, Bool, false, List, ◌&&◌, ◌||◌, nat_lt, refl, sym, ap, subst, ◌∙◌, arith, inl, inr, length, get_or, get_or-set_other, get_or-set_same}
+use Rattle.std.proofs.Common.{◌≡◌, ◌≢◌, ℕ, ◌+◌, ◌-◌, ◌<◌, ◌≤◌, Bool, false, List, refl, sym, subst, ◌∙◌, arith, inl, inr, length, get_or-set_other, get_or-set_same}
 use Rattle.std.proofs.Math.ListN.{set}
 use Rattle.std.proofs.lemmas.Bool.{cases_eq}
-use Rattle.line_settle.specs.Spelling.{allows, waits, finish_step, reach_step, truth_at}
+use Rattle.line_settle.specs.Spelling.{finish_step, reach_step, truth_at}
 
 finish_step_same : (pattern : List ℕ) (mask : ℕ) (f g : ℕ → Bool) (q : ℕ) → f (q + 1) ≡ g (q + 1) → f q ≡ g q → finish_step pattern mask f q ≡ finish_step pattern mask g q
 finish_step_same pattern mask f g q h k = rw (h, k) refl

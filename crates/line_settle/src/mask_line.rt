@@ -35,9 +35,9 @@ pub fn has_room(blocks: &[Block], cells: usize) -> bool
 fn narrow_sets<W: Word>(
     blocks: &[Block],
     left: &[u16],
-    out: &mut [u16],
     starting: &mut [W],
     waiting: &mut [W],
+    out: &mut [u16],
 ) -> Outcome
     requires blocks_of_clue { IsClue blocks.now }
     requires small_word { type_size W.row ≤ 16 }
@@ -88,5 +88,5 @@ pub fn narrow_by_sets<W: Word>(
         out.fill(0);
         return Outcome::Dead;
     }
-    narrow_sets(blocks, left, out, starting, waiting)
+    narrow_sets(blocks, left, starting, waiting, out)
 }

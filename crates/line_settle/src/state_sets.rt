@@ -188,6 +188,10 @@ impl<'a, W: Word> PatternSets<'a, W> {
         ensures mask { result.mask ≡ mask }
         ensures moves { AreMovesOf W.width (sets_of W.bits self.now) mask (moves_of W.bits result) }
     {
-        if mask == before.mask { before } else { self.moves_by(mask) }
+        if mask == before.mask {
+            before
+        } else {
+            self.moves_by(mask)
+        }
     }
 }

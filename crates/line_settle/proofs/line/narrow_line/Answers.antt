@@ -1,4 +1,4 @@
-use Rattle.std.proofs.Common.{◌≡◌, ◌+◌, ◌<◌, sym, ap, ◌∙◌, arith, length, take}
+use Rattle.std.proofs.Common.{◌+◌, ◌<◌, sym, ap, ◌∙◌, arith, length}
 use Rattle.std.proofs.lemmas.List.{length-take}
 use Rattle.line_settle.specs.Spelling.{pattern_of}
 use Rattle.line_settle.proofs.NarrowLemmas.{narrows_long, narrows_some, narrows_stuck, written_colours}

@@ -1,4 +1,4 @@
-use Rattle.std.proofs.Common.{ℕ, ◌+◌, ◌-◌, ◌<◌, ◌≤◌, ◌∙◌, arith, length, map, get_or}
+use Rattle.std.proofs.Common.{ℕ, ◌-◌, ◌<◌, ◌≤◌, ◌∙◌, arith, length, map}
 use Rattle.std.proofs.lemmas.List.{length-set, map-set, length-map}
 use Rattle.clues.specs.Clue.{block, IsBlock}
 use Rattle.line_settle.specs.Spelling.{pattern_of}

@@ -1,4 +1,4 @@
-use Rattle.std.proofs.Common.{◌+◌, arith, length, map, get_or}
+use Rattle.std.proofs.Common.{arith, length, map}
 use Rattle.line_settle.proofs.PassLemmas.{none_yet, pass_block, pass_end}
 use Rattle.line_settle.proofs.WordLemmas.{word_at}
 use Rattle.line_settle.proofs.position_tables.see_blocks.Goals as goal

@@ -1,6 +1,5 @@
-use Rattle.std.proofs.Common.{◌≡◌, ℕ, ◌+◌, ◌-◌, ◌*◌, ◌/◌, ◌∙◌, ◌==◌, ◌&&◌, ◌||◌, ap, subst, arith, refl, bit_and, length, get_or}
-use Rattle.line_settle.specs.Spelling.{allows}
-use Rattle.line_settle.specs.Positions.{has, IsColoured}
+use Rattle.std.proofs.Common.{◌≡◌, ℕ, ◌+◌, ◌-◌, ◌*◌, ◌/◌, ◌∙◌, ap, subst, arith, refl, bit_and, length}
+use Rattle.line_settle.specs.Positions.{IsColoured}
 use Rattle.line_settle.proofs.ColouringLemmas.{coloured_on, coloured_last, low_eight, rest_more}
 use Rattle.line_settle.proofs.positions.colour_line.Goals as goal
 

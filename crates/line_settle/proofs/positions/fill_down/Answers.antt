@@ -1,4 +1,4 @@
-use Rattle.std.proofs.Common.{ℕ, ◌+◌, refl, sym, ◌∙◌, arith, eqb-true}
+use Rattle.std.proofs.Common.{◌+◌, refl, sym, ◌∙◌, arith, eqb-true}
 use Rattle.line_settle.proofs.PositionLemmas.{fills_one, fills_twice, filled, filled_short}
 use Rattle.line_settle.proofs.SpanLemmas.{step_next, step_below, step_reached, spanned_by}
 use Rattle.line_settle.proofs.WordLemmas.{word_at}

@@ -1,4 +1,4 @@
-use Rattle.std.proofs.Common.{◌≡◌, ◌≤◌, ◌<◌, ℕ, suc, ◌-◌, refl, arith, length, drop, get_or, map}
+use Rattle.std.proofs.Common.{◌≡◌, ℕ, suc, ◌-◌, refl, arith, length, drop, get_or, map}
 use Rattle.std.proofs.lemmas.List.{get_or_past, length-map, map-set}
 use Rattle.line_settle.specs.Spelling.{finishes}
 use Rattle.line_settle.specs.Marking.{finishes_marked, unmarked}

@@ -1,4 +1,4 @@
-use Rattle.std.proofs.Common.{◌≡◌, ◌+◌, ◌<◌, sym, ◌∙◌, arith, length, get_or, map, add-one}
+use Rattle.std.proofs.Common.{◌≡◌, ◌<◌, sym, ◌∙◌, arith, length, get_or, add-one}
 use Rattle.std.proofs.lemmas.Bool.{false≢true}
 use Rattle.line_settle.specs.Spelling.{reaches}
 use Rattle.line_settle.specs.Marking.{reaches_marked, reached_of}

@@ -1,4 +1,4 @@
-use Rattle.std.proofs.Common.{◌≡◌, ℕ, suc, ◌+◌, ◌<◌, refl, arith, bit_and, inr, length, get_or, map, add-one}
+use Rattle.std.proofs.Common.{◌≡◌, ◌<◌, refl, arith, bit_and, inr, length, get_or, map, add-one}
 use Rattle.line_settle.specs.Spelling.{reaches}
 use Rattle.line_settle.specs.Marking.{reaches_marked, unmarked}
 use Rattle.line_settle.specs.StateSets.{sets_of}

@@ -1,4 +1,4 @@
-use Rattle.std.proofs.Common.{◌≡◌, ◌+◌, ◌<◌, ◌≤◌, refl, arith, bit_and, length, get_or, map, add-one}
+use Rattle.std.proofs.Common.{◌≡◌, ◌<◌, refl, arith, bit_and, length, get_or, map, add-one}
 use Rattle.line_settle.specs.Marking.{reaches_marked}
 use Rattle.line_settle.specs.Sweeping.{IsUndrawn}
 use Rattle.line_settle.specs.StateSets.{sets_of}
