@@ -4,16 +4,18 @@ use Rattle.std.proofs.lemmas.Bool.{cases_lt}
 use Rattle.std.proofs.lemmas.List.{get_or_past}
 use Rattle.picture.specs.declared.line_id.Axis.{Axis}
 use Rattle.picture.specs.declared.line_id.Axis.TheVariants.{Across, Down}
+use Rattle.picture.specs.declared.document.Document.{Document}
+use Rattle.picture.specs.Document.{AreInside}
 use Rattle.picture.specs.LineSet.{Lines}
 use Rattle.picture.specs.Picture.{IsPicture}
 use Rattle.picture.specs.Rows.{cell_at, lines_along, row_at, width_of}
 use Rattle.clues.specs.Change.{Changes, Moves, IsChangeOf, CanRefresh, lines_after}
 use Rattle.clues.specs.ClueBook.{Clues, clues_along, clues_of}
-use Rattle.clues.specs.Laws.{CluesAreOfLines, UntouchedCluesStand}
+use Rattle.clues.proofs.LawLemmas.{of_lines, standing as untouched_stand}
 use Rattle.line_settle.specs.declared.meter.Meter.{Meter}
-use Rattle.line_settle.specs.FactSets.{IsClosedLine, IsLeast, SameShape}
+use Rattle.line_settle.specs.FactSets.{IsBase, IsClosedLine, IsLeast, SameShape}
 use Rattle.line_settle.specs.Fitting.{CanFit}
-use Rattle.line_settle.specs.Laws.{LeastIsUnique}
+use Rattle.line_settle.proofs.LawLemmas.{one_least}
 use Rattle.line_settle.specs.Outside.{EachOutside}
 use Rattle.justify.specs.Book.{Account, account, AreTrimmed, IsAccount, IsDerivation}
 use Rattle.retract.specs.Dirty.{AreDirty}
@@ -23,11 +25,12 @@ use Rattle.fixpoint.specs.declared.fault.CloseFault.{CloseFault}
 use Rattle.fixpoint.specs.declared.fault.CloseFault.TheVariants.{Dead, Memory}
 use Rattle.propagate.specs.ClosingBooks.{BookWorks, ClosesBook, IsClosedBook}
 use Rattle.fixpoint.specs.Filling.{Fills}
-use Rattle.fixpoint.specs.Laws.{ClosingKeepsFillings}
+use Rattle.fixpoint.proofs.PictureLemmas.{closing_keeps_fillings}
 use Rattle.fixpoint.specs.LineNames.{AllLines}
 use Rattle.propagate.specs.Turns.{steps_added}
-use Rattle.kept_audit.specs.Audit.{GoesOn, IsAnew, IsAudit, IsBaseOf}
-use Rattle.kept_audit.specs.Laws.{BasesLeavePictures}
+use Rattle.edits.proofs.DesignLemmas.{all_marked}
+use Rattle.edits.specs.Design.{Design, design_of}
+use Rattle.kept_audit.specs.Audit.{AreGivens, GoesOn, IsAnew, IsAuditOf, IsBaseFor}
 
 -- ---- sizes
 
@@ -36,12 +39,11 @@ same_along Across a b s = s.rows
 same_along Down a b s = s.each 0
 
 -- a book without a step over a base of a picture's shape
-pub derives_anew : CluesAreOfLines → (picture base : List (List ℕ)) (clues : Clues) → clues ≡ clues_of picture → SameShape picture base → IsDerivation clues (account base [] base)
-derives_anew are picture base clues e shape =
-    let P : Clues → Type 0 = λ c. IsDerivation c (account base [] base) in
-    subst P (sym e) (record {
-      rows = sym (are.sizes picture Across ∙ same_along Across picture base shape);
-      columns = sym (are.sizes picture Down ∙ same_along Down picture base shape);
+pub derives_anew : (picture base : List (List ℕ)) (clues : Clues) → clues ≡ clues_of picture → SameShape picture base → IsDerivation clues (account base [] base)
+derives_anew picture base clues e shape =
+    subst (λ (c : Clues). IsDerivation c (account base [] base)) (sym e) (record {
+      rows = sym (of_lines.sizes picture Across ∙ same_along Across picture base shape);
+      columns = sym (of_lines.sizes picture Down ∙ same_along Down picture base shape);
       forced = λ n l. absurd (omega arith);
     })
 
@@ -57,13 +59,13 @@ book_closable clues longest picture book is d shape wide tall =
     record { rows = omega arith; columns = omega arith; wide = omega arith; tall = omega arith }
 
 module _ (change : Changes) (old new : List (List ℕ)) (is : IsChangeOf change old new) where
-  pub can_refresh : UntouchedCluesStand → (clues : Clues) → clues ≡ clues_of old → CanRefresh clues new change
-  can_refresh stand clues e = let P : Clues → Type 0 = λ c. CanRefresh c new change in subst P (sym e) (stand.can_refresh change old new is.follows)
+  pub can_refresh : (clues : Clues) → clues ≡ clues_of old → CanRefresh clues new change
+  can_refresh clues e = let P : Clues → Type 0 = λ c. CanRefresh c new change in subst P (sym e) (untouched_stand.can_refresh change old new is.follows)
 
-  pub have_books : CluesAreOfLines → (before after : Clues) → before ≡ clues_of old → after ≡ clues_of new → HaveBooks change.moves before after
-  have_books are before after e f = record {
-    before = λ axis. ap (λ (c : Clues). length (clues_along axis c)) e ∙ (are.sizes old axis ∙ is.sizes.before axis);
-    after = λ axis. ap (λ (c : Clues). length (clues_along axis c)) f ∙ (are.sizes new axis ∙ is.sizes.after axis);
+  pub have_books : (before after : Clues) → before ≡ clues_of old → after ≡ clues_of new → HaveBooks change.moves before after
+  have_books before after e f = record {
+    before = λ axis. ap (λ (c : Clues). length (clues_along axis c)) e ∙ (of_lines.sizes old axis ∙ is.sizes.before axis);
+    after = λ axis. ap (λ (c : Clues). length (clues_along axis c)) f ∙ (of_lines.sizes new axis ∙ is.sizes.after axis);
   }
 
   pub base_after : (base : List (List ℕ)) → SameShape new base → (axis : Axis) → lines_along axis base ≡ lines_after axis change.moves
@@ -74,31 +76,30 @@ module _ (change : Changes) (old new : List (List ℕ)) (is : IsChangeOf change 
 pub quiet_outside : (clues : Clues) (facts : List (List ℕ)) (dirty : Lines) → EachOutside IsClosedLine clues facts dirty → EachOutside CanFit clues facts dirty → QuietOutside clues facts dirty
 quiet_outside clues facts dirty closed fits line has not = record { closed = closed line has not; fits = fits line has not }
 
--- a picture's own clues never come to a dead line
-pub never_dead : ClosingKeepsFillings → (picture base : List (List ℕ)) (clues : Clues) → IsPicture picture → clues ≡ clues_of picture → IsBaseOf picture base → HasDeadLine clues base → ⊥
-never_dead fillings picture base clues is e b dead =
-    let fills : Fills clues base picture = record { is_picture = is; same_shape = b.same_shape; has_clues = sym e; leaves = b.leaves } in
-    fillings.none_where_dead clues base picture dead fills
+pub audit_of : (d : Design) (base : List (List ℕ)) (clues : Clues) (kept book : Account) → clues ≡ clues_of d.rows → IsBaseFor d base → kept.base ≡ base → IsClosedBook clues kept book → IsAccount book → AreTrimmed clues book → IsAuditOf d clues book
+audit_of d base clues kept book e of_base over closed is trimmed =
+    let same : base ≡ book.base = sym (closed.grows.base ∙ over) in
+    record {
+      clues_are = e;
+      givens = subst (AreGivens d) same of_base.givens;
+      map = subst (λ b. IsLeast clues b book.facts) (sym closed.grows.base) closed.least;
+      fits = closed.fits;
+      account = is;
+      derivation = closed.grows.derivation;
+      trimmed = trimmed;
+    }
 
-pub audit_of : (picture base : List (List ℕ)) (clues : Clues) (kept book : Account) → clues ≡ clues_of picture → kept.base ≡ base → IsClosedBook clues kept book → AreTrimmed clues book → IsAudit picture base clues book
-audit_of picture base clues kept book e over closed trimmed = record {
-  counted = e;
-  over = closed.grows.base ∙ over;
-  derivation = closed.grows.derivation;
-  least = let P : List (List ℕ) → Type 0 = λ b. IsLeast clues b book.facts in subst P over closed.least;
-  fits = closed.fits;
-  trimmed = trimmed;
-}
+pub same_as_fresh : (d : Design) (facts : List (List ℕ)) (clues : Clues) (kept book : Account) → clues ≡ clues_of d.rows → IsClosedBook clues kept book → IsLeast (clues_of d.rows) book.base facts → book.facts ≡ facts
+same_as_fresh d facts clues kept book e closed least =
+    let here : IsLeast clues book.base facts = subst (λ c. IsLeast c book.base facts) (sym e) least in
+    one_least clues book.base book.facts facts (subst (λ b. IsLeast clues b book.facts) (sym closed.grows.base) closed.least) here
 
-pub same_as_fresh : LeastIsUnique → (picture base facts : List (List ℕ)) (clues : Clues) (book : Account) → IsAudit picture base clues book → IsLeast (clues_of picture) base facts → book.facts ≡ facts
-same_as_fresh unique picture base facts clues book a least =
-    let P : Clues → Type 0 = λ c. IsLeast c base facts in
-    unique clues base book.facts facts a.least (subst P (sym a.counted) least)
-
--- only want of memory is left of the faults
-pub no_fault_but_memory : (clues : Clues) (kept : Account) (fault : CloseFault) → ClosesBook clues kept (Err fault) → (HasDeadLine clues kept.base → ⊥) → fault ≡ Memory
-no_fault_but_memory clues kept Dead dead never = absurd (never dead)
-no_fault_but_memory clues kept Memory closes never = refl
+-- only want of memory is left of the faults, since a picture's own clues never come to a dead line
+pub no_fault_but_memory : (d : Design) (base : List (List ℕ)) (clues : Clues) (kept : Account) (fault : CloseFault) → IsPicture d.rows → clues ≡ clues_of d.rows → IsBaseFor d base → kept.base ≡ base → ClosesBook clues kept (Err fault) → fault ≡ Memory
+no_fault_but_memory d base clues kept Dead is e of_base over dead =
+    let fills : Fills clues base d.rows = record { is_picture = is; same_shape = of_base.givens.same_shape; has_clues = sym e; leaves = of_base.leaves } in
+    absurd (closing_keeps_fillings.none_where_dead clues base d.rows (subst (HasDeadLine clues) over dead) fills)
+no_fault_but_memory d base clues kept Memory is e of_base over closes = refl
 
 -- a book without a step is trimmed
 pub starts_trimmed : (clues : Clues) (base : List (List ℕ)) (book : Account) → book ≡ account base [] base → AreTrimmed clues book
@@ -107,24 +108,23 @@ starts_trimmed clues base book e = let P : Account → Type 0 = λ b. AreTrimmed
 -- ---- the work
 
 -- over a book without a step each step is added
-pub is_anew : (base : List (List ℕ)) (lines : Lines) (kept book : Account) (start end : Meter) (before after : ℕ)
-    → kept ≡ account base [] base → AllLines base lines → BookWorks lines kept (Ok book) start end before after → IsAnew base book start end before after
-is_anew base lines kept book start end before after e all works =
-    let P : Account → Type 0 = λ k. BookWorks lines k (Ok book) start end before after in
-    let w : P (account base [] base) = subst P e works in
-    record { lines = lines; all_lines = all; work = record { evaluations = w.0; counts = w.1; suffice = w.2 } }
+pub is_anew : (clues : Clues) (base : List (List ℕ)) (lines : Lines) (kept book : Account) (start end : Meter) (before after : ℕ)
+    → kept ≡ account base [] base → AllLines base lines → IsClosedBook clues kept book → BookWorks lines kept (Ok book) start end before after → IsAnew book.base book start end before after
+is_anew clues base lines kept book start end before after e all closed works =
+    let w : BookWorks lines (account base [] base) (Ok book) start end before after = subst (λ k. BookWorks lines k (Ok book) start end before after) e works in
+    let over : base ≡ book.base = sym (closed.grows.base ∙ ap (λ (b : Account). b.base) e) in
+    record { lines = lines; all_lines = subst (λ b. AllLines b lines) over all; work = record { evaluations = w.0; counts = w.1; suffice = w.2 } }
 
 pub goes_on : (moves : Moves) (old new : Clues) (base : List (List ℕ)) (from kept to : Account) (dirty : Lines) (start end : Meter) (before after : ℕ)
     → IsAccount kept → kept.base ≡ base → AreStanding moves old new base from.steps kept.steps → AreDirty moves old new from.facts kept.facts dirty
     → IsClosedBook new kept to → BookWorks dirty kept (Ok to) start end before after → GoesOn moves old new from to start end before after
 goes_on moves old new base from kept to dirty start end before after is over standing are closed w =
-    let P : List (List ℕ) → Type 0 = λ b. AreStanding moves old new b from.steps kept.steps in
     let e : base ≡ to.base = sym over ∙ sym closed.grows.base in
     record {
       kept = kept;
       is_account = is;
       over = sym closed.grows.base;
-      standing = subst P e standing;
+      standing = subst (λ (b : List (List ℕ)). AreStanding moves old new b from.steps kept.steps) e standing;
       added = steps_added kept to;
       steps = closed.grows.steps;
       dirty = dirty;
@@ -142,13 +142,18 @@ row_or_past rows row col l = elim (cases_lt row (length rows)) [
       absurd (omega arith)
 ]
 
-pub bases_leave : BasesLeavePictures
-bases_leave givens picture base is b = record {
-  same_shape = b.same_shape;
+-- the base of a document's givens
+pub base_for : (d : Document) (base : List (List ℕ)) → AreInside d.givens d.picture → IsPicture d.picture → IsBase d.givens d.picture base → IsBaseFor (design_of d) base
+base_for d base inside is b = record {
+  givens = record {
+    same_shape = b.same_shape;
+    left = λ row col k r c.
+        let m = all_marked d.picture d.givens inside row col in
+        let l = b.left row col k r c in
+        (λ h. let o = l.0 h in (o.0, λ g. o.1 (m.1 g)), λ h. l.1 (h.0, λ g. h.1 (m.0 g)));
+  };
   leaves = λ row col l.
-      let r = row_or_past picture row col l in
+      let r = row_or_past d.picture row col l in
       let wide = is.rectangular row r in
-      (b.left row col (cell_at picture row col) r (omega arith)).1 (is.colours row col, λ given. refl);
+      (b.left row col (cell_at d.picture row col) r (omega arith)).1 (is.colours row col, λ given. refl);
 }
-
-pub ruleset bases = (bases_leave)

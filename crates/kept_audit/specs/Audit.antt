@@ -1,11 +1,13 @@
--- A picture audited by line logic.
-use Rattle.std.specs.Prelude.{◌≡◌, ℕ, List, ◌++◌}
+-- A document audited by line logic.
+use Rattle.std.specs.Prelude.{◌≡◌, ℕ, ◌<◌, ◌↔◌, List, ◌++◌, length}
 use Rattle.picture.specs.LineSet.{Lines}
+use Rattle.picture.specs.Rows.{cell_at, width_of}
 use Rattle.clues.specs.Change.{Moves}
 use Rattle.clues.specs.ClueBook.{Clues, clues_of}
 use Rattle.line_settle.specs.declared.meter.Meter.{Meter}
 use Rattle.line_settle.specs.Counting.{Counts}
-use Rattle.line_settle.specs.FactSets.{IsLeast, SameShape}
+use Rattle.line_settle.specs.FactSets.{IsLeast, Leaves, SameShape}
+use Rattle.edits.specs.Design.{Design}
 use Rattle.justify.specs.declared.step.Step.{Step}
 use Rattle.justify.specs.Book.{Account, AreTrimmed, IsAccount, IsDerivation}
 use Rattle.retract.specs.Dirty.{AreDirty}
@@ -15,20 +17,27 @@ use Rattle.propagate.specs.ClosingBooks.{SufficeToClose}
 use Rattle.fixpoint.specs.Filling.{LeavesPicture}
 use Rattle.fixpoint.specs.LineNames.{AllLines}
 
--- the facts of a picture's givens, say: of its shape, and leaving each of its colours
-pub record IsBaseOf (picture base : List (List ℕ)) : Type 0 where
-  pub same_shape : SameShape picture base
-  pub leaves : LeavesPicture picture base
+-- What the givens alone exclude: in a given, whose mark is 1, every colour but the picture's, and elsewhere none of the sixteen.
+pub record AreGivens (d : Design) (base : List (List ℕ)) : Type 0 where
+  pub same_shape : SameShape d.rows base
+  pub left : (row col k : ℕ) → row < length d.rows → col < width_of d.rows
+      → Leaves base row col k ↔ ((k < 16) × (cell_at d.marks row col ≡ 1 → k ≡ cell_at d.rows row col))
 
--- An audit of a picture over a base: the picture's clues, and a book over the base that is a derivation from them, whose facts
--- are the least closed ones that hold the base. Some list fits each line under them, and no step has a premise that it can do
--- without.
-pub record IsAudit (picture base : List (List ℕ)) (clues : Clues) (book : Account) : Type 0 where
-  pub counted : clues ≡ clues_of picture
-  pub over : book.base ≡ base
-  pub derivation : IsDerivation clues book
-  pub least : IsLeast clues base book.facts
+-- facts that the givens of a document exclude alone, which leave each colour of its picture
+pub record IsBaseFor (d : Design) (base : List (List ℕ)) : Type 0 where
+  pub givens : AreGivens d base
+  pub leaves : LeavesPicture d.rows base
+
+-- The clues are those of the document's picture. The base of the book is what the givens exclude, and its facts, the map, are
+-- the least ones closed under line deductions that hold the base; some list fits each line under them. The book is a derivation
+-- from the clues: each step's line forces what the step draws from the step's premises, of which none can be left out.
+pub record IsAuditOf (d : Design) (clues : Clues) (book : Account) : Type 0 where
+  pub clues_are : clues ≡ clues_of d.rows
+  pub givens : AreGivens d book.base
+  pub map : IsLeast clues book.base book.facts
   pub fits : EachFits clues book.facts
+  pub account : IsAccount book
+  pub derivation : IsDerivation clues book
   pub trimmed : AreTrimmed clues book
 
 -- ---- the work

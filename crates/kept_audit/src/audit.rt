@@ -1,4 +1,4 @@
-//! The audit of a picture (clues and closed book), made anew or kept over a change.
+//! The audit of a document (clues and closed book), made anew or kept over a change.
 
 ghost use Rattle.std.specs.Prelude.{◌≡◌, ◌≤◌, ℕ, List, length, IfOk, IfErr};
 ghost use Rattle.picture.specs.Rows.{width_of};
@@ -6,16 +6,17 @@ ghost use Rattle.clues.specs.Change.{IsChangeOf};
 ghost use Rattle.clues.specs.ClueBook.{clues_of};
 ghost use Rattle.line_settle.specs.Counting.{Counts};
 ghost use Rattle.line_settle.specs.FactSets.{IsLeast};
+ghost use Rattle.edits.specs.Design.{design_of};
 ghost use Rattle.fixpoint.specs.declared.fault.CloseFault.TheVariants as fault;
-ghost use Rattle.kept_audit.specs.Audit.{GoesOn, IsAnew, IsAudit, IsBaseOf};
+ghost use Rattle.kept_audit.specs.Audit.{GoesOn, IsAnew, IsAuditOf, IsBaseFor};
 
 use clues::{Change, ClueBook};
 use justify::Book;
 use line_settle::{Facts, LineEngine, Meter};
-use picture::Picture;
+use picture::Document;
 use propagate::{Agenda, CloseFault, all_lines, close};
 use retract::{Kept, keep};
-use std::alloc::Global;
+use std::alloc::{AllocError, Global};
 
 /// The clues of a picture, and the closed book of what its lines draw.
 #[derive(Drop)]
@@ -24,67 +25,67 @@ pub struct Audit {
     pub book: Book,
 }
 
-/// A change of a picture, and the audit of the picture before it. All four are only lent.
+/// A step of a history: the document before it with its audit, the document after it, and the change of its picture. All four
+/// are only lent.
 #[derive(Clone, Copy, Drop)]
 pub struct Revision<'a> {
     pub audit: &'a Audit,
-    pub old: &'a Picture,
-    pub new: &'a Picture,
+    pub old: &'a Document,
+    pub new: &'a Document,
     pub change: &'a Change,
 }
 
-#[tactic(auto, using(fixpoint::proofs::PictureLemmas::closing_keeps_fillings))]
-/// Audits a picture anew: counts its clues, and closes the book without a step over a base that leaves its colours.
+/// Audits a document anew: counts its picture's clues, and closes the book without a step over what its givens exclude.
 pub fn audit_anew<E: LineEngine, A: Agenda>(
     alloc: Global,
     engine: &mut E,
     agenda: &mut A,
-    picture: &Picture,
-    base: Facts,
+    document: &Document,
     meter: &mut Meter,
 ) -> Result<Audit, CloseFault>
-    requires base { IsBaseOf picture.now base }
-    requires wide { width_of picture.now ≤ E.longest engine.old }
-    requires tall { length picture.now ≤ E.longest engine.old }
-    ensures audit { IfOk result (λ audit. IsAudit picture.now base audit.clues audit.book) }
-    ensures work { IfOk result (λ audit.
-        IsAnew base audit.book meter.old meter.new (E.calls engine.old) (E.calls engine.new)) }
+    requires wide { width_of document.now.picture ≤ E.longest engine.old }
+    requires tall { length document.now.picture ≤ E.longest engine.old }
+    ensures audit { IfOk result
+        (λ audit. IsAuditOf (design_of document.now) audit.clues audit.book) }
+    ensures work { IfOk result (λ audit. IsAnew audit.book.base audit.book meter.old meter.new
+        (E.calls engine.old) (E.calls engine.new)) }
     ensures counts { (evaluations : ℕ)
         × Counts evaluations 0 meter.old meter.new (E.calls engine.old) (E.calls engine.new) }
     ensures memory { IfErr result (λ e. e ≡ fault.Memory) }
     ensures same_longest { E.longest engine.new ≡ E.longest engine.old }
 {
-    let _ = picture.height();
+    let _ = document.picture.height();
     let (_calls, _evaluations, _trials) = (engine.calls(), meter.evaluations, meter.trials);
-    let clues = ClueBook::of(alloc, picture)?;
+    let base = base_of(alloc, document)?;
+    let clues = ClueBook::of(alloc, &document.picture)?;
     let book = Book::start(alloc, base)?;
     let dirty = all_lines(book.facts());
     let book = close(engine, agenda, book, &clues, &dirty, meter)?;
+    let _ = book.facts();
     Ok(Audit { clues, book })
 }
 
-/// Audits a picture again after a change, over a base that leaves its colours: its clues are refreshed, the steps that
-/// stand are kept, and the book is closed again from the dirty lines alone. The result is an audit of the new picture
-/// like one made anew, and its facts are those of a fresh audit. The audit before stays.
+/// Audits a document again after a change, from the audit of the one before it: its clues are refreshed, the steps that stand
+/// over what its givens exclude are kept, and the book is closed again from the dirty lines alone. The result is an audit of the
+/// new document like one made anew, and its facts are those of a fresh audit. The audit before stays.
 pub fn audit_again<E: LineEngine, A: Agenda>(
     alloc: Global,
     engine: &mut E,
     agenda: &mut A,
     revision: &Revision,
-    base: Facts,
     meter: &mut Meter,
 ) -> Result<Audit, CloseFault>
-    requires audited { IsAudit revision.now.old.now revision.now.audit.now.book.base
-        revision.now.audit.now.clues revision.now.audit.now.book }
-    requires change { IsChangeOf revision.now.change.now revision.now.old.now
-        revision.now.new.now }
-    requires base { IsBaseOf revision.now.new.now base }
-    requires wide { width_of revision.now.new.now ≤ E.longest engine.old }
-    requires tall { length revision.now.new.now ≤ E.longest engine.old }
+    requires audited { IsAuditOf (design_of revision.now.old.now) revision.now.audit.now.clues
+        revision.now.audit.now.book }
+    requires change { IsChangeOf revision.now.change.now revision.now.old.now.picture
+        revision.now.new.now.picture }
+    requires wide { width_of revision.now.new.now.picture ≤ E.longest engine.old }
+    requires tall { length revision.now.new.now.picture ≤ E.longest engine.old }
     ensures audit { IfOk result
-        (λ audit. IsAudit revision.now.new.now base audit.clues audit.book) }
-    ensures fresh { (facts : List (List ℕ)) → IsLeast (clues_of revision.now.new.now) base facts
-        → IfOk result (λ audit. audit.book.facts ≡ facts) }
+        (λ audit. IsAuditOf (design_of revision.now.new.now) audit.clues audit.book) }
+    ensures fresh { (facts : List (List ℕ)) → IfOk result (λ audit.
+        IsLeast (clues_of revision.now.new.now.picture) audit.book.base facts
+        → audit.book.facts ≡ facts) }
     ensures goes_on { IfOk result (λ audit. GoesOn revision.now.change.now.moves
         revision.now.audit.now.clues audit.clues revision.now.audit.now.book audit.book
         meter.old meter.new (E.calls engine.old) (E.calls engine.new)) }
@@ -95,11 +96,23 @@ pub fn audit_again<E: LineEngine, A: Agenda>(
 {
     let before = revision.audit;
     let change = revision.change;
-    let _ = revision.new.height();
+    let _ = revision.new.picture.height();
     let (_calls, _evaluations, _trials) = (engine.calls(), meter.evaluations, meter.trials);
-    let clues = before.clues.refresh(revision.new, change)?;
+    let base = base_of(alloc, revision.new)?;
+    let clues = before.clues.refresh(&revision.new.picture, change)?;
     let Kept { book, dirty } = keep(alloc, &before.book, &before.clues, &clues, change, base)?;
     let _ = book.facts();
     let book = close(engine, agenda, book, &clues, &dirty, meter)?;
+    let _ = book.facts();
     Ok(Audit { clues, book })
+}
+
+// What the givens of a document exclude. It stays a function of its own, for a profiler.
+#[inline(never)]
+fn base_of(alloc: Global, document: &Document) -> Result<Facts, AllocError>
+    ensures { IfOk result (IsBaseFor (design_of document.now)) }
+{
+    let _ = document.picture.height();
+    let base = Facts::base(alloc, document)?;
+    Ok(base)
 }

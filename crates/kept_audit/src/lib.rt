@@ -3,6 +3,5 @@
 #![tactic(auto)]
 
 mod audit;
-pub mod laws;
 
 pub use audit::{Audit, Revision, audit_again, audit_anew};

@@ -1,34 +1,14 @@
 -- What the clauses of the calls below come to for a bench.
 use Rattle.std.proofs.Common.{◌≡◌, ℕ, ◌-◌, List, [], ◌∷◌, length, Option, Some, None, IfSome, Result, Ok, Err, IfErr, OnOk, OnErr, inl, inr, refl, sym, ap, subst, ◌∙◌, arith}
 use Rattle.std.proofs.lemmas.Option.{slice_get_cases}
-use Rattle.picture.specs.declared.document.Document.{Document}
-use Rattle.picture.specs.Document.{AreInside}
-use Rattle.picture.specs.Picture.{IsPicture}
 use Rattle.clues.specs.Change.{Changes, Moves, back}
-use Rattle.line_settle.specs.FactSets.{IsBase}
-use Rattle.kept_audit.specs.Laws.{BasesLeavePictures}
 use Rattle.edits.specs.declared.fault.EditFault.{EditFault}
 use Rattle.edits.specs.declared.fault.EditFault.TheVariants.{UndoEmpty, RedoEmpty, Memory}
 use Rattle.edits.specs.Change.{moves_of}
-use Rattle.edits.specs.Design.{design_of}
 use Rattle.edits.specs.History.{Advance, Turn, History, IsChangeBy, advanced, or_memory, first_turn, last_turn, fault_if_empty, redo_fault, undo_fault}
-use Rattle.edits.specs.Laws.{MarksAreGivens}
-use Rattle.live_audit.specs.Bench.{IsBaseFor, Seen}
+use Rattle.live_audit.specs.Bench.{Seen}
 use Rattle.live_audit.specs.Calls.{Accepts, CarriesOn, IsAsBefore, Refuses}
 use Rattle.live_audit.specs.Stroke.{Stroke, after_stroke, moves_back, moves_forth, stroke_fault, stroke_moves}
-
--- the base of a document's givens
-pub base_for : MarksAreGivens → BasesLeavePictures → (d : Document) (base : List (List ℕ)) → AreInside d.givens d.picture → IsPicture d.picture → IsBase d.givens d.picture base → IsBaseFor (design_of d) base
-base_for marks leave d base inside is b = record {
-  givens = record {
-    same_shape = b.same_shape;
-    left = λ row col k r c.
-        let m = marks d.picture d.givens inside row col in
-        let l = b.left row col k r c in
-        (λ h. let o = l.0 h in (o.0, λ g. o.1 (m.1 g)), λ h. l.1 (h.0, λ g. h.1 (m.0 g)));
-  };
-  leaves = leave d.givens d.picture base is b;
-}
 
 -- ---- steps back and forth
 
@@ -65,13 +45,10 @@ pub accepted : {X : Type 0} (r : Result X EditFault) (stroke : Stroke) (h : Hist
     → h ≡ old.history → stroke_fault h stroke ≡ None → advanced h advance ≡ after_stroke h stroke → moves ≡ stroke_moves h stroke
     → OnOk r (new.history ≡ advanced old.history advance) → OnOk r (CarriesOn moves old new) → OnOk r (Accepts stroke old new)
 accepted (Ok x) stroke h old new advance moves e lawful next moved history book =
-    let P : History → Type 0 = λ k. stroke_fault k stroke ≡ None in
-    let Q : History → Type 0 = λ k. advanced k advance ≡ after_stroke k stroke in
-    let R : Moves → Type 0 = λ m. CarriesOn m old new in
     record {
-      lawful = subst P e lawful;
-      history = history ∙ subst Q e next;
-      book = subst R (moved ∙ ap (λ (k : History). stroke_moves k stroke) e) book;
+      lawful = subst (λ (k : History). stroke_fault k stroke ≡ None) e lawful;
+      history = history ∙ subst (λ (k : History). advanced k advance ≡ after_stroke k stroke) e next;
+      book = subst (λ (m : Moves). CarriesOn m old new) (moved ∙ ap (λ (k : History). stroke_moves k stroke) e) book;
     }
 accepted (Err fault) stroke h old new advance moves e lawful next moved history book = tt
 
@@ -79,8 +56,7 @@ pub refused : {X : Type 0} (r : Result X EditFault) (stroke : Stroke) (h : Histo
     → h ≡ old.history → stroke_fault h stroke ≡ None → IfErr r (λ fault. fault ≡ Memory) → OnErr r (IsAsBefore old new) → IfErr r (λ fault. Refuses stroke fault old new)
 refused (Ok x) stroke h old new e lawful memory same = tt
 refused (Err fault) stroke h old new e lawful memory same =
-    let P : History → Type 0 = λ k. stroke_fault k stroke ≡ None in
-    let none : stroke_fault old.history stroke ≡ None = subst P e lawful in
+    let none : stroke_fault old.history stroke ≡ None = subst (λ (k : History). stroke_fault k stroke ≡ None) e lawful in
     record {
       first = memory ∙ sym (ap or_memory none);
       as_before = same;

@@ -9,21 +9,18 @@ use Rattle.live_audit.specs.Laws.{ListsStayAudited}
 abbrev machine_of : Seen → Machine
 machine_of s = machine s.history s.allowance
 
+-- what is audited stays so where only the allowance and the engine's calls change
+pub still_audited : (old new : Seen) → IsAudited old → (allowance : Option ℕ) → {calls : ℕ} → new ≡ record old { allowance = allowance; calls = calls } → IsAudited new
+still_audited old new a allowance {calls} e =
+    let same : IsAudited (record old { allowance = allowance; calls = calls }) = record { audit = a.audit; answers = a.answers } in
+    subst IsAudited (sym e) same
+
 answered_audited : (call : Call) (old new : Seen) → IsAudited old → Answers call old new → IsAudited new
 answered_audited (Strokes stroke None) old new a h = h.1
-answered_audited (Strokes stroke (Some fault)) old new a h =
-    let P : Seen → Type 0 = λ s. IsAudited s in
-    let same : IsAudited (record old { calls = new.calls }) = record { audit = a.audit; answers = a.answers } in
-    subst P (sym h.as_before) same
-answered_audited (Asks None) old new a h =
-    let P : Seen → Type 0 = λ s. IsAudited s in
-    let same : IsAudited (record old { calls = new.calls }) = record { audit = a.audit; answers = a.answers } in
-    subst P (sym h) same
+answered_audited (Strokes stroke (Some fault)) old new a h = still_audited old new a old.allowance h.as_before
+answered_audited (Asks None) old new a h = still_audited old new a old.allowance h
 answered_audited (Asks (Some verdict)) old new a h = h.1.0
-answered_audited (Allows allowance) old new a h =
-    let P : Seen → Type 0 = λ s. IsAudited s in
-    let same : IsAudited (record old { allowance = allowance }) = record { audit = a.audit; answers = a.answers } in
-    subst P (sym h) same
+answered_audited (Allows allowance) old new a h = still_audited old new a allowance h
 answered_audited (Proves None) old new a h = h.1
 answered_audited (Proves (Some found)) old new a h = h.1.1
 
@@ -47,9 +44,7 @@ answered_right (Proves None) old new h = tt
 answered_right (Proves (Some found)) old new h = h.0
 
 all_audited : (calls : List Call) (old new : Seen) → IsAudited old → Lead calls old new → IsAudited new
-all_audited [] old new a e =
-    let P : Seen → Type 0 = λ s. IsAudited s in
-    subst P (sym e) a
+all_audited [] old new a e = subst IsAudited (sym e) a
 all_audited (call ∷ calls) old new a l =
     all_audited calls l.0 new (answered_audited call old l.0 a l.1.0) l.1.1.1
 
@@ -70,8 +65,7 @@ none_falls (call ∷ calls) old new l =
 all_right : (calls : List Call) (old new : Seen) → Lead calls old new → AreRight (machine_of old) calls
 all_right [] old new e = tt
 all_right (call ∷ calls) old new l =
-    let P : Machine → Type 0 = λ m. AreRight m calls in
-    (answered_right call old l.0 l.1.0, subst P (answered_machine call old l.0 l.1.0) (all_right calls l.0 new l.1.1.1))
+    (answered_right call old l.0 l.1.0, subst (λ (m : Machine). AreRight m calls) (answered_machine call old l.0 l.1.0) (all_right calls l.0 new l.1.1.1))
 
 pub stay_audited : ListsStayAudited
 stay_audited = record { audited = all_audited; machine_is = all_machine; calls = none_falls; answers = all_right }

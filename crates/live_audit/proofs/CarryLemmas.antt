@@ -22,16 +22,12 @@ use Rattle.live_audit.proofs.VerdictLemmas.{answers_of}
 pub answers_there : SameCellsAreEqual → (d : Document) (clues sc : Clues) (facts sf : List (List ℕ)) (sg : List ℕ) (sp : List (List ℕ)) (kept : List KeptPart)
     → sc ≡ clues → sf ≡ facts → sg ≡ d.givens → sp ≡ d.picture → AreGivenCells (design_of d) d.givens → AreParts sf (parts_of kept) → AreTrue sc sg sp kept → AreAnswersOf (design_of d) clues facts kept
 answers_there same d clues sc facts sf sg sp kept ec ef eg ep g parts t =
-    let at_clues : AreTrue clues sg sp kept = subst (λ (x : Clues). AreTrue x sg sp kept) ec t in
-    let at_givens : AreTrue clues d.givens sp kept = subst (λ (x : List ℕ). AreTrue clues x sp kept) eg at_clues in
-    let here : AreTrue clues d.givens d.picture kept = subst (λ (x : List (List ℕ)). AreTrue clues d.givens x kept) ep at_givens in
-    answers_of same (design_of d) clues facts d.givens kept g (subst (λ (x : List (List ℕ)). AreParts x (parts_of kept)) ef parts) here
+    answers_of same (design_of d) clues facts d.givens kept g (rw ef at parts) (rw (ec, eg, ep) at t)
 
 -- the document that a history goes on to is the one that was prepared
 pub goes_to : (d : Document) (p : Design) (advance : Advance) (h now after : History) → design_of d ≡ p → p ≡ (advanced now advance).document → h ≡ now → after ≡ advanced h advance → design_of d ≡ after.document
 goes_to d p advance h now after e gives was made =
-    let Q : History → Type 0 = λ x. design_of d ≡ (advanced x advance).document in
-    subst Q (sym was) (e ∙ gives) ∙ sym (ap (λ (x : History). x.document) made)
+    subst (λ (x : History). design_of d ≡ (advanced x advance).document) (sym was) (e ∙ gives) ∙ sym (ap (λ (x : History). x.document) made)
 
 pub carries_on : (moves way : Moves) (d next : Document) (h after : History) (clues more : Clues) (book longer : Account) (kept carried : List KeptPart) (allowance : Option ℕ) (work : Work) (edit : Meter) (before calls : ℕ) (old : Seen)
     → design_of d ≡ h.document → design_of next ≡ after.document → seen h clues book kept allowance work before ≡ old

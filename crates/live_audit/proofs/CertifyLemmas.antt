@@ -5,7 +5,6 @@ use Rattle.picture.specs.CellSet.{HasCell}
 use Rattle.picture.specs.Content.{content_of}
 use Rattle.picture.specs.Document.{AreInside, Content, ordered_of}
 use Rattle.clues.specs.ClueBook.{clues_of}
-use Rattle.clues.specs.Solution.{IsOther}
 use Rattle.clues.specs.SolutionLaws.{other_fewer}
 use Rattle.cert_text.specs.Cert.{Certificate}
 use Rattle.certificate.specs.Making.{Makes}
@@ -15,25 +14,18 @@ use Rattle.live_audit.specs.Bench.{IsGiven}
 use Rattle.live_audit.specs.Certify.{Certifies, CertifiesOrdered, IsCertificateFor, ordered}
 use Rattle.live_audit.specs.Verdict.{IsOtherFor}
 
--- the givens of a document, told by its marks or by a set
-other_made : (d : Design) (givens : List ℕ) (other : List (List ℕ)) → ((row col : ℕ) → HasCell givens row col ↔ IsGiven d row col) → IsOther (clues_of d.rows) (HasCell givens) d.rows other → IsOtherFor d other
-other_made d givens other g o = other_fewer (clues_of d.rows) (HasCell givens) (IsGiven d) d.rows other (λ row col h. (g row col).1 h) o
-
-other_seen : (d : Design) (givens : List ℕ) (other : List (List ℕ)) → ((row col : ℕ) → HasCell givens row col ↔ IsGiven d row col) → IsOtherFor d other → IsOther (clues_of d.rows) (HasCell givens) d.rows other
-other_seen d givens other g o = other_fewer (clues_of d.rows) (IsGiven d) (HasCell givens) d.rows other (λ row col h. (g row col).0 h) o
-
 -- a certificate of a document, or another picture for it
 abbrev MadeFor : Design → Option Certificate → Type 0
 MadeFor d None = (other : List (List ℕ)) × IsOtherFor d other
 MadeFor d (Some cert) = IsCertificateFor d cert
 
 made_for : (d : Design) (givens : List ℕ) (made : Option Certificate) → ((row col : ℕ) → HasCell givens row col ↔ IsGiven d row col) → Makes d.rows givens made → MadeFor d made
-made_for d givens None g m = (m.0, other_made d givens m.0 g m.1)
+made_for d givens None g m = (m.0, other_fewer (clues_of d.rows) (HasCell givens) (IsGiven d) d.rows m.0 (λ row col h. (g row col).1 h) m.1)
 made_for d givens (Some cert) g m = record {
   is_cert = m.is_cert;
   accepted = m.accepted;
   proof = m.proof;
-  no_other = λ other o. m.no_other other (other_seen d givens other g o);
+  no_other = λ other o. m.no_other other (other_fewer (clues_of d.rows) (IsGiven d) (HasCell givens) d.rows other (λ row col h. (g row col).0 h) o);
   givens = record {
     in_order = m.names.ordered;
     named = λ row col. (λ h. (m.names.named row col).0 ((g row col).1 h), λ h. (g row col).0 ((m.names.named row col).1 h));
@@ -48,9 +40,7 @@ pub certified : {X : Type 0} → MarksAreGivens → (d o : Document) (result : R
 certified {X = X} marks d o result inside e m =
     let rows : o.picture ≡ (ordered (design_of d)).rows = ap (λ (c : Content). c.rows) e in
     let givens : o.givens ≡ d.givens = ap (λ (c : Content). c.givens) e in
-    let P : List (List ℕ) → Type 0 = λ r. IfOk result (Makes r o.givens) in
-    let Q : List ℕ → Type 0 = λ g. IfOk result (Makes (ordered (design_of d)).rows g) in
-    of result (subst Q givens (subst P rows m))
+    of result (subst (λ (g : List ℕ). IfOk result (Makes (ordered (design_of d)).rows g)) givens (subst (λ (r : List (List ℕ)). IfOk result (Makes r o.givens)) rows m))
   where
     of : (r : Result (Option Certificate) X) → IfOk r (Makes (ordered (design_of d)).rows d.givens) → IfOk r (CertifiesOrdered (design_of d))
     of (Ok None) h = made_for (ordered (design_of d)) d.givens None (marks d.picture d.givens inside) h

@@ -33,15 +33,13 @@ same_others law books d o palette coloured is ordered_is content shows =
     let b : there_of triples among 0 ≡ 0 = background_back triples cells palette.has_background in
     let pictures : o.picture ≡ next = ap (λ (c : Content). c.rows) content in
     let colours : o.palette.triples ≡ among = ap (λ (c : Content). c.colours.triples) content in
-    let P : List Rgb → Type 0 = λ ts. rows_shown ts o.picture ≡ rows_shown triples rows in
     let Q : List (List ℕ) → Type 0 = λ r. rows_shown among r ≡ rows_shown triples rows in
-    let shown : rows_shown among next ≡ rows_shown triples rows = subst Q pictures (subst P colours shows) in
+    let shown : rows_shown among next ≡ rows_shown triples rows = subst Q pictures (subst (λ (ts : List Rgb). rows_shown ts o.picture ≡ rows_shown triples rows) colours shows) in
     let comes = cells_back among triples rows t b palette.distinct coloured shown in
     let are : next ≡ moved (there_of among triples) rows = rows_moved among triples rows in
     let cell : (i j : ℕ) → cell_at next i j ≡ there_of among triples (cell_at rows i j) = λ i j.
     ap (λ (r : List (List ℕ)). cell_at r i j) are ∙ cell_moved (there_of among triples) t rows i j in
-    let R : List (List ℕ) → Type 0 = λ r. IsPicture r in
-    let next_is : IsPicture next = subst R pictures ordered_is in
+    let next_is : IsPicture next = subst (λ (r : List (List ℕ)). IsPicture r) pictures ordered_is in
     let small : (i j : ℕ) → there_of among triples (cell_at rows i j) < 16 = λ i j. subst (λ n. n < 16) (cell i j) (next_is.colours i j) in
     let goes_back : (i j : ℕ) → there_of triples among (cell_at next i j) ≡ cell_at rows i j = λ i j. ap (there_of triples among) (cell i j) ∙ comes i j in
     let comes_back : (i j : ℕ) → there_of among triples (there_of triples among (cell_at next i j)) ≡ cell_at next i j = λ i j. ap (there_of among triples) (goes_back i j) ∙ sym (cell i j) in

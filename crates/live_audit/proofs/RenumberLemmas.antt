@@ -1,6 +1,7 @@
 -- Other pictures of a picture whose colours are renumbered.
-use Rattle.std.proofs.Common.{◌≡◌, ℕ, zero, suc, ◌<◌, ◌≤◌, List, [], ◌∷◌, length, map, slice_index, refl, sym, ap, subst, ◌∙◌, arith, inl, inr}
-use Rattle.std.proofs.lemmas.List.{length-map}
+use Rattle.std.proofs.Common.{◌≡◌, ℕ, zero, suc, ◌<◌, ◌≤◌, List, [], ◌∷◌, length, map, slice_index, slice_index_or, refl, sym, ap, subst, ◌∙◌, arith, inl, inr}
+use Rattle.std.proofs.Math.ListN.{get_or-map}
+use Rattle.std.proofs.lemmas.List.{get_or_past, length-map}
 use Rattle.std.proofs.lemmas.Bool.{cases_lt}
 use Rattle.picture.specs.declared.line_id.Axis.{Axis}
 use Rattle.picture.specs.declared.line_id.Axis.TheVariants.{Across, Down}
@@ -23,14 +24,10 @@ abbrev pub moved : (ℕ → ℕ) → List (List ℕ) → List (List ℕ)
 moved there rows = map (map there) rows
 
 row_moved : (there : ℕ → ℕ) (rows : List (List ℕ)) (i : ℕ) → row_at (moved there rows) i ≡ map there (row_at rows i)
-row_moved there [] i = refl
-row_moved there (row ∷ rows) zero = refl
-row_moved there (row ∷ rows) (suc i) = row_moved there rows i
+row_moved there rows i = get_or-map (map there) rows i []
 
 place_moved : (there : ℕ → ℕ) → there 0 ≡ 0 → (row : List ℕ) (j : ℕ) → slice_index (map there row) j ≡ there (slice_index row j)
-place_moved there t [] j = sym t
-place_moved there t (x ∷ row) zero = refl
-place_moved there t (x ∷ row) (suc j) = place_moved there t row j
+place_moved there t row j = subst (λ (z : ℕ). slice_index_or (map there row) j z ≡ there (slice_index row j)) t (get_or-map there row j 0)
 
 pub cell_moved : (there : ℕ → ℕ) → there 0 ≡ 0 → (rows : List (List ℕ)) (i j : ℕ) → cell_at (moved there rows) i j ≡ there (cell_at rows i j)
 cell_moved there t rows i j = ap (λ (row : List ℕ). slice_index row j) (row_moved there rows i) ∙ place_moved there t (row_at rows i) j
@@ -89,11 +86,6 @@ line_each : (P : ℕ → Type 0) (rows : List (List ℕ)) (axis : Axis) (at : �
 line_each P rows Across at h = each_of P (row_at rows at) (h at)
 line_each P rows Down at h = column_of P rows at (λ i. h i at)
 
-no_row : (rows : List (List ℕ)) (i : ℕ) → length rows ≤ i → row_at rows i ≡ []
-no_row [] i n = refl
-no_row (row ∷ rows) zero n = absurd (omega (arith, n))
-no_row (row ∷ rows) (suc i) n = no_row rows i (omega (arith, n))
-
 -- what holds of the background and of each cell of a picture holds of each cell of one with its clues
 pub each_of_other : CluesAreOfLines → (P : ℕ → Type 0) → P 0 → (picture other : List (List ℕ)) → length other ≡ length picture → clues_of other ≡ clues_of picture
     → ((i j : ℕ) → P (cell_at picture i j)) → (i j : ℕ) → P (cell_at other i j)
@@ -105,7 +97,7 @@ each_of_other law P z picture other rows same h i j = elim (cases_lt i (length o
       let clue : clue_of (row_at picture i) ≡ clue_of (row_at other i) = sym here ∙ (sym (ap (λ c. clue_at c line) same) ∙ there) in
       let blocks : EachBlockIs P (clue_of (row_at other i)) = subst (EachBlockIs P) clue (blocks_are P (row_at picture i) (each_of P (row_at picture i) (h i))) in
       at_each P z (row_at other i) (cells_are P z (row_at other i) blocks) j
-  | inr n ↦ subst (λ (row : List ℕ). P (slice_index row j)) (sym (no_row other i n)) z
+  | inr n ↦ subst (λ (row : List ℕ). P (slice_index row j)) (sym (get_or_past other i [] n)) z
 ]
 
 -- ---- the clues of a renumbered picture

@@ -27,7 +27,8 @@ use Rattle.edits.specs.Laws.{MarksAreGivens}
 use Rattle.live_audit.specs.declared.verdict.Ruling.{Ruling}
 use Rattle.live_audit.specs.declared.verdict.Verdict.{Verdict}
 use Rattle.live_audit.specs.declared.work.Work.{Work}
-use Rattle.live_audit.specs.Bench.{AreAnswersOf, AreGivenCells, IsAuditOf, IsAudited, IsGiven, Seen, nothing_done, seen}
+use Rattle.kept_audit.specs.Audit.{IsAuditOf}
+use Rattle.live_audit.specs.Bench.{AreAnswersOf, AreGivenCells, IsAudited, IsGiven, Seen, nothing_done, seen}
 use Rattle.live_audit.specs.Verdict.{Decides, IsOtherFor, IsRuledBy, IsRulingOn, IsVerdictOn, judged_as}
 
 -- ---- the scene of a document
@@ -58,21 +59,18 @@ pub answers_of : SameCellsAreEqual → (d : Design) (clues : Clues) (facts : Lis
 answers_of same d clues facts givens kept g parts t = record {
   parts = parts;
   true_answers = λ others o.
-      let P : List ℕ → Type 0 = λ cells. AreTrue clues cells d.rows kept in
-      subst P (same_givens same d givens others g o) t;
+      subst (λ (cells : List ℕ). AreTrue clues cells d.rows kept) (same_givens same d givens others g o) t;
 }
 
 -- ---- other pictures
 
 pub other_for : (d : Design) (clues : Clues) (givens : List ℕ) (other : List (List ℕ)) → AreGivenCells d givens → clues ≡ clues_of d.rows → IsOther clues (HasCell givens) d.rows other → IsOtherFor d other
 other_for d clues givens other g e o =
-    let P : Clues → Type 0 = λ c. IsOther c (IsGiven d) d.rows other in
-    subst P e (other_fewer clues (HasCell givens) (IsGiven d) d.rows other (λ row col h. (g.are row col).1 h) o)
+    subst (λ (c : Clues). IsOther c (IsGiven d) d.rows other) e (other_fewer clues (HasCell givens) (IsGiven d) d.rows other (λ row col h. (g.are row col).1 h) o)
 
 pub other_was : (d : Design) (clues : Clues) (givens : List ℕ) (other : List (List ℕ)) → AreGivenCells d givens → clues ≡ clues_of d.rows → IsOtherFor d other → IsOther clues (HasCell givens) d.rows other
 other_was d clues givens other g e o =
-    let P : Clues → Type 0 = λ c. IsOther c (HasCell givens) d.rows other in
-    subst P (sym e) (other_fewer (clues_of d.rows) (IsGiven d) (HasCell givens) d.rows other (λ row col h. (g.are row col).0 h) o)
+    subst (λ (c : Clues). IsOther c (HasCell givens) d.rows other) (sym e) (other_fewer (clues_of d.rows) (IsGiven d) (HasCell givens) d.rows other (λ row col h. (g.are row col).0 h) o)
 
 -- ---- rulings
 
@@ -92,8 +90,7 @@ rules law d clues facts givens allowance old new searched splits judged.Unique j
 rules law d clues facts givens allowance old new searched splits (judged.Other other) j r g e t a is by =
     subst (IsRulingOn d allowance new) (sym by) (other.now, (a.1, other_for d clues givens other.now g e t))
 rules law d clues facts givens allowance old new searched splits judged.Undecided j r g e t a is by =
-    let P : Judgement → Type 0 = λ v. Judges clues facts d.rows allowance old new v searched splits in
-    let most = law clues facts d.rows allowance old new searched splits (subst P a is) in
+    let most = law clues facts d.rows allowance old new searched splits (subst (λ (v : Judgement). Judges clues facts d.rows allowance old new v searched splits) a is) in
     subst (IsRulingOn d allowance new) (sym by) (allowed allowance most.0 most.1)
 
 -- ---- a judgement of a scene that is the document's
@@ -116,10 +113,9 @@ pub record Comes (d : Design) (clues : Clues) (facts : List (List ℕ)) (allowan
 come : SameCellsAreEqual → AllowancesBreakOff → (d : Design) (clues : Clues) (facts : List (List ℕ)) (givens : List ℕ) (allowance : Option ℕ) (old new : List KeptPart) (answer : Judged) (r : Ruling) (sb sa pb pa : ℕ) (mb ma : Meter) (cb ca : ℕ)
     → AreGivenCells d givens → clues ≡ clues_of d.rows → IsRuledBy answer allowance r → Heard clues facts givens d.rows allowance old new answer sb sa pb pa mb ma cb ca → Comes d clues facts allowance old new r sb sa pb pa mb ma cb ca
 come same law d clues facts givens allowance old new answer r sb sa pb pa mb ma cb ca g e by h =
-    let P : Judgement → Type 0 = λ j. Done sb sa pb pa mb ma cb ca (Judges clues facts d.rows allowance old new j) in
     record {
       answers = answers_of same d clues facts givens new g h.parts h.answers;
-      done = subst P (ruled_as answer allowance r new h.j by h.said) h.done;
+      done = subst (λ (j : Judgement). Done sb sa pb pa mb ma cb ca (Judges clues facts d.rows allowance old new j)) (ruled_as answer allowance r new h.j by h.said) h.done;
       ruling = rules law d clues facts givens allowance old new h.done.searched h.done.splits answer h.j r g e h.told h.said h.done.is by;
     }
 
@@ -129,13 +125,9 @@ pub heard : {X : Type 0} → SameCellsAreEqual → AllowancesBreakOff → (d : D
     → MatchResult result (λ judged. (j : Judgement) × (judging.AnswersAs new judged j × Done sb sa pb pa mb ma cb ca (Judges sc sf sp allowance old new j))) (λ _. new ≡ old)
     → Comes (design_of d) clues facts allowance old new r sb sa pb pa mb ma cb ca
 heard {X = X} same law d clues sc facts sf sg sp allowance old new result answer r sb sa pb pa mb ma cb ca ec ef eg ep g e by is told parts answers h =
-    let M : Result Judged X → Type 0 = λ x. MatchResult x (λ judged. (j : Judgement) × (judging.AnswersAs new judged j × Done sb sa pb pa mb ma cb ca (Judges sc sf sp allowance old new j))) (λ _. new ≡ old) in
-    let k = subst M is h in
+    let k = subst (λ (x : Result Judged X). MatchResult x (λ judged. (j : Judgement) × (judging.AnswersAs new judged j × Done sb sa pb pa mb ma cb ca (Judges sc sf sp allowance old new j))) (λ _. new ≡ old)) is h in
     let there : Heard sc sf sg sp allowance old new answer sb sa pb pa mb ma cb ca = record { parts = parts; answers = answers; j = k.0; said = k.1.0; done = k.1.1; told = told } in
-    let at_clues : Heard clues sf sg sp allowance old new answer sb sa pb pa mb ma cb ca = subst (λ x. Heard x sf sg sp allowance old new answer sb sa pb pa mb ma cb ca) ec there in
-    let at_facts : Heard clues facts sg sp allowance old new answer sb sa pb pa mb ma cb ca = subst (λ x. Heard clues x sg sp allowance old new answer sb sa pb pa mb ma cb ca) ef at_clues in
-    let at_givens : Heard clues facts d.givens sp allowance old new answer sb sa pb pa mb ma cb ca = subst (λ x. Heard clues facts x sp allowance old new answer sb sa pb pa mb ma cb ca) eg at_facts in
-    let here : Heard clues facts d.givens d.picture allowance old new answer sb sa pb pa mb ma cb ca = subst (λ x. Heard clues facts d.givens x allowance old new answer sb sa pb pa mb ma cb ca) ep at_givens in
+    let here : Heard clues facts d.givens d.picture allowance old new answer sb sa pb pa mb ma cb ca = rw (ec, ef, eg, ep) at there in
     come same law (design_of d) clues facts d.givens allowance old new answer r sb sa pb pa mb ma cb ca g e by here
 
 -- ---- the same of a bench

@@ -2,13 +2,11 @@
 use Rattle.std.specs.Prelude.{◌≡◌, ℕ, ◌+◌, ◌<◌, ◌≤◌, ◌↔◌, List, [], length, Option, None}
 use Rattle.picture.specs.declared.picture.TheConstants.{MAX_SIDE}
 use Rattle.picture.specs.CellSet.{HasCell, IsCellSet}
-use Rattle.picture.specs.Rows.{cell_at, width_of}
-use Rattle.clues.specs.ClueBook.{Clues, clues_of}
+use Rattle.picture.specs.Rows.{cell_at}
+use Rattle.clues.specs.ClueBook.{Clues}
 use Rattle.line_settle.specs.declared.meter.Meter.{Meter}
-use Rattle.line_settle.specs.FactSets.{IsLeast, Leaves, SameShape}
-use Rattle.justify.specs.Book.{Account, AreTrimmed, IsAccount, IsDerivation}
-use Rattle.fixpoint.specs.Closing.{EachFits}
-use Rattle.kept_audit.specs.Audit.{IsAnew, IsBaseOf}
+use Rattle.justify.specs.Book.{Account}
+use Rattle.kept_audit.specs.Audit.{IsAnew, IsAuditOf}
 use Rattle.second_search.specs.declared.keeper.KeptPart.{KeptPart}
 use Rattle.second_search.specs.Judging.{AreTrue, Starts, parts_of}
 use Rattle.second_search.specs.Parts.{AreParts}
@@ -40,24 +38,6 @@ nothing_done = record { evaluations = 0; trials = 0 }
 -- the cell is a given
 abbrev pub IsGiven : Design → ℕ → ℕ → Type 0
 IsGiven d row col = cell_at d.marks row col ≡ 1
-
--- What the givens alone exclude: in a given every colour but the picture's, and elsewhere none of the sixteen.
-pub record AreGivens (d : Design) (base : List (List ℕ)) : Type 0 where
-  pub same_shape : SameShape d.rows base
-  pub left : (row col k : ℕ) → row < length d.rows → col < width_of d.rows
-      → Leaves base row col k ↔ ((k < 16) × (IsGiven d row col → k ≡ cell_at d.rows row col))
-
--- The clues are those of the document's picture. The base of the book is what the givens exclude, and its facts, the map, are
--- the least ones closed under line deductions that hold the base; some list fits each line under them. The book is a derivation
--- from the clues: each step's line forces what the step draws from the step's premises, of which none can be left out.
-pub record IsAuditOf (d : Design) (clues : Clues) (book : Account) : Type 0 where
-  pub clues_are : clues ≡ clues_of d.rows
-  pub givens : AreGivens d book.base
-  pub map : IsLeast clues book.base book.facts
-  pub fits : EachFits clues book.facts
-  pub account : IsAccount book
-  pub derivation : IsDerivation clues book
-  pub trimmed : AreTrimmed clues book
 
 -- a set of cells that are the givens of a document
 pub record AreGivenCells (d : Design) (givens : List ℕ) : Type 0 where
@@ -95,8 +75,3 @@ pub record Begins (d : Design) (depth calls : ℕ) (s : Seen) : Type 0 where
   pub kept : Starts s.book.facts s.kept
   pub allowance : s.allowance ≡ None
   pub work : s.work ≡ record { edit = s.work.edit; search = nothing_done; parts = 0; splits = 0 }
-
--- facts that the givens of a document exclude alone, and a base of its picture
-pub record IsBaseFor (d : Design) (base : List (List ℕ)) : Type 0 where
-  pub givens : AreGivens d base
-  pub leaves : IsBaseOf d.rows base

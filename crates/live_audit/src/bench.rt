@@ -14,7 +14,7 @@ ghost use Rattle.live_audit.specs.Stroke.{Edits, Redoes, Undoes};
 ghost use Rattle.live_audit.specs.Verdict.{Tells, Decides, IsRulingOn, IsVerdictOn, AnswersAs, judged_as};
 
 use crate::certifying::certify_ordered;
-use crate::making::{Turn, answers_first, answers_next, audit_first, audit_next, rule};
+use crate::making::{answers_first, answers_next, audit_first, audit_next, rule};
 use crate::verdict::{Ruling, Verdict};
 use crate::why::Why;
 use crate::work::{NOTHING_DONE, Work};
@@ -22,7 +22,7 @@ use certificate::Cert;
 use clues::ClueBook;
 use edits::{Edit, EditFault, MAX_DEPTH, Prepared, Studio};
 use justify::Book;
-use kept_audit::Audit;
+use kept_audit::{Audit, Revision};
 use line_settle::{Facts, LineEngine};
 use picture::{Document, MAX_SIDE};
 use propagate::Agenda;
@@ -154,7 +154,7 @@ impl<E: LineEngine + Drop, A: Agenda + Drop> Bench<E, A> {
         ensures audited { IsAudited self.new }
     {
         let mut edit = NOTHING_DONE;
-        let turn = Turn {
+        let turn = Revision {
             audit: &self.audit,
             old: self.studio.document(),
             new: prepared.document(),
@@ -265,11 +265,9 @@ impl<E: LineEngine + Drop, A: Agenda + Drop> Bench<E, A> {
         ensures calls { self.old.calls ≤ self.new.calls }
         ensures audited { IsAudited self.new }
     {
-        let ruling = self.learn()?;
-        match ruling {
+        match self.learn()? {
             Ruling::Ambiguous => Ok(None),
-            Ruling::Unique => self.prove(),
-            Ruling::Undecided { .. } => self.prove(),
+            _ => self.prove(),
         }
     }
 

@@ -5,30 +5,19 @@ ghost use Rattle.second_search.specs.Carrying.{Carries};
 ghost use Rattle.second_search.specs.Judging.{Done, Judges, Starts};
 ghost use Rattle.second_search.specs.Parts.{IsScene};
 ghost use Rattle.clues.specs.Change.{IsChangeOf};
-ghost use Rattle.kept_audit.specs.Audit.{GoesOn, IsAnew};
+ghost use Rattle.kept_audit.specs.Audit.{GoesOn, IsAnew, IsAuditOf};
 ghost use Rattle.edits.specs.Design.{design_of};
-ghost use Rattle.live_audit.specs.Bench.{AreAnswersOf, AreGivenCells, IsAuditOf, IsBaseFor, nothing_done};
+ghost use Rattle.live_audit.specs.Bench.{AreAnswersOf, AreGivenCells, nothing_done};
 ghost use Rattle.live_audit.specs.Verdict.{IsRulingOn, judged_as};
 
 use crate::verdict::{Ruled, ruling_of};
 use crate::work::NOTHING_DONE;
-use clues::Change;
 use kept_audit::{Audit, Revision, audit_again, audit_anew};
-use line_settle::{Facts, LineEngine, Meter};
+use line_settle::{LineEngine, Meter};
 use picture::{Document, MAX_SIDE};
 use propagate::Agenda;
 use second_search::{Keeper, Scene};
 use std::alloc::{AllocError, Global};
-
-// What the givens of a document exclude.
-#[inline(never)]
-fn base_of(alloc: Global, document: &Document) -> Result<Facts, AllocError>
-    ensures { IfOk result (IsBaseFor (design_of document.now)) }
-{
-    let _ = document.picture.height();
-    let base = Facts::base(alloc, document)?;
-    Ok(base)
-}
 
 /// Audits a document anew.
 pub(crate) fn audit_first<E: LineEngine, A: Agenda>(
@@ -45,23 +34,12 @@ pub(crate) fn audit_first<E: LineEngine, A: Agenda>(
         (E.calls engine.old) (E.calls engine.new)) }
     ensures same_longest { E.longest engine.new ≡ E.longest engine.old }
 {
-    let base = base_of(alloc, document)?;
     let _ = document.picture.height();
-    let Ok(audit) = audit_anew(alloc, engine, agenda, &document.picture, base, meter) else {
+    let Ok(audit) = audit_anew(alloc, engine, agenda, document, meter) else {
         return Err(AllocError);
     };
     let _ = audit.book.facts();
     Ok(audit)
-}
-
-/// A step of the history: the document before it with its audit, the document after it, and the change of its picture. All four
-/// are only lent.
-#[derive(Clone, Copy, Drop)]
-pub(crate) struct Turn<'a> {
-    pub audit: &'a Audit,
-    pub old: &'a Document,
-    pub new: &'a Document,
-    pub change: &'a Change,
 }
 
 /// Audits the document behind a step from the audit of the one before it. That audit stays.
@@ -69,7 +47,7 @@ pub(crate) fn audit_next<E: LineEngine, A: Agenda>(
     alloc: Global,
     engine: &mut E,
     agenda: &mut A,
-    turn: &Turn,
+    turn: &Revision,
     meter: &mut Meter,
 ) -> Result<Audit, AllocError>
     requires audited { IsAuditOf (design_of turn.now.old.now) turn.now.audit.now.clues
@@ -85,15 +63,8 @@ pub(crate) fn audit_next<E: LineEngine, A: Agenda>(
     ensures calls { E.calls engine.old ≤ E.calls engine.new }
     ensures same_longest { E.longest engine.new ≡ E.longest engine.old }
 {
-    let base = base_of(alloc, turn.new)?;
     let _ = (turn.new.picture.height(), engine.calls());
-    let revision = Revision {
-        audit: turn.audit,
-        old: &turn.old.picture,
-        new: &turn.new.picture,
-        change: turn.change,
-    };
-    let Ok(audit) = audit_again(alloc, engine, agenda, &revision, base, meter) else {
+    let Ok(audit) = audit_again(alloc, engine, agenda, turn, meter) else {
         return Err(AllocError);
     };
     let _ = audit.book.facts();

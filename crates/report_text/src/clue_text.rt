@@ -1,6 +1,6 @@
 //! Clues as text, a line for each row and column.
 
-ghost use Rattle.std.specs.Prelude.{◌≡◌, ◌≤◌, ◌+◌, ◌++◌, decimal, length, IfOk, OnOk};
+ghost use Rattle.std.specs.Prelude.{◌≡◌, ◌+◌, ◌++◌, decimal, length, IfOk, OnOk};
 ghost use Rattle.std.specs.List.{flat_map};
 ghost use Rattle.clues.specs.Clue.{IsBlock, IsClue};
 ghost use Rattle.clues.specs.ClueBook.{clues_along};
@@ -9,7 +9,7 @@ ghost use Rattle.report_text.specs.ClueText.{behind, block_text, clue_text, lett
 
 use clues::{Block, ClueBook};
 use itoa::Buffer;
-use picture::{Axis, LineId, MAX_SIDE};
+use picture::{Axis, LineId};
 use std::alloc::{AllocError, Global};
 
 /// The clues of the rows and then of the columns, a line each, as the command `clues` shows them.
@@ -34,7 +34,7 @@ fn push_lines(text: &mut Vec<u8>, book: &ClueBook, axis: Axis) -> Result<(), All
     ensures { OnOk result (text.new.items
         ≡ text.old.items ++ lines_text (letter_of axis) 1 (clues_along axis book.now)) }
 {
-    for at in 0..line_count(book, axis) {
+    for at in 0..book.line_count(axis) {
         let line = LineId { axis, at };
         push_line(text, line, book.clue(line).blocks())?;
     }
@@ -57,17 +57,6 @@ fn letter_of(axis: Axis) -> u8
     match axis {
         Axis::Across => b'r',
         Axis::Down => b'c',
-    }
-}
-
-// How many lines the book has along an axis.
-fn line_count(book: &ClueBook, axis: Axis) -> u8
-    ensures count { result ≡ length (clues_along axis book.now) }
-    ensures fits { result ≤ MAX_SIDE }
-{
-    match axis {
-        Axis::Across => book.height(),
-        Axis::Down => book.width(),
     }
 }
 

@@ -31,12 +31,6 @@ fn push_premises(text: &mut Vec<u8>, premises: &[Premise]) -> Result<(), AllocEr
         return Ok(());
     }
     text.extend_from_slice(b" given")?;
-    push_each(text, premises)
-}
-
-fn push_each(text: &mut Vec<u8>, premises: &[Premise]) -> Result<(), AllocError>
-    ensures { OnOk result (text.new.items ≡ text.old.items ++ flat_map premise_text premises.now) }
-{
     for premise in premises {
         push_premise(text, *premise)?;
     }

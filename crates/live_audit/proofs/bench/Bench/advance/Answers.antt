@@ -2,7 +2,8 @@ use Rattle.std.proofs.Common.{ap, subst, sym, ◌≤◌}
 use Rattle.picture.specs.declared.picture.TheConstants.{MAX_SIDE}
 use Rattle.clues.specs.Change.{Changes}
 use Rattle.edits.specs.Design.{Design}
-use Rattle.live_audit.specs.Bench.{AreAnswersOf, IsAuditOf, Seen}
+use Rattle.kept_audit.specs.Audit.{IsAuditOf}
+use Rattle.live_audit.specs.Bench.{AreAnswersOf, Seen}
 use Rattle.live_audit.proofs.CarryLemmas.{carries_on, goes_to}
 use Rattle.live_audit.proofs.DepthLemmas.{fits}
 use Rattle.live_audit.proofs.bench.Bench.advance.Goals as goal
