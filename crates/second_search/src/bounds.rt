@@ -2,7 +2,7 @@
 
 /// How often a part is split in the fixed order at first, how often a search in a window splits, and how many lines a tree of the
 /// whole picture may evaluate at first; that of a part may evaluate sixteen times as many. They say which way answers, and never
-/// what is true.
+/// what is true; clauses speak of the first alone.
 #[derive(Clone, Copy)]
 pub struct Bounds {
     pub fixed_splits: u32,

@@ -42,7 +42,7 @@ pub(crate) struct Window {
 
 /// Looks for another picture that differs in one window of a part alone, by windows of five sizes and so many splits in each at
 /// most, one part after the other. The parts are those of the scene's facts when they are closed. There may be other pictures
-/// where the answer is None. No line is longer than the engine's `longest`.
+/// where the answer is None. No line is longer than the engine's `longest`. No clause bounds the splits in a window.
 pub fn find_near_other<E: LineEngine>(
     alloc: Global,
     engine: &mut E,
