@@ -30,7 +30,6 @@ at_once picture facts cell k l =
     let p = cell_at picture row col in
     let inside = left_inside (once picture facts cell) row col k l in
     let s = shape_with_cell facts row col (2 ^ p) in
-    let h = s.rows in
     let w = s.each row in
     (power_has p k).0 (rw (at_with_cell facts row col (2 ^ p) (omega arith) (omega arith)) at l)
 

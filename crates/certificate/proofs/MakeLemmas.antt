@@ -93,7 +93,6 @@ few_lines Down picture is = is.columns_fit
 
 cell_inside : (picture facts : List (List ℕ)) (cell : CellNumber) → SameShape picture facts → HasCellNumber facts cell → HasCellNumber picture cell
 cell_inside picture facts cell s h =
-    let rows = s.rows in
     let columns = s.each 0 in
     ((let a : 0 < cell.row = h.0 in a), (let a : cell.row ≤ length picture = omega arith in a), (let a : 0 < cell.col = h.2 in a), (let a : cell.col ≤ width_of picture = omega arith in a))
 
@@ -158,10 +157,7 @@ pub can_close : CluesAreOfLines → (picture start : List (List ℕ)) (clues : C
 can_close law picture start clues longest can s =
     let rows : length clues.rows ≡ length picture = ap (λ (c : Clues). length c.rows) can.clues_are ∙ law.sizes picture Across in
     let columns : length clues.columns ≡ width_of picture = ap (λ (c : Clues). length c.columns) can.clues_are ∙ law.sizes picture Down in
-    let high = s.rows in
     let each = s.each 0 in
-    let w = can.wide in
-    let t = can.tall in
     record { rows = omega arith; columns = omega arith; wide = omega arith; tall = omega arith }
 
 pub ruleset writing_trees = (whole_tree, other_tree, can_close)

@@ -56,9 +56,7 @@ split_fills : (picture facts other : List (List ℕ)) (cell : CellNumber) → Sa
 split_fills picture facts other cell shape has fills =
     let row = cell.row - 1 in
     let col = cell.col - 1 in
-    let rows = shape.rows in
     let columns = shape.each 0 in
-    let high = fills.same_shape.rows in
     let wide = fills.same_shape.each row in
     let r = fills.is_picture.rectangular row (omega arith) in
     let inside : col < length (row_at other row) = omega arith in
@@ -107,7 +105,6 @@ base_fills picture other cells is other_is shape clues has keeps = record {
   has_clues = clues;
   leaves = λ row col l.
       let h = row_is_there other row col l in
-      let w = shape.rows in
       let e = shape.each row in
       let r = is.rectangular row (omega arith) in
       open_stays picture (blank_for picture) cells has row col (cell_at other row col) (keeps row col) (all_left (length picture) (width_of picture) row col (cell_at other row col) (omega arith) (omega arith) (other_is.colours row col));

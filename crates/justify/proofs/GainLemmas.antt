@@ -80,30 +80,3 @@ module _ (line : LineId) (premises : List Premise) (n : ℕ) (old now after : Li
       ]
     ];
   }
-
-pub gaining_all : (step : Step) (n : ℕ) (old new : List (List ℕ)) → length step.drawn ≡ n → Gaining step.line step.drawn n old new → GainDrawn step old new
-gaining_all step n old new len g = record {
-  same_shape = g.same_shape;
-  leaves = λ row col k. (
-    (λ s.
-        let o = (g.leaves row col k).0 s in (
-          o.0,
-          λ d. o.1 (record {
-            which = d.says.which;
-            below = (let w = d.says.within in omega arith);
-            in_row = d.in_row ∙ ap (λ i. row_on step.line.axis step.line.at i) (sym d.says.here);
-            in_column = d.in_column ∙ ap (λ i. col_on step.line.axis step.line.at i) (sym d.says.here);
-            colour = d.says.colour;
-          }),
-        )),
-    (λ p. (g.leaves row col k).1 (
-      p.0,
-      λ d. p.1 (record {
-        place = (premise_at step.drawn d.which).at;
-        in_row = d.in_row;
-        in_column = d.in_column;
-        says = record { which = d.which; within = (let b = d.below in omega arith); here = refl; colour = d.colour };
-      }),
-    )),
-  );
-}

@@ -14,16 +14,6 @@ use Rattle.justify.specs.Gathering.{Gathered, AreColoured}
 use Rattle.justify.specs.Premises.{premise, premise_at, Gathers}
 use Rattle.picture.specs.BitLaws.{no_bit}
 
-pub gathered_none : (masks : List ℕ) (found : List Premise) → Gathered masks 0 found 0
-gathered_none masks found = record {
-  within = omega arith;
-  before = λ m l. absurd (omega arith);
-  colours = λ m l. absurd (omega arith);
-  some = λ m l. absurd (omega arith);
-  rising = λ m p a b. absurd (omega arith);
-  each = λ i l s. absurd (omega arith);
-}
-
 module _ (masks : List ℕ) (n : ℕ) (found : List Premise) (count : ℕ) (new : Premise) (g : Gathered masks n found count) where
   kept : (m : ℕ) → m < count → premise_at (set found count new) m ≡ premise_at found m
   kept m l = get_or-set_other found count m new (premise 0 0) (omega arith)

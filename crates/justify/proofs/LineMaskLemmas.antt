@@ -91,9 +91,6 @@ pub record Rest (premises : List Premise) (n : ℕ) (left : List ℕ) : Type 0 w
   pub done : (m : ℕ) → m < n → get_or left (premise_at premises m).at 0 ≡ 65535 - (premise_at premises m).colours
   pub others : (i : ℕ) → i < length left → ((m : ℕ) → m < n → (premise_at premises m).at ≡ i → ⊥) → get_or left i 0 ≡ 65535
 
-pub rest_none : (premises : List Premise) (left : List ℕ) → ((i : ℕ) → i < length left → get_or left i 0 ≡ 65535) → Rest premises 0 left
-rest_none premises left full = record { done = λ m l. absurd (omega arith); others = λ i l n. full i l }
-
 pub rest_more : (premises : List Premise) (n : ℕ) (left : List ℕ) → ArePremises premises → n < length premises → (premise_at premises n).at < length left → Rest premises n left → Rest premises (n + 1) (set left (premise_at premises n).at (65535 - (premise_at premises n).colours))
 rest_more premises n left are within inside r =
     let at = (premise_at premises n).at in

@@ -131,6 +131,3 @@ module _ (clues : Clues) (book : Account) (row col k n place : ℕ) (step : Step
   argues_by premises leaves support =
       let P : Step → Type 0 = λ s. ((i : ℕ) → row ≡ row_on s.line.axis s.line.at i → col ≡ col_on s.line.axis s.line.at i → i ≡ place) → Supports (clue_at clues s.line) (length (line_of book.base s.line)) s.premises place k premises → Argues clues book row col k (record { step = n; line = s.line; premises = premises }) in
       subst P (sym same) (λ one_at s. argues clues book row col k n place is within d one_at premises leaves s) one support
-
-pub left_if : (book : Account) (row col k : ℕ) → IsAccount book → Leaves book.base row col k → (IsDrawnBefore book.steps (length book.steps) row col k → ⊥) → Leaves book.facts row col k
-left_if book row col k is leaves none = (is.behind.leaves row col k).1 (leaves, none)

@@ -39,9 +39,6 @@ long_along : (axis : Axis) (at : ℕ) (rows : List (List ℕ)) (longest : ℕ) �
 long_along Across at rows longest is h wide tall = let r = is.rectangular at h in omega arith
 long_along Down at rows longest is h wide tall = let m = length-map rows (λ (row : List ℕ). get_or row at 0) in omega arith
 
-pub long_enough : (rows : List (List ℕ)) (line : LineId) (longest : ℕ) → IsFacts rows → HasLine rows line → width_of rows ≤ longest → length rows ≤ longest → length (line_of rows line) ≤ longest
-long_enough rows line longest is h wide tall = long_along line.axis line.at rows longest is h wide tall
-
 clue_along : (axis : Axis) (at : ℕ) (rows : List (List ℕ)) (clues : Clues) → length rows ≡ length clues.rows → width_of rows ≡ length clues.columns → at < lines_along axis rows → at < length (clues_along axis clues)
 clue_along Across at rows clues r c h = omega arith
 clue_along Down at rows clues r c h = omega arith

@@ -54,8 +54,6 @@ book_closable clues longest picture book is d shape wide tall =
     let columns = same_along Down book.base book.facts facts in
     let high = same_along Across picture book.base shape in
     let broad = same_along Down picture book.base shape in
-    let a = d.rows in
-    let b = d.columns in
     record { rows = omega arith; columns = omega arith; wide = omega arith; tall = omega arith }
 
 module _ (change : Changes) (old new : List (List ℕ)) (is : IsChangeOf change old new) where

@@ -205,9 +205,6 @@ gap_passes pattern left q background from later i k g is before back h =
 kept : (h r s b g : Bool) → g ≡ (s || b) → (h && g) ≡ (r && g) → (h && b) ≡ (r && b)
 kept h r s b g i j = grind (arith, nat_tests)
 
-spread_out : (r s b x z : Bool) → (r && ((s && x) || (b && z))) ≡ (((r && s) && x) || ((r && b) && z))
-spread_out r s b x z = grind (arith, nat_tests)
-
 wait_seen : (r h s b x z g w : Bool) → w ≡ true → g ≡ (s || (w && b)) → (h && g) ≡ (r && g) → (r && ((s && x) || ((w && b) && z))) ≡ (((r && s) && x) || ((h && b) && z))
 wait_seen r h s b x z g w i j k = grind (arith, nat_tests)
 

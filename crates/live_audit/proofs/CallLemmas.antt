@@ -58,7 +58,6 @@ none_falls [] old new e =
     let c : new.calls ≡ old.calls = ap (λ (s : Seen). s.calls) e in
     omega arith
 none_falls (call ∷ calls) old new l =
-    let first = l.1.1.0 in
     let rest = none_falls calls l.0 new l.1.1.1 in
     omega arith
 

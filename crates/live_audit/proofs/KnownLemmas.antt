@@ -50,7 +50,6 @@ at_once d h clues book kept next allowance work s r sb sa pb pa mb ma cb ca smal
     subst (λ (x : Seen). RulesAtOnce x new r) v (λ i f.
     let k = kept_so clues book.facts d.picture None kept next r done.searched done.splits i f done.is in
     let none = done.none k.none in
-    let calls = done.counts.calls in
     let same : ca ≡ cb = omega arith in
     (k.rules, ap (λ (x : List KeptPart). seen h clues book x allowance work ca) k.same ∙ ap (seen h clues book kept allowance work) same))
 
@@ -88,12 +87,6 @@ all_passed clues facts picture allowance kept (suc count) m n none h =
     let rest = h.1.1.1.1 in
     let before = all_passed clues facts picture allowance kept count p q (λ i l. none i (omega arith)) rest.0 in
     let here = passed_over clues facts picture allowance kept count ending.Nothing t u (none count (omega arith)) rest.1.0 in
-    let b = before.0 in
-    let c = before.1 in
-    let d = here.1.0 in
-    let e = here.1.1 in
-    let x = rest.1.1.0 in
-    let y = rest.1.1.1 in
     (omega arith, omega arith)
 
 -- nothing is searched, and the judgement is decided
@@ -149,12 +142,7 @@ certified law old between new verdict h t =
     let known = are_known law old.clues old.book.facts old.history.document.rows old.kept between.kept h.0 h.1.0 h.1.1.0 h.1.1.1 in
     let none = searches_none between.clues between.book.facts between.history.document.rows between.allowance between.kept new.kept j done.searched done.splits known done.is in
     let unsearched = none.searched in
-    let unsplit = none.splits in
     let unused = done.none unsearched in
-    let evaluations = done.counts.evaluations in
-    let trials = done.counts.trials in
-    let searched_is = done.searched_is in
-    let splits_is = done.splits_is in
     let no_evaluation : new.work.search.evaluations ≡ 0 = omega arith in
     let no_trial : new.work.search.trials ≡ 0 = omega arith in
     let no_part : new.work.parts ≡ 0 = omega arith in

@@ -135,15 +135,10 @@ heard {X = X} same law d clues sc facts sf sg sp allowance old new result answer
 -- what is done is counted alike in the meter and in the engine's calls, and each search evaluates
 each_called : (parts splits : ℕ) (search : Meter) (before after : ℕ) (Is : ℕ → ℕ → Type 0) → Done 0 parts 0 splits nothing_done search before after Is → after ≡ counted before search.evaluations
 each_called parts splits search before after Is d =
-    let m = d.counts.evaluations in
-    let c = d.counts.calls in
     omega arith
 
 each_evaluated : (parts splits : ℕ) (search : Meter) (before after : ℕ) (Is : ℕ → ℕ → Type 0) → Done 0 parts 0 splits nothing_done search before after Is → parts ≤ search.evaluations
 each_evaluated parts splits search before after Is d =
-    let m = d.counts.evaluations in
-    let s = d.searched_is in
-    let l = d.at_least in
     omega arith
 
 -- what was judged of the present document is decided of the bench

@@ -108,13 +108,9 @@ module _ (clues : Clues) (longest : ℕ) (dirty : Lines) (start old new : Accoun
   works_on : BookWorking dirty (b.added ++ turn.added) after (b.evaluations + 1)
   works_on =
       let w = b.working in
-      let more = w.at_most in
-      let less = w.at_least in
       let steps = w.steps in
       let taken = take_counts agenda rest line h t in
       let put = put_all_counts rest after changed puts in
-      let few = turn.few in
-      let one = turn.one in
       let drawn = drawn_joined b.added turn.added in
       let len = length-append b.added turn.added in
       record { at_most = omega (arith, put.0, put.1); at_least = omega (arith, put.0, put.1); steps = omega arith }

@@ -46,15 +46,6 @@ others_shown first picture row col colour h r c n = off_with_cell picture row co
 
 -- ---- one more row shown
 
-pub blank_shape : (facts : List (List ℕ)) (height width : ℕ) → IsFacts facts → height ≡ length facts → width ≡ width_of facts → SameShape (replicate height (replicate width 0)) facts
-blank_shape facts height width is h w = record {
-  rows = length-replicate height (replicate {A = ℕ} width 0) ∙ h;
-  each = λ i. elim (cases_lt i height) [
-    | inl l ↦ ap length (get_or-replicate height i (replicate {A = ℕ} width 0) [] l) ∙ (length-replicate {A = ℕ} width 0 ∙ (w ∙ sym (is.rectangular i (omega arith))))
-    | inr p ↦ ap length (get_or_past (replicate height (replicate {A = ℕ} width 0)) i [] (omega (arith, length-replicate height (replicate {A = ℕ} width 0)))) ∙ ap length (sym (get_or_past facts i [] (omega arith)))
-  ];
-}
-
 -- ---- the picture shown
 
 -- what fills settled facts is the picture that they show

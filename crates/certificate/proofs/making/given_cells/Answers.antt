@@ -4,13 +4,10 @@ use Rattle.certificate.proofs.making.given_cells.Goals as goal
 
 pub loop-row-preserved : goal.loop-row-preserved
 loop-row-preserved c =
-    let e = c.width.ensures.value in
-    let few = c.width.ensures.picture.columns_fit in
     row_named c.args.picture.now c.args.givens.now c.loop-row.row c.width.result c.put_row.new.cells.items c.requires c.width.ensures.value (omega arith) c.in_ok-put_row.ensures.named
 
 pub returns : goal.returns
 returns c =
-    let e = c.height-row-end.ensures.value in
     record {
       named = all_named c.args.picture.now c.args.givens.now c.loop-row.row c.loop-row.cells.items c.requires (omega arith) c.loop-row.invariant;
     }

@@ -10,14 +10,12 @@ pub find_near_other-requires-clause-tall : goal.find_near_other-requires-clause-
 find_near_other-requires-clause-tall g c =
     let s = c.args.scene.now in
     let rows : length s.clues.now.rows ≡ length s.picture.now = ap (λ (k : Clues). length k.rows) c.requires.can.clues_are ∙ clues_are_of_lines.sizes s.picture.now Across in
-    let tall = c.requires.can.tall in
     omega arith
 
 pub find_near_other-requires-clause-wide : goal.find_near_other-requires-clause-wide
 find_near_other-requires-clause-wide g c =
     let s = c.args.scene.now in
     let columns : length s.clues.now.columns ≡ width_of s.picture.now = ap (λ (k : Clues). length k.columns) c.requires.can.clues_are ∙ clues_are_of_lines.sizes s.picture.now Down in
-    let wide = c.requires.can.wide in
     omega arith
 
 pub returns-clause-other : goal.returns-clause-other

@@ -26,6 +26,4 @@ returns-clause-gathers c =
     let s = c.loop-place in
     let masks = c.args.masks.now in
     let small : (i : ℕ) → get_or masks i 0 < 2 ^ 16 = λ i. (let f = c.type_inv.masks i in omega arith) in
-    let room = c.requires.room in
-    let within = s.invariant.within in
     gathered_all masks s.place s.found s.count c.loop-place-test.false (omega arith) small s.invariant

@@ -8,7 +8,6 @@ use Rattle.justify.proofs.masks.has_none.Goals as goal
 pub bounds-left-from : goal.bounds-left-from
 bounds-left-from c =
     let at = place_inside c.args.premises.now c.args.premises.now c.loop-premise.premise-index (length c.args.left.now) refl c.requires c.loop-premise-test.true in
-    let here = c.from.ensures in
     omega arith
 
 pub returns-then-left-from-ne0 : goal.returns-then-left-from-ne0

@@ -7,9 +7,6 @@ use Rattle.justify.proofs.masks.leave_rest.Goals as goal
 pub bounds-left-from : goal.bounds-left-from
 bounds-left-from c =
     let at = place_inside c.args.premises.now c.args.premises.now c.loop-premise.premise-index (length c.args.left.now) refl c.requires.inside c.loop-premise-test.true in
-    let here = c.from.ensures in
-    let len = c.loop-premise.auto.left in
-    let filled = c.fill.ensures.len in
     omega arith
 
 pub loop-premise-preserved : goal.loop-premise-preserved
@@ -18,13 +15,9 @@ loop-premise-preserved c =
     let n = c.loop-premise.premise-index in
     let left = c.loop-premise.left in
     let at = place_inside premises premises n (length c.args.left.now) refl c.requires.inside c.loop-premise-test.true in
-    let len = c.loop-premise.auto.left in
-    let filled = c.fill.ensures.len in
     let P : ℕ → Type 0 = λ place. Rest premises (n + 1) (set left place (65535 - (premise_at premises n).colours)) in
     subst P (sym c.from.ensures) (rest_more premises n left c.requires.premises c.loop-premise-test.true (omega arith) c.loop-premise.invariant)
 
 pub returns : goal.returns
 returns c =
-    let past = c.loop-premise-test.false in
-    let within = c.loop-premise.auto.premise-index-end in
     rest_all c.args.premises.now c.loop-premise.premise-index c.loop-premise.left c.requires.premises (omega arith) c.loop-premise.invariant

@@ -11,7 +11,6 @@ use Rattle.justify.proofs.reason.needed_on.Goals as goal
 
 pub leave_rest-requires-clause-inside : goal.leave_rest-requires-clause-inside
 leave_rest-requires-clause-inside c =
-    let room = c.requires.left_room in
     mentions_same _ _ _ c.as_slice.ensures.value (λ i m. let l = c.requires.inside i m in omega arith)
 
 pub needed_for-requires-clause-forced : goal.needed_for-requires-clause-forced

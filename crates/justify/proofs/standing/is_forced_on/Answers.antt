@@ -7,7 +7,6 @@ use Rattle.justify.proofs.standing.is_forced_on.Goals as goal
 
 pub leave_rest-requires-clause-inside : goal.leave_rest-requires-clause-inside
 leave_rest-requires-clause-inside g c =
-    let room = c.requires.left_room in
     mentions_same _ _ _ c.as_slice.ensures.value (λ i m. let l = c.requires.premises_inside i m in omega arith)
 
 pub has_none-requires : goal.has_none-requires

@@ -22,7 +22,6 @@ returns-in_err-take_turn-clause-runs g c =
 pub returns-in_err-take_turn-clause-works : goal.returns-in_err-take_turn-clause-works
 returns-in_err-take_turn-clause-works g c =
     let p = err_from_is_err_and c.from_residual.result c.from_residual.ensures.1 in
-    let l = c.loop-line-test.true in
     rw p.1 (c.loop-line.line-index + 1, omega arith, counting_adds _ 0 1 0 _ _ _ _ _ _ c.loop-line.invariant.counts c.in_err-take_turn.ensures.counts)
 
 pub loop-line-preserved : goal.loop-line-preserved

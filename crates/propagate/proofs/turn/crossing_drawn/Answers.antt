@@ -21,6 +21,4 @@ loop-premise-preserved c =
 
 pub returns-clause-names : goal.returns-clause-names
 returns-clause-names c =
-    let past = c.loop-premise-test.false in
-    let within = c.loop-premise.auto.premise-index-end in
     crosses_all c.args.step.now c.as_slice-premise-items.result.now c.loop-premise.premise-index c.loop-premise.lines c.as_slice-premise-items.ensures.value (omega arith) c.loop-premise.invariant

@@ -9,7 +9,6 @@ crossing_drawn-changed-requires g c i m =
     let new = rw c.in-Ok-Some.field-0-is at (rw c.in-Ok-Some.is at c.make_step.ensures.makes) in
     let inside : i < length (line_of c.args.book.now.facts c.args.line) = new.drawn_inside i m in
     let len = rw c.facts.ensures.value at c.line_len.ensures.len in
-    let short = c.line_len.ensures.short in
     omega arith
 
 pub add_step-requires : goal.add_step-requires

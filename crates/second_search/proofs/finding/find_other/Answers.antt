@@ -8,9 +8,6 @@ use Rattle.second_search.proofs.finding.find_other.Goals as goal
 
 pub find_filling-requires-clause-closable : goal.find_filling-requires-clause-closable
 find_filling-requires-clause-closable g c =
-    let e = c.in_ok-near.ensures.same_longest in
-    let tall = c.requires.tall in
-    let wide = c.requires.wide in
     can_close c.args.book.now c.args.picture.now c.args.facts.now c.args.facts.now _ (clues_are_of_lines.sizes c.args.picture.now) c.requires.clues c.requires.sound.same_shape refl (omega arith) (omega arith)
 
 pub returns-clause-finds : goal.returns-clause-finds

@@ -3,7 +3,6 @@ use Rattle.second_search.proofs.near.find_near_other.Goals as goal
 
 pub find_near-requires : goal.find_near-requires
 find_near-requires g c =
-    let same = c.loop-i.invariant.same_longest in
     let tall = c.requires.tall in
     let wide = c.requires.wide in
     record { is_scene = search rules; tall = omega arith; wide = omega arith }
