@@ -1,7 +1,6 @@
 //! The check of a picture's certificate.
 
 ghost use Rattle.std.specs.Prelude.{◌≡◌, ◌⊎◌, ◌++◌, IfErr, IfOk, OnOk};
-ghost use Rattle.picture.specs.Reading.{Gives};
 ghost use Rattle.certificate.specs.FirstFault.{AnswersFirst, CertFirstFault};
 ghost use Rattle.certificate.specs.Puzzle.{IsUnique};
 ghost use Rattle.certificate.specs.Tree.{IsProof};

@@ -4,7 +4,7 @@ ghost use Rattle.std.specs.Prelude.{◌≡◌, ◌≤◌, ℕ, IfErr, IfOk};
 ghost use Rattle.picture.specs.Rows.{cell_at};
 ghost use Rattle.edits.specs.Design.{design_of};
 ghost use Rattle.program_options.specs.declared.fault.ProgramFault.TheVariants.{Memory};
-ghost use Rattle.answers.specs.Open.{FindsPicture, Opened, OpensFile, OpensNon, black_on_white, two_colours};
+ghost use Rattle.answers.specs.Open.{FindsPicture, Opened, OpensFile, OpensNon, black_on_white};
 ghost use Rattle.answers.specs.Start.{Starts};
 ghost use Rattle.program_options.specs.Options.{IsLawful};
 
@@ -12,7 +12,7 @@ use clues::ClueBook;
 use line_settle::MaskEngine;
 use live_audit::Bench;
 use non_text::{NonPuzzle, puzzles_are_in_two_colours, read_non};
-use picture::{CellSet, Document, MAX_SIDE, Palette, PaletteFault, Picture, Rgb};
+use picture::{CellSet, Document, MAX_SIDE, Palette, Picture, Rgb};
 use ppm_text::read_ppm;
 use program_options::{Options, ProgramFault};
 use propagate::InOrder;
@@ -82,20 +82,11 @@ fn in_black(alloc: Global, picture: Picture) -> Result<Document, ProgramFault>
     ensures value { IfOk result (λ document. design_of document ≡ black_on_white picture) }
     ensures memory { IfErr result (λ e. e ≡ Memory) }
 {
-    let palette = black_and_white(alloc).map_err(|_| ProgramFault::Memory)?;
+    let mut palette = Palette::start(alloc, 255, WHITE).map_err(|_| ProgramFault::Memory)?;
+    palette.add(BLACK).map_err(|_| ProgramFault::Memory)?;
     Ok(Document {
         palette,
         picture,
         givens: CellSet::empty(),
     })
-}
-
-// White, and black as colour 1. Want of memory is the only fault.
-fn black_and_white(alloc: Global) -> Result<Palette, PaletteFault>
-    ensures value { IfOk result (λ palette. palette ≡ two_colours) }
-    ensures memory { IfErr result (λ e. e ≡ PaletteFault.Memory) }
-{
-    let mut palette = Palette::start(alloc, 255, WHITE)?;
-    palette.add(BLACK)?;
-    Ok(palette)
 }

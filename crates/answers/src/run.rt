@@ -3,9 +3,7 @@
 ghost use Rattle.picture.specs.Reading.{Gives};
 ghost use Rattle.ppm_text.specs.Ppm.{ppm_of};
 ghost use Rattle.edits.specs.Design.{design_of};
-ghost use Rattle.edits.specs.Edit.{edited};
-ghost use Rattle.edits.specs.Fault.{edit_fault};
-ghost use Rattle.answers.specs.Run.{after_edit, edited_by, shown, shown_for, Writes};
+ghost use Rattle.answers.specs.Run.{after_edit, shown, shown_for, Writes};
 
 use clues::ClueBook;
 use edits::{Edit, Entry};

@@ -7,7 +7,6 @@ use Rattle.picture.specs.Rows.{width_of}
 use Rattle.picture.specs.declared.document.Document.{Document}
 use Rattle.picture.specs.Content.{content_of}
 use Rattle.ppm_text.specs.Text.{ppm_text}
-use Rattle.edits.specs.declared.edit.Edit.{Edit}
 use Rattle.edits.specs.declared.fault.EditFault.{EditFault}
 use Rattle.edits.specs.declared.fault.EditFault.TheVariants.{Place}
 use Rattle.edits.specs.Design.{Design, design_of}
@@ -22,7 +21,7 @@ use Rattle.live_audit.specs.Bench.{IsAudited, Seen}
 use Rattle.live_audit.specs.Calls.{Accepts, IsAsBefore, IsSearched, Learns, Refuses}
 use Rattle.live_audit.specs.Certify.{Certifies}
 use Rattle.live_audit.specs.Reason.{Explains}
-use Rattle.live_audit.specs.Stroke.{Stroke, Edits, Undoes, Redoes}
+use Rattle.live_audit.specs.Stroke.{Stroke}
 use Rattle.live_audit.specs.Verdict.{IsVerdictOn, Tells}
 use Rattle.command_text.specs.declared.command.Command.TheVariants as command
 use Rattle.session.specs.declared.answer.Answer.{Answer}
@@ -39,21 +38,6 @@ pub says_stroke : (stroke : Stroke) (old new : Seen) (outcome : Result (Unit {0}
     → SaysStroke stroke old (answer_text (stroke_said outcome)) new
 says_stroke stroke old new (Ok done) accepted refused audited = inl (refl, (accepted, audited))
 says_stroke stroke old new (Err fault) accepted refused audited = inr (fault, (refl, refused))
-
-pub replies_edit : (e : Edit) (old new : Seen) (outcome : Result (Unit {0}) EditFault) → OnOk outcome (Accepts (Edits e) old new) → IfErr outcome (λ fault. Refuses (Edits e) fault old new) → IsAudited new → old.calls ≤ new.calls
-    → Replies (command.Edit e) old (answer_text (stroke_said outcome)) new
-unfolding Replies
-replies_edit e old new outcome accepted refused audited calls = (inl (says_stroke (Edits e) old new outcome accepted refused audited), calls)
-
-pub replies_undo : (old new : Seen) (outcome : Result (Unit {0}) EditFault) → OnOk outcome (Accepts Undoes old new) → IfErr outcome (λ fault. Refuses Undoes fault old new) → IsAudited new → old.calls ≤ new.calls
-    → Replies command.Undo old (answer_text (stroke_said outcome)) new
-unfolding Replies
-replies_undo old new outcome accepted refused audited calls = (inl (says_stroke Undoes old new outcome accepted refused audited), calls)
-
-pub replies_redo : (old new : Seen) (outcome : Result (Unit {0}) EditFault) → OnOk outcome (Accepts Redoes old new) → IfErr outcome (λ fault. Refuses Redoes fault old new) → IsAudited new → old.calls ≤ new.calls
-    → Replies command.Redo old (answer_text (stroke_said outcome)) new
-unfolding Replies
-replies_redo old new outcome accepted refused audited calls = (inl (says_stroke Redoes old new outcome accepted refused audited), calls)
 
 -- a count that stays
 same_count : (n : ℕ) → n ≤ n
@@ -143,13 +127,11 @@ allowed (Some splits) few = omega (arith, few)
 pub judged_now : {E : Type 0} (old last : Seen) (outcome : Result Verdict E) (verdict : Verdict) → outcome ≡ Ok verdict → IsAudited last × ((old.calls ≤ last.calls) × MatchResult outcome (Tells old last) (λ _. IsAsBefore old last))
     → IsVerdictOn old.history.document old.allowance verdict → Judges old last verdict
 judged_now {E} old last outcome verdict is told right =
-    let M : Result Verdict E → Type 0 = λ x. MatchResult x (Tells old last) (λ _. IsAsBefore old last) in
-    (subst M is told.1.1, (told.0, right))
+    (subst (λ (x : Result Verdict E). MatchResult x (Tells old last) (λ _. IsAsBefore old last)) is told.1.1, (told.0, right))
 
 pub unjudged_now : {E : Type 0} (old last : Seen) (outcome : Result Verdict E) (e : E) → outcome ≡ Err e → IsAudited last × ((old.calls ≤ last.calls) × MatchResult outcome (Tells old last) (λ _. IsAsBefore old last)) → (old.calls ≤ last.calls) × IsAsBefore old last
 unjudged_now {E} old last outcome e is told =
-    let M : Result Verdict E → Type 0 = λ x. MatchResult x (Tells old last) (λ _. IsAsBefore old last) in
-    (told.1.0, subst M is told.1.1)
+    (told.1.0, subst (λ (x : Result Verdict E). MatchResult x (Tells old last) (λ _. IsAsBefore old last)) is told.1.1)
 
 -- nothing that a report shows changes where its verdict is asked for
 pub reported : (old new : Seen) (word front text : List ℕ) (past future : ℕ) → (asked : (verdict : Verdict) × (Judges old new verdict × (word ≡ verdict_word verdict)))
@@ -163,11 +145,6 @@ reported old new word front text past future asked begun is back forth =
     ∙ ap (λ (s : Seen). shown ++ ending_text (verdict_word asked.0) (length s.history.past) (length s.history.future)) d.same
 
 -- ---- parts of answers
-
-pub certified_by : {E : Type 0} (d : Design) (found : Option Certificate) (outcome : Result (Vec ℕ Global) E) → Certifies d found → IfOk outcome (λ text. text.items ≡ certified_text found)
-    → IfOk outcome (λ text. (known : Option Certificate) × (Certifies d known × (text.items ≡ certified_text known)))
-certified_by d found (Ok text) right is = (found, (right, is))
-certified_by d found (Err e) right is = tt
 
 -- a text that was begun with nothing
 pub from_nothing : (has front text : List ℕ) → has ≡ front ++ text → front ≡ [] → has ≡ text

@@ -4,6 +4,7 @@ use Rattle.edits.specs.declared.fault.EditFault.{EditFault}
 use Rattle.edits.specs.History.{History, or_memory}
 use Rattle.live_audit.specs.Bench.{IsAudited, Seen}
 use Rattle.live_audit.specs.Calls.{Accepts, IsAsBefore, Machine, machine}
+use Rattle.live_audit.proofs.CallLemmas.{still_audited}
 use Rattle.live_audit.specs.Stroke.{Edits, Redoes, Stroke, Undoes, after_stroke, stroke_fault}
 use Rattle.command_text.specs.declared.command.Command.{Command}
 use Rattle.command_text.specs.declared.command.Command.TheVariants as command
@@ -23,22 +24,15 @@ machine_of s = machine s.history s.allowance
 
 -- nothing changes
 stays : (old new : Seen) → IsAudited old → new ≡ old → IsAt (machine_of old) new
-stays old new a e = record {
-  audited = subst (λ (s : Seen). IsAudited s) (sym e) a;
-  machine_is = ap machine_of e;
-}
+stays old new a e = record { audited = subst IsAudited (sym e) a; machine_is = ap machine_of e }
 
 -- but the engine's calls
 as_before : (old new : Seen) → IsAudited old → IsAsBefore old new → IsAt (machine_of old) new
-as_before old new a e =
-    let same : IsAudited (record old { calls = new.calls }) = record { audit = a.audit; answers = a.answers } in
-    record { audited = subst (λ (s : Seen). IsAudited s) (sym e) same; machine_is = ap machine_of e }
+as_before old new a e = record { audited = still_audited old new a old.allowance e; machine_is = ap machine_of e }
 
 -- or the allowance
 allows : (old new : Seen) (allowance : Option ℕ) → IsAudited old → new ≡ record old { allowance = allowance } → IsAt (machine old.history allowance) new
-allows old new allowance a e =
-    let same : IsAudited (record old { allowance = allowance }) = record { audit = a.audit; answers = a.answers } in
-    record { audited = subst (λ (s : Seen). IsAudited s) (sym e) same; machine_is = ap machine_of e }
+allows old new allowance a e = record { audited = still_audited old new a allowance e; machine_is = ap machine_of e }
 
 -- ---- an answer
 

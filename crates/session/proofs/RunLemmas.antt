@@ -1,6 +1,7 @@
 -- A session, line by line.
-use Rattle.std.proofs.Common.{◌≡◌, ◌⊎◌, inl, inr, ℕ, Bool, true, false, List, [], ◌∷◌, ◌++◌, take, Option, Some, None, Result, Ok, Err, refl, sym, ap, subst, ◌∙◌, append_assoc, append-nil}
-use Rattle.std.specs.Io.KnownBytes.{Appends, IsAtEnd}
+use Rattle.std.proofs.Common.{◌≡◌, inl, inr, ℕ, true, false, List, [], ◌∷◌, ◌++◌, take, Option, Some, None, Result, Ok, Err, refl, sym, ap, subst, ◌∙◌, append_assoc, append-nil}
+use Rattle.std.proofs.lemmas.Bool.{cases_Bool}
+use Rattle.std.specs.Io.KnownBytes.{Appends}
 use Rattle.std.proofs.KnownBytes.{Appends-nil, Appends-trans, Consumes-nil, Consumes-trans}
 use Rattle.picture.specs.Writing.{AppendsFront}
 use Rattle.live_audit.specs.Bench.{Seen}
@@ -21,10 +22,7 @@ cuts_no_more {E} had have old new found r was is h = let P : Result (Option Requ
 -- one line more
 pub says_next : (front : List (List ℕ)) (line said text : List ℕ) (old mid new : Seen) → SaysToAll front old said mid → Says mid (request_of line) text new → SaysToAll (front ++ line ∷ []) old (said ++ text) new
 says_next [] line said text old mid new all next =
-    (new, (text, ([], (ap (λ (xs : List ℕ). xs ++ text) all.0 ∙ sym (append-nil text), (from_old mid old (sym all.1) next, (refl, refl))))))
-  where
-    from_old : (m o : Seen) → o ≡ m → Says m (request_of line) text new → Says o (request_of line) text new
-    from_old m o e h = let P : Seen → Type 0 = λ s. Says s (request_of line) text new in subst P (sym e) h
+    (new, (text, ([], (ap (λ (xs : List ℕ). xs ++ text) all.0 ∙ sym (append-nil text), (subst (λ (s : Seen). Says s (request_of line) text new) all.1 next, (refl, refl))))))
 says_next (first ∷ front) line said text old mid new (between, (head, (rest, (is, (says, all))))) next =
     (between, (head, (rest ++ text, (ap (λ (xs : List ℕ). xs ++ text) is ∙ append_assoc head rest text, (says, says_next front line rest text between mid new all next)))))
 
@@ -36,14 +34,11 @@ run_begins had held s l none on = record {
   read = Consumes-nil had;
   lines = λ rest may. ap lines_of (sym (ap (λ (xs : List ℕ). xs ++ rest) none));
   ended = λ still rest. ap ended_lines_of (sym (ap (λ (xs : List ℕ). xs ++ rest) none));
-  end = λ met. absurd (true_is_not_false (sym met ∙ on));
+  end = λ met. absurd cc;
   said = [];
   answered = (refl, refl);
   wrote = Appends-nil held;
 }
-  where
-    true_is_not_false : true ≡ false → ⊥
-    true_is_not_false e = cc
 
 -- what may come behind more bytes may come behind the bytes and those
 may_more : (old new : Lines) (more rest : List ℕ) → (old.ended ≡ true → (more ≡ []) × (new.ended ≡ true)) → MayCome new rest → MayCome old (more ++ rest)
@@ -51,14 +46,10 @@ may_more old new more rest behind may met = let b = behind met in ap (λ (xs : L
 
 -- the end was not met if it is not met
 still_on : (old new : Lines) (more : List ℕ) → (old.ended ≡ true → (more ≡ []) × (new.ended ≡ true)) → new.ended ≡ false → old.ended ≡ false
-still_on old new more behind on = not_met old.ended (λ met. true_is_not_false (sym (behind met).1 ∙ on))
-  where
-    true_is_not_false : true ≡ false → ⊥
-    true_is_not_false e = cc
-
-    not_met : (b : Bool) → (b ≡ true → ⊥) → b ≡ false
-    not_met true never = absurd (never refl)
-    not_met false never = refl
+still_on old new more behind on = elim (cases_Bool old.ended) [
+  | inl met ↦ let ended = (behind met).1 in absurd cc
+  | inr still ↦ still
+]
 
 -- a line was cut, answered and written
 pub run_goes_on : (had mid have held wrote holds : Option (List ℕ)) (first old new : Seen) (l next : Lines) (asked : Request) (text : List ℕ) → HasRun had mid held wrote first old l → CutsOne mid have l next asked
@@ -77,12 +68,9 @@ run_goes_on had mid have held wrote holds first old new l next asked text run cu
           ∙ ap (λ (xs : List (List ℕ)). run.front ++ xs) (c.ended on rest) ∙ sym (append_assoc run.front (cut.line ∷ []) (ended_lines_of (next.inbox ++ rest)));
       end = c.end run.end;
       said = run.said ++ text;
-      answered = says_next run.front cut.line run.said text first old new run.answered (asked_by asked (request_of cut.line) cut.asks says);
+      answered = says_next run.front cut.line run.said text first old new run.answered (subst (λ (r : Request). Says old r text new) cut.asks says);
       wrote = Appends-trans held wrote holds run.said text run.wrote sent;
     }
-  where
-    asked_by : (a b : Request) → a ≡ b → Says old a text new → Says old b text new
-    asked_by a b e h = let P : Request → Type 0 = λ r. Says old r text new in subst P e h
 
 -- the input ended
 pub run_ends : (had mid have held holds : Option (List ℕ)) (first old : Seen) (l next : Lines) → HasRun had mid held holds first old l → CutsNone mid have l next → Runs had have held holds first old (Ok tt)
@@ -93,10 +81,7 @@ run_ends had mid have held holds first old l next run none =
     let all : lines_of read ≡ run.front =
     ap (λ (xs : List ℕ). lines_of (run.came ++ xs)) (sym (append-nil c.came)) ∙ run.lines (c.came ++ []) (may_more l next c.came [] c.behind (λ met. refl))
     ∙ ap (λ (xs : List (List ℕ)). run.front ++ xs) (c.lines [] (λ met. refl) ∙ ap (λ (xs : List ℕ). lines_of (xs ++ [])) none.waiting ∙ nothing_has_no_lines) ∙ append-nil run.front in
-    (read, (Consumes-trans had mid have run.came c.came run.read c.read, (c.end run.end none.met, (run.said, (said_to (lines_of read) run.front all run.answered, run.wrote)))))
-  where
-    said_to : (a b : List (List ℕ)) → a ≡ b → SaysToAll b first run.said old → SaysToAll a first run.said old
-    said_to a b e h = let P : List (List ℕ) → Type 0 = λ lines. SaysToAll lines first run.said old in subst P (sym e) h
+    (read, (Consumes-trans had mid have run.came c.came run.read c.read, (c.end run.end none.met, (run.said, (subst (λ lines. SaysToAll lines first run.said old) (sym all) run.answered, run.wrote)))))
 
 -- a read failed
 pub run_is_cut : (had mid have held holds : Option (List ℕ)) (first old : Seen) (l : Lines) → HasRun had mid held holds first old l → BreaksOff mid have l → Runs had have held holds first old (Err fault.Read)
@@ -105,10 +90,7 @@ run_is_cut had mid have held holds first old l run b =
     let read = run.came ++ b.came in
     let all : ended_lines_of read ≡ run.front =
     run.ended b.unended b.came ∙ ap (λ (xs : List (List ℕ)). run.front ++ xs) b.unfinished ∙ append-nil run.front in
-    (read, (Consumes-trans had mid have run.came b.came run.read b.read, (run.said, (said_to (ended_lines_of read) run.front all run.answered, run.wrote))))
-  where
-    said_to : (a b : List (List ℕ)) → a ≡ b → SaysToAll b first run.said old → SaysToAll a first run.said old
-    said_to a b e h = let P : List (List ℕ) → Type 0 = λ lines. SaysToAll lines first run.said old in subst P (sym e) h
+    (read, (Consumes-trans had mid have run.came b.came run.read b.read, (run.said, (subst (λ lines. SaysToAll lines first run.said old) (sym all) run.answered, run.wrote))))
 
 -- what went out of a line that was being answered, behind the lines in front of it
 broken_off : (lines : List (List ℕ)) (held wrote holds : Option (List ℕ)) (first old new : Seen) (front behind : List (List ℕ)) (line said text : List ℕ) → lines ≡ front ++ line ∷ behind
@@ -134,7 +116,7 @@ unfolding Runs
 run_breaks had mid have held wrote holds first old new l next asked text run cut says sent =
     let c = cut.cuts in
     let read = run.came ++ c.came in
-    let spoken = asked_by asked (request_of cut.line) cut.asks says in
+    let spoken = subst (λ (r : Request). Says old r text new) cut.asks says in
     let all : MayCome next [] → lines_of read ≡ run.front ++ cut.line ∷ lines_of (next.inbox ++ []) = λ may.
     ap (λ (xs : List ℕ). lines_of (run.came ++ xs)) (sym (append-nil c.came)) ∙ run.lines (c.came ++ []) (may_more l next c.came [] c.behind may)
     ∙ ap (λ (xs : List (List ℕ)). run.front ++ xs) (c.lines [] may) in
@@ -146,15 +128,9 @@ run_breaks had mid have held wrote holds first old new l next asked text run cut
       read,
       (
         Consumes-trans had mid have run.came c.came run.read c.read,
-        by_end next.ended (BrokenOff (ended_lines_of read) held holds first new) (IsAtEnd have × BrokenOff (lines_of read) held holds first new)
-            (λ on. broken (ended_lines_of read) (ended_lines_of (next.inbox ++ [])) (whole on))
-            (λ met. (c.end run.end met, broken (lines_of read) (lines_of (next.inbox ++ [])) (all (λ _. refl)))),
+        elim (cases_Bool next.ended) [
+          | inl met ↦ inr (c.end run.end met, broken (lines_of read) (lines_of (next.inbox ++ [])) (all (λ _. refl)))
+          | inr on ↦ inl (broken (ended_lines_of read) (ended_lines_of (next.inbox ++ [])) (whole on))
+        ],
       ),
     )
-  where
-    asked_by : (a b : Request) → a ≡ b → Says old a text new → Says old b text new
-    asked_by a b e h = let P : Request → Type 0 = λ r. Says old r text new in subst P e h
-
-    by_end : (ended : Bool) (P Q : Type 0) → (ended ≡ false → P) → (ended ≡ true → Q) → P ⊎ Q
-    by_end true P Q off met = inr (met refl)
-    by_end false P Q off met = inl (off refl)

@@ -1,22 +1,21 @@
 //! What a session answers to a line: all that takes memory comes before the first byte goes out.
 
-ghost use Rattle.std.specs.Prelude.{◌≡◌, ◌+◌, ◌++◌, ◌<◌, ◌≤◌, [], length, vec_capacity, vec_len, Option, IfOk, OnOk};
+ghost use Rattle.std.specs.Prelude.{◌≡◌, ◌+◌, ◌++◌, ◌<◌, ◌≤◌, [], vec_capacity, vec_len, Option, IfOk, OnOk};
+ghost use Rattle.picture.specs.Content.{content_of};
+ghost use Rattle.ppm_text.specs.Text.{ppm_text};
+ghost use Rattle.edits.specs.Fault.{has_cell};
+ghost use Rattle.cert_text.specs.Cert.{Certificate};
+ghost use Rattle.command_text.specs.Parse.{IsBounded};
+ghost use Rattle.command_text.specs.declared.command.Command.TheVariants as command;
+ghost use Rattle.command_text.specs.Lines.{AsksBounded};
+ghost use Rattle.report_text.specs.Room.{TakesRoom, picture_room};
+ghost use Rattle.report_text.specs.Shown.{map_text};
+ghost use Rattle.live_audit.specs.Certify.{Certifies};
+ghost use Rattle.live_audit.specs.Calls.{IsSearched, Learns};
+ghost use Rattle.live_audit.specs.Bench.{IsAudited};
 ghost use Rattle.session.specs.Answer.{GivesNon, IsAsked, IsAskedWord, answer_text, stroke_said, text_said};
 ghost use Rattle.session.specs.Room.{verdict_room};
 ghost use Rattle.session.specs.Session.{Replies, Says, certified_text, other_text, report_on, undecided_text, verdict_text, verdict_word, why_text};
-ghost use Rattle.command_text.specs.Parse.{IsBounded};
-ghost use Rattle.report_text.specs.Room.{TakesRoom, picture_room};
-ghost use Rattle.live_audit.specs.Certify.{Certifies};
-ghost use Rattle.cert_text.specs.Cert.{Certificate};
-ghost use Rattle.live_audit.specs.Calls.{IsSearched, Learns};
-ghost use Rattle.live_audit.specs.Bench.{IsAudited};
-ghost use Rattle.command_text.specs.declared.command.Command.TheVariants as command;
-ghost use Rattle.picture.specs.Content.{content_of};
-ghost use Rattle.command_text.specs.Lines.{AsksBounded};
-ghost use Rattle.report_text.specs.Shown.{map_text};
-ghost use Rattle.edits.specs.Fault.{has_cell};
-ghost use Rattle.ppm_text.specs.Text.{ppm_text};
-ghost use Rattle.report_text.specs.Report.{front_text};
 
 use crate::refusal::Refusal;
 use certificate::{Cert, write_cert};
@@ -196,24 +195,11 @@ fn report_text<E: LineEngine + Drop, A: Agenda + Drop>(
 ) -> Result<Vec<u8>, AllocError>
     ensures { IsAsked (report_on bench.old) bench.old bench.new result }
 {
-    let mut text = report_front(alloc, bench)?;
-    let word = asked_word(bench)?;
-    push_ending(&mut text, word, bench.past_len(), bench.future_len())?;
-    Ok(text)
-}
-
-// A report up to its ending, with room for that.
-fn report_front<E: LineEngine + Drop, A: Agenda + Drop>(
-    alloc: Global,
-    bench: &Bench<E, A>,
-) -> Result<Vec<u8>, AllocError>
-    ensures front { IfOk result (λ text.
-        text.items ≡ front_text bench.now.history.document bench.now.clues bench.now.book.facts) }
-    ensures room { IfOk result (λ text. vec_len text + 68 ≤ vec_capacity text) }
-{
     let mut text = Vec::new(alloc);
     push_front(&mut text, bench.document(), bench.clues(), bench.map())?;
     text.reserve(ENDING_ROOM)?;
+    let word = asked_word(bench)?;
+    push_ending(&mut text, word, bench.past_len(), bench.future_len())?;
     Ok(text)
 }
 
@@ -271,14 +257,8 @@ fn certificate_text<E: LineEngine + Drop, A: Agenda + Drop>(
     ensures audited { IsAudited bench.new }
 {
     let found = bench.certify()?;
-    found_text(alloc, &found)
-}
-
-fn found_text(alloc: Global, found: &Option<Cert>) -> Result<Vec<u8>, AllocError>
-    ensures { IfOk result (λ text. text.items ≡ certified_text found.now) }
-{
     let mut text = Vec::new(alloc);
-    push_found(&mut text, found)?;
+    push_found(&mut text, &found)?;
     Ok(text)
 }
 

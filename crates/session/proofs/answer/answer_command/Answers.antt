@@ -1,23 +1,29 @@
-use Rattle.session.proofs.AnswerLemmas.{allowed, replies_allow, replies_certify, replies_clues, replies_edit, replies_map, replies_non, replies_ppm, replies_redo, replies_report, replies_undo, replies_verdict}
+use Rattle.std.proofs.Common.{inl}
+use Rattle.live_audit.specs.Stroke.{Edits, Redoes, Undoes}
+use Rattle.session.specs.Session.{Replies}
+use Rattle.session.proofs.AnswerLemmas.{allowed, replies_allow, replies_certify, replies_clues, replies_map, replies_non, replies_ppm, replies_report, replies_verdict, says_stroke}
 use Rattle.session.proofs.answer.answer_command.Goals as goal
 
 pub allow-requires : goal.allow-requires
 allow-requires g c = allowed c.in-Allow.allowance (rw c.in-Allow.is at c.requires)
 
 pub returns-in-Edit : goal.returns-in-Edit
+unfolding Replies
 returns-in-Edit g c =
     let e = c.apply.ensures in
-    rw (c.in-Edit.is, c.stroke_answer.ensures) (replies_edit c.in-Edit.edit c.args.bench.now c.apply.new.self c.apply.result e.accepted e.refused e.audited e.calls)
+    rw (c.in-Edit.is, c.stroke_answer.ensures) (inl (says_stroke (Edits c.in-Edit.edit) c.args.bench.now c.apply.new.self c.apply.result e.accepted e.refused e.audited), e.calls)
 
 pub returns-in-Undo : goal.returns-in-Undo
+unfolding Replies
 returns-in-Undo g c =
     let e = c.undo.ensures in
-    rw (c.in-Undo.is, c.stroke_answer-in-Undo.ensures) (replies_undo c.args.bench.now c.undo.new.self c.undo.result e.accepted e.refused e.audited e.calls)
+    rw (c.in-Undo.is, c.stroke_answer-in-Undo.ensures) (inl (says_stroke Undoes c.args.bench.now c.undo.new.self c.undo.result e.accepted e.refused e.audited), e.calls)
 
 pub returns-in-Redo : goal.returns-in-Redo
+unfolding Replies
 returns-in-Redo g c =
     let e = c.redo.ensures in
-    rw (c.in-Redo.is, c.stroke_answer-in-Redo.ensures) (replies_redo c.args.bench.now c.redo.new.self c.redo.result e.accepted e.refused e.audited e.calls)
+    rw (c.in-Redo.is, c.stroke_answer-in-Redo.ensures) (inl (says_stroke Redoes c.args.bench.now c.redo.new.self c.redo.result e.accepted e.refused e.audited), e.calls)
 
 pub returns-in-Clues : goal.returns-in-Clues
 returns-in-Clues g c =
