@@ -15,8 +15,7 @@ returns g c =
     let s = c.args.bench.now in
     let asked = c.in_ok-word.ensures.1 in
     let text = from_nothing _ _ _ (c.reserve.ensures.items ∙ c.in_ok-push_front.ensures) c.new-text.ensures.items in
-    let front : c.reserve.new.self.items ≡ front_text s.history.document s.clues s.book.facts = cc (text, c.document.ensures.value, c.clues.ensures.value, c.map.ensures.value) in
-    (
+    let front : c.reserve.new.self.items ≡ front_text s.history.document s.clues s.book.facts = cc (text, c.document.ensures.value, c.clues.ensures.value, c.map.ensures.value) in (
       c.in_ok-word.ensures.0,
       (
         asked.0,
