@@ -112,6 +112,17 @@ module _ (law : CluesAreOfLines) (books : BooksAreTheirClues) (closing : Closing
       ])
       (finds_among (front ++ others) found n s (held_sized clues settled cell.row cell.col others size sized.1 (colours_of (cell_at settled cell.row cell.col))))
 
+sized_of : CluesAreOfLines → (clues : Clues) (picture facts : List (List ℕ)) → clues_of picture ≡ clues → SameShape picture facts → IsSized clues facts
+sized_of law clues picture facts e shape =
+    let P : Clues → Type 0 = λ c. IsSized c picture in
+    sized_like clues picture facts shape (subst P e (record { rows = sym (law.sizes picture Across); columns = sym (law.sizes picture Down) }))
+
+-- what is found from facts of the known picture's size is another picture that fills them
+pub filling_found : CluesAreOfLines → BooksAreTheirClues → ClosingKeepsFillings → (clues : Clues) (known facts other : List (List ℕ)) (n : ℕ) → IsPicture known → clues_of known ≡ clues → SameShape known facts → Searches clues known (facts ∷ []) (Some other) n → Fills clues facts other × (other ≡ known → ⊥)
+filling_found law books closing clues known facts other n is e shape s =
+    let among : FindsAmong clues known (facts ∷ []) (Some other) = finds_among law books closing clues known (facts ∷ []) (Some other) n s (sized_of law clues known facts e shape, tt) in
+    (elim among.1 [ inl f ↦ f | inr none ↦ absurd none ], among.0)
+
 -- ---- the search of a part
 
 -- the facts of a part have the sizes of the clues
@@ -119,8 +130,7 @@ sized_alone : CluesAreOfLines → OnlyIsClosed → (clues : Clues) (facts pictur
 sized_alone law own clues facts picture cells is e =
     let shape = own.same_shape picture in
     let onto = shape_of_picked cells facts (only picture) (rect_like picture (only picture) shape is.rectangular) in
-    let P : Clues → Type 0 = λ c. IsSized c picture in
-    sized_like clues picture (alone cells facts picture) (shape_trans shape (shape_sym onto)) (subst P e (record { rows = sym (law.sizes picture Across); columns = sym (law.sizes picture Down) }))
+    sized_of law clues picture (alone cells facts picture) e (shape_trans shape (shape_sym onto))
 
 module _ (law : CluesAreOfLines) (books : BooksAreTheirClues) (closing : ClosingKeepsFillings) (own : OnlyIsClosed) (fillings : FillingsAreOfFacts) (clues : Clues) (givens : List ℕ) (facts picture : List (List ℕ)) (scene : IsScene clues givens facts picture) where
   pub none_found : (cells : List ℕ) (n : ℕ) → Searches clues picture (alone cells facts picture ∷ []) None n → (other : List (List ℕ)) → IsOtherFilling clues givens picture cells other → ⊥

@@ -10,7 +10,8 @@ use Rattle.line_settle.specs.FactSets.{IsFacts, IsWithin, SameShape}
 use Rattle.line_settle.specs.declared.line_engine.Outcome.{Outcome}
 use Rattle.line_settle.specs.declared.line_engine.Outcome.TheVariants.{Narrowed}
 use Rattle.fixpoint.specs.Closing.{Closes, EachFits}
-use Rattle.fixpoint.specs.Filling.{Fills}
+use Rattle.fixpoint.specs.Filling.{Fills, only}
+use Rattle.fixpoint.specs.Laws.{OnlyIsClosed}
 use Rattle.second_search.specs.Branching.{AreSameAbove}
 use Rattle.second_search.specs.Looking.{AreRowsSettled, Shows}
 use Rattle.second_search.specs.Through.{across}
@@ -109,3 +110,7 @@ rows_same clues facts settled rows is w fits h r col l =
           cell_outside facts (width_of facts) rect r col (λ _ m. absurd (omega arith))
           ∙ sym (cell_outside settled (width_of settled) is.rectangular r col (λ _ m. absurd (omega arith)))
     ]
+
+-- a cell of the facts that leave a picture's colours alone
+pub only_there : OnlyIsClosed → (picture : List (List ℕ)) (row col : ℕ) → col < length (row_at picture row) → IsOnly (cell_at (only picture) row col) (cell_at picture row col)
+only_there law picture row col l j = ((λ s. ((law.leaves picture row col j).0 s).1), (λ e. (law.leaves picture row col j).1 (l, e)))

@@ -21,6 +21,19 @@ use Rattle.second_search.specs.Through.{PutsBoth, across, down}
 use Rattle.second_search.proofs.AloneLemmas.{lines_more}
 use Rattle.line_settle.specs.FactSets.{IsLeast}
 use Rattle.fixpoint.specs.Closing.{EachFits}
+use Rattle.std.specs.Prelude.{IsBitSet, slice_index}
+use Rattle.picture.specs.Rows.{row_at, cell_at}
+use Rattle.line_settle.specs.Masks.{IsOnly}
+use Rattle.line_settle.specs.FactSets.{Leaves}
+use Rattle.line_settle.specs.GridLaws.{shape_sym, shape_trans}
+use Rattle.fixpoint.specs.Filling.{Fills, only}
+use Rattle.second_search.specs.Near.{OpensIn}
+use Rattle.second_search.specs.Searching.{KeepsOutside}
+use Rattle.second_search.proofs.ChainLemmas.{bit_or_not}
+use Rattle.second_search.proofs.EndLemmas.{filling_found}
+use Rattle.second_search.proofs.LookLemmas.{only_there}
+use Rattle.second_search.proofs.PartLemmas.{solves_itself}
+use Rattle.second_search.proofs.PickLemmas.{off_part, on_cells, rect_like, shape_of_picked}
 
 -- ---- what an ending says of a part
 
@@ -55,8 +68,8 @@ near_true fillings clues givens facts picture scene cells near other e h =
 -- ---- what is found in a window is another picture
 
 -- a window stays one when an open cell of the part is put in with its lines
-pub more_open : (facts : List (List ℕ)) (part : List ℕ) (old : Window) (cells : List ℕ) (lines : Lines) (splits row col : ℕ) → row < length facts → col < width_of facts → HasCell part row col → IsWindow facts part old → PutsCell old.cells cells row col → PutsBoth row col old.lines lines → IsWindow facts part (record { cells = cells; lines = lines; splits = splits })
-more_open facts part old cells lines splits row col h l has is puts both = record {
+pub more_open : (facts : List (List ℕ)) (part : List ℕ) (old : Window) (cells : List ℕ) (lines : Lines) (row col : ℕ) → row < length facts → col < width_of facts → HasCell part row col → IsWindow facts part old → PutsCell old.cells cells row col → PutsBoth row col old.lines lines → IsWindow facts part (record old { cells = cells; lines = lines })
+more_open facts part old cells lines row col h l has is puts both = record {
   among = λ r c m. elim ((puts r c).0 m) [
     | inl before ↦ is.among r c before
     | inr e ↦
@@ -80,10 +93,50 @@ more_open facts part old cells lines splits row col h l has is puts both = recor
   ];
 }
 
-pub found_inside : CluesAreOfLines → BooksAreTheirClues → ClosingKeepsFillings → OnlyIsClosed → FillingsAreOfFacts → (clues : Clues) (givens : List ℕ) (facts picture : List (List ℕ)) → IsScene clues givens facts picture → (cells : List ℕ) (new : List (List ℕ)) → new ≡ alone cells facts picture → (most : Option ℕ) (count : ℕ) (ending : Ending) (other : List (List ℕ)) → ending ≡ Found other → (part : List ℕ) → ((r c : ℕ) → HasCell cells r c → HasCell part r c) → (n : ℕ) × ((count ≡ raised 0 n) × EndsAs clues picture new most ending n) → IsOtherFilling clues givens picture part other
-found_inside law books closing own fillings clues givens facts picture scene cells new same most count ending other f part among h =
-    let R : List (List ℕ) → Type 0 = λ x. Searches clues picture (x ∷ []) (Some other) h.0 in
-    let one = one_found law books closing own fillings clues givens facts picture scene cells other h.0 (subst R same (subst (λ (x : Ending). EndsAs clues picture new most x h.0) f h.1.1).0) in
+-- facts opened in some cells leave no more than the facts on these
+opened_leaves : OnlyIsClosed → (clues : Clues) (givens : List ℕ) (facts picture : List (List ℕ)) → IsScene clues givens facts picture → (cells : List ℕ) (new : List (List ℕ)) → OpensIn cells facts (only picture) new → (r c k : ℕ) → Leaves new r c k → Leaves (alone cells facts picture) r c k
+opened_leaves own clues givens facts picture scene cells new opens r c k s =
+    let shape = own.same_shape picture in
+    let rect = rect_like picture (only picture) shape scene.is_picture.rectangular in
+    let P : ℕ → Type 0 = λ m. IsBitSet m k in
+    let at_home : cell_at new r c ≡ cell_at (only picture) r c → (c < length (row_at picture r)) × (k ≡ cell_at picture r c) = λ e. (own.leaves picture r c k).0 (subst P e s) in
+    elim (bit_or_not (slice_index cells r) c) [
+      | inl has ↦
+          subst P (sym (on_cells cells facts (only picture) r c rect (shape_trans (shape_sym scene.sound.same_shape) shape) has)) (elim (opens.each r c) [
+            | inl e ↦
+                let h = at_home e in
+                subst (λ (j : ℕ). IsBitSet (cell_at facts r c) j) (sym h.1) (scene.sound.leave picture (solves_itself clues givens facts picture scene) r c h.0)
+            | inr o ↦ subst P o.1 s
+          ])
+      | inr out ↦
+          subst P (sym (off_part cells facts (only picture) r c rect out)) (elim (opens.each r c) [ inl e ↦ subst P e s | inr o ↦ absurd (out o.0) ])
+    ]
+
+-- and the picture's colours alone outside of them
+pub opened_outside : OnlyIsClosed → (cells : List ℕ) (picture facts new : List (List ℕ)) → OpensIn cells facts (only picture) new → KeepsOutside cells picture new
+opened_outside own cells picture facts new opens =
+    let shape = shape_trans (own.same_shape picture) opens.same_shape in
+    record {
+      same_shape = shape;
+      outside = λ r c l out. elim (opens.each r c) [
+        | inl e ↦ subst (λ (m : ℕ). IsOnly m (cell_at picture r c)) (sym e) (only_there own picture r c (let w = shape.each r in omega arith))
+        | inr o ↦ absurd (out o.0)
+      ];
+    }
+
+pub found_inside : CluesAreOfLines → BooksAreTheirClues → ClosingKeepsFillings → OnlyIsClosed → FillingsAreOfFacts → (clues : Clues) (givens : List ℕ) (facts picture : List (List ℕ)) → IsScene clues givens facts picture → (cells : List ℕ) (new : List (List ℕ)) → OpensIn cells facts (only picture) new → (most : Option ℕ) (count : ℕ) (ending : Ending) (other : List (List ℕ)) → ending ≡ Found other → (part : List ℕ) → ((r c : ℕ) → HasCell cells r c → HasCell part r c) → (n : ℕ) × ((count ≡ raised 0 n) × EndsAs clues picture new most ending n) → IsOtherFilling clues givens picture part other
+found_inside law books closing own fillings clues givens facts picture scene cells new opens most count ending other f part among h =
+    let ends : EndsAs clues picture new most (Found other) h.0 = subst (λ (x : Ending). EndsAs clues picture new most x h.0) f h.1.1 in
+    let filled = filling_found law books closing clues picture new other h.0 scene.is_picture scene.has_clues (opened_outside own cells picture facts new opens).same_shape ends.0 in
+    let shape = own.same_shape picture in
+    let like = shape_of_picked cells facts (only picture) (rect_like picture (only picture) shape scene.is_picture.rectangular) in
+    let fills : Fills clues (alone cells facts picture) other = record {
+      is_picture = filled.0.is_picture;
+      same_shape = shape_trans filled.0.same_shape (shape_trans (shape_sym opens.same_shape) (shape_sym like));
+      has_clues = filled.0.has_clues;
+      leaves = λ r c l. opened_leaves own clues givens facts picture scene cells new opens r c (cell_at other r c) (filled.0.leaves r c l);
+    } in
+    let one = (fillings clues givens facts picture other cells scene).1 (fills, filled.1) in
     record { is_other = one.is_other; elsewhere = λ row col off. one.elsewhere row col (λ has. off (among row col has)) }
 
 -- ---- closed facts of a scene

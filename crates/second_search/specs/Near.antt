@@ -1,6 +1,8 @@
 -- Windows, in which alone another picture is looked for at first.
-use Rattle.std.specs.Prelude.{List, ℕ}
+use Rattle.std.specs.Prelude.{◌≡◌, ◌⊎◌, List, ℕ}
 use Rattle.picture.specs.CellSet.{HasCell}
+use Rattle.picture.specs.Rows.{cell_at}
+use Rattle.line_settle.specs.FactSets.{SameShape}
 use Rattle.fixpoint.specs.LineNames.{AreLinesOf}
 use Rattle.second_search.specs.declared.near.Window.{Window}
 use Rattle.second_search.specs.Carrying.{LieInside}
@@ -12,3 +14,8 @@ pub record IsWindow (facts : List (List ℕ)) (part : List ℕ) (window : Window
   pub inside : LieInside window.cells facts
   pub lines : AreLinesOf facts window.lines
   pub through : NamesLinesOf window.cells window.lines
+
+-- in some cells, if not in all, the masks of facts are taken for those at home, and elsewhere none
+pub record OpensIn (cells : List ℕ) (facts home new : List (List ℕ)) : Type 0 where
+  pub same_shape : SameShape home new
+  pub each : (row col : ℕ) → (cell_at new row col ≡ cell_at home row col) ⊎ (HasCell cells row col × (cell_at new row col ≡ cell_at facts row col))

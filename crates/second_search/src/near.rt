@@ -2,13 +2,15 @@
 
 ghost use Rattle.std.specs.Prelude.{◌≡◌, ◌<◌, ◌≤◌, length, IfOk, IfSome};
 ghost use Rattle.picture.specs.CellSet.{HasCell};
+ghost use Rattle.line_settle.specs.FactSets.{SameShape};
 ghost use Rattle.clues.specs.Solution.{IsOther};
-ghost use Rattle.second_search.specs.Near.{IsWindow};
+ghost use Rattle.fixpoint.specs.Filling.{only};
+ghost use Rattle.second_search.specs.Near.{IsWindow, OpensIn};
 ghost use Rattle.second_search.specs.Parts.{IsOtherFilling, IsScene};
 ghost use Rattle.second_search.specs.Scene.{CanSearch};
 
 use crate::counting::{Ending, Searched, Start, search_counted};
-use crate::part_search::{facts_on, lines_through, put_both};
+use crate::part_search::{facts_at_home, lines_through, put_both};
 use crate::parts::Parts;
 use crate::scene::Scene;
 use fixpoint::{CloseFault, settle_afresh};
@@ -32,9 +34,11 @@ pub(crate) const SMALL: usize = 2;
 // A line with the same clue differs in two cells or in none, so another picture differs in two rows and in two columns.
 const FEWEST: usize = 4;
 
-// The open cells of a window, the lines through them, and how many splits a search in it may make.
+// The rows and columns of a window, its open cells, the lines through them, and how many splits a search in it may make.
 #[derive(Drop)]
-pub(crate) struct Window {
+pub(crate) struct Window<'a> {
+    pub rows: &'a [u8],
+    pub columns: &'a [u8],
     pub cells: CellSet,
     pub lines: LineSet,
     pub splits: u32,
@@ -110,7 +114,8 @@ pub(crate) fn find_near<E: LineEngine>(
     ensures calls { E.calls engine.old ≤ E.calls engine.new }
     ensures same_longest { E.longest engine.new ≡ E.longest engine.old }
 {
-    let _ = engine.calls();
+    let _ = (engine.calls(), scene.facts.height());
+    let home = facts_at_home(scene)?;
     let lines = lines_through(cells, scene.facts);
     let rows = places_along(alloc, &lines, Axis::Across)?;
     let columns = places_along(alloc, &lines, Axis::Down)?;
@@ -121,7 +126,7 @@ pub(crate) fn find_near<E: LineEngine>(
             let down = window_along(&rows, i / along, *size);
             let across = window_along(&columns, i % along, *size);
             let window = window_of(scene.facts, cells, down, across, splits);
-            let found = find_inside(alloc, engine, scene, cells, window)?;
+            let found = find_inside(alloc, engine, scene, &home, cells, &window)?;
             if found.is_some() {
                 return Ok(found);
             }
@@ -135,11 +140,13 @@ fn find_inside<E: LineEngine>(
     alloc: Global,
     engine: &mut E,
     scene: &Scene,
+    home: &Facts,
     cells: &CellSet,
-    window: Window,
+    window: &Window,
 ) -> Result<Option<Picture>, AllocError>
     requires can { CanSearch scene.now (E.longest engine.old) }
-    requires window { IsWindow scene.now.facts.now cells.now window }
+    requires home { home.now ≡ only scene.now.picture.now }
+    requires window { IsWindow scene.now.facts.now cells.now window.now }
     ensures other { IfOk result (λ found. IfSome found
         (IsOtherFilling scene.now.clues.now scene.now.givens.now scene.now.picture.now cells.now)) }
     ensures calls { E.calls engine.old ≤ E.calls engine.new }
@@ -150,7 +157,7 @@ fn find_inside<E: LineEngine>(
         return Ok(None);
     }
     let start = Start {
-        facts: facts_on(scene, &window.cells)?,
+        facts: open_in(scene.facts, home, window)?,
         lines: window.lines,
         allowance: Some(window.splits),
     };
@@ -162,11 +169,35 @@ fn find_inside<E: LineEngine>(
     }
 }
 
+// Other facts with the masks of these in a window's cells.
+fn open_in(facts: &Facts, home: &Facts, window: &Window) -> Result<Facts, AllocError>
+    requires { SameShape home.now facts.now }
+    ensures { IfOk result (OpensIn window.now.cells facts.now home.now) }
+{
+    let mut opened = home.copy()?;
+    for row in window.rows {
+        for col in window.columns {
+            if *row < facts.height() && *col < facts.width() && window.cells.has(*row, *col) {
+                opened.set_left(*row, *col, facts.left(*row, *col));
+            }
+        }
+    }
+    Ok(opened)
+}
+
 // The open cells of a part in some rows and columns, with the lines through them, and how many splits a search there may make.
-fn window_of(facts: &Facts, cells: &CellSet, rows: &[u8], columns: &[u8], splits: u32) -> Window
+fn window_of<'a>(
+    facts: &Facts,
+    cells: &CellSet,
+    rows: &'a [u8],
+    columns: &'a [u8],
+    splits: u32,
+) -> Window<'a>
     ensures { IsWindow facts.now cells.now result }
 {
     let mut window = Window {
+        rows,
+        columns,
         cells: CellSet::empty(),
         lines: LineSet::empty(),
         splits,

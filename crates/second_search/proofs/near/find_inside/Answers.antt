@@ -1,21 +1,37 @@
-use Rattle.std.proofs.Common.{Some}
-use Rattle.second_search.proofs.AloneLemmas.{closable_alone}
+use Rattle.std.proofs.Common.{List, ℕ, Some, subst, sym, arith}
+use Rattle.line_settle.specs.FactSets.{SameShape}
+use Rattle.line_settle.specs.GridLaws.{shape_sym, shape_trans}
+use Rattle.second_search.specs.Near.{OpensIn}
+use Rattle.second_search.proofs.AloneLemmas.{closable_alone, lines_alone}
 use Rattle.second_search.proofs.KeepLemmas.{quiet_outside}
-use Rattle.second_search.proofs.WithinLemmas.{found_inside}
+use Rattle.second_search.proofs.WithinLemmas.{found_inside, opened_outside}
 use Rattle.second_search.proofs.KnownLaws.{books_are_their_clues, closing_keeps_fillings, clues_are_of_lines, fillings_are_of_facts, only_is_closed}
 use Rattle.second_search.proofs.near.find_inside.Goals as goal
 
-pub search_counted-requires-clause-closable : goal.search_counted-requires-clause-closable
-search_counted-requires-clause-closable g c =
+pub open_in-requires : goal.open_in-requires
+open_in-requires g c =
     let s = c.args.scene.now in
-    closable_alone clues_are_of_lines s.clues.now c.args.window.cells s.picture.now c.in_ok-facts_on.field-0 _ c.requires.can.is_scene.has_clues c.in_ok-facts_on.ensures.outside c.requires.can.tall c.requires.can.wide
+    let P : List (List ℕ) → Type 0 = λ x. SameShape x s.facts.now in
+    subst P (sym c.requires.home) (shape_trans (shape_sym (only_is_closed.same_shape s.picture.now)) c.requires.can.is_scene.sound.same_shape)
 
-pub search_counted-requires-clause-quiet : goal.search_counted-requires-clause-quiet
-search_counted-requires-clause-quiet g c =
+pub search_counted-requires : goal.search_counted-requires
+search_counted-requires g c =
     let s = c.args.scene.now in
-    quiet_outside clues_are_of_lines s.clues.now c.args.window.cells s.picture.now c.in_ok-facts_on.field-0 c.args.window.lines c.requires.can.is_scene.is_picture c.requires.can.is_scene.has_clues c.in_ok-facts_on.ensures.outside c.requires.window.through
+    let facts = c.in_ok-open_in.field-0 in
+    let window = c.args.window.now in
+    let P : List (List ℕ) → Type 0 = λ x. OpensIn window.cells s.facts.now x facts in
+    let keeps = opened_outside only_is_closed window.cells s.picture.now s.facts.now facts (subst P c.requires.home c.in_ok-open_in.ensures) in
+    record {
+      closable = closable_alone clues_are_of_lines s.clues.now window.cells s.picture.now facts _ c.requires.can.is_scene.has_clues keeps c.requires.can.tall c.requires.can.wide;
+      lines = lines_alone window.cells s.picture.now s.facts.now facts window.lines c.requires.can.is_scene.sound.same_shape keeps c.requires.window.lines;
+      quiet = quiet_outside clues_are_of_lines s.clues.now window.cells s.picture.now facts window.lines c.requires.can.is_scene.is_picture c.requires.can.is_scene.has_clues keeps c.requires.window.through;
+      some = omega arith;
+    }
 
 pub returns-in-Found-clause-other : goal.returns-in-Found-clause-other
 returns-in-Found-clause-other g c =
     let s = c.args.scene.now in
-    found_inside clues_are_of_lines books_are_their_clues closing_keeps_fillings only_is_closed fillings_are_of_facts s.clues.now s.givens.now s.facts.now s.picture.now c.requires.can.is_scene c.args.window.cells c.in_ok-facts_on.field-0 c.in_ok-facts_on.ensures.alone (Some c.args.window.splits) _ _ c.in-Found.picture c.in-Found.is c.args.cells.now c.requires.window.among c.in_ok-searched.ensures.ends
+    let facts = c.in_ok-open_in.field-0 in
+    let window = c.args.window.now in
+    let P : List (List ℕ) → Type 0 = λ x. OpensIn window.cells s.facts.now x facts in
+    found_inside clues_are_of_lines books_are_their_clues closing_keeps_fillings only_is_closed fillings_are_of_facts s.clues.now s.givens.now s.facts.now s.picture.now c.requires.can.is_scene window.cells facts (subst P c.requires.home c.in_ok-open_in.ensures) (Some window.splits) _ _ c.in-Found.picture c.in-Found.is c.args.cells.now c.requires.window.among c.in_ok-searched.ensures.ends
