@@ -1,16 +1,12 @@
 //! Propagating facts to the fixpoint of all lines.
 
 ghost use Rattle.std.specs.Prelude.{◌≡◌};
-ghost use Rattle.picture.specs.Rows.{line_of, HasLine};
-ghost use Rattle.clues.specs.ClueBook.{clue_at};
-ghost use Rattle.line_settle.specs.Counting.{Counts};
-ghost use Rattle.line_settle.specs.FactSets.{Gains, IsFacts};
-ghost use Rattle.fixpoint.specs.Closing.{AreClosable, Closes, PutsCrossing, QuietOutside, Works};
+ghost use Rattle.fixpoint.specs.Closing.{AreClosable, Closes, QuietOutside, Works};
 ghost use Rattle.fixpoint.specs.LineNames.{AreLinesOf};
 
 use clues::ClueBook;
 use line_settle::{Facts, LineEngine, Meter, Outcome, force_crossing};
-use picture::{LineId, LineSet};
+use picture::LineSet;
 use worklist::Agenda;
 
 /// Excludes in the facts what any line forces, until no line forces more. Every line that is not in `dirty` has to be
@@ -33,41 +29,19 @@ pub fn close_facts<E: LineEngine, A: Agenda>(
         (E.calls engine.old) (E.calls engine.new) }
     ensures same_longest { E.longest engine.new ≡ E.longest engine.old }
 {
-    let _ = (facts.height(), engine.calls());
+    let _calls = engine.calls();
     let _evaluations = meter.evaluations;
     let _trials = meter.trials;
     agenda.clear();
     agenda.put_all(dirty);
     while let Some(line) = agenda.take() {
-        match evaluate(engine, agenda, facts, book, line, meter) {
+        let _ = facts.height();
+        let forced = force_crossing(engine, facts, book.clue(line), line, &mut meter.evaluations);
+        agenda.put_all(&forced.changed);
+        match forced.outcome {
             Outcome::Dead => return Outcome::Dead,
             Outcome::Narrowed => {}
         }
     }
     Outcome::Narrowed
-}
-
-// Evaluates a line, and puts the lines that cross it on the agenda where it changed.
-fn evaluate<E: LineEngine, A: Agenda>(
-    engine: &mut E,
-    agenda: &mut A,
-    facts: &mut Facts,
-    book: &ClueBook,
-    line: LineId,
-    meter: &mut Meter,
-) -> Outcome
-    requires closable { AreClosable book.now (E.longest engine.old) facts.old }
-    requires line { HasLine facts.old line }
-    ensures gains { Gains (clue_at book.now line) line facts.old facts.new result }
-    ensures puts { PutsCrossing line (line_of facts.old line) (line_of facts.new line)
-        (A.members agenda.old) (A.members agenda.new) }
-    ensures counts { Counts 1 0 meter.old meter.new (E.calls engine.old) (E.calls engine.new) }
-    ensures same_longest { E.longest engine.new ≡ E.longest engine.old }
-    ensures facts { IsFacts facts.old }
-{
-    let _ = facts.height();
-    let _trials = meter.trials;
-    let forced = force_crossing(engine, facts, book.clue(line), line, &mut meter.evaluations);
-    agenda.put_all(&forced.changed);
-    forced.outcome
 }

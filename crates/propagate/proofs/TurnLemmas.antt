@@ -1,5 +1,5 @@
 -- What a line's turn comes to.
-use Rattle.std.proofs.Common.{◌≡◌, ◌≢◌, ℕ, zero, suc, ◌+◌, ◌<◌, ◌≤◌, ◌⊎◌, ◌↔◌, List, [], ◌∷◌, length, refl, sym, ap, subst, ◌∙◌, arith, inl, inr, get_or}
+use Rattle.std.proofs.Common.{Err, Option, Result, ◌≡◌, ◌≢◌, ℕ, zero, suc, ◌+◌, ◌<◌, ◌≤◌, ◌⊎◌, ◌↔◌, List, [], ◌∷◌, length, refl, sym, ap, subst, ◌∙◌, arith, inl, inr, get_or}
 use Rattle.std.specs.Prelude.{IsBitSet}
 use Rattle.std.proofs.lemmas.Bool.{cases_eq}
 use Rattle.std.proofs.lemmas.List.{append-nil}
@@ -10,15 +10,18 @@ use Rattle.clues.specs.declared.block.Block.{Block}
 use Rattle.clues.specs.ClueBook.{Clues, clue_at}
 use Rattle.line_settle.specs.declared.line_engine.Outcome.TheVariants.{Narrowed, Dead}
 use Rattle.line_settle.specs.Crossing.{CrossesChange}
+use Rattle.line_settle.specs.Fitting.{CanFit}
 use Rattle.picture.specs.Crossing.{crossing_at}
 use Rattle.line_settle.specs.FactSets.{Gains, Leaves, row_on, col_on}
+use Rattle.justify.specs.declared.fault.StepFault.{StepFault}
+use Rattle.justify.specs.declared.fault.StepFault.TheVariants as step_fault
 use Rattle.justify.specs.declared.premise.Premise.{Premise}
 use Rattle.justify.specs.declared.step.Step.{Step}
 use Rattle.justify.specs.Premises.{premise_at, ArePremises, Mentions, Says}
 use Rattle.justify.specs.Steps.{step_at, IsTrimmed}
 use Rattle.justify.specs.Book.{Account, Adds, GainDrawn, IsAccount, IsDerivation}
-use Rattle.justify.specs.Making.{DrawsNothing, IsNewStep}
-use Rattle.propagate.specs.Turns.{CrossesDrawn, Turn}
+use Rattle.justify.specs.Making.{DrawsNothing, IsNewStep, Makes}
+use Rattle.propagate.specs.Turns.{CrossesDrawn, IsMade, Turn}
 use Rattle.line_settle.specs.GridLaws.{shape_refl, cell_on}
 use Rattle.line_settle.specs.FitLaws.{have_left}
 use Rattle.picture.specs.BitLaws.{same_bits}
@@ -158,3 +161,13 @@ turn_for_step clues line old new step lines is d has n a are names few = record 
       λ other. ((λ s. (changed other).0 ((names other).0 s)), (λ x. (names other).1 ((changed other).1 x)));
   few = omega arith;
 }
+
+pub made_over : (clues : Clues) (line : LineId) (book : Account) (made : Result (Option Step) StepFault) (clue : List Block) → clue ≡ clue_at clues line → IsDerivation clues book → Makes clue line (line_of book.facts line) made → IsMade clues line book made
+made_over clues line book made clue e derivation makes =
+    record { derivation = derivation; makes = subst (λ (blocks : List Block). Makes blocks line (line_of book.facts line) made) e makes }
+
+-- a line that gave no step because no list fits it
+pub dead_made : (clues : Clues) (line : LineId) (book : Account) (made : Result (Option Step) StepFault) → IsMade clues line book made → made ≡ Err step_fault.Dead → ¬ CanFit (clue_at clues line) (line_of book.facts line)
+dead_made clues line book made is e =
+    let P : Result (Option Step) StepFault → Type 0 = λ r. Makes (clue_at clues line) line (line_of book.facts line) r in
+    subst P e is.makes

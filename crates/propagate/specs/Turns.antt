@@ -1,5 +1,5 @@
 -- Lines that draw steps into a book, each in its turn.
-use Rattle.std.specs.Prelude.{◌≡◌, ℕ, ◌+◌, ◌<◌, ◌≤◌, ◌⊎◌, ◌↔◌, List, [], ◌∷◌, ◌++◌, length, drop}
+use Rattle.std.specs.Prelude.{◌≡◌, ℕ, ◌+◌, ◌<◌, ◌≤◌, ◌⊎◌, ◌↔◌, List, [], ◌∷◌, ◌++◌, length, drop, Option, Result}
 use Rattle.picture.specs.declared.line_id.LineId.{LineId}
 use Rattle.picture.specs.LineSet.{Lines, HasName, name_count}
 use Rattle.picture.specs.Rows.{line_of}
@@ -8,11 +8,17 @@ use Rattle.line_settle.specs.declared.line_engine.Outcome.TheVariants.{Narrowed}
 use Rattle.line_settle.specs.Crossing.{CrossesChange}
 use Rattle.picture.specs.Crossing.{crossing_at}
 use Rattle.line_settle.specs.FactSets.{Gains}
+use Rattle.justify.specs.declared.fault.StepFault.{StepFault}
 use Rattle.justify.specs.declared.step.Step.{Step}
 use Rattle.justify.specs.Premises.{Mentions}
 use Rattle.justify.specs.Steps.{step_at, IsTrimmed}
 use Rattle.justify.specs.Book.{Account, Adds, IsDerivation}
-use Rattle.justify.specs.Making.{DrawsNothing, IsNewStep}
+use Rattle.justify.specs.Making.{DrawsNothing, IsNewStep, Makes}
+
+-- what a line gives next over a book that is a derivation
+pub record IsMade (clues : Clues) (line : LineId) (book : Account) (made : Result (Option Step) StepFault) : Type 0 where
+  pub derivation : IsDerivation clues book
+  pub makes : Makes (clue_at clues line) line (line_of book.facts line) made
 
 -- A line in its turn, which some list fits: it forces nothing new and the book stays, or the step of all that it newly forces
 -- is put behind the others.

@@ -42,7 +42,8 @@ pub fn close<E: LineEngine, A: Agenda>(
     agenda.clear();
     agenda.put_all(dirty);
     while let Some(line) = agenda.take() {
-        let changed = take_turn(engine, &mut book, clues, line, meter)?;
+        let made = book.make_step(engine, clues.clue(line), line, meter);
+        let changed = take_turn(&mut book, line, made)?;
         agenda.put_all(&changed);
     }
     Ok(book)

@@ -37,7 +37,8 @@ pub fn run_schedule<E: LineEngine>(
     let (_calls, _evaluations, _trials) = (engine.calls(), meter.evaluations, meter.trials);
     let mut book = book;
     for line in schedule {
-        take_turn(engine, &mut book, clues, *line, meter)?;
+        let made = book.make_step(engine, clues.clue(*line), *line, meter);
+        take_turn(&mut book, *line, made)?;
     }
     Ok(book)
 }

@@ -3,37 +3,46 @@ use Rattle.picture.specs.LineSet.{Lines}
 use Rattle.line_settle.specs.ForceLaws.{gains_grows}
 use Rattle.worklist.specs.NameLaws.{filled}
 use Rattle.fixpoint.specs.ClosingLaws.{Closing, closing_dies, closing_ends, closing_goes_on, closing_starts}
-use Rattle.fixpoint.specs.WorkLaws.{working_dies, working_goes_on, working_starts, less_to_do}
+use Rattle.fixpoint.specs.WorkLaws.{crossing_put, one_counted, working_dies, working_goes_on, working_starts, less_to_do}
 use Rattle.fixpoint.proofs.closing.close_facts.Goals as goal
 
 pub returns-in-Dead-clause-closes : goal.returns-in-Dead-clause-closes
-returns-in-Dead-clause-closes g c = closing_dies _ _ _ _ _ _ _ _ c.loop-line.invariant.closing c.in-Some.ensures.0 c.in-Dead.ensures.gains refl
+returns-in-Dead-clause-closes g c =
+    let gains = rw (c.in-Dead.is, c.clue.ensures.value) at c.force_crossing-forced.ensures.gains in
+    closing_dies _ _ _ _ _ _ _ _ c.loop-line.invariant.closing c.in-Some.ensures.0 gains refl
 
 pub returns-in-Dead-clause-works : goal.returns-in-Dead-clause-works
 returns-in-Dead-clause-works g c =
     let i = c.loop-line.invariant in
     let s = c.in-Some.ensures in
-    let e = c.in-Dead.ensures in
-    working_dies _ _ _ _ _ _ _ _ _ _ _ _ _ _ _ _ i.working s.0 s.1 (i.closing.lines c.in-Some.line s.0) e.gains e.puts e.counts refl
+    let e = c.force_crossing-forced.ensures in
+    let gains = rw (c.in-Dead.is, c.clue.ensures.value) at e.gains in
+    let puts = crossing_put _ _ _ _ e.changed _ _ c.put_all-in-Some.ensures in
+    let counts = one_counted _ _ _ _ (omega arith) e.counted e.called in
+    working_dies _ _ _ _ _ _ _ _ _ _ _ _ _ _ _ _ i.working s.0 s.1 (i.closing.lines c.in-Some.line s.0) gains puts counts refl
 
 pub loop-line-smaller : goal.loop-line-smaller
 loop-line-smaller g c =
     let i = c.loop-line.invariant in
     let s = c.in-Some.ensures in
-    let e = c.in-Narrowed.ensures in
+    let e = c.force_crossing-forced.ensures in
     let has = i.closing.lines c.in-Some.line s.0 in
-    less_to_do _ _ _ _ _ _ e.facts has (gains_grows _ _ _ _ _ e.gains) s.0 s.1 e.puts
+    let puts = crossing_put _ _ _ _ e.changed _ _ c.put_all-in-Some.ensures in
+    less_to_do _ _ _ _ _ _ c.height.ensures.facts has (gains_grows _ _ _ _ _ e.gains) s.0 s.1 puts
 
 pub loop-line-preserved : goal.loop-line-preserved
 loop-line-preserved g c =
     let i = c.loop-line.invariant in
     let s = c.in-Some.ensures in
-    let e = c.in-Narrowed.ensures in
+    let e = c.force_crossing-forced.ensures in
     let has = i.closing.lines c.in-Some.line s.0 in
-    let P : ℕ → Type 0 = λ n. Closing c.args.book.now n c.args.facts.now c.evaluate.new.facts (g.A.Agenda.members c.evaluate.new.agenda) in
+    let gains = rw (c.in-Narrowed.is, c.clue.ensures.value) at e.gains in
+    let puts = crossing_put _ _ _ _ e.changed _ _ c.put_all-in-Some.ensures in
+    let counts = one_counted _ _ _ _ (omega arith) e.counted e.called in
+    let P : ℕ → Type 0 = λ n. Closing c.args.book.now n c.args.facts.now c.force_crossing-forced.new.facts (g.A.Agenda.members c.put_all-in-Some.new.self) in
     record {
-      closing = subst P (sym e.same_longest) (closing_goes_on _ _ _ _ _ _ _ _ _ _ i.closing s.0 s.1 e.facts e.gains refl e.puts);
-      working = working_goes_on _ _ _ _ _ _ _ _ _ _ _ _ _ _ _ _ i.working s.0 s.1 has e.gains e.puts e.counts;
+      closing = subst P (sym e.same_longest) (closing_goes_on _ _ _ _ _ _ _ _ _ _ i.closing s.0 s.1 c.height.ensures.facts gains refl puts);
+      working = working_goes_on _ _ _ _ _ _ _ _ _ _ _ _ _ _ _ _ i.working s.0 s.1 has gains puts counts;
       same_longest = e.same_longest ∙ i.same_longest;
     }
 

@@ -5,6 +5,7 @@ use Rattle.line_settle.specs.FitLaws.{counting_adds}
 use Rattle.line_settle.specs.ForceLaws.{gains_grows}
 use Rattle.worklist.specs.NameLaws.{filled}
 use Rattle.fixpoint.specs.ClosingLaws.{Closing, closing_starts}
+use Rattle.propagate.proofs.TurnLemmas.{dead_made, made_over}
 use Rattle.propagate.proofs.GrowLemmas.{ClosingBook, all_trimmed, book_closes, book_comes_nearer, book_dies, book_fails, book_goes_on, book_starts}
 use Rattle.propagate.proofs.closing_book.close.Goals as goal
 
@@ -22,30 +23,35 @@ returns-in_err-changed-clause-closes g c =
     let p = err_from_is_err_and c.from_residual.result c.from_residual.ensures.1 in
     let i = c.loop-line.invariant in
     let s = c.in-Some.ensures in
-    rw (p.1, p.2) (book_fails c.args.clues.now c.args.book _ (λ e. book_dies c.args.clues.now _ c.args.book c.loop-line.book _ _ c.facts.ensures.account c.requires.derivation i.closing.closing s.0 (c.in_err-changed.ensures.dead (ap Err e))))
+    let made = made_over _ _ _ _ _ c.clue.ensures.value i.closing.grows.derivation c.make_step-made.ensures.makes in
+    rw (p.1, p.2) (book_fails c.args.clues.now c.args.book _ (λ e. book_dies c.args.clues.now _ c.args.book c.loop-line.book _ _ c.facts.ensures.account c.requires.derivation i.closing.closing s.0 (dead_made _ _ _ _ made (c.in_err-changed.ensures.dead (ap Err e)))))
 
 pub returns-in_err-changed-clause-works : goal.returns-in_err-changed-clause-works
 returns-in_err-changed-clause-works g c =
     let p = err_from_is_err_and c.from_residual.result c.from_residual.ensures.1 in
     let i = c.loop-line.invariant in
-    rw p.1 (i.closing.evaluations + 1, counting_adds _ 0 1 0 _ _ _ _ _ _ i.closing.counts c.in_err-changed.ensures.counts)
+    rw p.1 (i.closing.evaluations + 1, counting_adds _ 0 1 0 _ _ _ _ _ _ i.closing.counts c.make_step-made.ensures.counts)
 
 pub loop-line-smaller : goal.loop-line-smaller
 loop-line-smaller g c =
     let i = c.loop-line.invariant in
     let s = c.in-Some.ensures in
     let e = c.in_ok-changed.ensures in
-    book_comes_nearer _ _ _ _ _ _ _ _ _ _ _ _ _ _ _ _ _ i.closing s.0 s.1 e.facts e.comes_to c.put_all-in-Some.ensures e.counts (gains_grows _ _ _ _ _ e.comes_to.gains)
+    let made = made_over _ _ _ _ _ c.clue.ensures.value i.closing.grows.derivation c.make_step-made.ensures.makes in
+    let turn = e.comes_to c.args.clues.now made in
+    book_comes_nearer _ _ _ _ _ _ _ _ _ _ _ _ _ _ _ _ _ i.closing s.0 s.1 e.facts turn c.put_all-in-Some.ensures c.make_step-made.ensures.counts (gains_grows _ _ _ _ _ turn.gains)
 
 pub loop-line-preserved : goal.loop-line-preserved
 loop-line-preserved g c =
     let i = c.loop-line.invariant in
     let s = c.in-Some.ensures in
     let e = c.in_ok-changed.ensures in
-    let P : ℕ → Type 0 = λ n. ClosingBook c.args.clues.now n c.args.dirty.now c.args.book c.take_turn.new.book (g.A.Agenda.members c.put_all-in-Some.new.self) c.args.meter.now c.take_turn.new.meter (g.E.LineEngine.calls c.args.engine.now) (g.E.LineEngine.calls c.take_turn.new.engine) in
+    let m = c.make_step-made.ensures in
+    let made = made_over _ _ _ _ _ c.clue.ensures.value i.closing.grows.derivation c.make_step-made.ensures.makes in
+    let P : ℕ → Type 0 = λ n. ClosingBook c.args.clues.now n c.args.dirty.now c.args.book c.take_turn.new.book (g.A.Agenda.members c.put_all-in-Some.new.self) c.args.meter.now c.make_step-made.new.meter (g.E.LineEngine.calls c.args.engine.now) (g.E.LineEngine.calls c.make_step-made.new.engine) in
     record {
-      closing = subst P (sym e.same_longest) (book_goes_on _ _ _ _ _ _ _ _ _ _ _ _ _ _ _ _ _ i.closing s.0 s.1 e.facts e.comes_to c.put_all-in-Some.ensures e.counts);
-      same_longest = e.same_longest ∙ i.same_longest;
+      closing = subst P (sym m.same_longest) (book_goes_on _ _ _ _ _ _ _ _ _ _ _ _ _ _ _ _ _ i.closing s.0 s.1 e.facts (e.comes_to c.args.clues.now made) c.put_all-in-Some.ensures m.counts);
+      same_longest = m.same_longest ∙ i.same_longest;
     }
 
 pub returns-clause-closes : goal.returns-clause-closes
