@@ -16,12 +16,10 @@ use std::alloc::Global;
 fn axis_in(word: &[u8]) -> Option<Axis>
     ensures { result ≡ axis_of word.now }
 {
-    if is_word(word, b"r") {
-        Some(Axis::Across)
-    } else if is_word(word, b"c") {
-        Some(Axis::Down)
-    } else {
-        None
+    match word {
+        b"r" => Some(Axis::Across),
+        b"c" => Some(Axis::Down),
+        _ => None,
     }
 }
 

@@ -39,14 +39,8 @@ pub(crate) fn three_words(line: &[u8]) -> Option<(&[u8], &[u8], &[u8])>
 {
     let (word, behind) = cut_word(line)?;
     let (first, second) = cut_word(behind)?;
-    match cut_word(second) {
-        None => Some((word, first, second)),
-        Some(_) => None,
-    }
+    cut_word(second).is_none().then_some((word, first, second))
 }
-
-// How many digits a number has at the most.
-const MOST_DIGITS: usize = 3;
 
 // A number of one to three digits, without leading zeros.
 pub(crate) fn number_in(bytes: &[u8]) -> Option<u16>
@@ -56,6 +50,6 @@ pub(crate) fn number_in(bytes: &[u8]) -> Option<u16>
     if matches!(bytes, [b'0', _, ..]) {
         return None;
     }
-    let number = short_number_in(bytes, MOST_DIGITS)?;
+    let number = short_number_in(bytes, 3)?;
     Some(number as u16)
 }

@@ -1,5 +1,6 @@
 -- The lines of bytes, cut piece by piece.
-use Rattle.std.proofs.Common.{◌≡◌, ℕ, zero, suc, ◌+◌, ◌-◌, ◌<◌, ◌≤◌, Bool, true, false, cond, not, ◌&&◌, List, [], ◌∷◌, ◌++◌, length, get_or, length-take-le, min, take, drop, slice_index, ◌==◌, nat_lt, Err, Option, Some, None, refl, sym, ap, ◌∙◌, append_assoc, append-nil, arith}
+use Rattle.std.proofs.Common.{◌≡◌, ℕ, zero, suc, ◌+◌, ◌-◌, ◌<◌, ◌≤◌, Bool, true, false, cond, not, ◌&&◌, List, [], ◌∷◌, ◌++◌, length, get_or, length-take-le, min, take, drop, slice_index, ◌==◌, nat_lt, Err, Option, Some, None, is_some, unwrap_or, refl, sym, ap, ◌∙◌, append_assoc, append-nil, add-zero, arith}
+use Rattle.std.specs.Int.{from_bool}
 use Rattle.std.specs.List.{slice_split, position}
 use Rattle.std.specs.Str.Lines.{strip_carriage_return}
 use Rattle.std.proofs.lemmas.Bool.{eqb-true, false_from_ne_true, lt-leb, lt-ltb, ltb-true, ltb-false, true≢false}
@@ -10,7 +11,7 @@ use Rattle.std.proofs.Math.Seq.{take-append-add, drop-drop}
 use Rattle.std.proofs.lemmas.List.Elements.{All-append}
 use Rattle.std.proofs.lemmas.List.Quantifiers.{position-Some}
 use Rattle.std.proofs.lemmas.List.Splits.{length-slice_split, slice_split_at, slice_split_none}
-use Rattle.picture.specs.SplitLaws.{none_before, whole_found}
+use Rattle.picture.specs.SplitLaws.{none_before, none_passes, whole_found}
 use Rattle.std.specs.Io.KnownBytes.{Keeps}
 use Rattle.std.proofs.KnownBytes.{Consumes-kept, Consumes-trans}
 use Rattle.command_text.specs.declared.lines.Lines.{Lines}
@@ -138,6 +139,15 @@ all_skipped taken now same = ap (λ (xs : List ℕ). drop (length xs) now) same 
     none_left : (xs : List ℕ) → drop (length xs) xs ≡ []
     none_left [] = refl
     none_left (x ∷ xs) = none_left xs
+
+-- up to a line feed, or all of it
+pub piece_taken : (old new : Lines) (had kept : List ℕ) (feed : Option ℕ) → position is_feed old.inbox ≡ feed → kept ≡ take 202 (had ++ take (unwrap_or feed (length old.inbox)) old.inbox)
+    → new.inbox ≡ drop (unwrap_or feed (length old.inbox) + from_bool (is_some feed)) old.inbox → TakesPiece old new had kept (is_some feed)
+piece_taken old new had kept (Some end) at is rest = piece_ends old.inbox new.inbox had kept end at is rest
+piece_taken old new had kept None at is rest = (
+  rest ∙ ap (λ n. drop n old.inbox) (add-zero (length old.inbox)) ∙ all_skipped old.inbox old.inbox refl,
+  (none_passes is_feed old.inbox at, is ∙ ap (λ (xs : List ℕ). take 202 (had ++ xs)) (take_all (length old.inbox) old.inbox (omega arith))),
+)
 
 -- ---- a call
 

@@ -17,8 +17,7 @@ pub(crate) fn counted(rest: &[u8], count: usize) -> Result<&[u8], CommandFault>
 {
     let mut left = rest;
     for _i in 0..count {
-        let (_, behind) = read_word(left)?;
-        left = behind;
+        left = read_word(left)?.1;
     }
     if next_word(left).is_some() {
         return Err(CommandFault::WordCount);

@@ -70,14 +70,9 @@ impl Inbox {
         ensures end { OnOk result (self.new ≡ [] → IsAtEnd (R.remaining reader.new)) }
         ensures err { OnErr result (Keeps (R.remaining reader.old) (R.remaining reader.new)) }
     {
-        match reader.read(&mut self.room) {
-            Ok(count) => {
-                self.start = 0;
-                self.end = count;
-                Ok(())
-            }
-            Err(_) => Err(ReadFault),
-        }
+        self.end = reader.read(&mut self.room).map_err(|_| ReadFault)?;
+        self.start = 0;
+        Ok(())
     }
 }
 
@@ -134,14 +129,10 @@ impl Lines {
         ensures err { OnErr result (Keeps (R.remaining reader.old) (R.remaining reader.new)
             × ((self.old.inbox ≡ []) × (self.old.ended ≡ false))) }
     {
-        if !self.inbox.as_slice().is_empty() {
-            return Ok(true);
+        if self.inbox.as_slice().is_empty() && !self.ended {
+            self.read_on(reader)?;
         }
-        if self.ended {
-            return Ok(false);
-        }
-        self.read_on(reader)?;
-        Ok(!self.ended)
+        Ok(!self.inbox.as_slice().is_empty())
     }
 
     // Reads once where none waits, and notes the end of the input.
@@ -169,19 +160,11 @@ impl Lines {
         ensures reads { self.new.reads ≡ self.old.reads }
     {
         let waiting = self.inbox.as_slice();
-        match feed_place(waiting) {
-            Some(end) => {
-                draft.extend(&waiting[..end]);
-                self.inbox.skip(end + 1);
-                true
-            }
-            None => {
-                draft.extend(waiting);
-                let all = waiting.len();
-                self.inbox.skip(all);
-                false
-            }
-        }
+        let feed = feed_place(waiting);
+        let end = feed.unwrap_or(waiting.len());
+        draft.extend(&waiting[..end]);
+        self.inbox.skip(end + usize::from(feed.is_some()));
+        feed.is_some()
     }
 }
 

@@ -21,10 +21,7 @@ pub(crate) fn number_in(word: &[u8]) -> Option<u32>
 pub(crate) fn place_in(word: &[u8]) -> Option<u8>
     ensures { result ≡ place_of word.now }
 {
-    match number_in(word) {
-        Some(number) if 1 <= number && number <= 256 => Some((number - 1) as u8),
-        _ => None,
-    }
+    u8::try_from(number_in(word)?.checked_sub(1)?).ok()
 }
 
 /// A sample of a colour: one to five digits, with a value up to 65535. Leading zeros are lawful. None for any
@@ -32,10 +29,7 @@ pub(crate) fn place_in(word: &[u8]) -> Option<u8>
 pub fn sample_in(word: &[u8]) -> Option<u16>
     ensures { result ≡ sample_of word.now }
 {
-    match number_in(word) {
-        Some(number) if number <= 65_535 => Some(number as u16),
-        _ => None,
-    }
+    u16::try_from(number_in(word)?).ok()
 }
 
 // The number of a colour: `.` is the background, and `a` to `o` are 1 to 15.

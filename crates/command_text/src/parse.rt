@@ -66,14 +66,10 @@ fn read_palette(rest: &[u8]) -> Result<Edit, CommandFault>
 {
     let (word, rest) = read_word(rest)?;
     match word {
-        b"add" => {
-            let rgb = read_rgb(counted(rest, 3)?)?;
-            Ok(Edit::AddColour { rgb })
-        }
+        b"add" => read_rgb(counted(rest, 3)?).map(|rgb| Edit::AddColour { rgb }),
         b"set" => {
             let (colour, rest) = read_colour(counted(rest, 4)?)?;
-            let rgb = read_rgb(rest)?;
-            Ok(Edit::SetColour { colour, rgb })
+            read_rgb(rest).map(|rgb| Edit::SetColour { colour, rgb })
         }
         _ => Err(CommandFault::UnknownWord),
     }
@@ -84,30 +80,15 @@ fn read_edit(word: &[u8], rest: &[u8]) -> Result<Edit, CommandFault>
     ensures { Reads (λ e. e) result (edit_at word.now (words_of rest.now)) }
 {
     match word {
-        b"paint" => {
-            let ((row, col), colour) = read_spot(rest)?;
-            Ok(Edit::Paint { row, col, colour })
-        }
+        b"paint" => read_spot(rest).map(|((row, col), colour)| Edit::Paint { row, col, colour }),
         b"fill" => read_fill(rest),
         b"recolour" => read_recolour(rest),
-        b"insert" => {
-            let line = read_line(rest)?;
-            Ok(Edit::InsertLine { line })
-        }
-        b"delete" => {
-            let line = read_line(rest)?;
-            Ok(Edit::DeleteLine { line })
-        }
+        b"insert" => read_line(rest).map(|line| Edit::InsertLine { line }),
+        b"delete" => read_line(rest).map(|line| Edit::DeleteLine { line }),
         b"swap" => read_swap(rest),
         b"colour" => read_palette(rest),
-        b"pin" => {
-            let (row, col) = read_cell_alone(rest)?;
-            Ok(Edit::Pin { row, col })
-        }
-        b"unpin" => {
-            let (row, col) = read_cell_alone(rest)?;
-            Ok(Edit::Unpin { row, col })
-        }
+        b"pin" => read_cell_alone(rest).map(|(row, col)| Edit::Pin { row, col }),
+        b"unpin" => read_cell_alone(rest).map(|(row, col)| Edit::Unpin { row, col }),
         _ => Err(CommandFault::UnknownWord),
     }
 }
@@ -141,8 +122,9 @@ fn read_allow(rest: &[u8]) -> Result<Command, CommandFault>
     ensures bounded { IfOk result IsBounded }
 {
     let (word, _) = read_word(counted(rest, 1)?)?;
-    let splits = allowance_in(word).ok_or(CommandFault::BadNumber)?;
-    Ok(Command::Allow(splits))
+    allowance_in(word)
+        .map(Command::Allow)
+        .ok_or(CommandFault::BadNumber)
 }
 
 // Why a cell does not have a colour.
@@ -150,8 +132,7 @@ fn read_why(rest: &[u8]) -> Result<Command, CommandFault>
     ensures value { Reads (λ c. c) result (why_at (words_of rest.now)) }
     ensures bounded { IfOk result IsBounded }
 {
-    let ((row, col), colour) = read_spot(rest)?;
-    Ok(Command::Why { row, col, colour })
+    read_spot(rest).map(|((row, col), colour)| Command::Why { row, col, colour })
 }
 
 // What a word asks, shows or takes back, by what stands behind it. None for any other word.
@@ -181,10 +162,7 @@ fn read_command(word: &[u8], rest: &[u8]) -> Result<Command, CommandFault>
 {
     match read_asking(word, rest) {
         Some(asked) => asked,
-        None => match read_edit(word, rest) {
-            Ok(edit) => Ok(Command::Edit(edit)),
-            Err(fault) => Err(fault),
-        },
+        None => read_edit(word, rest).map(Command::Edit),
     }
 }
 

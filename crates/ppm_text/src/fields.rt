@@ -36,18 +36,18 @@ pub fn read_side(scanner: &mut Scanner) -> Read<u8>
 
 #[tactic(auto, using(crate::proofs::Caps::caps))]
 #[inline(always)]
-// Reads a sample up to the maxval.
-fn read_sample(scanner: &mut Scanner, maxval: u16) -> Read<Numeral>
-    ensures read { Reads (λ n. (n, scanner.new.tokens)) result
+// Reads a sample up to the maxval: the byte at which it begins, and its value.
+fn read_sample(scanner: &mut Scanner, maxval: u16) -> Read<(usize, u16)>
+    ensures read { Reads (λ n. (record { place = n.0; value = n.1 }, scanner.new.tokens)) result
         (sample_at scanner.old.end maxval scanner.old.tokens) }
-    ensures within { IfOk result (λ n. n.value ≤ maxval) }
+    ensures within { IfOk result (λ n. n.1 ≤ maxval) }
     ensures end { scanner.new.end ≡ scanner.old.end }
 {
     let sample = scanner.numeral()?;
     if sample.value > u32::from(maxval) {
         return Err(PpmFault::SampleOver(sample.place));
     }
-    Ok(sample)
+    Ok((sample.place, sample.value as u16))
 }
 
 #[tactic(auto, unfolding(crate::specs::Samples::triple_at))]
@@ -58,14 +58,9 @@ pub fn read_triple(scanner: &mut Scanner, maxval: u16) -> Read<Triple>
     ensures within { IfOk result (λ t. IsTrue (fits maxval t.colour)) }
     ensures end { scanner.new.end ≡ scanner.old.end }
 {
-    let first = read_sample(scanner, maxval)?;
-    let second = read_sample(scanner, maxval)?;
-    let third = read_sample(scanner, maxval)?;
-    let colour = Rgb {
-        r: first.value as u16,
-        g: second.value as u16,
-        b: third.value as u16,
-    };
-    let place = first.place;
+    let (place, r) = read_sample(scanner, maxval)?;
+    let (_, g) = read_sample(scanner, maxval)?;
+    let (_, b) = read_sample(scanner, maxval)?;
+    let colour = Rgb { r, g, b };
     Ok(Triple { place, colour })
 }

@@ -70,10 +70,9 @@ fn find_or_add(palette: &mut Palette, triple: Triple) -> Read<u8>
     if let Some(number) = palette.number_of(triple.colour) {
         return Ok(number);
     }
-    match palette.add(triple.colour) {
-        Ok(number) => Ok(number),
-        Err(fault) => Err(adding_fault(fault, triple.place)),
-    }
+    palette
+        .add(triple.colour)
+        .map_err(|fault| adding_fault(fault, triple.place))
 }
 
 // Why the palette refused a new triple with lawful samples: it is full, or memory ran out.

@@ -109,37 +109,27 @@ fn document_of(palette: Palette, height: u8, width: u8, cells: Vec<u8>) -> Docum
     }
 }
 
-// What stands before the cells, and the scanner behind it.
-struct Head<'a> {
-    scanner: Scanner<'a>,
-    width: u8,
-    height: u8,
-    palette: Palette,
-}
+// What stands before the cells: the width, the height and the palette, and the scanner behind them.
+type Head<'a> = (u8, u8, Palette, Scanner<'a>);
 
 #[tactic(auto, unfolding(crate::specs::Ppm::header_of))]
 // Reads what stands before the cells.
 fn read_head(alloc: Global, bytes: &[u8], background: Option<Rgb>) -> Read<Head<'_>>
     ensures read { Gives Memory (λ h. record {
-      width = h.width;
-      height = h.height;
-      colours = h.palette;
-      rest = h.scanner;
+      width = h.0;
+      height = h.1;
+      colours = h.2;
+      rest = h.3;
     }) result (header_of bytes.now background) }
     ensures fault { IfErr (header_of bytes.now background) (λ fault. result ≡ Err fault) }
-    ensures wide { IfOk result (λ h. (0 < h.width) × (h.width ≤ MAX_SIDE)) }
-    ensures tall { IfOk result (λ h. (0 < h.height) × (h.height ≤ MAX_SIDE)) }
+    ensures wide { IfOk result (λ h. (0 < h.0) × (h.0 ≤ MAX_SIDE)) }
+    ensures tall { IfOk result (λ h. (0 < h.1) × (h.1 ≤ MAX_SIDE)) }
 {
     let mut scanner = Scanner::start(bytes)?;
     let width = read_side(&mut scanner)?;
     let height = read_side(&mut scanner)?;
     let palette = read_palette(alloc, &mut scanner, background)?;
-    Ok(Head {
-        scanner,
-        width,
-        height,
-        palette,
-    })
+    Ok((width, height, palette, scanner))
 }
 
 #[tactic(auto, using(crate::proofs::Cells::read_cells), unfolding(crate::specs::Ppm::ppm_of))]
@@ -159,12 +149,7 @@ pub fn read_ppm(alloc: Global, bytes: &[u8], background: Option<Rgb>) -> Result<
     ensures read { Gives Memory content_of result (ppm_of bytes.now background) }
     ensures header { IfErr (header_of bytes.now background) (λ fault. result ≡ Err fault) }
 {
-    let Head {
-        mut scanner,
-        width,
-        height,
-        mut palette,
-    } = read_head(alloc, bytes, background)?;
+    let (width, height, mut palette, mut scanner) = read_head(alloc, bytes, background)?;
     let count = usize::from(height) * usize::from(width);
     let cells = read_cells(alloc, &mut scanner, &mut palette, count)?;
     if let Some(place) = scanner.next_place() {

@@ -24,24 +24,6 @@ fn send_triple<W: Write>(rgb: Rgb, writer: &mut W) -> Result<(), WriteFault>
     send_number(rgb.b, b'\n', writer)
 }
 
-// Writes a cell.
-fn send_cell<W: Write>(
-    document: &Document,
-    row: u8,
-    col: u8,
-    writer: &mut W,
-) -> Result<(), WriteFault>
-    requires in_rows { row < length document.now.picture }
-    requires in_columns { col < width_of document.now.picture }
-    ensures ok { OnOk result (Appends (W.contents writer.old) (W.contents writer.new)
-        (cell_text document.now.palette.triples (cell_at document.now.picture row col))) }
-    ensures err { OnErr result (AppendsFront (W.contents writer.old) (W.contents writer.new)
-        (cell_text document.now.palette.triples (cell_at document.now.picture row col))) }
-{
-    let number = document.picture.cell(row, col);
-    send_triple(document.palette.rgb(number), writer)
-}
-
 #[tactic(auto, using(picture::specs::SendingLaws::pieces))]
 // Writes a row.
 fn send_row<W: Write>(document: &Document, row: u8, writer: &mut W) -> Result<(), WriteFault>
@@ -52,7 +34,8 @@ fn send_row<W: Write>(document: &Document, row: u8, writer: &mut W) -> Result<()
         (row_text document.now.palette.triples (row_at document.now.picture row))) }
 {
     for col in 0..document.picture.width() {
-        send_cell(document, row, col, writer)?;
+        let number = document.picture.cell(row, col);
+        send_triple(document.palette.rgb(number), writer)?;
     }
     Ok(())
 }
