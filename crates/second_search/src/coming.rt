@@ -52,19 +52,13 @@ pub(crate) fn come_to<E: LineEngine>(
     ensures same_longest { E.longest engine.new ≡ E.longest engine.old }
 {
     let _ = engine.calls();
+    let Due { lines, top } = due;
     let mut settled = facts.copy()?;
     let mut agenda = InOrder::make();
     let mut meter = NOTHING_DONE;
-    match close_facts(
-        engine,
-        &mut agenda,
-        &mut settled,
-        book,
-        &due.lines,
-        &mut meter,
-    ) {
+    match close_facts(engine, &mut agenda, &mut settled, book, lines, &mut meter) {
         Outcome::Dead => Ok(Coming::Dies),
-        Outcome::Narrowed => split_or_end(alloc, settled, due.top),
+        Outcome::Narrowed => split_or_end(alloc, settled, *top),
     }
 }
 

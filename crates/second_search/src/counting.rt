@@ -111,19 +111,14 @@ pub(crate) fn search_counted<E: LineEngine>(
             Some(ending) => return Ok(Searched { ending, splits }),
             None => {}
         }
-        let next = search.pending.advance()?;
-        match next {
-            Some(cell) => {
-                search.due = Due {
-                    lines: cell.lines(),
-                    top: cell.row,
-                };
-            }
-            None => return Ok(Searched {
-                ending: Ending::Nothing,
-                splits,
-            }),
-        }
+        let Some(cell) = search.pending.advance()? else {
+            let ending = Ending::Nothing;
+            return Ok(Searched { ending, splits });
+        };
+        search.due = Due {
+            lines: cell.lines(),
+            top: cell.row,
+        };
     }
 }
 

@@ -1,6 +1,6 @@
-use Rattle.std.proofs.Common.{◌∙◌, Option, Some, arith, refl, subst}
+use Rattle.std.proofs.Common.{◌≡◌, ◌∙◌, [], None, Option, Some, arith, refl, subst}
 use Rattle.split_choice.specs.declared.cell.Cell.{Cell}
-use Rattle.second_search.specs.Branching.{GoesOn}
+use Rattle.second_search.specs.Branching.{GoesOn, Search}
 use Rattle.second_search.specs.Through.{across}
 use Rattle.second_search.proofs.CountLemmas.{counted_ending, counted_nothing, counting_at, counting_goes, counting_starts, goes_lighter, steps_as}
 use Rattle.second_search.proofs.KeepLemmas.{both_named, can_close_like, quiet_at, quiet_goes, ready_at, ready_first}
@@ -31,27 +31,30 @@ returns-in-Some-clause-ends g c =
     let t = c.look_once.new.self in
     counted_ending least_is_unique c.args.book.now c.args.known.now c.args.start.facts c.args.start.allowance s.pending t.pending s.budget t.budget c.loop-search.invariant.counting c.in-Some.ending (steps_as _ _ s.pending t.pending _ _ _ _ c.in-Some.is c.in_ok-found.ensures.steps)
 
-pub returns-in-None-next-clause-ends : goal.returns-in-None-next-clause-ends
-returns-in-None-next-clause-ends g c =
+nothing_waits : (s t : Search) (cell : Option Cell) → ((x : Cell) → cell ≡ Some x → ⊥) → GoesOn s t cell → s.behind ≡ []
+nothing_waits s t None none on = on
+nothing_waits s t (Some cell) none on = absurd (none cell refl)
+
+pub returns-in_default-clause-ends : goal.returns-in_default-clause-ends
+returns-in_default-clause-ends g c =
     let s = c.loop-search.search.pending in
     let t = c.look_once.new.self.pending in
     let counting = counting_goes least_is_unique _ _ _ _ s t _ _ c.loop-search.invariant.counting (steps_as _ _ s t _ _ _ _ c.in-None.is c.in_ok-found.ensures.steps) in
-    let P : Option Cell → Type 0 = GoesOn t c.advance.new.self in
-    counted_nothing _ _ _ _ _ _ counting (subst P c.in-None-next.is c.in_ok-next.ensures)
+    counted_nothing _ _ _ _ _ _ counting (nothing_waits t c.advance.new.self _ c.in_default.not-Some c.in_ok-cell.ensures)
 
 pub loop-search-preserved : goal.loop-search-preserved
 loop-search-preserved g c =
     let s = c.loop-search.search.pending in
     let t = c.look_once.new.self.pending in
     let u = c.advance.new.self in
-    let cell = c.in-Some-next.cell in
+    let cell = c.in-Some-2.cell in
     let book = c.args.book.now in
     let first = c.args.start.facts in
     let steps = steps_as _ _ s t _ _ _ _ c.in-None.is c.in_ok-found.ensures.steps in
     let counting = counting_goes least_is_unique _ _ _ _ s t _ _ c.loop-search.invariant.counting steps in
     let quiet = quiet_goes book c.args.known.now first s t _ _ c.loop-search.invariant.ready.same_shape c.loop-search.invariant.behind steps in
     let P : Option Cell → Type 0 = GoesOn t u in
-    let on : GoesOn t u (Some cell) = subst P c.in-Some-next.is c.in_ok-next.ensures in
+    let on : GoesOn t u (Some cell) = subst P c.in-Some-2.is c.in_ok-cell.ensures in
     let next = quiet_at book first t u cell quiet on in
     let at = next.0.1 in
     let lines = c.lines.result in
@@ -71,5 +74,5 @@ loop-search-smaller g c =
     let t = c.look_once.new.self.pending in
     let u = c.advance.new.self in
     let P : Option Cell → Type 0 = GoesOn t u in
-    let on : GoesOn t u (Some c.in-Some-next.cell) = subst P c.in-Some-next.is c.in_ok-next.ensures in
+    let on : GoesOn t u (Some c.in-Some-2.cell) = subst P c.in-Some-2.is c.in_ok-cell.ensures in
     goes_lighter c.args.book.now c.args.known.now s t u _ _ (steps_as _ _ s t _ _ _ _ c.in-None.is c.in_ok-found.ensures.steps) on.0
