@@ -125,7 +125,7 @@ def divided(path):
     parts["trimming"] = taken(whole, "justify::needs::needed_for")
     parts["closing"] = closing - parts["evaluating"] - parts["trimming"]
     parts["clues"] = taken(whole, "clues::clue_book::ClueBook::refreshed")
-    parts["base"] = taken(whole, "live_audit::making::base_of")
+    parts["base"] = taken(whole, "kept_audit::audit::base_of")
     parts["parts"] = taken(whole, "live_audit::making::answers_next")
     parts["keeping"] = advance - closing - parts["clues"] - parts["base"] - parts["parts"]
     return advance, parts

@@ -42,6 +42,10 @@ pub record IsAuditOf (d : Design) (clues : Clues) (book : Account) : Type 0 wher
 
 -- ---- the work
 
+-- a meter that has counted nothing
+abbrev pub nothing_done : Meter
+nothing_done = record { evaluations = 0; trials = 0 }
+
 -- So many evaluations, which the meter and the engine counted alike, close a book over lines that wait, with steps added.
 -- Nothing is tried.
 pub record ClosesBy (waiting : Lines) (added : List Step) (start end : Meter) (before after : ℕ) : Type 0 where

@@ -4,11 +4,10 @@ ghost use Rattle.std.specs.Prelude.{◌≡◌, ◌≤◌, ℕ, List, length, IfO
 ghost use Rattle.picture.specs.Rows.{width_of};
 ghost use Rattle.clues.specs.Change.{IsChangeOf};
 ghost use Rattle.clues.specs.ClueBook.{clues_of};
-ghost use Rattle.line_settle.specs.Counting.{Counts};
 ghost use Rattle.line_settle.specs.FactSets.{IsLeast};
 ghost use Rattle.edits.specs.Design.{design_of};
 ghost use Rattle.fixpoint.specs.declared.fault.CloseFault.TheVariants as fault;
-ghost use Rattle.kept_audit.specs.Audit.{GoesOn, IsAnew, IsAuditOf, IsBaseFor};
+ghost use Rattle.kept_audit.specs.Audit.{GoesOn, IsAnew, IsAuditOf, IsBaseFor, nothing_done};
 
 use clues::{Change, ClueBook};
 use justify::Book;
@@ -35,46 +34,50 @@ pub struct Revision<'a> {
     pub change: &'a Change,
 }
 
-/// Audits a document anew: counts its picture's clues, and closes the book without a step over what its givens exclude.
+/// The counts where nothing was evaluated yet.
+pub const NOTHING_DONE: Meter = Meter {
+    evaluations: 0,
+    trials: 0,
+};
+
+/// Audits a document anew: counts its picture's clues, and closes the book without a step over what its givens exclude. It
+/// tells the work too.
 pub fn audit_anew<E: LineEngine, A: Agenda>(
     alloc: Global,
     engine: &mut E,
     agenda: &mut A,
     document: &Document,
-    meter: &mut Meter,
-) -> Result<Audit, CloseFault>
+) -> Result<(Audit, Meter), CloseFault>
     requires wide { width_of document.now.picture ≤ E.longest engine.old }
     requires tall { length document.now.picture ≤ E.longest engine.old }
     ensures audit { IfOk result
-        (λ audit. IsAuditOf (design_of document.now) audit.clues audit.book) }
-    ensures work { IfOk result (λ audit. IsAnew audit.book.base audit.book meter.old meter.new
-        (E.calls engine.old) (E.calls engine.new)) }
-    ensures counts { (evaluations : ℕ)
-        × Counts evaluations 0 meter.old meter.new (E.calls engine.old) (E.calls engine.new) }
+        (λ (audit, _). IsAuditOf (design_of document.now) audit.clues audit.book) }
+    ensures work { IfOk result (λ (audit, work). IsAnew audit.book.base audit.book
+        nothing_done work (E.calls engine.old) (E.calls engine.new)) }
+    ensures calls { E.calls engine.old ≤ E.calls engine.new }
     ensures memory { IfErr result (λ e. e ≡ fault.Memory) }
     ensures same_longest { E.longest engine.new ≡ E.longest engine.old }
 {
-    let _ = document.picture.height();
-    let (_calls, _evaluations, _trials) = (engine.calls(), meter.evaluations, meter.trials);
+    let _ = (document.picture.height(), engine.calls());
+    let mut work = NOTHING_DONE;
     let base = base_of(alloc, document)?;
     let clues = ClueBook::of(alloc, &document.picture)?;
     let book = Book::start(alloc, base)?;
     let dirty = all_lines(book.facts());
-    let book = close(engine, agenda, book, &clues, &dirty, meter)?;
+    let book = close(engine, agenda, book, &clues, &dirty, &mut work)?;
     let _ = book.facts();
-    Ok(Audit { clues, book })
+    Ok((Audit { clues, book }, work))
 }
 
 /// Audits a document again after a change, from the audit of the one before it: its clues are refreshed, the steps that stand
 /// over what its givens exclude are kept, and the book is closed again from the dirty lines alone. The result is an audit of the
-/// new document like one made anew, and its facts are those of a fresh audit. The audit before stays.
+/// new document like one made anew, and its facts are those of a fresh audit. It tells the work too. The audit before stays.
 pub fn audit_again<E: LineEngine, A: Agenda>(
     alloc: Global,
     engine: &mut E,
     agenda: &mut A,
     revision: &Revision,
-    meter: &mut Meter,
-) -> Result<Audit, CloseFault>
+) -> Result<(Audit, Meter), CloseFault>
     requires audited { IsAuditOf (design_of revision.now.old.now) revision.now.audit.now.clues
         revision.now.audit.now.book }
     requires change { IsChangeOf revision.now.change.now revision.now.old.now.picture
@@ -82,29 +85,28 @@ pub fn audit_again<E: LineEngine, A: Agenda>(
     requires wide { width_of revision.now.new.now.picture ≤ E.longest engine.old }
     requires tall { length revision.now.new.now.picture ≤ E.longest engine.old }
     ensures audit { IfOk result
-        (λ audit. IsAuditOf (design_of revision.now.new.now) audit.clues audit.book) }
-    ensures fresh { (facts : List (List ℕ)) → IfOk result (λ audit.
+        (λ (audit, _). IsAuditOf (design_of revision.now.new.now) audit.clues audit.book) }
+    ensures fresh { (facts : List (List ℕ)) → IfOk result (λ (audit, _).
         IsLeast (clues_of revision.now.new.now.picture) audit.book.base facts
         → audit.book.facts ≡ facts) }
-    ensures goes_on { IfOk result (λ audit. GoesOn revision.now.change.now.moves
+    ensures goes_on { IfOk result (λ (audit, work). GoesOn revision.now.change.now.moves
         revision.now.audit.now.clues audit.clues revision.now.audit.now.book audit.book
-        meter.old meter.new (E.calls engine.old) (E.calls engine.new)) }
-    ensures counts { (evaluations : ℕ)
-        × Counts evaluations 0 meter.old meter.new (E.calls engine.old) (E.calls engine.new) }
+        nothing_done work (E.calls engine.old) (E.calls engine.new)) }
+    ensures calls { E.calls engine.old ≤ E.calls engine.new }
     ensures memory { IfErr result (λ e. e ≡ fault.Memory) }
     ensures same_longest { E.longest engine.new ≡ E.longest engine.old }
 {
     let before = revision.audit;
     let change = revision.change;
-    let _ = revision.new.picture.height();
-    let (_calls, _evaluations, _trials) = (engine.calls(), meter.evaluations, meter.trials);
+    let _ = (revision.new.picture.height(), engine.calls());
+    let mut work = NOTHING_DONE;
     let base = base_of(alloc, revision.new)?;
     let clues = before.clues.refresh(&revision.new.picture, change)?;
     let Kept { book, dirty } = keep(alloc, &before.book, &before.clues, &clues, change, base)?;
     let _ = book.facts();
-    let book = close(engine, agenda, book, &clues, &dirty, meter)?;
+    let book = close(engine, agenda, book, &clues, &dirty, &mut work)?;
     let _ = book.facts();
-    Ok(Audit { clues, book })
+    Ok((Audit { clues, book }, work))
 }
 
 // What the givens of a document exclude. It stays a function of its own, for a profiler.

@@ -3,7 +3,9 @@ use Rattle.std.proofs.Common.{◌≡◌, ℕ, ◌-◌, ◌<◌, ◌≤◌, List,
 use Rattle.std.proofs.lemmas.List.{length-append, length-drop, length-take}
 use Rattle.circular_buffer.specs.Buffer.{keep_last}
 use Rattle.edits.specs.declared.edit.Edit.{Edit}
-use Rattle.edits.specs.History.{Advance, ByEdit, ByRedo, ByUndo, History, Turn, advanced, after_edit, first_turn, last_turn, redone_to, turn, undone_to}
+use Rattle.edits.specs.Design.{Design}
+use Rattle.edits.specs.declared.studio.TheConstants.{MAX_DEPTH}
+use Rattle.edits.specs.History.{Advance, ByEdit, ByRedo, ByUndo, History, Turn, advanced, after_edit, first_turn, history, last_turn, redone_to, turn, undone_to}
 use Rattle.live_audit.specs.Bench.{FitsDepth}
 
 kept_few : (depth : ℕ) (turns : List Turn) → length (keep_last depth turns) ≤ depth
@@ -48,3 +50,6 @@ advanced_fits h ByRedo f = redone_fits h (first_turn h.future) refl f
 
 pub fits : (h after : History) (advance : Advance) → after ≡ advanced h advance → FitsDepth h → FitsDepth after
 fits h after advance e f = subst (λ (x : History). FitsDepth x) (sym e) (advanced_fits h advance f)
+
+pub begins : (d : Design) (depth : ℕ) (h : History) → h ≡ history d [] [] depth → 0 < depth → depth ≤ MAX_DEPTH → FitsDepth h
+begins d depth h e some most = subst (λ (x : History). FitsDepth x) (sym e) (record { some = some; most = most; few = omega arith })

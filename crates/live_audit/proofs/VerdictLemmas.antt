@@ -1,5 +1,5 @@
 -- What a judgement by parts comes to for a document.
-use Rattle.std.proofs.Common.{◌≡◌, ℕ, ◌≤◌, List, Option, Some, None, unwrap_or, Result, Ok, MatchResult, refl, sym, ap, subst, ◌∙◌, arith}
+use Rattle.std.proofs.Common.{◌≡◌, ℕ, ◌≤◌, List, [], Option, Some, None, unwrap_or, Result, Ok, MatchResult, refl, sym, ap, subst, ◌∙◌, arith}
 use Rattle.picture.specs.declared.document.Document.{Document}
 use Rattle.picture.specs.CellSet.{HasCell}
 use Rattle.picture.specs.Document.{AreInside}
@@ -17,12 +17,12 @@ use Rattle.second_search.specs.declared.keeper.Judged.TheVariants as judged
 use Rattle.second_search.specs.declared.keeper.KeptPart.{KeptPart}
 use Rattle.second_search.specs.declared.keeper.Verdict.{Verdict as Judgement}
 use Rattle.second_search.specs.Answering.{IsAnswer}
-use Rattle.second_search.specs.Judging.{AreTrue, Done, Judges, parts_of}
+use Rattle.second_search.specs.Judging.{AreTrue, Done, Judges, Starts, parts_of}
 use Rattle.second_search.specs.Judging as judging
 use Rattle.second_search.specs.Laws.{AllowancesBreakOff, SoundFacts}
 use Rattle.second_search.specs.Parts.{AreParts, IsScene}
 use Rattle.edits.specs.Design.{Design, design_of}
-use Rattle.edits.specs.History.{History}
+use Rattle.edits.specs.History.{History, history}
 use Rattle.edits.specs.Laws.{MarksAreGivens}
 use Rattle.live_audit.specs.declared.verdict.Ruling.{Ruling}
 use Rattle.live_audit.specs.declared.verdict.Verdict.{Verdict}
@@ -165,6 +165,14 @@ verdict_was old new verdict j d v =
     let a : new.allowance ≡ old.allowance = ap (λ (s : Seen). s.allowance) d.same in
     let there : IsVerdictOn old.history.document new.allowance verdict = subst (λ (x : History). IsVerdictOn x.document new.allowance verdict) h v in
     subst (λ (x : Option ℕ). IsVerdictOn old.history.document x verdict) a there
+
+-- a bench that begins is audited
+pub begins_audited : (d : Design) (depth : ℕ) (h : History) (clues : Clues) (book : Account) (facts : List (List ℕ)) (kept : List KeptPart) (allowance : Option ℕ) (work : Work) (calls : ℕ)
+    → h ≡ history d [] [] depth → IsAuditOf d clues book → facts ≡ book.facts → Starts facts kept → IsAudited (seen h clues book kept allowance work calls)
+begins_audited d depth h clues book facts kept allowance work calls e a f s = record {
+  audit = subst (λ (x : History). IsAuditOf x.document clues book) (sym e) a;
+  answers = record { parts = subst (λ (x : List (List ℕ)). AreParts x (parts_of kept)) f s.parts; true_answers = λ givens are. s.true_answers clues givens h.document.rows };
+}
 
 -- ---- what is known once all was searched
 

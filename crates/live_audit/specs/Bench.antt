@@ -4,9 +4,9 @@ use Rattle.picture.specs.declared.picture.TheConstants.{MAX_SIDE}
 use Rattle.picture.specs.CellSet.{HasCell, IsCellSet}
 use Rattle.picture.specs.Rows.{cell_at}
 use Rattle.clues.specs.ClueBook.{Clues}
-use Rattle.line_settle.specs.declared.meter.Meter.{Meter}
 use Rattle.justify.specs.Book.{Account}
 use Rattle.kept_audit.specs.Audit.{IsAnew, IsAuditOf}
+pub use Rattle.kept_audit.specs.Audit.{nothing_done}
 use Rattle.second_search.specs.declared.keeper.KeptPart.{KeptPart}
 use Rattle.second_search.specs.Judging.{AreTrue, Starts, parts_of}
 use Rattle.second_search.specs.Parts.{AreParts}
@@ -30,10 +30,6 @@ pub record Seen : Type 0 where
 abbrev pub seen : History → Clues → Account → List KeptPart → Option ℕ → Work → ℕ → Seen
 seen history clues book kept allowance work calls =
     record { history = history; clues = clues; book = book; kept = kept; allowance = allowance; work = work; calls = calls }
-
--- a meter that has counted nothing
-abbrev pub nothing_done : Meter
-nothing_done = record { evaluations = 0; trials = 0 }
 
 -- the cell is a given
 abbrev pub IsGiven : Design → ℕ → ℕ → Type 0

@@ -14,15 +14,15 @@ ghost use Rattle.live_audit.specs.Stroke.{Edits, Redoes, Undoes};
 ghost use Rattle.live_audit.specs.Verdict.{Tells, Decides, IsRulingOn, IsVerdictOn, AnswersAs, judged_as};
 
 use crate::certifying::certify_ordered;
-use crate::making::{answers_first, answers_next, audit_first, audit_next, rule};
+use crate::making::{answers_next, rule};
 use crate::verdict::{Ruling, Verdict};
 use crate::why::Why;
-use crate::work::{NOTHING_DONE, Work};
+use crate::work::{NO_WORK, Work};
 use certificate::Cert;
 use clues::ClueBook;
 use edits::{Edit, EditFault, MAX_DEPTH, Prepared, Studio};
 use justify::Book;
-use kept_audit::{Audit, Revision};
+use kept_audit::{Audit, Revision, audit_again, audit_anew};
 use line_settle::{Facts, LineEngine};
 use picture::{Document, MAX_SIDE};
 use propagate::Agenda;
@@ -72,19 +72,19 @@ impl<E: LineEngine + Drop, A: Agenda + Drop> Bench<E, A> {
         alloc: Global,
         document: Document,
         depth: u16,
-        engine: E,
-        agenda: A,
+        mut engine: E,
+        mut agenda: A,
     ) -> Result<Bench<E, A>, AllocError>
         requires depth { (0 < depth) × (depth ≤ MAX_DEPTH) }
         requires long { MAX_SIDE ≤ E.longest engine }
         ensures begins { IfOk result (Begins (design_of document) depth (E.calls engine)) }
         ensures audited { IfOk result IsAudited }
     {
-        let mut engine = engine;
-        let mut agenda = agenda;
-        let mut edit = NOTHING_DONE;
-        let audit = audit_first(alloc, &mut engine, &mut agenda, &document, &mut edit)?;
-        let keeper = answers_first(alloc, &document, &audit)?;
+        let _ = document.picture.height();
+        let Ok((audit, edit)) = audit_anew(alloc, &mut engine, &mut agenda, &document) else {
+            return Err(AllocError);
+        };
+        let keeper = Keeper::start(alloc, audit.book.facts())?;
         let studio = Studio::start(alloc, document, depth)?;
         Ok(Bench {
             alloc,
@@ -94,12 +94,7 @@ impl<E: LineEngine + Drop, A: Agenda + Drop> Bench<E, A> {
             allowance: None,
             engine,
             agenda,
-            work: Work {
-                edit,
-                search: NOTHING_DONE,
-                parts: 0,
-                splits: 0,
-            },
+            work: Work { edit, ..NO_WORK },
         })
     }
 
@@ -111,7 +106,6 @@ impl<E: LineEngine + Drop, A: Agenda + Drop> Bench<E, A> {
         ensures calls { self.old.calls ≤ self.new.calls }
         ensures audited { IsAudited self.new }
     {
-        let _ = &self.audit;
         let prepared = self.studio.prepare(self.alloc, edit)?;
         self.advance(prepared)
     }
@@ -123,7 +117,6 @@ impl<E: LineEngine + Drop, A: Agenda + Drop> Bench<E, A> {
         ensures calls { self.old.calls ≤ self.new.calls }
         ensures audited { IsAudited self.new }
     {
-        let _ = &self.audit;
         let prepared = self.studio.prepare_undo()?;
         self.advance(prepared)
     }
@@ -135,7 +128,6 @@ impl<E: LineEngine + Drop, A: Agenda + Drop> Bench<E, A> {
         ensures calls { self.old.calls ≤ self.new.calls }
         ensures audited { IsAudited self.new }
     {
-        let _ = &self.audit;
         let prepared = self.studio.prepare_redo()?;
         self.advance(prepared)
     }
@@ -153,20 +145,17 @@ impl<E: LineEngine + Drop, A: Agenda + Drop> Bench<E, A> {
         ensures calls { self.old.calls ≤ self.new.calls }
         ensures audited { IsAudited self.new }
     {
-        let mut edit = NOTHING_DONE;
         let turn = Revision {
             audit: &self.audit,
             old: self.studio.document(),
             new: prepared.document(),
             change: prepared.change(),
         };
-        let audit = audit_next(
-            self.alloc,
-            &mut self.engine,
-            &mut self.agenda,
-            &turn,
-            &mut edit,
-        )?;
+        let _ = turn.new.picture.height();
+        let Ok((audit, edit)) = audit_again(self.alloc, &mut self.engine, &mut self.agenda, &turn)
+        else {
+            return Err(EditFault::Memory);
+        };
         let keeper = answers_next(
             &self.keeper,
             self.studio.document(),
@@ -209,7 +198,7 @@ impl<E: LineEngine + Drop, A: Agenda + Drop> Bench<E, A> {
         ensures calls { self.old.calls ≤ self.new.calls }
         ensures audited { IsAudited self.new }
     {
-        let ruled = rule(
+        let (ruling, work) = rule(
             &mut self.keeper,
             &mut self.engine,
             self.studio.document(),
@@ -218,11 +207,9 @@ impl<E: LineEngine + Drop, A: Agenda + Drop> Bench<E, A> {
         )?;
         self.work = Work {
             edit: self.work.edit,
-            search: ruled.search,
-            parts: ruled.parts,
-            splits: ruled.splits,
+            ..work
         };
-        Ok(ruled.ruling)
+        Ok(ruling)
     }
 
     // What a ruling is answered as.
@@ -281,14 +268,14 @@ impl<E: LineEngine + Drop, A: Agenda + Drop> Bench<E, A> {
         ensures audited { IsAudited self.new }
     {
         let _ = self.engine.calls();
-        let ruled = rule(
+        let (ruling, _) = rule(
             &mut self.keeper,
             &mut self.engine,
             self.studio.document(),
             &self.audit,
             None,
         )?;
-        Ok(ruled.ruling)
+        Ok(ruling)
     }
 
     // Makes the certificate of the present document.
@@ -298,7 +285,6 @@ impl<E: LineEngine + Drop, A: Agenda + Drop> Bench<E, A> {
         ensures calls { self.old.calls ≤ self.new.calls }
         ensures audited { IsAudited self.new }
     {
-        let _ = &self.audit;
         certify_ordered(self.alloc, &mut self.engine, self.studio.document())
     }
 

@@ -3,7 +3,6 @@
 ghost use Rattle.second_search.specs.declared.keeper.Judged.{Judged};
 ghost use Rattle.live_audit.specs.Verdict.{IsRuledBy};
 
-use line_settle::Meter;
 use picture::Picture;
 use second_search::Judged;
 
@@ -24,15 +23,6 @@ pub(crate) enum Ruling {
     Unique,
     Ambiguous,
     Undecided { splits: u32 },
-}
-
-/// A ruling, and what the searches for it took: their evaluations, how many parts were searched, and how many cells were split.
-#[derive(Clone, Copy)]
-pub(crate) struct Ruled {
-    pub ruling: Ruling,
-    pub search: Meter,
-    pub parts: u32,
-    pub splits: u32,
 }
 
 /// How a judgement rules. It is broken off only where an allowance is set.

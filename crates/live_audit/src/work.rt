@@ -1,5 +1,6 @@
 //! The work of a bench.
 
+use kept_audit::NOTHING_DONE;
 use line_settle::Meter;
 
 /// How much work was done: by the last edit, undo, redo or start that was accepted; by the last verdict, with the number
@@ -13,8 +14,10 @@ pub struct Work {
     pub splits: u32,
 }
 
-/// The counts where nothing was evaluated yet.
-pub(crate) const NOTHING_DONE: Meter = Meter {
-    evaluations: 0,
-    trials: 0,
+/// The counts where nothing was done yet.
+pub(crate) const NO_WORK: Work = Work {
+    edit: NOTHING_DONE,
+    search: NOTHING_DONE,
+    parts: 0,
+    splits: 0,
 };

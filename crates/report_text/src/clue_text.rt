@@ -106,8 +106,7 @@ fn push_block(text: &mut Vec<u8>, block: Block) -> Result<(), AllocError>
     ensures { OnOk result (text.new.items ≡ text.old.items ++ block_text block) }
 {
     push_number(text, usize::from(block.len))?;
-    text.push(b'a' - 1 + block.colour)?;
-    Ok(())
+    Ok(text.push(b'a' - 1 + block.colour)?)
 }
 
 #[tactic(auto, using(std::proofs::lemmas::Fmt::decimal_digit))]
@@ -118,8 +117,7 @@ pub fn push_number(text: &mut Vec<u8>, number: usize) -> Result<(), AllocError>
     ensures room { TakesRoom text.old text.new (length (decimal number)) result }
 {
     if number < 10 {
-        text.push(b'0' + number as u8)?;
-        return Ok(());
+        return Ok(text.push(b'0' + number as u8)?);
     }
     push_digits(text, number)
 }
@@ -130,6 +128,5 @@ fn push_digits(text: &mut Vec<u8>, number: usize) -> Result<(), AllocError>
     ensures items { OnOk result (text.new.items ≡ text.old.items ++ decimal number) }
     ensures room { TakesRoom text.old text.new (length (decimal number)) result }
 {
-    text.extend_from_slice(Buffer::new().format(number).as_bytes())?;
-    Ok(())
+    text.extend_from_slice(Buffer::new().format(number).as_bytes())
 }

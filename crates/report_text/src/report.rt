@@ -40,8 +40,7 @@ fn push_before(text: &mut Vec<u8>, number: usize, end: u8) -> Result<(), AllocEr
     ensures room { TakesRoom text.old text.new 21 result }
 {
     push_number(text, number)?;
-    text.push(end)?;
-    Ok(())
+    Ok(text.push(end)?)
 }
 
 #[tactic(auto, using(std::proofs::lemmas::List::append_assoc))]

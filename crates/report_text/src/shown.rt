@@ -61,8 +61,7 @@ fn push_row(text: &mut Vec<u8>, picture: &Picture, row: u8) -> Result<(), AllocE
     for col in 0..picture.width() {
         text.push(letter_of(picture.cell(row, col)))?;
     }
-    text.push(b'\n')?;
-    Ok(())
+    Ok(text.push(b'\n')?)
 }
 
 /// Puts the rows of a map behind a text: the letter of the one colour that is left in a cell, or `?`. Where memory is refused, a
@@ -85,6 +84,5 @@ fn push_masks(text: &mut Vec<u8>, facts: &Facts, row: u8) -> Result<(), AllocErr
     for col in 0..facts.width() {
         text.push(mask_letter(facts.left(row, col)))?;
     }
-    text.push(b'\n')?;
-    Ok(())
+    Ok(text.push(b'\n')?)
 }

@@ -2,13 +2,12 @@
 use Rattle.std.specs.Prelude.{◌≡◌, ◌≤◌, ◌⊎◌, ℕ, true, false, List, [], codes, Result, Ok, Err}
 use Rattle.std.specs.declared.vec.Vec.{Vec}
 use Rattle.std.specs.declared.alloc.Global.{Global}
-use Rattle.std.specs.Borrow.{Bor}
 use Rattle.non_text.specs.Writing.{is_two_colour}
 use Rattle.non_text.specs.Written.{non_text_of}
 use Rattle.live_audit.specs.declared.verdict.Verdict.{Verdict}
 use Rattle.live_audit.specs.Bench.{Seen}
 use Rattle.live_audit.specs.Calls.{IsAsBefore}
-use Rattle.session.specs.Session.{Judges, verdict_word}
+use Rattle.session.specs.Session.{Judges}
 use Rattle.edits.specs.declared.fault.EditFault.{EditFault}
 use Rattle.session.specs.declared.answer.Answer.{Answer}
 use Rattle.session.specs.declared.answer.Answer.TheVariants.{Silence, Done, Text, Refused}
@@ -44,8 +43,3 @@ GivesNon rows (Refused fault) = ((fault ≡ TwoColoursOnly) × (is_two_colour ro
 abbrev pub IsAsked : {E : Type 0} → (Verdict → List ℕ) → Seen → Seen → Result (Vec ℕ Global) E → Type 0
 IsAsked shown old new (Ok text) = (old.calls ≤ new.calls) × ((verdict : Verdict) × (Judges old new verdict × (text.items ≡ shown verdict)))
 IsAsked shown old new (Err e) = (old.calls ≤ new.calls) × IsAsBefore old new
-
--- the verdict's word
-abbrev pub IsAskedWord : {E : Type 0} → Seen → Seen → Result (Bor (List ℕ)) E → Type 0
-IsAskedWord old new (Ok word) = (old.calls ≤ new.calls) × ((verdict : Verdict) × (Judges old new verdict × (word.now ≡ verdict_word verdict)))
-IsAskedWord old new (Err e) = (old.calls ≤ new.calls) × IsAsBefore old new

@@ -13,7 +13,7 @@ ghost use Rattle.report_text.specs.Shown.{map_text};
 ghost use Rattle.live_audit.specs.Certify.{Certifies};
 ghost use Rattle.live_audit.specs.Calls.{IsSearched, Learns};
 ghost use Rattle.live_audit.specs.Bench.{IsAudited};
-ghost use Rattle.session.specs.Answer.{GivesNon, IsAsked, IsAskedWord, answer_text, stroke_said, text_said};
+ghost use Rattle.session.specs.Answer.{GivesNon, IsAsked, answer_text, stroke_said, text_said};
 ghost use Rattle.session.specs.Room.{verdict_room};
 ghost use Rattle.session.specs.Session.{Replies, Says, certified_text, other_text, report_on, undecided_text, verdict_text, verdict_word, why_text};
 
@@ -184,8 +184,7 @@ fn push_undecided(text: &mut Vec<u8>, splits: u32) -> Result<(), AllocError>
 {
     text.extend_from_slice(b"undecided ")?;
     push_number(text, splits as usize)?;
-    text.push(b'\n')?;
-    Ok(())
+    Ok(text.push(b'\n')?)
 }
 
 // The report. All its memory is taken before its verdict is asked for, since that may change what is kept.
@@ -198,21 +197,13 @@ fn report_text<E: LineEngine + Drop, A: Agenda + Drop>(
     let mut text = Vec::new(alloc);
     push_front(&mut text, bench.document(), bench.clues(), bench.map())?;
     text.reserve(ENDING_ROOM)?;
-    let word = asked_word(bench)?;
+    let verdict = bench.verdict()?;
+    let word = verdict_word(&verdict);
     push_ending(&mut text, word, bench.past_len(), bench.future_len())?;
     Ok(text)
 }
 
 // The verdict's word.
-fn asked_word<E: LineEngine + Drop, A: Agenda + Drop>(
-    bench: &mut Bench<E, A>,
-) -> Result<&'static [u8], AllocError>
-    ensures { IsAskedWord bench.old bench.new result }
-{
-    let verdict = bench.verdict()?;
-    Ok(verdict_word(&verdict))
-}
-
 fn verdict_word(verdict: &Verdict<'_>) -> &'static [u8]
     ensures { result.now ≡ verdict_word verdict.now }
 {

@@ -1,4 +1,4 @@
-use Rattle.std.proofs.Common.{List, ℕ, subst, sym}
+use Rattle.std.proofs.Common.{List, ℕ, subst, sym, arith}
 use Rattle.std.proofs.lemmas.Result.{err_from_is_err_and}
 use Rattle.line_settle.specs.FactSets.{SameShape}
 use Rattle.edits.specs.Design.{design_of}
@@ -41,9 +41,6 @@ returns-in_err-book-2-clause-memory g c =
     let counted = c.in_ok-clues.ensures.value c.args.revision.now.old.now.picture c.requires.audited.clues_are c.requires.change.follows in
     rw (p.1, p.2) (no_fault_but_memory (design_of c.args.revision.now.new.now) c.in_ok-base.base c.in_ok-clues.clues c.in_ok-book.field-0.book c.in_err-book-2.field-0.0 c.height.ensures.picture counted c.in_ok-base.ensures c.in_ok-book.ensures.base c.in_err-book-2.ensures.closes)
 
-pub returns-clause-counts : goal.returns-clause-counts
-returns-clause-counts g c = (c.in_ok-book-2.ensures.works.0, c.in_ok-book-2.ensures.works.1)
-
 pub returns-clause-audit : goal.returns-clause-audit
 returns-clause-audit g c =
     let a = c.requires.audited in
@@ -61,3 +58,9 @@ pub returns-clause-goes_on : goal.returns-clause-goes_on
 returns-clause-goes_on g c =
     let e = c.in_ok-book.ensures in
     goes_on c.args.revision.now.change.now.moves c.args.revision.now.audit.now.clues c.in_ok-clues.clues c.in_ok-base.base c.args.revision.now.audit.now.book c.in_ok-book.field-0.book c.in_ok-book-2.book _ _ _ _ _ c.facts.ensures.account e.base e.steps e.dirty c.in_ok-book-2.ensures.closes c.in_ok-book-2.ensures.works
+
+pub returns-in_err-book-2-clause-calls : goal.returns-in_err-book-2-clause-calls
+returns-in_err-book-2-clause-calls g c = let k = c.in_err-book-2.ensures.works.1.calls in omega arith
+
+pub returns-clause-calls : goal.returns-clause-calls
+returns-clause-calls g c = let k = c.in_ok-book-2.ensures.works.1.calls in omega arith

@@ -1,4 +1,4 @@
-use Rattle.std.proofs.Common.{◌≡◌, List, ℕ, ap, sym, subst}
+use Rattle.std.proofs.Common.{◌≡◌, List, ℕ, ap, sym, subst, arith}
 use Rattle.std.proofs.lemmas.Result.{err_from_is_err_and}
 use Rattle.edits.specs.Design.{design_of}
 use Rattle.picture.specs.Rows.{HasLine}
@@ -46,3 +46,9 @@ returns-clause-work g c =
     let P : List (List ℕ) → Type 0 = λ f. AllLines f c.all_lines-dirty.result in
     let over : c.in_ok-book.book.facts ≡ c.in_ok-base.base = ap (λ (b : Account). b.facts) c.in_ok-book.ensures in
     is_anew c.in_ok-clues.clues c.in_ok-base.base _ c.in_ok-book.book c.in_ok-book-2.book _ _ _ _ c.in_ok-book.ensures (subst P over (subst P c.facts.ensures.value c.all_lines-dirty.ensures.lines)) c.in_ok-book-2.ensures.closes c.in_ok-book-2.ensures.works
+
+pub returns-in_err-book-2-clause-calls : goal.returns-in_err-book-2-clause-calls
+returns-in_err-book-2-clause-calls g c = let k = c.in_err-book-2.ensures.works.1.calls in omega arith
+
+pub returns-clause-calls : goal.returns-clause-calls
+returns-clause-calls g c = let k = c.in_ok-book-2.ensures.works.1.calls in omega arith

@@ -12,17 +12,17 @@ pub invariant_of-self-2 : goal.invariant_of-self-2
 invariant_of-self-2 g c =
     let s = c.self.inside in
     let p = c.args.prepared in
-    let new = c.in_ok-audit.audit in
+    let new = c.in-Ok.audit in
     let was = ap (λ (x : Seen). x.history) c.self.view_is in
     let here = goes_to c.document-2.result.now p.document p.advance s.studio c.args.self.now.history c.commit.new.self c.document-2.ensures c.requires.plan.gives was c.commit.ensures in
     let there = goes_to c.document-4.result.now p.document p.advance s.studio c.args.self.now.history c.commit.new.self c.document-4.ensures c.requires.plan.gives was c.commit.ensures in
     record {
       audited = record {
-        audit = subst (λ (d : Design). IsAuditOf d new.clues new.book) here c.in_ok-audit.ensures.audited;
+        audit = subst (λ (d : Design). IsAuditOf d new.clues new.book) here c.in-Ok.ensures.audit;
         answers = subst (λ (d : Design). AreAnswersOf d new.clues new.book.facts c.in_ok-keeper.keeper) there c.in_ok-keeper.ensures.answers;
       };
       history = fits s.studio c.commit.new.self p.advance c.commit.ensures c.self.invariant.history;
-      long = subst (λ n. MAX_SIDE ≤ n) (sym c.in_ok-audit.ensures.same_longest) c.self.invariant.long;
+      long = subst (λ n. MAX_SIDE ≤ n) (sym c.audit_again.ensures.same_longest) c.self.invariant.long;
     }
 
 pub returns-clause-book : goal.returns-clause-book
@@ -31,4 +31,4 @@ returns-clause-book g c =
     let p = c.args.prepared in
     let was = ap (λ (x : Seen). x.history) c.self.view_is in
     let to = goes_to c.document-4.result.now p.document p.advance s.studio c.args.self.now.history c.commit.new.self c.document-4.ensures c.requires.plan.gives was c.commit.ensures in
-    carries_on p.change.moves _ c.document-3.result.now c.document-4.result.now s.studio c.commit.new.self s.audit.clues _ s.audit.book _ s.keeper _ s.allowance s.work _ _ _ c.args.self.now c.document-3.ensures to c.self.view_is (ap (λ (x : Changes). x.moves) c.change.ensures) c.in_ok-audit.ensures.goes_on c.in_ok-keeper.ensures.carries
+    carries_on p.change.moves _ c.document-3.result.now c.document-4.result.now s.studio c.commit.new.self s.audit.clues _ s.audit.book _ s.keeper _ s.allowance s.work _ _ _ c.args.self.now c.document-3.ensures to c.self.view_is (ap (λ (x : Changes). x.moves) c.change.ensures) c.in-Ok.ensures.goes_on c.in_ok-keeper.ensures.carries
