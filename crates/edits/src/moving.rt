@@ -44,14 +44,10 @@ fn was_given(givens: &CellSet, back: &Change, row: u8, col: u8) -> bool
     requires column { col < lines_before Axis.Down back.now.moves }
     ensures { IsTrue result ↔ (mark_before givens.now back.now.moves row col ≡ 1) }
 {
-    let row = back.image(LineId {
-        axis: Axis::Across,
-        at: row,
-    });
-    let column = back.image(LineId {
-        axis: Axis::Down,
-        at: col,
-    });
+    let axis = Axis::Across;
+    let row = back.image(LineId { axis, at: row });
+    let axis = Axis::Down;
+    let column = back.image(LineId { axis, at: col });
     match (row, column) {
         (Some(row), Some(column)) => givens.has(row.at, column.at),
         _ => false,

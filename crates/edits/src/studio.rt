@@ -116,9 +116,7 @@ impl Studio {
         ensures exact { IfOk result
             (λ p. IsChangeOf p.change self.now.document.rows p.document.rows) }
     {
-        let Some(entry) = self.past.back() else {
-            return Err(EditFault::UndoEmpty);
-        };
+        let entry = self.past.back().ok_or(EditFault::UndoEmpty)?;
         Ok(undo_of(&self.document, entry)?)
     }
 
@@ -134,9 +132,7 @@ impl Studio {
         ensures exact { IfOk result
             (λ p. IsChangeOf p.change self.now.document.rows p.document.rows) }
     {
-        let Some(entry) = self.future.front() else {
-            return Err(EditFault::RedoEmpty);
-        };
+        let entry = self.future.front().ok_or(EditFault::RedoEmpty)?;
         Ok(redo_of(&self.document, entry)?)
     }
 
