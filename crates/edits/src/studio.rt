@@ -51,12 +51,10 @@ impl Studio {
         requires { (0 < depth) × (depth ≤ MAX_DEPTH) }
         ensures { IfOk result (λ s. s ≡ history (design_of document) [] [] depth) }
     {
-        let past = HeapCircularBuffer::with_capacity(alloc, usize::from(depth))?;
-        let future = HeapCircularBuffer::with_capacity(alloc, usize::from(depth))?;
         Ok(Studio {
             document,
-            past,
-            future,
+            past: HeapCircularBuffer::with_capacity(alloc, usize::from(depth))?,
+            future: HeapCircularBuffer::with_capacity(alloc, usize::from(depth))?,
         })
     }
 
