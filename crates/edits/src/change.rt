@@ -102,14 +102,10 @@ fn touch_cell(change: &mut Change, row: u8, col: u8)
     ensures touched { (line : LineId)
         → IsTouched change.new line ↔ (IsTouched change.old line ⊎ IsOnLine line row col) }
 {
-    change.touch(LineId {
-        axis: Axis::Across,
-        at: row,
-    });
-    change.touch(LineId {
-        axis: Axis::Down,
-        at: col,
-    });
+    let axis = Axis::Across;
+    change.touch(LineId { axis, at: row });
+    let axis = Axis::Down;
+    change.touch(LineId { axis, at: col });
 }
 
 // The change between a picture and the one with two lines exchanged.
@@ -126,10 +122,8 @@ fn of_swap(old: &Picture, new: &Picture, axis: Axis, first: u8, second: u8) -> C
     let mut change = Change::swap(old.height(), old.width(), axis, first, second);
     for at in 0..line_length(old, axis) {
         if !is_same_at(old, axis, first, second, at) {
-            change.touch(LineId {
-                axis: axis.crossing(),
-                at,
-            });
+            let axis = axis.crossing();
+            change.touch(LineId { axis, at });
         }
     }
     change

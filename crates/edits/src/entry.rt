@@ -41,14 +41,11 @@ impl Entry {
         ensures entry { IfOk result (λ entry. IsEntry (design_of document.now) (note_of entry)) }
     {
         know(document);
-        let cells = kept_cells(alloc, &document.picture, edit)?;
-        let triple = kept_triple(&document.palette, edit);
-        let givens = kept_givens(alloc, document, edit)?;
         Ok(Entry {
             edit: *edit,
-            cells,
-            triple,
-            givens,
+            cells: kept_cells(alloc, &document.picture, edit)?,
+            triple: kept_triple(&document.palette, edit),
+            givens: kept_givens(alloc, document, edit)?,
         })
     }
 

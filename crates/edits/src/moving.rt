@@ -2,7 +2,7 @@
 
 ghost use Rattle.std.specs.Prelude.{◌≡◌, ◌<◌, ◌≤◌, ◌↔◌, IsTrue};
 ghost use Rattle.clues.specs.Change.{lines_before};
-ghost use Rattle.edits.specs.Moving.{AreMoved, AreMovedTo, mark_before};
+ghost use Rattle.edits.specs.Moving.{AreMoved, mark_before};
 
 use clues::Change;
 use picture::{Axis, CellSet, LineId, MAX_SIDE};
@@ -17,25 +17,13 @@ pub(crate) fn moved_givens(givens: &CellSet, back: &Change, height: u8, width: u
 {
     let mut moved = CellSet::empty();
     for row in 0..height {
-        move_row(&mut moved, givens, back, row, width);
-    }
-    moved
-}
-
-#[tactic(auto, using(crate::proofs::MoveLemmas::moving))]
-// Puts the givens of a row.
-fn move_row(moved: &mut CellSet, givens: &CellSet, back: &Change, row: u8, width: u8)
-    requires row { row < lines_before Axis.Across back.now.moves }
-    requires fits { (row < MAX_SIDE) × (width ≤ MAX_SIDE) }
-    requires columns { width ≡ lines_before Axis.Down back.now.moves }
-    requires before { AreMovedTo givens.now moved.old back.now.moves width row 0 }
-    ensures { AreMovedTo givens.now moved.new back.now.moves width row width }
-{
-    for col in 0..width {
-        if was_given(givens, back, row, col) {
-            moved.put(row, col);
+        for col in 0..width {
+            if was_given(givens, back, row, col) {
+                moved.put(row, col);
+            }
         }
     }
+    moved
 }
 
 // Whether the cell that a new cell was is given.
@@ -44,14 +32,10 @@ fn was_given(givens: &CellSet, back: &Change, row: u8, col: u8) -> bool
     requires column { col < lines_before Axis.Down back.now.moves }
     ensures { IsTrue result ↔ (mark_before givens.now back.now.moves row col ≡ 1) }
 {
-    let row = back.image(LineId {
-        axis: Axis::Across,
-        at: row,
-    });
-    let column = back.image(LineId {
-        axis: Axis::Down,
-        at: col,
-    });
+    let axis = Axis::Across;
+    let row = back.image(LineId { axis, at: row });
+    let axis = Axis::Down;
+    let column = back.image(LineId { axis, at: col });
     match (row, column) {
         (Some(row), Some(column)) => givens.has(row.at, column.at),
         _ => false,

@@ -1,10 +1,9 @@
 //! Cells that an edit paints.
 
-ghost use Rattle.std.specs.Prelude.{◌≡◌, ◌≢◌, ◌<◌, ◌++◌, [], false, length, IfOk, OnOk, MatchBool};
-ghost use Rattle.picture.specs.Rows.{width_of};
+ghost use Rattle.std.specs.Prelude.{◌≡◌, ◌≢◌, [], false, IfOk, MatchBool};
 ghost use Rattle.edits.specs.Edit.{colour_after};
 ghost use Rattle.edits.specs.Fault.{is_outside};
-ghost use Rattle.edits.specs.Note.{changed_cells, changed_in_row};
+ghost use Rattle.edits.specs.Note.{changed_cells};
 ghost use Rattle.edits.specs.Painting.{IsArea};
 
 use crate::cells::Cell;
@@ -87,32 +86,14 @@ pub fn changed_cells(alloc: Global, picture: &Picture, edit: &Edit) -> Result<Ve
     let area = edit.area(picture);
     let mut cells = Vec::new(alloc);
     for row in area.top..area.below {
-        push_changed(&mut cells, picture, edit, area, row)?;
-    }
-    Ok(cells)
-}
-
-#[tactic(auto, using(crate::proofs::PaintLemmas::painting))]
-// Appends the cells of a row.
-fn push_changed(
-    cells: &mut Vec<Cell>,
-    picture: &Picture,
-    edit: &Edit,
-    area: Area,
-    row: u8,
-) -> Result<(), AllocError>
-    requires area { IsArea edit.now picture.now area.top area.below area.left area.beyond }
-    requires row { row < length picture.now }
-    ensures { OnOk result (cells.new.items
-        ≡ cells.old.items ++ changed_in_row edit.now picture.now row) }
-{
-    for col in area.left..area.beyond {
-        let old = picture.cell(row, col);
-        if edit.colour_after(row, col, old) != old {
-            cells.push((row, col, old))?;
+        for col in area.left..area.beyond {
+            let old = picture.cell(row, col);
+            if edit.colour_after(row, col, old) != old {
+                cells.push((row, col, old))?;
+            }
         }
     }
-    Ok(())
+    Ok(cells)
 }
 
 #[tactic(auto, using(crate::proofs::PaintLemmas::painting))]
@@ -124,25 +105,11 @@ pub(crate) fn changes_cells(picture: &Picture, edit: &Edit) -> bool
 {
     let area = edit.area(picture);
     for row in area.top..area.below {
-        if changes_row(picture, edit, area, row) {
-            return true;
-        }
-    }
-    false
-}
-
-#[tactic(auto, using(crate::proofs::PaintLemmas::painting))]
-// Whether an edit gives some cell of a row another colour.
-fn changes_row(picture: &Picture, edit: &Edit, area: Area, row: u8) -> bool
-    requires area { IsArea edit.now picture.now area.top area.below area.left area.beyond }
-    requires row { row < length picture.now }
-    ensures { MatchBool result (changed_in_row edit.now picture.now row ≢ [])
-        (changed_in_row edit.now picture.now row ≡ []) }
-{
-    for col in area.left..area.beyond {
-        let old = picture.cell(row, col);
-        if edit.colour_after(row, col, old) != old {
-            return true;
+        for col in area.left..area.beyond {
+            let old = picture.cell(row, col);
+            if edit.colour_after(row, col, old) != old {
+                return true;
+            }
         }
     }
     false

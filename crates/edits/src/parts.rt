@@ -56,13 +56,10 @@ fn moved(document: &Document, picture: Picture, back: &Change) -> Result<Documen
     ensures givens { IfOk result (λ d. AreMoved document.now.givens d.givens back.now.moves
         (length picture) (width_of picture)) }
 {
-    let palette = document.palette.copy()?;
-    let (height, width) = (picture.height(), picture.width());
-    let givens = moved_givens(&document.givens, back, height, width);
     Ok(Document {
-        palette,
+        palette: document.palette.copy()?,
+        givens: moved_givens(&document.givens, back, picture.height(), picture.width()),
         picture,
-        givens,
     })
 }
 

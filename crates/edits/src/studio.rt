@@ -51,12 +51,10 @@ impl Studio {
         requires { (0 < depth) × (depth ≤ MAX_DEPTH) }
         ensures { IfOk result (λ s. s ≡ history (design_of document) [] [] depth) }
     {
-        let past = HeapCircularBuffer::with_capacity(alloc, usize::from(depth))?;
-        let future = HeapCircularBuffer::with_capacity(alloc, usize::from(depth))?;
         Ok(Studio {
             document,
-            past,
-            future,
+            past: HeapCircularBuffer::with_capacity(alloc, usize::from(depth))?,
+            future: HeapCircularBuffer::with_capacity(alloc, usize::from(depth))?,
         })
     }
 
@@ -116,9 +114,7 @@ impl Studio {
         ensures exact { IfOk result
             (λ p. IsChangeOf p.change self.now.document.rows p.document.rows) }
     {
-        let Some(entry) = self.past.back() else {
-            return Err(EditFault::UndoEmpty);
-        };
+        let entry = self.past.back().ok_or(EditFault::UndoEmpty)?;
         Ok(undo_of(&self.document, entry)?)
     }
 
@@ -134,9 +130,7 @@ impl Studio {
         ensures exact { IfOk result
             (λ p. IsChangeOf p.change self.now.document.rows p.document.rows) }
     {
-        let Some(entry) = self.future.front() else {
-            return Err(EditFault::RedoEmpty);
-        };
+        let entry = self.future.front().ok_or(EditFault::RedoEmpty)?;
         Ok(redo_of(&self.document, entry)?)
     }
 

@@ -1,5 +1,5 @@
 -- The pieces of a text and its lines.
-use Rattle.std.proofs.Common.{◌≡◌, ℕ, ◌-◌, ◌<◌, true, false, cond, not, eqb, List, [], ◌∷◌, length, Some, None, refl, ap, ◌∙◌, arith, filter}
+use Rattle.std.proofs.Common.{◌≡◌, ℕ, ◌<◌, true, false, cond, not, eqb, List, [], ◌∷◌, length, Some, None, refl, ap, ◌∙◌, arith, filter}
 use Rattle.std.specs.List.{slice_split}
 use Rattle.std.specs.Str.Lines.{strip_carriage_return}
 use Rattle.non_text.specs.Bytes.{is_empty}

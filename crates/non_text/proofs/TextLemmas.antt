@@ -38,6 +38,10 @@ clue_text_some (b ∷ blocks) first some e =
     ∙ ap (λ (c : Block). decimal c.len ++ flat_map (λ (other : Block). 44 ∷ decimal other.len) blocks) (sym e)
     ∙ ap (λ (others : List Block). decimal first.len ++ flat_map (λ (other : Block). 44 ∷ decimal other.len) others) (sym (take_all (length (b ∷ blocks) - 1) blocks (omega arith)))
 
+pub clue_text_at : (blocks : List Block) (d : Block) → 0 < length blocks → clue_text blocks ≡ decimal (get_or blocks 0 d).len ++ flat_map (λ (other : Block). 44 ∷ decimal other.len) (take (length blocks - 1) (drop 1 blocks))
+clue_text_at [] d some = absurd (omega (arith, some))
+clue_text_at (b ∷ blocks) d some = clue_text_some (b ∷ blocks) b some refl
+
 pub ruleset clue_texts = (clue_text_none, clue_text_some, append_assoc)
 
 -- ---- the whole

@@ -19,8 +19,7 @@ use std::alloc::{AllocError, Global};
 pub(crate) fn number(bytes: &[u8]) -> Option<u8>
     ensures { result ≡ option_map (min 255) (number_spelled bytes.now) }
 {
-    let number = number_in(bytes)?;
-    Some(number.min(255) as u8)
+    Some(number_in(bytes)?.min(255) as u8)
 }
 
 #[tactic(auto, using(crate::proofs::ClueLineLemmas::places))]
@@ -33,9 +32,7 @@ fn numbers(alloc: Global, line: &[u8]) -> Read<SmallVec<u8, 8>>
     let mut rest = Some(line);
     while let Some(places) = rest {
         let (place, behind) = split_first(places, b',');
-        let Some(number) = number(trim(place)) else {
-            return Err(NonFault::BadClue);
-        };
+        let number = number(trim(place)).ok_or(NonFault::BadClue)?;
         numbers.push(number).map_err(|_| NonFault::Memory)?;
         rest = behind;
     }

@@ -1,7 +1,7 @@
 //! Whether the lines of a section are as many as its clues.
 
 ghost use Rattle.std.specs.Prelude.{◌≡◌, ◌+◌, ◌<◌, ◌^◌};
-ghost use Rattle.non_text.specs.Counting.{with_line, count_of};
+ghost use Rattle.non_text.specs.Counting.{with_line};
 ghost use Rattle.non_text.specs.Cut.{section_lines};
 ghost use Rattle.non_text.specs.Section.{leaves_blanks};
 
@@ -21,28 +21,20 @@ struct Count {
 pub(crate) fn leaves_blanks(text: &[u8], n: u8) -> Read<bool>
     ensures { result ≡ leaves_blanks n (section_lines text.now) }
 {
-    let count = count_lines(text, usize::from(n));
-    if count.full == usize::from(n) {
+    let wanted = usize::from(n);
+    let mut count = Count::default();
+    let mut rest = text;
+    while let Some((line, behind)) = next_in_section(rest) {
+        count = with_line(count, line, wanted);
+        rest = behind;
+    }
+    if count.full == wanted {
         Ok(true)
-    } else if count.lines >= usize::from(n) && !count.late {
+    } else if count.lines >= wanted && !count.late {
         Ok(false)
     } else {
         Err(NonFault::BadCount)
     }
-}
-
-#[tactic(auto, using(crate::proofs::SectionLemmas::counting))]
-// The lines of the section that a text begins with.
-fn count_lines(text: &[u8], n: usize) -> Count
-    ensures { result ≡ count_of n (section_lines text.now) }
-{
-    let mut count = Count::default();
-    let mut rest = text;
-    while let Some((line, behind)) = next_in_section(rest) {
-        count = with_line(count, line, n);
-        rest = behind;
-    }
-    count
 }
 
 // The count with one line more.

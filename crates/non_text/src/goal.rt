@@ -1,35 +1,26 @@
 //! The goal of a puzzle.
 
-ghost use Rattle.std.specs.Prelude.{◌≡◌, ◌==◌, ◌<◌, ◌≤◌, map, IfOk};
-ghost use Rattle.std.specs.List.{list_all, slice_split};
+ghost use Rattle.std.specs.Prelude.{◌≡◌, ◌<◌, ◌≤◌, map, IfOk};
+ghost use Rattle.std.specs.List.{list_all};
 ghost use Rattle.std.specs.Option.{option_copied};
 ghost use Rattle.picture.specs.Reading.{Gives};
-ghost use Rattle.non_text.specs.Goal.{quoted, goal_digits, is_cell_digit, cell_of, goal_in};
+ghost use Rattle.non_text.specs.Goal.{goal_digits, is_cell_digit, cell_of, goal_in};
 
 use crate::fault::{NonFault, Read};
 use crate::lines::is_blank_line;
 use picture::{MAX_SIDE, Picture, split_first};
 use std::alloc::{AllocError, Global};
 
-#[tactic(auto, using(crate::proofs::GoalLemmas::values))]
-// The digits of a value: what stands between quotes, or all of it.
+#[tactic(auto, using(crate::proofs::GoalLemmas::values, crate::proofs::GoalLemmas::quotes))]
+// The digits of a value: what stands between quotes with nothing but blanks behind them, or all of it.
 fn goal_digits(value: &[u8]) -> Option<&[u8]>
     ensures { option_copied result ≡ goal_digits value.now }
 {
-    match value {
-        [b'"', rest @ ..] => quoted(rest),
-        _ => Some(value),
-    }
-}
-
-#[tactic(auto, using(crate::proofs::GoalLemmas::quotes))]
-// What stands up to the next quote, where nothing but blanks stands behind it.
-fn quoted(bytes: &[u8]) -> Option<&[u8]>
-    ensures { option_copied result ≡ quoted (slice_split (λ b. b == 34) bytes.now) }
-{
-    let (digits, behind) = split_first(bytes, b'"');
-    let behind = behind?;
-    is_blank_line(behind).then_some(digits)
+    let [b'"', rest @ ..] = value else {
+        return Some(value);
+    };
+    let (digits, behind) = split_first(rest, b'"');
+    is_blank_line(behind?).then_some(digits)
 }
 
 // Whether a goal may have these digits.

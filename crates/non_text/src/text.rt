@@ -7,7 +7,7 @@ ghost use Rattle.non_text.specs.Written.{clue_text, digit_of, goal_text, ended_l
 
 use clues::{Block, ClueBook};
 use itoa::Buffer;
-use picture::{Axis, LineId, LineView, Picture};
+use picture::{Axis, LineId, Picture};
 use std::alloc::{AllocError, Global};
 
 #[tactic(auto, using(crate::proofs::TextLemmas::texts))]
@@ -55,15 +55,7 @@ fn put_blocks(text: &mut Vec<u8>, blocks: &[Block]) -> Result<(), AllocError>
         return Ok(text.push(b'0')?);
     }
     put_number(text, blocks[0].len)?;
-    put_others(text, &blocks[1..])
-}
-
-// Blocks behind others.
-fn put_others(text: &mut Vec<u8>, blocks: &[Block]) -> Result<(), AllocError>
-    ensures { OnOk result (text.new.items
-        ≡ text.old.items ++ flat_map (λ b. 44 ∷ decimal b.len) blocks.now) }
-{
-    for block in blocks {
+    for block in &blocks[1..] {
         text.push(b',')?;
         put_number(text, block.len)?;
     }
@@ -101,18 +93,9 @@ fn put_rows(text: &mut Vec<u8>, picture: &Picture) -> Result<(), AllocError>
 {
     let axis = Axis::Across;
     for at in 0..picture.height() {
-        put_row(text, picture.line(LineId { axis, at }))?;
-    }
-    Ok(())
-}
-
-#[tactic(auto, using(crate::proofs::TextLemmas::texts))]
-// The digits of a row.
-fn put_row(text: &mut Vec<u8>, row: LineView<'_>) -> Result<(), AllocError>
-    ensures { OnOk result (text.new.items ≡ text.old.items ++ map digit_of row.entry) }
-{
-    for cell in row.iter() {
-        text.push(if cell == 0 { b'0' } else { b'1' })?;
+        for cell in picture.line(LineId { axis, at }).iter() {
+            text.push(if cell == 0 { b'0' } else { b'1' })?;
+        }
     }
     Ok(())
 }

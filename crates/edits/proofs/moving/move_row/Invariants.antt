@@ -1,6 +1,0 @@
--- the givens of the rows before, and those so far of this one
-use Rattle.edits.specs.Moving.{AreMovedTo}
-use Rattle.edits.proofs.moving.move_row.Given as goal
-
-abbrev pub invariant-loop-col : goal.invariant-loop-col
-invariant-loop-col l = AreMovedTo l.givens l.moved l.back.moves l.width l.row l.col
