@@ -12,7 +12,8 @@ use crate::notes::{Note, hold};
 use cert_text::CertFault;
 use clues::Clue;
 use line_settle::{Facts, LineEngine, Outcome};
-use picture::{Axis, LineId, MAX_SIDE};
+use picture::{LineId, MAX_SIDE};
+use split_choice::Cell;
 
 // No line has more cells.
 const MOST_CELLS: usize = MAX_SIDE as usize;
@@ -60,33 +61,6 @@ pub(crate) fn is_dead<E: LineEngine>(
 }
 
 #[tactic(auto, using(line_settle::specs::AlongLaws::places))]
-// Gives the cell at a place of a line other colours, with a note.
-fn hold_at(
-    facts: &mut Facts,
-    notes: &mut Vec<Note>,
-    line: LineId,
-    i: u8,
-    mask: u16,
-) -> Result<(), CertFault>
-    requires line { HasLine facts.old line }
-    requires place { i < length (line_of facts.old line) }
-    requires inside { AreInside (length facts.old) (width_of facts.old) (reverse notes.old.items) }
-    ensures value { OnOk result (facts.new
-        ≡ with_cell facts.old (row_on line.axis line.at i) (col_on line.axis line.at i) mask) }
-    ensures pending { OnOk result (pending facts.new (reverse notes.new.items)
-        ≡ pending facts.old (reverse notes.old.items)) }
-    ensures inside { OnOk result
-        (AreInside (length facts.old) (width_of facts.old) (reverse notes.new.items)) }
-    ensures err { IfErr result (λ e. e ≡ CertFault.Memory) }
-    ensures facts { IsFacts facts.old }
-{
-    let _ = facts.height();
-    match line.axis {
-        Axis::Across => hold(facts, notes, line.at, i, mask),
-        Axis::Down => hold(facts, notes, i, line.at, mask),
-    }
-}
-
 // Gives the cells of a line other colours, with notes.
 fn hold_line(
     facts: &mut Facts,
@@ -105,8 +79,10 @@ fn hold_line(
         (AreInside (length facts.old) (width_of facts.old) (reverse notes.new.items)) }
     ensures err { IfErr result (λ e. e ≡ CertFault.Memory) }
 {
+    let _ = facts.height();
     for i in 0..masks.len() {
-        hold_at(facts, notes, line, i as u8, masks[i])?;
+        let cell = Cell::on(line, i as u8);
+        hold(facts, notes, cell.row, cell.col, masks[i])?;
     }
     Ok(())
 }

@@ -12,4 +12,4 @@ mod walk;
 
 pub use cert_text::{CellNumber, Cert, CertFault, CertLine, LineNumber, read_cert, write_cert};
 pub use checking::check_cert;
-pub use making::{climb_cert, make_cert, make_cert_within};
+pub use making::{make_cert, make_cert_within};

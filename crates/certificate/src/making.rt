@@ -26,6 +26,7 @@ fn write_tree<E: LineEngine>(
     engine: &mut E,
     scene: &Scene,
     first_bound: u64,
+    spent: u64,
 ) -> Result<Option<Vec<CertLine>>, AllocError>
     requires can { CanCheck scene.now.picture.now scene.now.clues.now (E.longest engine.old) }
     requires same_shape { SameShape scene.now.picture.now scene.now.facts.now }
@@ -36,6 +37,7 @@ fn write_tree<E: LineEngine>(
 {
     let ladder = Ladder {
         first_bound,
+        spent,
         holds: true,
         keeps: true,
     };
@@ -139,18 +141,20 @@ pub fn make_cert<E: LineEngine>(
     ensures same_longest { E.longest engine.new ≡ E.longest engine.old }
     ensures calls { E.calls engine.old ≤ E.calls engine.new }
 {
-    make_cert_within(alloc, engine, picture, givens, BOUNDS)
+    make_cert_within(alloc, engine, picture, givens, BOUNDS, 0)
 }
 
 #[tactic(auto, using(crate::proofs::MadeLemmas::making))]
-/// Makes a certificate as `make_cert` does, within other bounds than the program's. What is promised is the same whatever they
-/// are; those of the fixed order are not looked at.
+/// Makes a certificate as `make_cert` does, within other bounds than the program's, and after a search that evaluated so many lines:
+/// what these may have climbed in vain is not climbed again. What is promised is the same whatever they are; the bounds of the fixed
+/// order are not looked at.
 pub fn make_cert_within<E: LineEngine>(
     alloc: Global,
     engine: &mut E,
     picture: &Picture,
     givens: &CellSet,
     bounds: Bounds,
+    spent: u64,
 ) -> Result<Option<Cert>, AllocError>
     requires inside { AreInside givens.now picture.now }
     requires wide { width_of picture.now ≤ E.longest engine.old }
@@ -176,30 +180,8 @@ pub fn make_cert_within<E: LineEngine>(
     if has_near_other(alloc, engine, &scene, bounds.window_splits)? {
         return Ok(None);
     }
-    let Some(lines) = write_tree(alloc, engine, &scene, bounds.first_bound)? else {
+    let Some(lines) = write_tree(alloc, engine, &scene, bounds.first_bound, spent)? else {
         return Ok(None);
     };
     Ok(Some(with_version(cells, lines)))
-}
-
-/// Makes a certificate as `make_cert` does, and looks for no near picture first: for a caller that has looked already. What is
-/// promised is the same.
-pub fn climb_cert<E: LineEngine>(
-    alloc: Global,
-    engine: &mut E,
-    picture: &Picture,
-    givens: &CellSet,
-) -> Result<Option<Cert>, AllocError>
-    requires inside { AreInside givens.now picture.now }
-    requires wide { width_of picture.now ≤ E.longest engine.old }
-    requires tall { length picture.now ≤ E.longest engine.old }
-    ensures makes { IfOk result (Makes picture.now givens.now) }
-    ensures same_longest { E.longest engine.new ≡ E.longest engine.old }
-    ensures calls { E.calls engine.old ≤ E.calls engine.new }
-{
-    let bounds = Bounds {
-        window_splits: 0,
-        ..BOUNDS
-    };
-    make_cert_within(alloc, engine, picture, givens, bounds)
 }

@@ -252,9 +252,12 @@ impl<E: LineEngine + Drop, A: Agenda + Drop> Bench<E, A> {
         ensures calls { self.old.calls ≤ self.new.calls }
         ensures audited { IsAudited self.new }
     {
-        match self.learn()? {
+        let before = self.engine.calls();
+        let ruling = self.learn()?;
+        let judging = self.engine.calls().saturating_sub(before);
+        match ruling {
             Ruling::Ambiguous => Ok(None),
-            _ => self.prove(),
+            _ => self.prove(judging),
         }
     }
 
@@ -278,14 +281,19 @@ impl<E: LineEngine + Drop, A: Agenda + Drop> Bench<E, A> {
         Ok(ruling)
     }
 
-    // Makes the certificate of the present document.
-    fn prove(&mut self) -> Result<Option<Cert>, AllocError>
+    // Makes the certificate of the present document, after judging it evaluated so many lines.
+    fn prove(&mut self, judging: u64) -> Result<Option<Cert>, AllocError>
         ensures certifies { IfOk result (Certifies self.old.history.document) }
         ensures as_before { IsAsBefore self.old self.new }
         ensures calls { self.old.calls ≤ self.new.calls }
         ensures audited { IsAudited self.new }
     {
-        certify_ordered(self.alloc, &mut self.engine, self.studio.document())
+        certify_ordered(
+            self.alloc,
+            &mut self.engine,
+            self.studio.document(),
+            judging,
+        )
     }
 
     /// The present document.

@@ -23,11 +23,12 @@ pub enum Decided {
     OtherPicture(Picture),
 }
 
-/// How the ladder is climbed: how many lines a tree may evaluate at first, and whether the known picture is held on to, and the
-/// lines are kept.
+/// How the ladder is climbed: how many lines a tree may evaluate at first, how many were evaluated before on rungs that are not
+/// climbed again, and whether the known picture is held on to, and the lines are kept.
 #[derive(Clone, Copy)]
 pub struct Ladder {
     pub first_bound: u64,
+    pub spent: u64,
     pub holds: bool,
     pub keeps: bool,
 }
@@ -48,8 +49,13 @@ pub fn climb<E: LineEngine>(
 {
     let _ = engine.calls();
     let mut bound = ladder.first_bound;
+    let mut spent = ladder.spent;
     for _ in 0..MOST_ROUNDS {
         for choice in [Choice::Look, Choice::First].iter() {
+            if spent > bound {
+                spent -= bound;
+                continue;
+            }
             let until = engine.calls().saturating_add(bound);
             let way = way_of(ladder, *choice, Some(until));
             if let Some(decided) = write_tree(alloc, engine, scene, way, ladder.keeps)? {

@@ -2,19 +2,21 @@
 
 ghost use Rattle.std.specs.Prelude.{ℕ, ◌<◌, length, IsTrue};
 ghost use Rattle.picture.specs.Picture.{IsPicture};
-ghost use Rattle.picture.specs.Rows.{HasLine, cell_at, row_at, width_of};
+ghost use Rattle.picture.specs.Rows.{HasLine, cell_at, row_at};
 ghost use Rattle.clues.specs.ClueBook.{HasClue};
 ghost use Rattle.line_settle.specs.FactSets.{Leaves, SameShape};
 
-use crate::cell::Cell;
 use crate::puzzle::Puzzle;
+use crate::regions::take_place;
 use clues::{Block, ClueBook, without_run};
 use line_settle::Facts;
 use picture::{Axis, LineId, MAX_COLOURS, MAX_SIDE, Picture};
 use std::alloc::{AllocError, Global};
 
-/// Whether each line has its clue where open cells have the held picture's colours. Where none is held, an open cell has no
-/// colour, and its line not its clue.
+// No line has more cells.
+const MOST_CELLS: usize = MAX_SIDE as usize;
+
+/// Whether each line has its clue where open cells have the held picture's colours. Where none is held, no line has.
 pub fn fills_all(puzzle: &Puzzle, facts: &Facts) -> bool {
     are_filled(puzzle, facts, Axis::Across, !(u128::MAX << facts.height()))
         && are_filled(puzzle, facts, Axis::Down, !(u128::MAX << facts.width()))
@@ -22,8 +24,9 @@ pub fn fills_all(puzzle: &Puzzle, facts: &Facts) -> bool {
 
 /// The same of the lines along an axis at the places of a mask.
 pub(crate) fn are_filled(puzzle: &Puzzle, facts: &Facts, axis: Axis, places: u128) -> bool {
-    for at in 0..MAX_SIDE {
-        if places >> at & 1 == 1 && !is_filled(puzzle, facts, LineId { axis, at }) {
+    let mut rest = places;
+    while let Some(at) = take_place(&mut rest) {
+        if !is_filled(puzzle, facts, LineId { axis, at }) {
             return false;
         }
     }
@@ -43,15 +46,20 @@ pub(crate) fn is_there(clues: &ClueBook, facts: &Facts, line: LineId) -> bool
 
 /// Whether a line has its clue where its open cells have the held picture's colours. A line that is not there has none.
 pub(crate) fn is_filled(puzzle: &Puzzle, facts: &Facts, line: LineId) -> bool {
-    if !is_there(puzzle.clues, facts, line) {
+    let Some(held) = puzzle.held else {
+        return false;
+    };
+    if !is_there(puzzle.clues, facts, line) || line.at >= held.line_count(line.axis) {
         return false;
     }
+    let mut left = [0; MOST_CELLS];
+    let cells = usize::from(facts.line_len(line));
+    facts.copy_line(line, &mut left[..cells]);
+    let view = held.line(line);
     let mut blocks = puzzle.clues.clue(line).blocks();
     let mut run = Block { len: 0, colour: 0 };
-    for place in 0..facts.line_len(line) {
-        let Some(colour) = colour_at(puzzle.held, facts, Cell::on(line, place)) else {
-            return false;
-        };
+    for place in 0..cells.min(view.len()) {
+        let colour = colour_of(left[place], view.get(place));
         if colour == run.colour {
             run.len = run.len.saturating_add(1);
         } else {
@@ -70,19 +78,13 @@ pub fn filled(alloc: Global, puzzle: &Puzzle, facts: &Facts) -> Result<Picture, 
     let mut picture = Picture::blank(alloc, facts.height(), facts.width())?;
     for row in 0..facts.height() {
         for col in 0..facts.width() {
-            if let Some(colour) = colour_at(puzzle.held, facts, Cell { row, col }) {
-                show(&mut picture, row, col, colour);
+            let colour = colour_of(facts.left(row, col), held_at(puzzle.held, row, col));
+            if row < picture.height() && col < picture.width() && colour < MAX_COLOURS {
+                picture.set(row, col, colour);
             }
         }
     }
     Ok(picture)
-}
-
-// Gives a cell a colour, where there is such a cell and such a colour.
-fn show(picture: &mut Picture, row: u8, col: u8, colour: u8) {
-    if row < picture.height() && col < picture.width() && colour < MAX_COLOURS {
-        picture.set(row, col, colour);
-    }
 }
 
 /// Whether facts have the size of a picture, and leave its colours.
@@ -105,25 +107,21 @@ pub fn leaves(facts: &Facts, picture: &Picture) -> bool
     true
 }
 
-// The colour that a cell shows, or, where it is open, the held picture's, if that is left there.
-fn colour_at(held: Option<&Picture>, facts: &Facts, cell: Cell) -> Option<u8> {
-    if cell.row >= facts.height() || cell.col >= facts.width() {
-        return None;
-    }
-    match facts.shown(cell.row, cell.col) {
-        Some(colour) => Some(colour),
-        None => left_of(held?, facts, cell),
-    }
+// The colour that a cell shows with these colours left, or, where it is open, the held one. Where that is not left, no colour: 16.
+fn colour_of(left: u16, held: u8) -> u8 {
+    let open = left & left.wrapping_sub(1) != 0;
+    let shown = if open {
+        left & 1_u16.wrapping_shl(u32::from(held))
+    } else {
+        left
+    };
+    shown.trailing_zeros() as u8
 }
 
-/// The colour of a picture in a cell, if it has the cell, and the colour is left there.
-pub(crate) fn left_of(picture: &Picture, facts: &Facts, cell: Cell) -> Option<u8>
-    requires in_rows { cell.row < length facts.now }
-    requires in_columns { cell.col < width_of facts.now }
-{
-    if cell.row >= picture.height() || cell.col >= picture.width() {
-        return None;
+/// The colour of the held picture in a cell, background where none is held or it does not have the cell.
+pub(crate) fn held_at(held: Option<&Picture>, row: u8, col: u8) -> u8 {
+    match held {
+        Some(picture) if row < picture.height() && col < picture.width() => picture.cell(row, col),
+        _ => 0,
     }
-    let colour = picture.cell(cell.row, cell.col);
-    (facts.left(cell.row, cell.col) >> colour & 1 == 1).then_some(colour)
 }

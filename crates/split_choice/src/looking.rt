@@ -4,11 +4,11 @@ ghost use Rattle.std.specs.Prelude.{◌≡◌, ◌<◌, ◌≤◌, length, IsTru
 ghost use Rattle.picture.specs.Rows.{width_of};
 
 use crate::cell::Cell;
-use crate::filling::{fills_all, is_filled, is_there, left_of};
+use crate::filling::{fills_all, held_at, is_filled, is_there};
 use crate::puzzle::{Node, Puzzle};
 use clues::ClueBook;
 use line_settle::{Facts, LineEngine, Outcome, force_crossing};
-use picture::{Axis, LineId, LineSet, MAX_COLOURS, MAX_SIDE};
+use picture::{LineSet, MAX_COLOURS};
 use std::alloc::AllocError;
 use worklist::{Agenda, InOrder};
 
@@ -97,10 +97,7 @@ fn is_tried(node: &Node, cell: Cell, colour: u8) -> bool
     {
         return false;
     }
-    match node.puzzle.held {
-        Some(picture) if node.own => left_of(picture, node.facts, cell) != Some(colour),
-        _ => true,
-    }
+    !node.own || held_at(node.puzzle.held, cell.row, cell.col) != colour
 }
 
 // What a trial changed: the lines that crossed a change, and how many cells changed, once for each line that changed them.
@@ -148,19 +145,15 @@ fn settle<E: LineEngine>(
 
 // Whether the held picture's colours fill all lines. Those that were touched are asked first.
 fn is_all_filled(puzzle: &Puzzle, facts: &Facts, touched: &LineSet) -> bool {
-    puzzle.held.is_some()
-        && are_touched_filled(puzzle, facts, touched, Axis::Across)
-        && are_touched_filled(puzzle, facts, touched, Axis::Down)
-        && fills_all(puzzle, facts)
-}
-
-// The same of the lines along an axis that were touched.
-fn are_touched_filled(puzzle: &Puzzle, facts: &Facts, touched: &LineSet, axis: Axis) -> bool {
-    for at in 0..MAX_SIDE {
-        let line = LineId { axis, at };
-        if touched.has(line) && !is_filled(puzzle, facts, line) {
+    let mut agenda = InOrder::make();
+    agenda.put_all(touched);
+    for _ in 0..MOST_LINES {
+        let Some(line) = agenda.take() else {
+            break;
+        };
+        if !is_filled(puzzle, facts, line) {
             return false;
         }
     }
-    true
+    fills_all(puzzle, facts)
 }

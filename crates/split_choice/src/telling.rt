@@ -5,7 +5,7 @@ ghost use Rattle.std.specs.Prelude.{◌<◌, ◌≤◌};
 use crate::cell::Cell;
 use crate::filling::is_filled;
 use crate::puzzle::Node;
-use crate::regions::{OpenCells, Region};
+use crate::regions::{OpenCells, Region, take_place};
 use picture::{Axis, LineId, MAX_SIDE};
 use std::alloc::{AllocError, Global};
 
@@ -25,8 +25,7 @@ pub(crate) struct Place {
 }
 
 /// The most telling open cells of a part, in order: with many settled neighbours, on lines that the held picture's colours do not
-/// fill,
-/// and on lines with few open cells.
+/// fill, and on lines with few open cells.
 pub(crate) fn most_telling(
     alloc: Global,
     node: &Node,
@@ -36,15 +35,14 @@ pub(crate) fn most_telling(
     let mut places = Vec::new(alloc);
     let rows = unfilled_along(node, Axis::Across, region.rows);
     let columns = unfilled_along(node, Axis::Down, region.columns);
-    for row in 0..node.facts.height() {
-        let along = region.rows >> row & 1;
-        for col in 0..node.facts.width() {
-            if along == 1 && open.rows[usize::from(row)] >> col & 1 == 1 {
-                let unfilled = u16::from(rows >> row & 1 == 1) + u16::from(columns >> col & 1 == 1);
-                let rank = rank_of(open, row, col).saturating_add(unfilled * UNFILLED);
-                let cell = Cell { row, col };
-                offer(&mut places, Place { rank, cell })?;
-            }
+    let mut along = region.rows;
+    while let Some(row) = take_place(&mut along) {
+        let mut cells = open.rows[usize::from(row)];
+        while let Some(col) = take_place(&mut cells) {
+            let unfilled = u16::from(rows >> row & 1 == 1) + u16::from(columns >> col & 1 == 1);
+            let rank = rank_of(open, row, col).saturating_add(unfilled * UNFILLED);
+            let cell = Cell { row, col };
+            offer(&mut places, Place { rank, cell })?;
         }
     }
     Ok(places)
@@ -53,14 +51,14 @@ pub(crate) fn most_telling(
 // Takes a place in among the best, the best first, of equal ones the earlier, unless there are enough better ones.
 fn offer(places: &mut Vec<Place>, place: Place) -> Result<(), AllocError> {
     let behind = places.len();
+    if behind >= MOST_CELLS && places[behind - 1].rank >= place.rank {
+        return Ok(());
+    }
     let at = places
         .iter()
         .position(|other| other.rank < place.rank)
         .unwrap_or(behind);
-    if at >= MOST_CELLS || at > behind {
-        return Ok(());
-    }
-    places.insert(at, place)?;
+    places.insert(at.min(behind), place)?;
     if places.len() > MOST_CELLS {
         let _worst = places.pop();
     }
@@ -95,9 +93,9 @@ fn unfilled_along(node: &Node, axis: Axis, places: u128) -> u128 {
     if node.own || node.puzzle.held.is_none() {
         return unfilled;
     }
-    for at in 0..MAX_SIDE {
-        let line = LineId { axis, at };
-        if places >> at & 1 == 1 && !is_filled(&node.puzzle, node.facts, line) {
+    let mut rest = places;
+    while let Some(at) = take_place(&mut rest) {
+        if !is_filled(&node.puzzle, node.facts, LineId { axis, at }) {
             unfilled |= 1 << at;
         }
     }

@@ -8,9 +8,9 @@ pub loop-i-preserved : goal.loop-i-preserved
 loop-i-preserved c =
     let kept = c.loop-i.invariant in
     record {
-      written = written_more c.args.line c.args.facts.now c.loop-i.facts c.hold_at.new.facts c.args.masks.now c.loop-i.i _ c.hold_at.ensures.facts c.requires.line c.requires.whole (omega arith) refl kept.written c.in_ok-hold_at.ensures.value;
-      waits = c.in_ok-hold_at.ensures.pending ∙ kept.waits;
-      inside = moved_inside c.loop-i.facts c.args.facts.now _ (shape_sym kept.written.same_shape) c.in_ok-hold_at.ensures.inside;
+      written = written_more c.args.line c.args.facts.now c.loop-i.facts c.hold.new.facts c.args.masks.now c.loop-i.i _ c.hold.ensures.facts c.requires.line c.requires.whole (omega arith) refl kept.written (rw (c.on-cell.ensures.row, c.on-cell.ensures.col) at c.in_ok-hold.ensures.value);
+      waits = c.in_ok-hold.ensures.pending ∙ kept.waits;
+      inside = moved_inside c.loop-i.facts c.args.facts.now _ (shape_sym kept.written.same_shape) c.in_ok-hold.ensures.inside;
     }
 
 pub returns-clause-holds : goal.returns-clause-holds

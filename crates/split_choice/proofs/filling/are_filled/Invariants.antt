@@ -1,0 +1,4 @@
+use Rattle.split_choice.proofs.filling.are_filled.Given as goal
+
+abbrev pub decreases-loop-at : goal.decreases-loop-at
+decreases-loop-at l = l.rest
