@@ -4,7 +4,8 @@ ghost use Rattle.std.specs.Prelude.{◌≡◌, ◌<◌, ℕ, IfOk, OnOk};
 ghost use Rattle.picture.specs.LineSet.{name_count};
 ghost use Rattle.fixpoint.specs.Closing.{AreClosable, QuietOutside};
 ghost use Rattle.fixpoint.specs.LineNames.{AreLinesOf};
-ghost use Rattle.second_search.specs.Looking.{AreRowsSettled};
+ghost use Rattle.line_settle.specs.FactSets.{SameShape};
+ghost use Rattle.second_search.specs.Looking.{AreRowsSettled, ShowOthers};
 ghost use Rattle.second_search.specs.Searching.{CountsAny, CountsSome, EndsAs, raised};
 ghost use Rattle.second_search.specs.Stepping.{Compares, Spends, Steps};
 
@@ -66,6 +67,8 @@ pub(crate) fn search_counted<E: LineEngine>(
     requires lines { AreLinesOf start.facts start.lines }
     requires quiet { QuietOutside book.now start.facts start.lines }
     requires some { 0 < name_count start.lines }
+    requires same_shape { SameShape known.now start.facts }
+    requires others { ShowOthers known.now start.lines start.facts }
     ensures ends { IfOk result (λ searched. (n : ℕ) × ((searched.splits ≡ raised 0 n)
         × EndsAs book.now known.now start.facts start.allowance searched.ending n)) }
     ensures counts { CountsAny meter.old meter.new (E.calls engine.old) (E.calls engine.new) }
@@ -82,12 +85,16 @@ pub(crate) fn search_counted<E: LineEngine>(
     } = start;
     let mut search = Counted {
         pending: Pending::start(alloc, facts),
-        due: Due { lines, top: 0 },
+        due: Due {
+            lines,
+            rows: lines,
+            top: 0,
+        },
         left: allowance,
         splits: 0,
     };
     loop {
-        let found = search.look_once(alloc, engine, book, known, meter)?;
+        let found = search.look_once(engine, book, known, meter)?;
         let splits = search.splits;
         match found {
             Some(ending) => return Ok(Searched { ending, splits }),
@@ -98,6 +105,7 @@ pub(crate) fn search_counted<E: LineEngine>(
             Some(cell) => {
                 search.due = Due {
                     lines: lines_at(search.pending.at_hand(), cell),
+                    rows: lines,
                     top: cell.row,
                 };
             }
@@ -113,7 +121,6 @@ impl Counted {
     // Looks at the facts at hand once, and splits them where a split is still allowed. None where the search goes on.
     fn look_once<E: LineEngine>(
         &mut self,
-        alloc: Global,
         engine: &mut E,
         book: &ClueBook,
         known: &Picture,
@@ -124,6 +131,8 @@ impl Counted {
         requires quiet { QuietOutside book.now self.old.pending.at_hand self.old.due.lines }
         requires some { 0 < name_count self.old.due.lines }
         requires above { AreRowsSettled self.old.pending.at_hand self.old.due.top }
+        requires same_shape { SameShape known.now self.old.pending.at_hand }
+        requires others { ShowOthers known.now self.old.due.rows self.old.pending.at_hand }
         ensures steps { IfOk result (Steps book.now known.now self.old.pending self.new.pending
             self.old.left self.new.left self.old.splits self.new.splits) }
         ensures counts { CountsAny meter.old meter.new (E.calls engine.old) (E.calls engine.new) }
@@ -132,9 +141,9 @@ impl Counted {
         ensures same_longest { E.longest engine.new ≡ E.longest engine.old }
     {
         let coming = come_to(
-            alloc,
             engine,
             book,
+            known,
             self.pending.at_hand(),
             &self.due,
             meter,
@@ -146,7 +155,7 @@ impl Counted {
                 if !spend(&mut self.left, &mut self.splits) {
                     return Ok(Some(Ending::BrokenOff));
                 }
-                self.pending.narrow(&settled, self.due.top)?;
+                self.pending.narrow(&settled, &self.due.rows, self.due.top)?;
                 self.pending.split(cell)?;
                 Ok(None)
             }

@@ -1,4 +1,5 @@
 use Rattle.std.proofs.Common.{ℕ, ◌∙◌, List, Option, Some, arith, refl, subst}
+use Rattle.line_settle.specs.GridLaws.{shape_trans}
 use Rattle.fixpoint.specs.LineNames.{AreLinesOf}
 use Rattle.split_choice.specs.declared.cell.Cell.{Cell}
 use Rattle.second_search.specs.Branching.{GoesOn}
@@ -11,10 +12,11 @@ use Rattle.second_search.proofs.counting.search_counted.Goals as goal
 
 pub loop-search-init : goal.loop-search-init
 loop-search-init g c =
-    let ready = ready_first c.args.book.now c.args.start.facts c.args.start.lines c.start.result c.start.ensures c.requires.lines c.requires.quiet in
+    let ready = ready_first c.args.book.now c.args.known.now c.args.start.lines c.args.start.facts c.args.start.lines c.start.result c.start.ensures c.requires.lines c.requires.quiet c.requires.others in
     record {
       counting = counting_starts c.args.book.now c.args.known.now c.args.start.facts c.args.start.allowance 0 c.start.result (omega arith) c.start.ensures;
       ready = ready.0;
+      rows = refl;
       some = c.requires.some;
       behind = ready.1;
       counts = counts_none c.args.meter.now (g.E.LineEngine.calls c.args.engine.now) (omega arith) (omega arith) (omega arith);
@@ -25,6 +27,12 @@ pub look_once-requires-clause-closable : goal.look_once-requires-clause-closable
 look_once-requires-clause-closable g c =
     let i = c.loop-search.invariant in
     can_close_like c.args.book.now _ _ c.args.start.facts c.loop-search.search.pending.at_hand i.ready.same_shape i.same_longest c.requires.closable
+
+pub look_once-requires-clause-same_shape : goal.look_once-requires-clause-same_shape
+look_once-requires-clause-same_shape g c = shape_trans c.requires.same_shape c.loop-search.invariant.ready.same_shape
+
+pub look_once-requires-clause-others : goal.look_once-requires-clause-others
+look_once-requires-clause-others g c = rw c.loop-search.invariant.rows c.loop-search.invariant.ready.others
 
 pub returns-in_err-found-clause-counts : goal.returns-in_err-found-clause-counts
 returns-in_err-found-clause-counts g c = counts_more _ _ _ _ _ _ c.loop-search.invariant.counts c.look_once.ensures.counts
@@ -65,9 +73,9 @@ lines_at-requires g c =
     let u = c.advance.new.self in
     let book = c.args.book.now in
     let first = c.args.start.facts in
-    let quiet = quiet_goes book c.args.known.now first s t _ _ _ _ c.loop-search.invariant.ready.same_shape c.loop-search.invariant.behind (steps_as _ _ s t _ _ _ _ _ _ c.in-None.is c.in_ok-found.ensures.steps) in
+    let quiet = quiet_goes book c.args.known.now first c.args.start.lines s t _ _ _ _ c.loop-search.invariant.ready.same_shape c.loop-search.invariant.ready.others c.loop-search.invariant.behind (steps_as _ _ s t _ _ _ _ _ _ c.in-None.is c.in_ok-found.ensures.steps) in
     let P : Option Cell → Type 0 = GoesOn t u in
-    let next = quiet_at book first t u c.in-Some-next.cell quiet (subst P c.in-Some-next.is c.in_ok-next.ensures) in
+    let next = quiet_at book c.args.known.now c.args.start.lines first t u c.in-Some-next.cell quiet (subst P c.in-Some-next.is c.in_ok-next.ensures) in
     rw c.at_hand.ensures (record { in_rows = next.0.1.in_rows; in_columns = next.0.1.in_columns })
 
 pub loop-search-preserved : goal.loop-search-preserved
@@ -80,14 +88,15 @@ loop-search-preserved g c =
     let first = c.args.start.facts in
     let steps = steps_as _ _ s t _ _ _ _ _ _ c.in-None.is c.in_ok-found.ensures.steps in
     let counting = counting_goes least_is_unique _ _ _ _ _ s t _ _ _ _ c.loop-search.invariant.counting steps in
-    let quiet = quiet_goes book c.args.known.now first s t _ _ _ _ c.loop-search.invariant.ready.same_shape c.loop-search.invariant.behind steps in
+    let quiet = quiet_goes book c.args.known.now first c.args.start.lines s t _ _ _ _ c.loop-search.invariant.ready.same_shape c.loop-search.invariant.ready.others c.loop-search.invariant.behind steps in
     let P : Option Cell → Type 0 = GoesOn t u in
     let on : GoesOn t u (Some cell) = subst P c.in-Some-next.is c.in_ok-next.ensures in
-    let next = quiet_at book first t u cell quiet on in
+    let next = quiet_at book c.args.known.now c.args.start.lines first t u cell quiet on in
     let Q : List (List ℕ) → Type 0 = λ x. AreLinesOf x c.lines_at.result in
     record {
       counting = counting_at _ _ _ _ _ _ u _ _ counting on.0;
-      ready = ready_at book first u.at_hand cell c.lines_at.result next.0.0 next.0.1 (subst Q c.at_hand.ensures c.lines_at.ensures.lines) c.lines_at.ensures.both;
+      ready = ready_at book c.args.known.now c.args.start.lines first u.at_hand cell c.lines_at.result next.0.0 next.0.1 (subst Q c.at_hand.ensures c.lines_at.ensures.lines) c.lines_at.ensures.both;
+      rows = refl;
       some = name_counts c.lines_at.result (across cell.row) c.lines_at.ensures.both.0;
       behind = next.1;
       counts = counts_more _ _ _ _ _ _ c.loop-search.invariant.counts c.look_once.ensures.counts;
