@@ -10,7 +10,6 @@ use line_settle::LineEngine;
 use picture::Document;
 use second_search::{Bounds, Ending, Parts, Scene, decide_within};
 use std::alloc::Global;
-use table_words::NOTHING_DONE;
 
 /// Decides the parts of a scene in turn, each within bounds, up to the first with another filling.
 pub fn decide<E: LineEngine>(
@@ -32,10 +31,10 @@ pub fn decide<E: LineEngine>(
         evaluations: 0,
     };
     let parts = Parts::of(alloc, scene.facts)?;
-    let mut meter = NOTHING_DONE;
+    let before = engine.calls();
     for i in 0..parts.len() {
         tally.searched = tally.searched.saturating_add(1);
-        let searched = decide_within(alloc, engine, scene, parts.cells(i), bounds, &mut meter)?;
+        let searched = decide_within(alloc, engine, scene, parts.cells(i), bounds)?;
         tally.splits = tally.splits.saturating_add(searched.splits);
         match searched.ending {
             Ending::Nothing => {}
@@ -46,7 +45,7 @@ pub fn decide<E: LineEngine>(
             Ending::BrokenOff => bail!("a part was left undecided"),
         }
     }
-    tally.evaluations = meter.evaluations;
+    tally.evaluations = engine.calls().saturating_sub(before);
     Ok(tally)
 }
 

@@ -1,10 +1,11 @@
 -- What facts come to is one, and from it what a search does next.
-use Rattle.std.proofs.Common.{◌≡◌, ℕ, suc, ◌⊎◌, Option, None, Some, List, [], ◌∷◌, ◌++◌, refl, sym, ap, subst, ◌∙◌, arith, inl, inr, Result, Ok, Err}
+use Rattle.std.proofs.Common.{◌≡◌, ℕ, suc, ◌+◌, ◌<◌, ◌⊎◌, Option, None, Some, List, [], ◌∷◌, ◌++◌, refl, sym, ap, subst, ◌∙◌, arith, inl, inr, Result, Ok, Err}
 use Rattle.std.specs.Prelude.{IsBitSet, IfOk, OnOk}
 use Rattle.std.specs.declared.alloc.AllocError.{AllocError}
 use Rattle.std.proofs.lemmas.Bool.{cases_lt}
 use Rattle.picture.specs.Rows.{width_of, cell_at}
 use Rattle.clues.specs.ClueBook.{Clues}
+use Rattle.line_settle.specs.Counting.{counted}
 use Rattle.line_settle.specs.Laws.{LeastIsUnique}
 use Rattle.line_settle.specs.Masks.{IsOnly}
 use Rattle.line_settle.specs.FactSets.{IsFacts}
@@ -18,7 +19,7 @@ use Rattle.second_search.specs.declared.coming.Coming.{Coming}
 use Rattle.second_search.specs.declared.coming.Coming.TheVariants.{Dies, Ends, Splits}
 use Rattle.second_search.specs.Looking.{IsFirstUnsettled, Shows}
 use Rattle.second_search.specs.Parts.{IsBefore}
-use Rattle.second_search.specs.Searching.{Comes, ComesClosed, CostsAreUnique, Searches, SettlesTo, none_waits, is_dead, is_known, is_other, is_split}
+use Rattle.second_search.specs.Searching.{Comes, ComesClosed, CostsAreUnique, IsCalled, Searches, SettlesTo, none_waits, is_dead, is_known, is_other, is_split}
 use Rattle.second_search.proofs.GridLemmas.{same_inside}
 
 -- ---- what facts come to is one
@@ -142,6 +143,9 @@ pub comes_closed : (clues : Clues) (facts first settled : List (List ℕ)) (outc
 comes_closed clues facts first settled outcome (Ok coming) same c e h =
     comes_of clues facts settled outcome (subst (λ (x : List (List ℕ)). Closes clues x settled outcome) same c) e coming h
 comes_closed clues facts first settled outcome (Err fault) same c e h = h
+
+pub called_once : (evaluations before after : ℕ) → 0 < evaluations → after ≡ counted before (evaluations + 0) → IsCalled before after
+called_once evaluations before after some is = omega arith
 
 -- what holds whatever facts come to
 pub counted_some : (coming : Result Coming AllocError) (P : Type 0) → P → OnOk coming P

@@ -1,20 +1,18 @@
 -- A search that counts its splits: what waits ends as the first facts do, but for the splits made so far.
-use Rattle.std.proofs.Common.{◌≡◌, ℕ, suc, ◌+◌, ◌^◌, ◌<◌, ◌⊎◌, Option, None, Some, List, [], ◌∷◌, ◌++◌, refl, sym, ap, subst, ◌∙◌, arith, inl, inr}
+use Rattle.std.proofs.Common.{◌≡◌, ℕ, suc, ◌+◌, ◌<◌, ◌⊎◌, Option, None, Some, List, [], ◌∷◌, ◌++◌, refl, sym, ap, subst, ◌∙◌, arith, inl, inr}
 use Rattle.picture.specs.Rows.{cell_at}
 use Rattle.clues.specs.ClueBook.{Clues}
-use Rattle.line_settle.specs.declared.meter.Meter.{Meter}
-use Rattle.line_settle.specs.Counting.{Counts}
-use Rattle.line_settle.specs.FitLaws.{counting_adds}
 use Rattle.line_settle.specs.Laws.{LeastIsUnique}
 use Rattle.split_choice.specs.declared.cell.Cell.{Cell}
 use Rattle.second_search.specs.declared.coming.Coming.{Coming}
 use Rattle.second_search.specs.declared.coming.Coming.TheVariants.{Dies, Ends, Splits}
+use Rattle.second_search.specs.declared.counting.Budget.{Budget}
 use Rattle.second_search.specs.declared.counting.Ending.TheVariants as ending
 use Rattle.second_search.specs.declared.counting.Ending.{Ending}
 use Rattle.picture.specs.LineSet.{Lines}
 use Rattle.second_search.specs.Branching.{AreOthersSame, AreSameAbove, Search, search_of}
 use Rattle.second_search.specs.Looking.{AreRowsSettled, ShowOthers}
-use Rattle.second_search.specs.Searching.{Allows, Comes, CountsSome, EndsAs, Searches, SplitsPast, none_waits, is_dead, is_known, is_other, is_split, once_more, past_dead, past_known, past_split, raised}
+use Rattle.second_search.specs.Searching.{Allows, Comes, EndsAs, Searches, SplitsPast, none_waits, is_dead, is_known, is_other, is_split, once_more, past_dead, past_known, past_split, raised}
 use Rattle.second_search.specs.Stepping.{Compares, IsOneLess, Steps}
 use Rattle.second_search.proofs.ComingLemmas.{leads}
 use Rattle.second_search.proofs.LookLemmas.{others_same, rows_same}
@@ -125,66 +123,63 @@ ends_broken_off unique clues known first facts settled cell others n allowance l
 
 -- ---- the count
 
-pub raised_again : (start before after n : ℕ) → before ≡ raised start n → after ≡ raised before 1 → after ≡ raised start (suc n)
-raised_again start before after n a b = omega arith
-
-pub raised_none : (count : ℕ) → count < 2 ^ 32 → count ≡ raised count 0
-raised_none count l = omega arith
+raised_again : (before after n : ℕ) → before ≡ raised 0 n → after ≡ raised before 1 → after ≡ raised 0 (suc n)
+raised_again before after n a b = omega arith
 
 -- ---- while facts wait
 
 -- what waits ends as the first facts do, but for the splits that were made and counted
-pub record Counting (clues : Clues) (known first : List (List ℕ)) (allowance : Option ℕ) (start : ℕ) (waiting : List (List (List ℕ))) (left : Option ℕ) (count : ℕ) : Type 0 where
+pub record Counting (clues : Clues) (known first : List (List ℕ)) (allowance : Option ℕ) (waiting : List (List (List ℕ))) (budget : Budget) : Type 0 where
   pub made : ℕ
   pub going : Going clues known first waiting made
-  pub is_left : IsLeft allowance made left
-  pub counted : count ≡ raised start made
+  pub is_left : IsLeft allowance made budget.left
+  pub counted : budget.splits ≡ raised 0 made
 
-pub counting_starts : (clues : Clues) (known first : List (List ℕ)) (allowance : Option ℕ) (start : ℕ) (s : Search) → start < 2 ^ 32 → s ≡ search_of first [] [] → Counting clues known first allowance start (s.at_hand ∷ s.behind) allowance start
-counting_starts clues known first allowance start s l e =
-    subst (λ (x : Search). Counting clues known first allowance start (x.at_hand ∷ x.behind) allowance start) (sym e) (record {
+pub counting_starts : (clues : Clues) (known first : List (List ℕ)) (allowance : Option ℕ) (s : Search) → s ≡ search_of first [] [] → Counting clues known first allowance (s.at_hand ∷ s.behind) (record { left = allowance; splits = 0 })
+counting_starts clues known first allowance s e =
+    subst (λ (x : Search). Counting clues known first allowance (x.at_hand ∷ x.behind) (record { left = allowance; splits = 0 })) (sym e) (record {
       made = 0;
       going = going_starts clues known first;
       is_left = all_left allowance;
-      counted = raised_none start l;
+      counted = omega arith;
     })
 
-pub counting_at : (clues : Clues) (known first : List (List ℕ)) (allowance : Option ℕ) (start : ℕ) (waiting : List (List (List ℕ))) (s : Search) (left : Option ℕ) (count : ℕ) → Counting clues known first allowance start waiting left count → waiting ≡ s.at_hand ∷ s.behind → Counting clues known first allowance start (s.at_hand ∷ s.behind) left count
-counting_at clues known first allowance start waiting s left count c e =
-    subst (λ (x : List (List (List ℕ))). Counting clues known first allowance start x left count) e c
+pub counting_at : (clues : Clues) (known first : List (List ℕ)) (allowance : Option ℕ) (waiting : List (List (List ℕ))) (s : Search) (budget : Budget) → Counting clues known first allowance waiting budget → waiting ≡ s.at_hand ∷ s.behind → Counting clues known first allowance (s.at_hand ∷ s.behind) budget
+counting_at clues known first allowance waiting s budget c e =
+    subst (λ (x : List (List (List ℕ))). Counting clues known first allowance x budget) e c
 
-pub counting_goes : LeastIsUnique → (clues : Clues) (known first : List (List ℕ)) (allowance : Option ℕ) (start : ℕ) (s t : Search) (left rest : Option ℕ) (count more : ℕ) → Counting clues known first allowance start (s.at_hand ∷ s.behind) left count → Steps clues known s t left rest count more None → Counting clues known first allowance start t.behind rest more
-counting_goes unique clues known first allowance start s t left rest count more c (inl h) =
-    let P : Option ℕ → Type 0 = λ x. IsLeft allowance c.made x in
+pub counting_goes : LeastIsUnique → (clues : Clues) (known first : List (List ℕ)) (allowance : Option ℕ) (s t : Search) (before after : Budget) → Counting clues known first allowance (s.at_hand ∷ s.behind) before → Steps clues known s t before after None → Counting clues known first allowance t.behind after
+counting_goes unique clues known first allowance s t before after c (inl h) =
+    let P : Budget → Type 0 = λ x. IsLeft allowance c.made x.left in
     let Q : List (List (List ℕ)) → Type 0 = λ x. Going clues known first x c.made in
     let e = ap (λ (x : Search). x.behind) (sym h.1.0) in
     record {
       made = c.made;
       going = subst Q e (going_passes unique clues known first s.at_hand s.behind c.made c.going h.0);
-      is_left = subst P (sym h.1.1.0) c.is_left;
-      counted = h.1.1.1 ∙ c.counted;
+      is_left = subst P (sym h.1.1) c.is_left;
+      counted = ap (λ (x : Budget). x.splits) h.1.1 ∙ c.counted;
     }
-counting_goes unique clues known first allowance start s t left rest count more c (inr h) =
+counting_goes unique clues known first allowance s t before after c (inr h) =
     let Q : List (List (List ℕ)) → Type 0 = λ x. Going clues known first x (suc c.made) in
     let e = ap (λ (x : Search). x.behind) (sym h.0.new_is) in
     record {
       made = suc c.made;
       going = subst Q e (going_splits unique clues known first s.at_hand h.0.settled h.0.cell s.behind c.made c.going h.0.comes);
-      is_left = one_less allowance left rest c.made c.is_left h.1.0;
-      counted = raised_again start count more c.made c.counted h.1.1;
+      is_left = one_less allowance before.left after.left c.made c.is_left h.1.0;
+      counted = raised_again before.splits after.splits c.made c.counted h.1.1;
     }
 
 -- ---- how it ends, counted
 
-pub counted_nothing : (clues : Clues) (known first : List (List ℕ)) (allowance : Option ℕ) (start : ℕ) (waiting : List (List (List ℕ))) (left : Option ℕ) (count : ℕ) → Counting clues known first allowance start waiting left count → waiting ≡ [] → (n : ℕ) × ((count ≡ raised start n) × EndsAs clues known first allowance ending.Nothing n)
-counted_nothing clues known first allowance start waiting left count c e = (c.made, (c.counted, ends_with_nothing clues known first waiting c.made allowance left c.going e c.is_left))
+pub counted_nothing : (clues : Clues) (known first : List (List ℕ)) (allowance : Option ℕ) (waiting : List (List (List ℕ))) (budget : Budget) → Counting clues known first allowance waiting budget → waiting ≡ [] → (n : ℕ) × ((budget.splits ≡ raised 0 n) × EndsAs clues known first allowance ending.Nothing n)
+counted_nothing clues known first allowance waiting budget c e = (c.made, (c.counted, ends_with_nothing clues known first waiting c.made allowance budget.left c.going e c.is_left))
 
-pub counted_ending : LeastIsUnique → (clues : Clues) (known first : List (List ℕ)) (allowance : Option ℕ) (start : ℕ) (s t : Search) (left rest : Option ℕ) (count more : ℕ) → Counting clues known first allowance start (s.at_hand ∷ s.behind) left count → (found : Ending) → Steps clues known s t left rest count more (Some found) → (n : ℕ) × ((more ≡ raised start n) × EndsAs clues known first allowance found n)
-counted_ending unique clues known first allowance start s t left rest count more c ending.Nothing h = absurd h
-counted_ending unique clues known first allowance start s t left rest count more c (ending.Found picture) h =
-    (c.made, (h.1 ∙ c.counted, ends_with_other clues known first s.at_hand picture s.behind c.made allowance left c.going h.0.0 h.0.1 c.is_left))
-counted_ending unique clues known first allowance start s t left rest count more c ending.BrokenOff h =
-    (c.made, (h.1.1 ∙ c.counted, ends_broken_off unique clues known first s.at_hand h.0.0 h.0.1.0 s.behind c.made allowance left c.going h.0.1.1 h.1.0 c.is_left))
+pub counted_ending : LeastIsUnique → (clues : Clues) (known first : List (List ℕ)) (allowance : Option ℕ) (s t : Search) (before after : Budget) → Counting clues known first allowance (s.at_hand ∷ s.behind) before → (found : Ending) → Steps clues known s t before after (Some found) → (n : ℕ) × ((after.splits ≡ raised 0 n) × EndsAs clues known first allowance found n)
+counted_ending unique clues known first allowance s t before after c ending.Nothing h = absurd h
+counted_ending unique clues known first allowance s t before after c (ending.Found picture) h =
+    (c.made, (ap (λ (x : Budget). x.splits) h.1 ∙ c.counted, ends_with_other clues known first s.at_hand picture s.behind c.made allowance before.left c.going h.0.0 h.0.1 c.is_left))
+counted_ending unique clues known first allowance s t before after c ending.BrokenOff h =
+    (c.made, (ap (λ (x : Budget). x.splits) h.1.1 ∙ c.counted, ends_broken_off unique clues known first s.at_hand h.0.0 h.0.1.0 s.behind c.made allowance before.left c.going h.0.1.1 h.1.0 c.is_left))
 
 -- ---- what a split leaves
 
@@ -201,12 +196,12 @@ split_others clues picture facts first settled coming cell rows e f c others =
 
 -- ---- what waits weighs less
 
-pub goes_lighter : (clues : Clues) (known : List (List ℕ)) (s t u : Search) (left rest : Option ℕ) (count more : ℕ) → Steps clues known s t left rest count more None → t.behind ≡ u.at_hand ∷ u.behind → load (u.at_hand ∷ u.behind) < load (s.at_hand ∷ s.behind)
-goes_lighter clues known s t u left rest count more (inl h) e =
+pub goes_lighter : (clues : Clues) (known : List (List ℕ)) (s t u : Search) (before after : Budget) → Steps clues known s t before after None → t.behind ≡ u.at_hand ∷ u.behind → load (u.at_hand ∷ u.behind) < load (s.at_hand ∷ s.behind)
+goes_lighter clues known s t u before after (inl h) e =
     let all : load s.behind ≡ load (u.at_hand ∷ u.behind) = ap load (ap (λ (x : Search). x.behind) (sym h.1.0) ∙ e) in
     let less = ended_lighter s.at_hand s.behind in
     omega arith
-goes_lighter clues known s t u left rest count more (inr h) e =
+goes_lighter clues known s t u before after (inr h) e =
     let settled = h.0.settled in
     let cell = h.0.cell in
     let to = h.0.comes.0 in
@@ -216,34 +211,21 @@ goes_lighter clues known s t u left rest count more (inr h) e =
     let most = within_lighter s.at_hand settled s.behind to.least.holds in
     omega arith
 
--- ---- the engine's work
-
-pub counts_none : (meter : Meter) (calls : ℕ) → meter.evaluations < 2 ^ 64 → meter.trials < 2 ^ 64 → calls < 2 ^ 64 → (evaluations : ℕ) × Counts evaluations 0 meter meter calls calls
-counts_none meter calls a b c = (0, record { evaluations = omega arith; trials = omega arith; calls = omega arith })
-
-pub counts_more : (start between end : Meter) (p q r : ℕ) → (evaluations : ℕ) × Counts evaluations 0 start between p q → (evaluations : ℕ) × Counts evaluations 0 between end q r → (evaluations : ℕ) × Counts evaluations 0 start end p r
-counts_more start between end p q r a b = (a.0 + b.0, counting_adds a.0 0 b.0 0 start between end p q r a.1 b.1)
-
--- with one evaluation at least behind the others there is one
-pub counts_some : (start between end : Meter) (p q r : ℕ) → (evaluations : ℕ) × Counts evaluations 0 start between p q → CountsSome between end q r → CountsSome start end p r
-counts_some start between end p q r a b =
-    (a.0 + b.0, (omega arith, counting_adds a.0 0 b.0 0 start between end p q r a.1 b.1.1))
-
 -- ---- one look
 
 -- a picture compared with the known one
-pub compared : (clues : Clues) (known facts picture : List (List ℕ)) (s : Search) (coming : Coming) (left : Option ℕ) (count : ℕ) (found : Option Ending) → facts ≡ s.at_hand → coming ≡ Ends picture → Comes clues facts coming → Compares known picture found → Steps clues known s s left left count count found
-compared clues known facts picture s coming left count found e f c h =
+pub compared : (clues : Clues) (known facts picture : List (List ℕ)) (s : Search) (coming : Coming) (budget : Budget) (found : Option Ending) → facts ≡ s.at_hand → coming ≡ Ends picture → Comes clues facts coming → Compares known picture found → Steps clues known s s budget budget found
+compared clues known facts picture s coming budget found e f c h =
     by found (subst (λ (x : Coming). Comes clues s.at_hand x) f (subst (λ (x : List (List ℕ)). Comes clues x coming) e c)) h
   where
-    by : (found : Option Ending) → Comes clues s.at_hand (Ends picture) → Compares known picture found → Steps clues known s s left left count count found
-    by None c e = let R : List (List ℕ) → Type 0 = λ x. Comes clues s.at_hand (Ends x) in inl (inr (subst R e c), (refl, (refl, refl)))
+    by : (found : Option Ending) → Comes clues s.at_hand (Ends picture) → Compares known picture found → Steps clues known s s budget budget found
+    by None c e = let R : List (List ℕ) → Type 0 = λ x. Comes clues s.at_hand (Ends x) in inl (inr (subst R e c), (refl, refl))
     by (Some ending.Nothing) c e = absurd e
     by (Some (ending.Found other)) c e =
         let R : List (List ℕ) → Type 0 = λ x. Comes clues s.at_hand (Ends x) in
         ((subst R (sym e.0) c, (λ d. e.1 (sym e.0 ∙ d))), refl)
     by (Some ending.BrokenOff) c e = absurd e
 
-pub steps_as : (clues : Clues) (known : List (List ℕ)) (s t : Search) (left rest : Option ℕ) (count more : ℕ) (found named : Option Ending) → found ≡ named → Steps clues known s t left rest count more found → Steps clues known s t left rest count more named
-steps_as clues known s t left rest count more found named e h =
-    subst (λ (x : Option Ending). Steps clues known s t left rest count more x) e h
+pub steps_as : (clues : Clues) (known : List (List ℕ)) (s t : Search) (before after : Budget) (found named : Option Ending) → found ≡ named → Steps clues known s t before after found → Steps clues known s t before after named
+steps_as clues known s t before after found named e h =
+    subst (λ (x : Option Ending). Steps clues known s t before after x) e h

@@ -18,7 +18,7 @@ use Rattle.fixpoint.specs.Filling.{Fills}
 use Rattle.second_search.specs.Branching.{FillsSome}
 use Rattle.second_search.specs.Looking.{FindsFilling}
 use Rattle.second_search.specs.Other.{AreSound, FindsFirst, FindsOther, HasClues}
-use Rattle.line_settle.specs.GridLaws.{shape_refl, shape_sym, shape_trans, shape_with_cell, full_shape, all_left, at_with_cell, off_with_cell}
+use Rattle.line_settle.specs.GridLaws.{shape_refl, shape_sym, shape_trans, shape_with_cell, full_shape, all_left}
 use Rattle.picture.specs.BitLaws.{bit_below, bit_is_set, power_has, set_bit, no_bit}
 use Rattle.clues.specs.Solution.{Solves}
 use Rattle.line_settle.specs.SolutionLaws.{solved_shape}

@@ -1,6 +1,6 @@
 -- Which lines are quiet while a search goes on: at first those that go past a part, and after a split all but the two through the
 -- split cell.
-use Rattle.std.proofs.Common.{◌≡◌, ℕ, ◌^◌, ◌<◌, Option, None, Some, List, [], ◌∷◌, ◌++◌, length, get_or, map, refl, sym, ap, subst, ◌∙◌, arith, inl, inr}
+use Rattle.std.proofs.Common.{◌≡◌, ℕ, ◌^◌, ◌<◌, None, Some, List, [], ◌∷◌, ◌++◌, length, get_or, map, refl, sym, ap, subst, ◌∙◌, arith, inl, inr}
 use Rattle.std.specs.Prelude.{IsBitSet}
 use Rattle.std.proofs.lemmas.Bool.{cases_lt}
 use Rattle.std.proofs.lemmas.List.{get_or_past, length-map}
@@ -14,7 +14,7 @@ use Rattle.picture.specs.Rows.{width_of, row_at, cell_at, line_along, line_of, l
 use Rattle.clues.specs.Laws.{CluesAreOfLines}
 use Rattle.clues.specs.ClueBook.{Clues, clue_at, clues_along, clues_of}
 use Rattle.line_settle.specs.Masks.{IsOnly}
-use Rattle.line_settle.specs.FactSets.{IsClosed, SameShape, col_on, row_on}
+use Rattle.line_settle.specs.FactSets.{IsClosed, IsFacts, SameShape, col_on, row_on}
 use Rattle.line_settle.specs.Fitting.{Fits}
 use Rattle.line_settle.specs.GridLaws.{same_has_line, same_line_length, same_list, shape_refl, shape_sym, shape_trans, cell_on, off_with_cell, shape_with_cell}
 use Rattle.picture.specs.BitLaws.{no_bit}
@@ -22,11 +22,13 @@ use Rattle.line_settle.specs.Branches.{branches, colours_of, held}
 use Rattle.fixpoint.specs.Closing.{AreClosable, EachFits, IsQuietLine, QuietOutside}
 use Rattle.fixpoint.specs.LineNames.{AreLinesOf}
 use Rattle.split_choice.specs.declared.cell.Cell.{Cell}
+use Rattle.second_search.specs.declared.counting.Budget.{Budget}
 use Rattle.second_search.specs.Branching.{GoesOn, Search, place, places, search_of}
 use Rattle.second_search.specs.Looking.{AreRowsSettled, IsFirstUnsettled, ShowOthers}
 use Rattle.second_search.specs.Searching.{KeepsOutside, NamesLinesOf}
 use Rattle.second_search.specs.Stepping.{Steps}
-use Rattle.second_search.specs.Through.{NamesBoth, across, down}
+use Rattle.split_choice.specs.Through.{CanLie, NamesLinesAt, across, down}
+use Rattle.second_search.specs.Through.{NamesBoth}
 use Rattle.second_search.proofs.LookLemmas.{others_settled}
 
 -- ---- sizes
@@ -183,14 +185,31 @@ pub quiet_at : (clues : Clues) (known : List (List ℕ)) (rows : Lines) (first :
 quiet_at clues known rows first s t cell q on =
     subst (λ (x : List Cell). EachQuiet clues known rows first (t.at_hand ∷ t.behind) x) on.1 (subst (λ (x : List (List (List ℕ))). EachQuiet clues known rows first x s.cells) on.0 q)
 
-pub ready_at : (clues : Clues) (known : List (List ℕ)) (rows : Lines) (first facts : List (List ℕ)) (cell : Cell) (lines : Lines) → SameShape first facts → IsQuietBut clues known rows facts cell → AreLinesOf facts lines → NamesBoth lines cell.row cell.col → IsReady clues known rows first facts lines cell.row
-ready_at clues known rows first facts cell lines s q of both = record { same_shape = s; are_lines = of; quiet = q.quiet lines both; above = q.above; others = q.others }
+-- the two lines through a cell of facts are named
+pub both_named : (first facts : List (List ℕ)) (cell : Cell) (lines : Lines) → IsFacts first → SameShape first facts → cell.row < length facts → cell.col < width_of facts → NamesLinesAt lines cell → NamesBoth lines cell.row cell.col
+both_named first facts cell lines is s h l names =
+    let rows = is.rows_fit in
+    let columns = is.columns_fit in
+    let is_there : CanLie cell = (omega arith, omega arith) in
+    ((names (across cell.row)).1 (is_there, inl refl), (names (down cell.col)).1 (is_there, inr refl))
+
+pub ready_at : (clues : Clues) (known : List (List ℕ)) (rows : Lines) (first facts : List (List ℕ)) (cell : Cell) (lines : Lines) → IsFacts first → SameShape first facts → IsQuietBut clues known rows facts cell → NamesLinesAt lines cell → IsReady clues known rows first facts lines cell.row
+ready_at clues known rows first facts cell lines is s q names = record {
+  same_shape = s;
+  are_lines = λ line has. elim ((names line).0 has).1 [
+    | inl a ↦ let P : LineId → Type 0 = λ x. HasLine facts x in subst P (sym a) q.in_rows
+    | inr d ↦ let P : LineId → Type 0 = λ x. HasLine facts x in subst P (sym d) q.in_columns
+  ];
+  quiet = q.quiet lines (both_named first facts cell lines is s q.in_rows q.in_columns names);
+  above = q.above;
+  others = q.others;
+}
 
 -- where a look goes on, nothing changed, or what waits now are branches of closed facts
-pub quiet_goes : (clues : Clues) (known first : List (List ℕ)) (rows : Lines) (s t : Search) (left rest : Option ℕ) (count more : ℕ) → SameShape first s.at_hand → ShowOthers known rows s.at_hand → EachQuiet clues known rows first s.behind s.cells → Steps clues known s t left rest count more None → EachQuiet clues known rows first t.behind t.cells
-quiet_goes clues known first rows s t left rest count more shape others q (inl h) =
+pub quiet_goes : (clues : Clues) (known first : List (List ℕ)) (rows : Lines) (s t : Search) (before after : Budget) → SameShape first s.at_hand → ShowOthers known rows s.at_hand → EachQuiet clues known rows first s.behind s.cells → Steps clues known s t before after None → EachQuiet clues known rows first t.behind t.cells
+quiet_goes clues known first rows s t before after shape others q (inl h) =
     subst (λ (x : Search). EachQuiet clues known rows first x.behind x.cells) (sym h.1.0) q
-quiet_goes clues known first rows s t left rest count more shape others q (inr h) =
+quiet_goes clues known first rows s t before after shape others q (inr h) =
     let to = h.0.comes.0 in
     let at = h.0.comes.1.is in
     let cell = h.0.cell in

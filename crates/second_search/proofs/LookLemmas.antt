@@ -1,8 +1,8 @@
 -- Settled facts and the picture that they show.
-use Rattle.std.proofs.Common.{◌≡◌, ℕ, ◌+◌, ◌<◌, List, [], length, get_or, replicate, refl, sym, ap, subst, ◌∙◌, arith, inl, inr}
+use Rattle.std.proofs.Common.{◌≡◌, ℕ, ◌+◌, ◌<◌, List, [], length, get_or, refl, sym, ap, subst, ◌∙◌, arith, inl, inr}
 use Rattle.std.specs.Prelude.{IsBitSet}
 use Rattle.std.proofs.lemmas.Bool.{cases_eq, cases_lt}
-use Rattle.std.proofs.lemmas.List.{get_or_past, get_or-replicate, length-replicate}
+use Rattle.std.proofs.lemmas.List.{get_or_past}
 use Rattle.picture.specs.LineSet.{Lines}
 use Rattle.picture.specs.Rows.{width_of, row_at, cell_at, with_cell}
 use Rattle.clues.specs.ClueBook.{Clues, clues_of}

@@ -1,5 +1,5 @@
 -- What is kept of the parts: from the start, after a search, and what it makes of the picture; and going along them, with counts.
-use Rattle.std.proofs.Common.{◌≡◌, ℕ, zero, suc, ◌+◌, ◌<◌, Option, List, [], ◌∷◌, ◌++◌, length, refl, sym, ap, subst, ◌∙◌, arith, inl, inr, ◌^◌, None, Some, get_or}
+use Rattle.std.proofs.Common.{◌≡◌, ℕ, zero, suc, ◌+◌, ◌-◌, ◌<◌, ◌≤◌, max, Option, List, [], ◌∷◌, ◌++◌, length, refl, sym, ap, subst, ◌∙◌, arith, inl, inr, ◌^◌, None, Some, get_or}
 use Rattle.std.proofs.lemmas.Bool.{cases_lt}
 use Rattle.std.proofs.lemmas.List.{get_or_append_left, get_or_past, get_or_push, length-map, length_push, get_or_default}
 use Rattle.clues.specs.ClueBook.{Clues}
@@ -14,9 +14,9 @@ use Rattle.second_search.specs.Parts.{AreParts, IsPart, part_at}
 use Rattle.second_search.specs.Judging.{Changes, FirstFilling, HasFilling, HasNoFilling, IsFilling, IsPlace, IsShown, IsTrueOf, Judges, Notes, Starts, StartsWith, Stops, answer_at, cells_at, kept_at, parts_of, AddsUp, Done, DoneBy, EndsBy, EndsPart, Passes, StopsAt}
 use Rattle.second_search.proofs.LookLemmas.{below_next}
 use Rattle.line_settle.specs.declared.meter.Meter.{Meter}
-use Rattle.line_settle.specs.FitLaws.{counting_adds}
+use Rattle.line_settle.specs.Counting.{counted}
 use Rattle.second_search.specs.declared.keeper.Spent.{Spent}
-use Rattle.second_search.specs.Searching.{CountsSome, EndsWithin, alone, raised}
+use Rattle.second_search.specs.Searching.{EndsWithin, IsCalled, alone, raised}
 use Rattle.second_search.specs.Laws.{AllowancesBreakOff}
 
 -- ---- the parts that are kept
@@ -124,8 +124,8 @@ is_shown clues facts picture allowance old new Undecided m n j = λ e. absurd (s
 
 -- ---- going along the parts, with the counts of what is done
 
-pub done_none : (meter : Meter) (calls : ℕ) (Is : ℕ → ℕ → Type 0) → meter.evaluations < 2 ^ 64 → meter.trials < 2 ^ 64 → calls < 2 ^ 64 → Is 0 0 → Done 0 0 0 0 meter meter calls calls Is
-done_none meter calls Is c d e is = record {
+pub done_none : (calls : ℕ) (Is : ℕ → ℕ → Type 0) → calls < 2 ^ 64 → Is 0 0 → DoneBy (record { searched = 0; splits = 0; evaluations = 0 }) calls calls Is
+done_none calls Is l is = record {
   searched = 0;
   splits = 0;
   evaluations = 0;
@@ -137,8 +137,8 @@ done_none meter calls Is c d e is = record {
   at_least = omega arith;
 }
 
-pub done_as : (s t a b : ℕ) (start end : Meter) (p q : ℕ) (One Is : ℕ → ℕ → Type 0) → Done s t a b start end p q One → ((m n : ℕ) → One m n → Is m n) → Done s t a b start end p q Is
-done_as s t a b start end p q One Is d turn = record {
+pub done_as : (spent : Spent) (p q : ℕ) (One Is : ℕ → ℕ → Type 0) → DoneBy spent p q One → ((m n : ℕ) → One m n → Is m n) → DoneBy spent p q Is
+done_as spent p q One Is d turn = record {
   searched = d.searched;
   splits = d.splits;
   evaluations = d.evaluations;
@@ -150,37 +150,40 @@ done_as s t a b start end p q One Is d turn = record {
   at_least = d.at_least;
 }
 
-pub done_both : (s t u a b c : ℕ) (start between end : Meter) (p q r : ℕ) (One Two Is : ℕ → ℕ → Type 0) → Done s t a b start between p q One → Done t u b c between end q r Two → ((m n x y : ℕ) → One m n → Two x y → Is (m + x) (n + y)) → Done s u a c start end p r Is
-done_both s t u a b c start between end p q r One Two Is d f join = record {
-  searched = d.searched + f.searched;
-  splits = d.splits + f.splits;
-  evaluations = d.evaluations + f.evaluations;
-  is = join d.searched d.splits f.searched f.splits d.is f.is;
-  searched_is = omega arith;
-  splits_is = omega arith;
-  counts = counting_adds d.evaluations 0 f.evaluations 0 start between end p q r d.counts f.counts;
-  none = λ z. (let one = d.none (omega arith) in let other = f.none (omega arith) in omega arith);
-  at_least = (let one = d.at_least in let other = f.at_least in omega arith);
-}
+-- what is done first and what is done then, counted together
+pub done_then : (before here after : Spent) (p q r : ℕ) (One Two Is : ℕ → ℕ → Type 0) → DoneBy before p q One → DoneBy here q r Two → AddsUp before here after → ((m n x y : ℕ) → One m n → Two x y → Is (m + x) (n + y)) → DoneBy after p r Is
+done_then before here after p q r One Two Is d f up join =
+    let a = d.counts in
+    let b = f.counts in
+    record {
+      searched = d.searched + f.searched;
+      splits = d.splits + f.splits;
+      evaluations = d.evaluations + f.evaluations;
+      is = join d.searched d.splits f.searched f.splits d.is f.is;
+      searched_is = (let x = d.searched_is in let y = f.searched_is in let z = up.searched in omega arith);
+      splits_is = (let x = d.splits_is in let y = f.splits_is in let z = up.splits in omega arith);
+      counts = record {
+        evaluations = (let x = a.evaluations in let y = b.evaluations in let z = up.evaluations in omega arith);
+        trials = omega arith;
+        calls = (let x = a.calls in let y = b.calls in omega arith);
+      };
+      none = λ z. (let one = d.none (omega arith) in let other = f.none (omega arith) in omega arith);
+      at_least = (let one = d.at_least in let other = f.at_least in omega arith);
+    }
 
 -- what was done is added to counts from before
-pub done_added : (s t a b : ℕ) (spent : Spent) (start end : Meter) (p q : ℕ) (Is : ℕ → ℕ → Type 0) → DoneBy spent start end p q Is → t ≡ raised s spent.searched → b ≡ raised a spent.splits → Done s t a b start end p q Is
-done_added s t a b spent start end p q Is d x y = record {
+pub done_added : (s t a b : ℕ) (spent : Spent) (start end : Meter) (p q : ℕ) (Is : ℕ → ℕ → Type 0) → DoneBy spent p q Is → t ≡ raised s spent.searched → b ≡ raised a spent.splits → end.evaluations ≡ counted start.evaluations spent.evaluations → end.trials ≡ counted start.trials 0 → Done s t a b start end p q Is
+done_added s t a b spent start end p q Is d x y z w = record {
   searched = d.searched;
   splits = d.splits;
   evaluations = d.evaluations;
   is = d.is;
-  searched_is = omega arith;
-  splits_is = omega arith;
-  counts = d.counts;
+  searched_is = (let e = d.searched_is in omega arith);
+  splits_is = (let e = d.splits_is in omega arith);
+  counts = record { evaluations = (let e = d.counts.evaluations in omega arith); trials = w; calls = d.counts.calls };
   none = d.none;
   at_least = d.at_least;
 }
-
--- what is done first and what is done then, counted together
-pub done_then : (before here after : Spent) (start between end : Meter) (p q r : ℕ) (One Two Is : ℕ → ℕ → Type 0) → DoneBy before start between p q One → DoneBy here between end q r Two → AddsUp before here after → ((m n x y : ℕ) → One m n → Two x y → Is (m + x) (n + y)) → DoneBy after start end p r Is
-done_then before here after start between end p q r One Two Is d f up join =
-    done_both 0 before.searched after.searched 0 before.splits after.splits start between end p q r One Two Is d (done_added before.searched after.searched before.splits after.splits here between end q r Two f up.searched up.splits) join
 
 module _ (clues : Clues) (facts picture : List (List ℕ)) (allowance : Option ℕ) (kept : List KeptPart) where
   pub passes_more : (i : ℕ) (m n x y : ℕ) → Passes clues facts picture allowance kept i m n → EndsPart clues facts picture allowance (kept_at kept i) ending.Nothing x y → Passes clues facts picture allowance kept (suc i) (m + x) (n + y)
@@ -213,19 +216,27 @@ known_before clues facts picture allowance kept i part e d =
     by Nothing d = (refl, (refl, refl))
     by (Filling other) d = (refl, (refl, refl))
 
+-- The calls of one search as evaluations, one at least. Where the count of calls stays at its largest number, any number fits.
+once_counted : (p q e : ℕ) → p ≤ q → IsCalled p q → q < 2 ^ 64 → e ≡ max (q - p) 1 → q ≡ counted p e
+once_counted p q e l called fits is = omega arith
+
 -- a part of which nothing was known was searched, which took an evaluation at least
-pub searched_once : (clues : Clues) (facts picture : List (List ℕ)) (allowance : Option ℕ) (kept : List KeptPart) (i : ℕ) (part : KeptPart) (found : Ending) (splits : ℕ) (start end : Meter) (p q : ℕ) → part ≡ kept_at kept i → part.answer ≡ Unknown → (n : ℕ) × ((splits ≡ raised 0 n) × EndsWithin clues picture (alone part.cells facts picture) allowance found n) → CountsSome start end p q → DoneBy (record { searched = 1; splits = splits }) start end p q (EndsPart clues facts picture allowance (kept_at kept i) found)
-searched_once clues facts picture allowance kept i part found splits start end p q here unknown ends some =
+pub searched_once : (clues : Clues) (facts picture : List (List ℕ)) (allowance : Option ℕ) (kept : List KeptPart) (i : ℕ) (part : KeptPart) (found : Ending) (splits p q e : ℕ) → part ≡ kept_at kept i → part.answer ≡ Unknown → (n : ℕ) × ((splits ≡ raised 0 n) × EndsWithin clues picture (alone part.cells facts picture) allowance found n) → p ≤ q → IsCalled p q → q < 2 ^ 64 → e ≡ max (q - p) 1 → DoneBy (record { searched = 1; splits = splits; evaluations = e }) p q (EndsPart clues facts picture allowance (kept_at kept i) found)
+searched_once clues facts picture allowance kept i part found splits p q e here unknown ends l called fits is =
     let P : KeptPart → Type 0 = λ x. EndsPart clues facts picture allowance x found 1 ends.0 in
     let Q : Answer → Type 0 = λ x. EndsBy clues facts picture allowance part.cells x found 1 ends.0 in
     record {
       searched = 1;
       splits = ends.0;
-      evaluations = some.0;
+      evaluations = e;
       is = subst P here (subst Q (sym unknown) (refl, ends.1.1));
       searched_is = refl;
       splits_is = ends.1.0;
-      counts = some.1.1;
+      counts = record {
+        evaluations = omega arith;
+        trials = omega arith;
+        calls = (let c = once_counted p q e l called fits is in omega arith);
+      };
       none = λ z. absurd (omega arith);
       at_least = omega arith;
     }

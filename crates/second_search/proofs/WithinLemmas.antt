@@ -1,18 +1,15 @@
 -- How the search of a part ends where no allowance is set: within some splits of the fixed order, or by what is true; and what is
 -- found in a window.
-use Rattle.std.proofs.Common.{◌≡◌, ℕ, ◌+◌, ◌<◌, Option, None, Some, List, refl, subst, arith, inl, inr, [], ◌∷◌, length, sym, ap}
+use Rattle.std.proofs.Common.{◌≡◌, ℕ, ◌<◌, Option, None, Some, List, refl, subst, inl, inr, [], ◌∷◌, length, sym, ap, arith}
 use Rattle.std.specs.Prelude.{IfSome}
 use Rattle.clues.specs.ClueBook.{Clues}
 use Rattle.clues.specs.Laws.{BooksAreTheirClues, CluesAreOfLines}
-use Rattle.line_settle.specs.declared.meter.Meter.{Meter}
-use Rattle.line_settle.specs.Counting.{Counts}
-use Rattle.line_settle.specs.FitLaws.{counting_adds}
 use Rattle.fixpoint.specs.Laws.{ClosingKeepsFillings, OnlyIsClosed}
 use Rattle.second_search.specs.declared.counting.Ending.{Ending}
 use Rattle.second_search.specs.declared.counting.Ending.TheVariants as ending
 use Rattle.second_search.specs.Laws.{AnswersPart, FillingsAreOfFacts, SoundFacts}
 use Rattle.second_search.specs.Parts.{IsOtherFilling, IsScene}
-use Rattle.second_search.specs.Searching.{CountsAny, CountsSome, EndsAs, EndsPast, EndsTrue, EndsWithin, alone, fixed_splits, Searches, raised}
+use Rattle.second_search.specs.Searching.{EndsAs, EndsPast, EndsTrue, EndsWithin, alone, fixed_splits, Searches, raised}
 use Rattle.second_search.proofs.EndLemmas.{none_found, one_found}
 use Rattle.picture.specs.CellSet.{HasCell, PutsCell}
 use Rattle.picture.specs.LineSet.{Lines}
@@ -61,17 +58,6 @@ module _ (law : CluesAreOfLines) (books : BooksAreTheirClues) (closing : Closing
   fixed_true cells allowance ending.Nothing n d s = λ other fills differs. none_found law books closing own fillings clues givens facts picture scene cells n s.0 other ((fillings clues givens facts picture other cells scene).1 (fills, differs))
   fixed_true cells allowance (ending.Found other) n d s = (fillings clues givens facts picture other cells scene).0 (one_found law books closing own fillings clues givens facts picture scene cells other n s.0)
   fixed_true cells allowance ending.BrokenOff n d s = absurd (d refl)
-
--- ---- within some splits, or past them
-
--- counts from a number that is that of the calls
-pub counts_from : (start end : Meter) (p q before : ℕ) → before ≡ p → CountsAny start end before q → CountsAny start end p q
-counts_from start end p q before e counts =
-    subst (λ (n : ℕ). CountsAny start end n q) e counts
-
-pub counts_some_more : (start between end : Meter) (p q r : ℕ) → CountsSome start between p q → (evaluations : ℕ) × Counts evaluations 0 between end q r → CountsSome start end p r
-counts_some_more start between end p q r a b =
-    (a.0 + b.0, ((let m : 0 < a.0 + b.0 = omega arith in m), counting_adds a.0 0 b.0 0 start between end p q r a.1.1 b.1))
 
 -- ---- what the ladder says of a part
 

@@ -4,7 +4,7 @@ use Rattle.picture.specs.CellSet.{HasCell}
 use Rattle.clues.specs.ClueBook.{Clues}
 use Rattle.clues.specs.Solution.{IsOther}
 use Rattle.line_settle.specs.declared.meter.Meter.{Meter}
-use Rattle.line_settle.specs.Counting.{Counts}
+use Rattle.line_settle.specs.Counting.{Counts, counted}
 use Rattle.second_search.specs.declared.counting.Ending.{Ending}
 use Rattle.second_search.specs.declared.counting.Ending.TheVariants as ending
 use Rattle.second_search.specs.declared.keeper.Answer.{Answer}
@@ -112,14 +112,19 @@ pub record Done (searched_before searched_after splits_before splits_after : ℕ
   pub none : searched ≡ 0 → evaluations ≡ 0
   pub at_least : searched ≤ evaluations
 
--- the counts of both, each staying at the largest 32-bit number
+-- the counts of both, each staying at the largest number of its bits
 pub record AddsUp (one more both : Spent) : Type 0 where
   pub searched : both.searched ≡ raised one.searched more.searched
   pub splits : both.splits ≡ raised one.splits more.splits
+  pub evaluations : both.evaluations ≡ counted one.evaluations more.evaluations
 
--- something was done by so many searches and splits, counted from nothing
-abbrev pub DoneBy : Spent → Meter → Meter → ℕ → ℕ → (ℕ → ℕ → Type 0) → Type 0
-DoneBy spent meter_before meter_after calls_before calls_after Is = Done 0 spent.searched 0 spent.splits meter_before meter_after calls_before calls_after Is
+-- a meter that counts so many evaluations alone
+abbrev pub evaluated : ℕ → Meter
+evaluated n = record { evaluations = n; trials = 0 }
+
+-- something was done by so many searches, splits and evaluations, counted from nothing
+abbrev pub DoneBy : Spent → ℕ → ℕ → (ℕ → ℕ → Type 0) → Type 0
+DoneBy spent calls_before calls_after Is = Done 0 spent.searched 0 spent.splits (evaluated 0) (evaluated spent.evaluations) calls_before calls_after Is
 
 -- ---- what is known then
 

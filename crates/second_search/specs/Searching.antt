@@ -5,8 +5,7 @@ use Rattle.picture.specs.CellSet.{HasCell}
 use Rattle.picture.specs.LineSet.{Lines, HasName}
 use Rattle.picture.specs.Rows.{row_at, cell_at}
 use Rattle.clues.specs.ClueBook.{Clues}
-use Rattle.line_settle.specs.declared.meter.Meter.{Meter}
-use Rattle.line_settle.specs.Counting.{Counts}
+use Rattle.line_settle.specs.Counting.{counted}
 use Rattle.line_settle.specs.Masks.{IsOnly}
 use Rattle.line_settle.specs.FactSets.{IsFacts, IsLeast, SameShape}
 use Rattle.line_settle.specs.Branches.{branches}
@@ -89,7 +88,7 @@ EndsTrue clues known facts BrokenOff = ⊥
 
 -- how many splits of the fixed order a part is given, where no allowance is set, before it is decided in other ways
 abbrev pub fixed_splits : ℕ
-fixed_splits = 100
+fixed_splits = 25
 
 -- How the search of a part ends that may go past so many splits of the fixed order: as in that order where it ends within them,
 -- and else with what is true.
@@ -117,10 +116,6 @@ NamesLinesOf cells lines = (row col : ℕ) → HasCell cells row col → HasName
 abbrev pub raised : ℕ → ℕ → ℕ
 raised count n = min (count + n) (2 ^ 32 - 1)
 
--- with some evaluations, if any, each of which the meter counts and is a call of the engine
-abbrev pub CountsAny : Meter → Meter → ℕ → ℕ → Type 0
-CountsAny old new before after = (evaluations : ℕ) × Counts evaluations 0 old new before after
-
--- with at least one evaluation, which the meter counts and which is a call of the engine
-abbrev pub CountsSome : Meter → Meter → ℕ → ℕ → Type 0
-CountsSome old new before after = (evaluations : ℕ) × ((0 < evaluations) × Counts evaluations 0 old new before after)
+-- an engine was called once at least: its count of calls is as after one, or beyond
+abbrev pub IsCalled : ℕ → ℕ → Type 0
+IsCalled before after = counted before 1 ≤ after

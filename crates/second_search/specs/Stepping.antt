@@ -1,10 +1,11 @@
 -- One look at the facts at hand, in a search that counts its splits.
-use Rattle.std.specs.Prelude.{◌≡◌, ℕ, suc, ◌⊎◌, Bool, true, false, Option, None, Some, List, ◌++◌}
+use Rattle.std.specs.Prelude.{◌≡◌, ℕ, suc, ◌⊎◌, Option, None, Some, List, ◌++◌}
 use Rattle.picture.specs.Rows.{cell_at}
 use Rattle.clues.specs.ClueBook.{Clues}
 use Rattle.split_choice.specs.declared.cell.Cell.{Cell}
 use Rattle.line_settle.specs.Branches.{branches}
 use Rattle.second_search.specs.declared.coming.Coming.TheVariants.{Dies, Ends, Splits}
+use Rattle.second_search.specs.declared.counting.Budget.{Budget}
 use Rattle.second_search.specs.declared.counting.Ending.{Ending}
 use Rattle.second_search.specs.declared.counting.Ending.TheVariants.{Nothing, Found, BrokenOff}
 use Rattle.second_search.specs.Branching.{Search, places, search_of}
@@ -16,9 +17,9 @@ IsOneLess None new = new ≡ None
 IsOneLess (Some n) new = (m : ℕ) × ((n ≡ suc m) × (new ≡ Some m))
 
 -- one split is taken off what is left of an allowance, and counted; or none is left
-abbrev pub Spends : Option ℕ → Option ℕ → ℕ → ℕ → Bool → Type 0
-Spends old new count more true = IsOneLess old new × (more ≡ raised count 1)
-Spends old new count more false = (old ≡ Some 0) × ((new ≡ old) × (more ≡ count))
+abbrev pub Spends : Budget → Option Budget → Type 0
+Spends old None = old.left ≡ Some 0
+Spends old (Some new) = IsOneLess old.left new.left × (new.splits ≡ raised old.splits 1)
 
 -- a picture is the known one, or another
 abbrev pub Compares : List (List ℕ) → List (List ℕ) → Option Ending → Type 0
@@ -36,10 +37,10 @@ pub record SplitsAt (clues : Clues) (old new : Search) : Type 0 where
 
 -- What a look at the facts at hand led to: the search goes on, since they are done with, or others wait in their place where they
 -- were split; or another picture was found; or no split is left.
-abbrev pub Steps : Clues → List (List ℕ) → Search → Search → Option ℕ → Option ℕ → ℕ → ℕ → Option Ending → Type 0
-Steps clues known old new left rest count more None =
-    ((Comes clues old.at_hand Dies ⊎ Comes clues old.at_hand (Ends known)) × ((new ≡ old) × ((rest ≡ left) × (more ≡ count))))
-    ⊎ (SplitsAt clues old new × (IsOneLess left rest × (more ≡ raised count 1)))
-Steps clues known old new left rest count more (Some Nothing) = ⊥
-Steps clues known old new left rest count more (Some (Found picture)) = (Comes clues old.at_hand (Ends picture) × (picture ≡ known → ⊥)) × (more ≡ count)
-Steps clues known old new left rest count more (Some BrokenOff) = ((settled : List (List ℕ)) × ((cell : Cell) × Comes clues old.at_hand (Splits settled cell))) × ((left ≡ Some 0) × (more ≡ count))
+abbrev pub Steps : Clues → List (List ℕ) → Search → Search → Budget → Budget → Option Ending → Type 0
+Steps clues known old new before after None =
+    ((Comes clues old.at_hand Dies ⊎ Comes clues old.at_hand (Ends known)) × ((new ≡ old) × (after ≡ before)))
+    ⊎ (SplitsAt clues old new × Spends before (Some after))
+Steps clues known old new before after (Some Nothing) = ⊥
+Steps clues known old new before after (Some (Found picture)) = (Comes clues old.at_hand (Ends picture) × (picture ≡ known → ⊥)) × (after ≡ before)
+Steps clues known old new before after (Some BrokenOff) = ((settled : List (List ℕ)) × ((cell : Cell) × Comes clues old.at_hand (Splits settled cell))) × (Spends before None × (after ≡ before))

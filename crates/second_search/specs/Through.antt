@@ -1,17 +1,11 @@
 -- The lines through some cells, and facts with a picture's colours alone left outside of them.
 use Rattle.std.specs.Prelude.{◌≡◌, ℕ, ◌^◌, ◌<◌, ◌⊎◌, ◌↔◌, List}
-use Rattle.picture.specs.declared.line_id.Axis.TheVariants.{Across, Down}
 use Rattle.picture.specs.declared.line_id.LineId.{LineId}
 use Rattle.picture.specs.CellSet.{HasCell}
 use Rattle.picture.specs.LineSet.{Lines, HasName}
 use Rattle.picture.specs.Rows.{width_of, cell_at}
 use Rattle.line_settle.specs.FactSets.{SameShape}
-
-abbrev pub across : ℕ → LineId
-across at = record { axis = Across; at = at }
-
-abbrev pub down : ℕ → LineId
-down at = record { axis = Down; at = at }
+pub use Rattle.split_choice.specs.Through.{across, down}
 
 -- the two lines through a cell are named
 abbrev pub NamesBoth : Lines → ℕ → ℕ → Type 0

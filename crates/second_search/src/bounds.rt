@@ -1,18 +1,20 @@
 //! How far each way of a search goes before the next one is taken.
 
-/// How often a part is split in the fixed order at first, how often a search in a window splits, and how many lines a tree of the
-/// whole picture may evaluate at first; that of a part may evaluate sixteen times as many. They say which way answers, and never
-/// what is true; clauses speak of the first alone.
+/// How often a part is split in the fixed order at first, and how often when that is begun anew; how often a search in a window
+/// splits; and how many lines a tree of the whole picture may evaluate at first, that of a part sixteen times as many. They say
+/// which way answers, and never what is true; clauses speak of the first alone.
 #[derive(Clone, Copy)]
 pub struct Bounds {
     pub fixed_splits: u32,
+    pub again_splits: u32,
     pub window_splits: u32,
     pub first_bound: u64,
 }
 
 /// Those of the program.
 pub const BOUNDS: Bounds = Bounds {
-    fixed_splits: 100,
+    fixed_splits: 25,
+    again_splits: 500,
     window_splits: 64,
     first_bound: 10_000,
 };

@@ -1,17 +1,18 @@
 //! What facts come to when they are closed, exactly: a dead line, a picture, or a first open cell.
 
-ghost use Rattle.std.specs.Prelude.{◌≡◌, ◌<◌, IfOk, OnOk};
+ghost use Rattle.std.specs.Prelude.{◌≡◌, ◌<◌, ◌≤◌, IfOk, OnOk};
 ghost use Rattle.picture.specs.LineSet.{name_count};
 ghost use Rattle.line_settle.specs.FactSets.{IsFacts, SameShape};
 ghost use Rattle.fixpoint.specs.Closing.{AreClosable, EachFits, QuietOutside};
 ghost use Rattle.fixpoint.specs.LineNames.{AreLinesOf};
 ghost use Rattle.second_search.specs.Looking.{AreRowsSettled, ShowOthers, Shows};
-ghost use Rattle.second_search.specs.Searching.{Comes, ComesClosed, CountsAny, CountsSome};
+ghost use Rattle.second_search.specs.Searching.{Comes, ComesClosed, IsCalled};
 
 use crate::looking::{first_unsettled, shown_beside};
+use crate::near::NOTHING_DONE;
 use clues::ClueBook;
 use fixpoint::close_facts;
-use line_settle::{Facts, LineEngine, Meter, Outcome};
+use line_settle::{Facts, LineEngine, Outcome};
 use picture::{LineSet, Picture};
 use split_choice::Cell;
 use std::alloc::AllocError;
@@ -41,7 +42,6 @@ pub(crate) fn come_to<E: LineEngine>(
     known: &Picture,
     facts: &Facts,
     due: &Due,
-    meter: &mut Meter,
 ) -> Result<Coming, AllocError>
     requires closable { AreClosable book.now (E.longest engine.old) facts.now }
     requires lines { AreLinesOf facts.now due.now.lines }
@@ -51,15 +51,22 @@ pub(crate) fn come_to<E: LineEngine>(
     requires same_shape { SameShape known.now facts.now }
     requires others { ShowOthers known.now due.now.rows facts.now }
     ensures comes { IfOk result (Comes book.now facts.now) }
-    ensures counts { CountsAny meter.old meter.new (E.calls engine.old) (E.calls engine.new) }
-    ensures evaluates { OnOk result
-        (CountsSome meter.old meter.new (E.calls engine.old) (E.calls engine.new)) }
+    ensures calls { E.calls engine.old ≤ E.calls engine.new }
+    ensures called { OnOk result (IsCalled (E.calls engine.old) (E.calls engine.new)) }
     ensures same_longest { E.longest engine.new ≡ E.longest engine.old }
 {
-    let (_calls, _evaluations, _trials) = (engine.calls(), meter.evaluations, meter.trials);
+    let _ = engine.calls();
     let mut settled = facts.copy()?;
     let mut agenda = InOrder::make();
-    match close_facts(engine, &mut agenda, &mut settled, book, &due.lines, meter) {
+    let mut meter = NOTHING_DONE;
+    match close_facts(
+        engine,
+        &mut agenda,
+        &mut settled,
+        book,
+        &due.lines,
+        &mut meter,
+    ) {
         Outcome::Dead => Ok(Coming::Dies),
         Outcome::Narrowed => split_or_end(known, settled, due),
     }

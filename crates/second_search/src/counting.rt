@@ -1,19 +1,18 @@
 //! The search in a fixed order, which counts its splits and may be broken off.
 
-ghost use Rattle.std.specs.Prelude.{◌≡◌, ◌<◌, ℕ, IfOk, OnOk};
+ghost use Rattle.std.specs.Prelude.{◌≡◌, ◌<◌, ◌≤◌, ℕ, IfOk, OnOk};
 ghost use Rattle.picture.specs.LineSet.{name_count};
 ghost use Rattle.fixpoint.specs.Closing.{AreClosable, QuietOutside};
 ghost use Rattle.fixpoint.specs.LineNames.{AreLinesOf};
 ghost use Rattle.line_settle.specs.FactSets.{SameShape};
 ghost use Rattle.second_search.specs.Looking.{AreRowsSettled, ShowOthers};
-ghost use Rattle.second_search.specs.Searching.{CountsAny, CountsSome, EndsAs, raised};
+ghost use Rattle.second_search.specs.Searching.{EndsAs, IsCalled, raised};
 ghost use Rattle.second_search.specs.Stepping.{Compares, Spends, Steps};
 
 use crate::coming::{Coming, Due, come_to};
-use crate::part_search::lines_at;
 use crate::pending::Pending;
 use clues::ClueBook;
-use line_settle::{Facts, LineEngine, Meter};
+use line_settle::{Facts, LineEngine};
 use picture::{LineSet, Picture};
 use std::alloc::{AllocError, Global};
 
@@ -42,14 +41,34 @@ pub(crate) struct Start {
     pub allowance: Option<u32>,
 }
 
-// A search under way: the branches that wait, what is due at the one at hand, how many splits are left, if there is an allowance,
-// and how many were made.
+// How many splits are left, if there is an allowance, and how many were made.
+#[derive(Clone, Copy)]
+pub(crate) struct Budget {
+    pub left: Option<u32>,
+    pub splits: u32,
+}
+
+impl Budget {
+    // The same after one split more. None where no split is left.
+    fn spend(self) -> Option<Budget>
+        ensures { Spends self result }
+    {
+        let left = match self.left {
+            Some(0) => return None,
+            Some(n) => Some(n - 1),
+            None => None,
+        };
+        let splits = self.splits.saturating_add(1);
+        Some(Budget { left, splits })
+    }
+}
+
+// A search under way: the branches that wait, what is due at the one at hand, and its splits.
 #[derive(Drop)]
 pub(crate) struct Counted {
     pub pending: Pending,
     pub due: Due,
-    pub left: Option<u32>,
-    pub splits: u32,
+    pub budget: Budget,
 }
 
 // Searches facts for another picture than a known one. A line is named, and each line that is not has to be quiet; after a
@@ -61,7 +80,6 @@ pub(crate) fn search_counted<E: LineEngine>(
     book: &ClueBook,
     known: &Picture,
     start: Start,
-    meter: &mut Meter,
 ) -> Result<Searched, AllocError>
     requires closable { AreClosable book.now (E.longest engine.old) start.facts }
     requires lines { AreLinesOf start.facts start.lines }
@@ -71,13 +89,11 @@ pub(crate) fn search_counted<E: LineEngine>(
     requires others { ShowOthers known.now start.lines start.facts }
     ensures ends { IfOk result (λ searched. (n : ℕ) × ((searched.splits ≡ raised 0 n)
         × EndsAs book.now known.now start.facts start.allowance searched.ending n)) }
-    ensures counts { CountsAny meter.old meter.new (E.calls engine.old) (E.calls engine.new) }
-    ensures evaluates { OnOk result
-        (CountsSome meter.old meter.new (E.calls engine.old) (E.calls engine.new)) }
+    ensures calls { E.calls engine.old ≤ E.calls engine.new }
+    ensures called { OnOk result (IsCalled (E.calls engine.old) (E.calls engine.new)) }
     ensures same_longest { E.longest engine.new ≡ E.longest engine.old }
 {
-    let _ = known.height();
-    let (_calls, _evaluations, _trials) = (engine.calls(), meter.evaluations, meter.trials);
+    let _ = (known.height(), start.facts.height());
     let Start {
         facts,
         lines,
@@ -90,30 +106,27 @@ pub(crate) fn search_counted<E: LineEngine>(
             rows: lines,
             top: 0,
         },
-        left: allowance,
-        splits: 0,
+        budget: Budget {
+            left: allowance,
+            splits: 0,
+        },
     };
     loop {
-        let found = search.look_once(engine, book, known, meter)?;
-        let splits = search.splits;
+        let found = search.look_once(engine, book, known)?;
+        let splits = search.budget.splits;
         match found {
             Some(ending) => return Ok(Searched { ending, splits }),
             None => {}
         }
-        let next = search.pending.advance()?;
-        match next {
-            Some(cell) => {
-                search.due = Due {
-                    lines: lines_at(search.pending.at_hand(), cell),
-                    rows: lines,
-                    top: cell.row,
-                };
-            }
-            None => return Ok(Searched {
-                ending: Ending::Nothing,
-                splits,
-            }),
-        }
+        let Some(cell) = search.pending.advance()? else {
+            let ending = Ending::Nothing;
+            return Ok(Searched { ending, splits });
+        };
+        search.due = Due {
+            lines: cell.lines(),
+            rows: lines,
+            top: cell.row,
+        };
     }
 }
 
@@ -124,7 +137,6 @@ impl Counted {
         engine: &mut E,
         book: &ClueBook,
         known: &Picture,
-        meter: &mut Meter,
     ) -> Result<Option<Ending>, AllocError>
         requires closable { AreClosable book.now (E.longest engine.old) self.old.pending.at_hand }
         requires lines { AreLinesOf self.old.pending.at_hand self.old.due.lines }
@@ -134,27 +146,20 @@ impl Counted {
         requires same_shape { SameShape known.now self.old.pending.at_hand }
         requires others { ShowOthers known.now self.old.due.rows self.old.pending.at_hand }
         ensures steps { IfOk result (Steps book.now known.now self.old.pending self.new.pending
-            self.old.left self.new.left self.old.splits self.new.splits) }
-        ensures counts { CountsAny meter.old meter.new (E.calls engine.old) (E.calls engine.new) }
-        ensures evaluates { OnOk result
-            (CountsSome meter.old meter.new (E.calls engine.old) (E.calls engine.new)) }
+            self.old.budget self.new.budget) }
+        ensures calls { E.calls engine.old ≤ E.calls engine.new }
+        ensures called { OnOk result (IsCalled (E.calls engine.old) (E.calls engine.new)) }
         ensures same_longest { E.longest engine.new ≡ E.longest engine.old }
     {
-        let coming = come_to(
-            engine,
-            book,
-            known,
-            self.pending.at_hand(),
-            &self.due,
-            meter,
-        )?;
+        let coming = come_to(engine, book, known, self.pending.at_hand(), &self.due)?;
         match coming {
             Coming::Dies => Ok(None),
             Coming::Ends(picture) => Ok(compare(picture, known)),
             Coming::Splits(settled, cell) => {
-                if !spend(&mut self.left, &mut self.splits) {
+                let Some(budget) = self.budget.spend() else {
                     return Ok(Some(Ending::BrokenOff));
-                }
+                };
+                self.budget = budget;
                 self.pending.narrow(&settled, &self.due.rows, self.due.top)?;
                 self.pending.split(cell)?;
                 Ok(None)
@@ -172,18 +177,4 @@ fn compare(picture: Picture, known: &Picture) -> Option<Ending>
     } else {
         Some(Ending::Found(picture))
     }
-}
-
-// Counts one split, unless none is left.
-fn spend(left: &mut Option<u32>, splits: &mut u32) -> bool
-    ensures { Spends left.old left.new splits.old splits.new result }
-{
-    let more = splits.saturating_add(1);
-    match *left {
-        Some(0) => return false,
-        Some(n) => *left = Some(n - 1),
-        None => {}
-    }
-    *splits = more;
-    true
 }

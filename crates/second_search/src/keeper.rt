@@ -29,7 +29,6 @@ ghost use Rattle.second_search.specs.Judging.{
   kept_at,
   parts_of,
 };
-ghost use Rattle.second_search.specs.Searching.{CountsAny};
 ghost use Rattle.second_search.specs.Scene.{CanSearch, IsWhole};
 
 use crate::carrying::{answer_for, are_named, first_cell, same_lines};
@@ -90,26 +89,29 @@ pub enum Verdict {
     Undecided,
 }
 
-// How many parts were searched, and how often they split. Both stay at the largest number.
+// How many parts were searched, how often they split, and how many lines were evaluated. Each count stays at the largest number.
 #[derive(Clone, Copy)]
 pub(crate) struct Spent {
     pub searched: u32,
     pub splits: u32,
+    pub evaluations: u64,
 }
 
 const NOTHING_SPENT: Spent = Spent {
     searched: 0,
     splits: 0,
+    evaluations: 0,
 };
 
 impl Spent {
-    // The counts of both.
+    // The sums of both.
     fn plus(self, more: Spent) -> Spent
         ensures { AddsUp self more result }
     {
         Spent {
             searched: self.searched.saturating_add(more.searched),
             splits: self.splits.saturating_add(more.splits),
+            evaluations: self.evaluations.saturating_add(more.evaluations),
         }
     }
 }
@@ -251,7 +253,7 @@ impl Keeper {
     /// is kept, nothing is searched. Else the parts of which nothing is known are searched in order, up to the first that has
     /// another filling or costs more splits than are allowed. What the searches that ended found is kept; of one that was
     /// broken off, nothing is. Adds to `searched` how many parts were searched, the last of them too if it was broken off, and
-    /// to `splits` how often they split in the fixed order, without an allowance at most 100 times each; both stay at the
+    /// to `splits` how often they split in the fixed order, without an allowance at most 25 times each; both stay at the
     /// largest number. Each part that is searched takes an evaluation at
     /// least, and where nothing is searched, no line is evaluated. Want of memory leaves what is kept as it was, and neither
     /// count falls by it. The parts kept are those of the scene's facts, and what is known of them is true; no line is longer
@@ -288,7 +290,17 @@ impl Keeper {
         ensures rises { (searched.old ≤ searched.new) × (splits.old ≤ splits.new) }
         ensures same_longest { E.longest engine.new ≡ E.longest engine.old }
     {
-        let (verdict, spent) = self.decide(engine, scene, allowance, meter)?;
+        let _trials = meter.trials;
+        let before = engine.calls();
+        let (verdict, spent) = match self.decide(engine, scene, allowance) {
+            Ok(decided) => decided,
+            Err(refused) => {
+                let evaluations = engine.calls() - before;
+                meter.evaluations = meter.evaluations.saturating_add(evaluations);
+                return Err(refused);
+            }
+        };
+        meter.evaluations = meter.evaluations.saturating_add(spent.evaluations);
         *searched = searched.saturating_add(spent.searched);
         *splits = splits.saturating_add(spent.splits);
         Ok(self.judged(verdict))
@@ -315,15 +327,14 @@ impl Keeper {
         engine: &mut E,
         scene: &Scene,
         allowance: Option<u32>,
-        meter: &mut Meter,
     ) -> Result<(Verdict, Spent), AllocError>
         requires can { CanSearch scene.now (E.longest engine.old) }
         requires parts { AreParts scene.now.facts.now (parts_of self.old) }
         requires true_answers { AreTrue scene.now.clues.now scene.now.givens.now
             scene.now.picture.now self.old }
-        ensures judges { IfOk result (λ decided. DoneBy decided.1 meter.old meter.new
-            (E.calls engine.old) (E.calls engine.new) (Judges scene.now.clues.now
-            scene.now.facts.now scene.now.picture.now allowance self.old self.new decided.0)) }
+        ensures judges { IfOk result (λ decided. DoneBy decided.1 (E.calls engine.old)
+            (E.calls engine.new) (Judges scene.now.clues.now scene.now.facts.now
+            scene.now.picture.now allowance self.old self.new decided.0)) }
         ensures refused { OnErr result (self.new ≡ self.old) }
         ensures parts { AreParts scene.now.facts.now (parts_of self.new) }
         ensures true_answers { AreTrue scene.now.clues.now scene.now.givens.now
@@ -331,14 +342,14 @@ impl Keeper {
         ensures shown { IfOk result (λ decided. IsShown self.new decided.0) }
         ensures verdict { IfOk result (λ decided. IsVerdict scene.now.clues.now
             scene.now.givens.now scene.now.picture.now decided.0) }
-        ensures counts { CountsAny meter.old meter.new (E.calls engine.old) (E.calls engine.new) }
+        ensures calls { E.calls engine.old ≤ E.calls engine.new }
         ensures same_longest { E.longest engine.new ≡ E.longest engine.old }
     {
-        let (_calls, _evaluations, _trials) = (engine.calls(), meter.evaluations, meter.trials);
+        let _ = engine.calls();
         match self.other() {
             Some(_) => Ok((Verdict::Other, NOTHING_SPENT)),
             None => {
-                let (at, ending, spent) = self.search_parts(engine, scene, allowance, meter)?;
+                let (at, ending, spent) = self.search_parts(engine, scene, allowance)?;
                 let verdict = self.note(at, ending);
                 Ok((verdict, spent))
             }
@@ -365,21 +376,20 @@ impl Keeper {
         engine: &mut E,
         scene: &Scene,
         allowance: Option<u32>,
-        meter: &mut Meter,
     ) -> Result<(usize, Ending, Spent), AllocError>
         requires can { CanSearch scene.now (E.longest engine.old) }
         requires parts { (i : ℕ) → i < length self.now
             → IsPart scene.now.facts.now (cells_at self.now i) }
-        ensures stops { IfOk result (λ gone. DoneBy gone.2 meter.old meter.new
-            (E.calls engine.old) (E.calls engine.new) (Stops scene.now.clues.now
-            scene.now.facts.now scene.now.picture.now allowance self.now gone.0 gone.1)) }
-        ensures counts { CountsAny meter.old meter.new (E.calls engine.old) (E.calls engine.new) }
+        ensures stops { IfOk result (λ gone. DoneBy gone.2 (E.calls engine.old)
+            (E.calls engine.new) (Stops scene.now.clues.now scene.now.facts.now
+            scene.now.picture.now allowance self.now gone.0 gone.1)) }
+        ensures calls { E.calls engine.old ≤ E.calls engine.new }
         ensures same_longest { E.longest engine.new ≡ E.longest engine.old }
     {
-        let (_calls, _evaluations, _trials) = (engine.calls(), meter.evaluations, meter.trials);
+        let _ = engine.calls();
         let mut spent = NOTHING_SPENT;
         for i in 0..self.kept.len() {
-            let (ending, here) = self.search_one(i, engine, scene, allowance, meter)?;
+            let (ending, here) = self.search_one(i, engine, scene, allowance)?;
             spent = spent.plus(here);
             let Ending::Nothing = ending else {
                 return Ok((i, ending, spent));
@@ -395,29 +405,31 @@ impl Keeper {
         engine: &mut E,
         scene: &Scene,
         allowance: Option<u32>,
-        meter: &mut Meter,
     ) -> Result<(Ending, Spent), AllocError>
         requires place { i < length self.now }
         requires can { CanSearch scene.now (E.longest engine.old) }
         requires part { IsPart scene.now.facts.now (cells_at self.now i) }
-        ensures ends { IfOk result (λ ended. DoneBy ended.1 meter.old meter.new
-            (E.calls engine.old) (E.calls engine.new) (EndsPart scene.now.clues.now
-            scene.now.facts.now scene.now.picture.now allowance (kept_at self.now i) ended.0)) }
-        ensures counts { CountsAny meter.old meter.new (E.calls engine.old) (E.calls engine.new) }
+        ensures ends { IfOk result (λ ended. DoneBy ended.1 (E.calls engine.old)
+            (E.calls engine.new) (EndsPart scene.now.clues.now scene.now.facts.now
+            scene.now.picture.now allowance (kept_at self.now i) ended.0)) }
+        ensures calls { E.calls engine.old ≤ E.calls engine.new }
         ensures same_longest { E.longest engine.new ≡ E.longest engine.old }
     {
-        let (_calls, _evaluations, _trials) = (engine.calls(), meter.evaluations, meter.trials);
+        let before = engine.calls();
         let part = &self.kept[i];
         // A kept filling is not met here, since it is answered before.
         let Answer::Unknown = part.answer else {
             return Ok((Ending::Nothing, NOTHING_SPENT));
         };
         let alloc = *self.kept.allocator();
-        let searched = decide_part(alloc, engine, scene, &part.cells, allowance, meter)?;
+        let searched = decide_part(alloc, engine, scene, &part.cells, allowance)?;
         let Searched { ending, splits } = searched;
+        // Where the engine's calls have stayed at the largest number, they are no more than before.
+        let evaluations = (engine.calls() - before).max(1);
         let spent = Spent {
             searched: 1,
             splits,
+            evaluations,
         };
         Ok((ending, spent))
     }

@@ -161,8 +161,7 @@ fn find_inside<E: LineEngine>(
         lines: window.lines,
         allowance: Some(window.splits),
     };
-    let mut meter = NOTHING_DONE;
-    let searched = search_counted(alloc, engine, scene.clues, scene.picture, start, &mut meter)?;
+    let searched = search_counted(alloc, engine, scene.clues, scene.picture, start)?;
     let Searched { ending, .. } = searched;
     match ending {
         Ending::Found(picture) => Ok(Some(picture)),

@@ -2,23 +2,19 @@
 //! part, the fixed order anew, large windows and trees.
 
 ghost use Rattle.std.specs.Prelude.{◌≡◌, ◌≤◌, ℕ, length, IfOk, OnOk};
-ghost use Rattle.line_settle.specs.Counting.{Counts};
 ghost use Rattle.second_search.specs.Parts.{IsPart, IsScene};
-ghost use Rattle.second_search.specs.Searching.{CountsAny, CountsSome, EndsPast, EndsTrue, EndsWithin, alone, raised};
+ghost use Rattle.second_search.specs.Searching.{EndsPast, EndsTrue, EndsWithin, IsCalled, alone, raised};
 ghost use Rattle.second_search.specs.Scene.{CanSearch};
 
 use crate::bounds::{BOUNDS, Bounds};
 use crate::counting::{Ending, Searched};
 use crate::finding::find_filling;
-use crate::near::{NOTHING_DONE, SIZES, SMALL, find_near};
+use crate::near::{SIZES, SMALL, find_near};
 use crate::part_search::{facts_on, search_part};
 use crate::scene::Scene;
-use line_settle::{LineEngine, Meter};
+use line_settle::LineEngine;
 use picture::CellSet;
 use std::alloc::{AllocError, Global};
-
-// How many times as many splits of the fixed order may be made as at first, when it is begun anew after the small windows.
-const AGAIN: u32 = 5;
 
 // How many times as many lines a tree of a part may evaluate at first: where the fixed order has gone so far, few small trees
 // close.
@@ -31,21 +27,19 @@ pub(crate) fn decide_part<E: LineEngine>(
     scene: &Scene,
     cells: &CellSet,
     allowance: Option<u32>,
-    meter: &mut Meter,
 ) -> Result<Searched, AllocError>
     requires can { CanSearch scene.now (E.longest engine.old) }
     requires part { IsPart scene.now.facts.now cells.now }
     ensures ends { IfOk result (λ searched. (n : ℕ) × ((searched.splits ≡ raised 0 n)
         × EndsWithin scene.now.clues.now scene.now.picture.now
         (alone cells.now scene.now.facts.now scene.now.picture.now) allowance searched.ending n)) }
-    ensures counts { CountsAny meter.old meter.new (E.calls engine.old) (E.calls engine.new) }
-    ensures evaluates { OnOk result
-        (CountsSome meter.old meter.new (E.calls engine.old) (E.calls engine.new)) }
+    ensures calls { E.calls engine.old ≤ E.calls engine.new }
+    ensures called { OnOk result (IsCalled (E.calls engine.old) (E.calls engine.new)) }
     ensures same_longest { E.longest engine.new ≡ E.longest engine.old }
 {
     match allowance {
-        Some(most) => search_part(alloc, engine, scene, cells, Some(most), meter),
-        None => decide_within(alloc, engine, scene, cells, BOUNDS, meter),
+        Some(most) => search_part(alloc, engine, scene, cells, Some(most)),
+        None => decide_within(alloc, engine, scene, cells, BOUNDS),
     }
 }
 
@@ -58,7 +52,6 @@ pub fn decide_within<E: LineEngine>(
     scene: &Scene,
     cells: &CellSet,
     bounds: Bounds,
-    meter: &mut Meter,
 ) -> Result<Searched, AllocError>
     requires scene { IsScene scene.now.clues.now scene.now.givens.now scene.now.facts.now
         scene.now.picture.now }
@@ -69,33 +62,17 @@ pub fn decide_within<E: LineEngine>(
         × EndsPast scene.now.clues.now scene.now.picture.now
         (alone cells.now scene.now.facts.now scene.now.picture.now) bounds.fixed_splits
         searched.ending n)) }
-    ensures counts { (evaluations : ℕ)
-        × Counts evaluations 0 meter.old meter.new (E.calls engine.old) (E.calls engine.new) }
-    ensures evaluates { OnOk result
-        (CountsSome meter.old meter.new (E.calls engine.old) (E.calls engine.new)) }
+    ensures calls { E.calls engine.old ≤ E.calls engine.new }
+    ensures called { OnOk result (IsCalled (E.calls engine.old) (E.calls engine.new)) }
     ensures same_longest { E.longest engine.new ≡ E.longest engine.old }
 {
-    let (_calls, _evaluations, _trials) = (engine.calls(), meter.evaluations, meter.trials);
     let most = Some(bounds.fixed_splits);
-    let Searched { ending, splits } = search_part(alloc, engine, scene, cells, most, meter)?;
+    let Searched { ending, splits } = search_part(alloc, engine, scene, cells, most)?;
     let Ending::BrokenOff = ending else {
         return Ok(Searched { ending, splits });
     };
-    let before = engine.calls();
-    let climbed = climb_part(alloc, engine, scene, cells, bounds);
-    count_since(before, engine, meter);
-    let ending = climbed?;
+    let ending = climb_part(alloc, engine, scene, cells, bounds)?;
     Ok(Searched { ending, splits })
-}
-
-// Counts the calls of an engine beyond so many as evaluations.
-fn count_since<E: LineEngine>(before: u64, engine: &E, meter: &mut Meter)
-    requires { before ≤ E.calls engine.now }
-    ensures { CountsAny meter.old meter.new before (E.calls engine.now) }
-{
-    let _trials = meter.trials;
-    let more = engine.calls() - before;
-    meter.evaluations = meter.evaluations.saturating_add(more);
 }
 
 // Decides a part that costs more than the first splits: by small windows, by more splits of the fixed order, by large windows, and
@@ -114,14 +91,12 @@ fn climb_part<E: LineEngine>(
     ensures calls { E.calls engine.old ≤ E.calls engine.new }
     ensures same_longest { E.longest engine.new ≡ E.longest engine.old }
 {
-    let _ = engine.calls();
     let splits = bounds.window_splits;
     if let Some(picture) = find_near(alloc, engine, scene, cells, &SIZES[..SMALL], splits)? {
         return Ok(Ending::Found(picture));
     }
-    let again = Some(bounds.fixed_splits.saturating_mul(AGAIN));
-    let mut meter = NOTHING_DONE;
-    let Searched { ending, .. } = search_part(alloc, engine, scene, cells, again, &mut meter)?;
+    let again = Some(bounds.again_splits);
+    let Searched { ending, .. } = search_part(alloc, engine, scene, cells, again)?;
     let Ending::BrokenOff = ending else {
         return Ok(ending);
     };

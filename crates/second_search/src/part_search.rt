@@ -1,20 +1,19 @@
 //! The search of one part: the facts on it, with the picture's colours alone left elsewhere, and the lines through its cells.
 
-ghost use Rattle.std.specs.Prelude.{◌≡◌, ◌<◌, ℕ, length, IfOk, OnOk};
+ghost use Rattle.std.specs.Prelude.{◌≡◌, ◌<◌, ◌≤◌, ℕ, length, IfOk, OnOk};
 ghost use Rattle.picture.specs.Rows.{width_of};
 ghost use Rattle.line_settle.specs.FactSets.{SameShape};
 ghost use Rattle.fixpoint.specs.Filling.{only};
 ghost use Rattle.fixpoint.specs.LineNames.{AreLinesOf};
 ghost use Rattle.second_search.specs.Parts.{IsPart};
-ghost use Rattle.second_search.specs.Searching.{CountsAny, CountsSome, EndsAs, KeepsOutside, alone, raised};
-ghost use Rattle.second_search.specs.Through.{LeavesRowAlone, NamesBoth, PutsBoth, PutsRow, PutsThrough};
+ghost use Rattle.second_search.specs.Searching.{EndsAs, IsCalled, KeepsOutside, alone, raised};
+ghost use Rattle.second_search.specs.Through.{LeavesRowAlone, PutsBoth, PutsRow, PutsThrough};
 ghost use Rattle.second_search.specs.Scene.{CanSearch, IsWhole};
 
 use crate::counting::{Searched, Start, search_counted};
 use crate::scene::Scene;
-use line_settle::{Facts, LineEngine, Meter};
+use line_settle::{Facts, LineEngine};
 use picture::{Axis, CellSet, LineId, LineSet, MAX_SIDE, Picture};
-use split_choice::Cell;
 use std::alloc::{AllocError, Global};
 
 // Searches one part for another filling. Only the lines through the part are evaluated.
@@ -24,26 +23,23 @@ pub(crate) fn search_part<E: LineEngine>(
     scene: &Scene,
     cells: &CellSet,
     allowance: Option<u32>,
-    meter: &mut Meter,
 ) -> Result<Searched, AllocError>
     requires can { CanSearch scene.now (E.longest engine.old) }
     requires part { IsPart scene.now.facts.now cells.now }
     ensures ends { IfOk result (λ searched. (n : ℕ) × ((searched.splits ≡ raised 0 n)
         × EndsAs scene.now.clues.now scene.now.picture.now
         (alone cells.now scene.now.facts.now scene.now.picture.now) allowance searched.ending n)) }
-    ensures counts { CountsAny meter.old meter.new (E.calls engine.old) (E.calls engine.new) }
-    ensures evaluates { OnOk result
-        (CountsSome meter.old meter.new (E.calls engine.old) (E.calls engine.new)) }
+    ensures calls { E.calls engine.old ≤ E.calls engine.new }
+    ensures called { OnOk result (IsCalled (E.calls engine.old) (E.calls engine.new)) }
     ensures same_longest { E.longest engine.new ≡ E.longest engine.old }
 {
     let _ = scene.facts.height();
-    let (_calls, _evaluations, _trials) = (engine.calls(), meter.evaluations, meter.trials);
     let start = Start {
         facts: facts_on(scene, cells)?,
         lines: lines_through(cells, scene.facts),
         allowance,
     };
-    search_counted(alloc, engine, scene.clues, scene.picture, start, meter)
+    search_counted(alloc, engine, scene.clues, scene.picture, start)
 }
 
 // The names of the lines that go through some cells.
@@ -106,19 +102,6 @@ fn leave_row_alone(facts: &mut Facts, picture: &Picture, cells: &CellSet, row: u
             facts.set_left(row, col, 1 << picture.cell(row, col));
         }
     }
-}
-
-// The names of the lines through a cell.
-pub(crate) fn lines_at(facts: &Facts, cell: Cell) -> LineSet
-    requires in_rows { cell.row < length facts.now }
-    requires in_columns { cell.col < width_of facts.now }
-    ensures lines { AreLinesOf facts.now result }
-    ensures both { NamesBoth result cell.row cell.col }
-{
-    let _ = facts.height();
-    let mut lines = LineSet::empty();
-    put_both(&mut lines, cell.row, cell.col);
-    lines
 }
 
 // Puts the names of the lines through a cell into a set.

@@ -2,6 +2,7 @@
 
 ghost use Rattle.std.specs.Prelude.{◌≡◌};
 ghost use Rattle.line_settle.specs.FactSets.{col_on, row_on};
+ghost use Rattle.split_choice.specs.Through.{NamesLinesAt};
 
 use picture::{Axis, LineId, LineSet, MAX_SIDE};
 
@@ -26,7 +27,9 @@ impl Cell {
     }
 
     /// The names of the lines through a cell. A cell that no picture has is on none.
-    pub fn lines(self) -> LineSet {
+    pub fn lines(self) -> LineSet
+        ensures { NamesLinesAt result self }
+    {
         let mut lines = LineSet::empty();
         if self.row < MAX_SIDE && self.col < MAX_SIDE {
             lines.put(LineId {

@@ -1,7 +1,7 @@
 use Rattle.std.proofs.Common.{List, ℕ, refl, subst}
 use Rattle.line_settle.specs.FactSets.{SameShape}
 use Rattle.line_settle.specs.GridLaws.{shape_trans}
-use Rattle.second_search.proofs.ComingLemmas.{comes_closed, counted_some}
+use Rattle.second_search.proofs.ComingLemmas.{called_once, comes_closed, counted_some}
 use Rattle.second_search.proofs.LookLemmas.{others_stay, rows_stay}
 use Rattle.second_search.proofs.coming.come_to.Goals as goal
 
@@ -17,12 +17,12 @@ split_or_end-requires-clause-above g c = rows_stay c.args.book.now c.args.facts.
 pub returns-in-Narrowed-clause-comes : goal.returns-in-Narrowed-clause-comes
 returns-in-Narrowed-clause-comes g c = comes_closed c.args.book.now c.args.facts.now c.in_ok-settled.settled c.close_facts.new.facts _ c.split_or_end.result c.in_ok-settled.ensures c.in-Narrowed.ensures.closes refl c.split_or_end.ensures
 
-pub returns-in-Narrowed-clause-evaluates : goal.returns-in-Narrowed-clause-evaluates
-returns-in-Narrowed-clause-evaluates g c =
+pub returns-in-Narrowed-clause-called : goal.returns-in-Narrowed-clause-called
+returns-in-Narrowed-clause-called g c =
     let w = c.in-Narrowed.ensures.works in
-    counted_some c.split_or_end.result _ (w.evaluations, (w.some c.requires.some, w.counts))
+    counted_some c.split_or_end.result _ (called_once _ _ _ (w.some c.requires.some) w.counts.calls)
 
-pub returns-in-Dead-clause-evaluates : goal.returns-in-Dead-clause-evaluates
-returns-in-Dead-clause-evaluates g c =
+pub returns-in-Dead-clause-called : goal.returns-in-Dead-clause-called
+returns-in-Dead-clause-called g c =
     let w = c.in-Dead.ensures.works in
-    (w.evaluations, (w.some c.requires.some, w.counts))
+    called_once _ _ _ (w.some c.requires.some) w.counts.calls

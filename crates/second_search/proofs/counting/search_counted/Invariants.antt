@@ -1,6 +1,5 @@
-use Rattle.std.proofs.Common.{◌≡◌, ◌<◌, ◌∷◌, ℕ}
+use Rattle.std.proofs.Common.{◌≡◌, ◌<◌, ◌≤◌, ◌∷◌}
 use Rattle.picture.specs.LineSet.{name_count}
-use Rattle.line_settle.specs.Counting.{Counts}
 use Rattle.second_search.proofs.CountLemmas.{Counting}
 use Rattle.second_search.proofs.KeepLemmas.{EachQuiet, IsReady}
 use Rattle.second_search.proofs.WeightLemmas.{load}
@@ -8,12 +7,12 @@ use Rattle.second_search.proofs.counting.search_counted.Given as goal
 
 abbrev pub invariant-loop-search : goal.invariant-loop-search
 invariant-loop-search g l = record {
-  counting : Counting l.book l.known l.fn.start.facts l.fn.start.allowance 0 (l.search.pending.at_hand ∷ l.search.pending.behind) l.search.left l.search.splits;
+  counting : Counting l.book l.known l.fn.start.facts l.fn.start.allowance (l.search.pending.at_hand ∷ l.search.pending.behind) l.search.budget;
   ready : IsReady l.book l.known l.fn.start.lines l.fn.start.facts l.search.pending.at_hand l.search.due.lines l.search.due.top;
   rows : l.search.due.rows ≡ l.fn.start.lines;
   some : 0 < name_count l.search.due.lines;
   behind : EachQuiet l.book l.known l.fn.start.lines l.fn.start.facts l.search.pending.behind l.search.pending.cells;
-  counts : (evaluations : ℕ) × Counts evaluations 0 l.fn.meter l.meter (g.E.LineEngine.calls l.fn.engine) (g.E.LineEngine.calls l.engine);
+  calls : g.E.LineEngine.calls l.fn.engine ≤ g.E.LineEngine.calls l.engine;
   same_longest : g.E.LineEngine.longest l.engine ≡ g.E.LineEngine.longest l.fn.engine;
 }
 

@@ -23,4 +23,4 @@ pub narrow-requires-clause-above : goal.narrow-requires-clause-above
 narrow-requires-clause-above g c = split_same c.args.book.now c.args.self.now.pending.at_hand c.at_hand.result.now c.in-Splits.settled c.in_ok-coming.coming c.in-Splits.cell c.args.self.now.due.top c.at_hand.ensures c.in-Splits.is c.in_ok-coming.ensures.comes c.requires.above
 
 pub returns-in-Ends-clause-steps : goal.returns-in-Ends-clause-steps
-returns-in-Ends-clause-steps g c = compared c.args.book.now c.args.known.now c.at_hand.result.now c.in-Ends.picture c.args.self.now.pending c.in_ok-coming.coming c.args.self.now.left c.args.self.now.splits c.compare.result c.at_hand.ensures c.in-Ends.is c.in_ok-coming.ensures.comes c.compare.ensures
+returns-in-Ends-clause-steps g c = compared c.args.book.now c.args.known.now c.at_hand.result.now c.in-Ends.picture c.args.self.now.pending c.in_ok-coming.coming c.args.self.now.budget c.compare.result c.at_hand.ensures c.in-Ends.is c.in_ok-coming.ensures.comes c.compare.ensures

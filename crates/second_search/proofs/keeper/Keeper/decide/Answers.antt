@@ -12,7 +12,7 @@ search_parts-requires-clause-parts g c = each_is_part c.args.scene.now.facts.now
 pub returns-in-Some-clause-judges : goal.returns-in-Some-clause-judges
 returns-in-Some-clause-judges g c =
     let s = c.args.scene.now in
-    done_none _ _ _ (omega arith) (omega arith) (omega arith) (keeps_other s.clues.now s.facts.now s.picture.now c.args.allowance c.args.self.now _ c.in-Some.ensures)
+    done_none _ _ (omega arith) (keeps_other s.clues.now s.facts.now s.picture.now c.args.allowance c.args.self.now _ c.in-Some.ensures)
 
 pub note-verdict-requires : goal.note-verdict-requires
 note-verdict-requires g c =
@@ -31,12 +31,12 @@ returns-in_ok-at-in-None g c =
     let turn = judges_as s.clues.now s.facts.now s.picture.now c.args.allowance old new at.at at.ending verdict in
     let j = turn d.searched d.splits c.in-None.ensures d.is c.note-verdict.ensures in
     record {
-      judges = done_as _ _ _ _ _ _ _ _ (Stops s.clues.now s.facts.now s.picture.now c.args.allowance old at.at at.ending) (Judges s.clues.now s.facts.now s.picture.now c.args.allowance old new verdict) d (λ m n h. turn m n c.in-None.ensures h c.note-verdict.ensures);
+      judges = done_as _ _ _ (Stops s.clues.now s.facts.now s.picture.now c.args.allowance old at.at at.ending) (Judges s.clues.now s.facts.now s.picture.now c.args.allowance old new verdict) d (λ m n h. turn m n c.in-None.ensures h c.note-verdict.ensures);
       refused = search rules;
       parts = subst (AreParts s.facts.now) (sym (same_kept s.clues.now s.facts.now s.picture.now c.args.allowance old new verdict d.searched d.splits j)) c.requires.parts;
       true_answers = judged_true clues_are_of_lines books_are_their_clues closing_keeps_fillings only_is_closed fillings_are_of_facts parts_decide s.clues.now s.givens.now s.facts.now s.picture.now c.requires.can.is_scene c.args.allowance old new verdict d.searched d.splits c.requires.true_answers j;
       shown = is_shown s.clues.now s.facts.now s.picture.now c.args.allowance old new verdict d.searched d.splits j;
       verdict = verdict_true clues_are_of_lines books_are_their_clues closing_keeps_fillings only_is_closed fillings_are_of_facts parts_decide s.clues.now s.givens.now s.facts.now s.picture.now c.requires.can.is_scene c.args.allowance old new verdict d.searched d.splits c.requires.parts c.requires.true_answers j;
-      counts = search rules;
+      calls = search rules;
       same_longest = search rules;
     }

@@ -7,7 +7,7 @@ returns-in_default-clause-ends g c =
     let s = c.args.scene.now in
     let part = c.index-part.result.now in
     let here = part_is c.self.inside.kept.items c.args.self.now c.args.i part c.self.view_is c.requires.place c.index-part.ensures in
-    done_none _ _ _ (omega arith) (omega arith) (omega arith) (known_before s.clues.now s.facts.now s.picture.now c.args.allowance c.args.self.now c.args.i part here c.in_default.not-Unknown)
+    done_none _ _ (omega arith) (known_before s.clues.now s.facts.now s.picture.now c.args.allowance c.args.self.now c.args.i part here c.in_default.not-Unknown)
 
 pub returns-clause-ends : goal.returns-clause-ends
 returns-clause-ends g c =
@@ -15,4 +15,4 @@ returns-clause-ends g c =
     let part = c.index-part.result.now in
     let here = part_is c.self.inside.kept.items c.args.self.now c.args.i part c.self.view_is c.requires.place c.index-part.ensures in
     let done = c.in_ok-searched in
-    searched_once s.clues.now s.facts.now s.picture.now c.args.allowance c.args.self.now c.args.i part done.searched.ending done.searched.splits _ _ _ _ here c.in-Unknown.is done.ensures.ends done.ensures.evaluates
+    searched_once s.clues.now s.facts.now s.picture.now c.args.allowance c.args.self.now c.args.i part done.searched.ending done.searched.splits _ _ _ here c.in-Unknown.is done.ensures.ends c.decide_part.ensures.calls done.ensures.called (omega arith) (omega arith)

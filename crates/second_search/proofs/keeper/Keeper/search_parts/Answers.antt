@@ -3,17 +3,8 @@ use Rattle.second_search.specs.declared.counting.Ending.{Ending}
 use Rattle.second_search.specs.declared.counting.Ending.TheVariants as ending
 use Rattle.second_search.specs.Judging.{DoneBy, EndsPart, Passes, Stops, kept_at}
 use Rattle.second_search.specs.Scene.{CanSearch}
-use Rattle.second_search.proofs.CountLemmas.{counts_more}
 use Rattle.second_search.proofs.VerdictLemmas.{done_then, passes_more, stops_found, stops_here}
 use Rattle.second_search.proofs.keeper.Keeper.search_parts.Goals as goal
-
-pub returns-in_err-ending-clause-counts : goal.returns-in_err-ending-clause-counts
-returns-in_err-ending-clause-counts g c =
-    counts_more _ _ _ _ _ _ (c.loop-i.invariant.done.evaluations, c.loop-i.invariant.done.counts) c.search_one.ensures.counts
-
-pub returns-in_default-clause-counts : goal.returns-in_default-clause-counts
-returns-in_default-clause-counts g c =
-    counts_more _ _ _ _ _ _ (c.loop-i.invariant.done.evaluations, c.loop-i.invariant.done.counts) c.search_one.ensures.counts
 
 pub returns-in_default-clause-stops : goal.returns-in_default-clause-stops
 returns-in_default-clause-stops g c =
@@ -25,7 +16,7 @@ returns-in_default-clause-stops g c =
     let before = Passes s.clues.now s.facts.now s.picture.now c.args.allowance kept n in
     let ended = c.in_ok-ending in
     let here = EndsPart s.clues.now s.facts.now s.picture.now c.args.allowance (kept_at kept n) ended.ending in
-    done_then _ _ _ _ _ _ _ _ _ before here (Stops s.clues.now s.facts.now s.picture.now c.args.allowance kept n ended.ending) c.loop-i.invariant.done ended.ensures.ends c.plus-spent.ensures
+    done_then _ _ _ _ _ _ before here (Stops s.clues.now s.facts.now s.picture.now c.args.allowance kept n ended.ending) c.loop-i.invariant.done ended.ensures.ends c.plus-spent.ensures
     (λ m k x y p e. stops_found s.clues.now s.facts.now s.picture.now c.args.allowance kept n ended.ending (m + x) (k + y) c.in_default.not-Nothing (stops_here s.clues.now s.facts.now s.picture.now c.args.allowance kept n ended.ending m k x y inside p e))
 
 pub loop-i-preserved : goal.loop-i-preserved
@@ -35,11 +26,12 @@ loop-i-preserved g c =
     let n = c.loop-i.i in
     let before = Passes s.clues.now s.facts.now s.picture.now c.args.allowance kept n in
     let here = EndsPart s.clues.now s.facts.now s.picture.now c.args.allowance (kept_at kept n) in
-    let P : Ending → Type 0 = λ x. DoneBy c.in_ok-ending.here c.loop-i.meter c.search_one.new.meter (g.E.LineEngine.calls c.loop-i.engine) (g.E.LineEngine.calls c.search_one.new.engine) (here x) in
-    let Q : ℕ → Type 0 = λ k. DoneBy c.plus-spent.result c.args.meter.now c.search_one.new.meter (g.E.LineEngine.calls c.args.engine.now) (g.E.LineEngine.calls c.search_one.new.engine) (Passes s.clues.now s.facts.now s.picture.now c.args.allowance kept k) in
+    let P : Ending → Type 0 = λ x. DoneBy c.in_ok-ending.here (g.E.LineEngine.calls c.loop-i.engine) (g.E.LineEngine.calls c.search_one.new.engine) (here x) in
+    let Q : ℕ → Type 0 = λ k. DoneBy c.plus-spent.result (g.E.LineEngine.calls c.args.engine.now) (g.E.LineEngine.calls c.search_one.new.engine) (Passes s.clues.now s.facts.now s.picture.now c.args.allowance kept k) in
     let next : suc n ≡ n + 1 = omega arith in
     record {
-      done = subst Q next (done_then _ _ _ _ _ _ _ _ _ before (here ending.Nothing) (Passes s.clues.now s.facts.now s.picture.now c.args.allowance kept (suc n)) c.loop-i.invariant.done (subst P c.in-Nothing.is c.in_ok-ending.ensures.ends) c.plus-spent.ensures (λ m k x y. passes_more s.clues.now s.facts.now s.picture.now c.args.allowance kept n m k x y));
+      done = subst Q next (done_then _ _ _ _ _ _ before (here ending.Nothing) (Passes s.clues.now s.facts.now s.picture.now c.args.allowance kept (suc n)) c.loop-i.invariant.done (subst P c.in-Nothing.is c.in_ok-ending.ensures.ends) c.plus-spent.ensures (λ m k x y. passes_more s.clues.now s.facts.now s.picture.now c.args.allowance kept n m k x y));
+      calls = omega arith;
       same_longest = c.search_one.ensures.same_longest ∙ c.loop-i.invariant.same_longest;
     }
 
