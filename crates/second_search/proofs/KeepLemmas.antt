@@ -24,11 +24,12 @@ use Rattle.fixpoint.specs.LineNames.{AreLinesOf}
 use Rattle.split_choice.specs.declared.cell.Cell.{Cell}
 use Rattle.second_search.specs.declared.counting.Budget.{Budget}
 use Rattle.second_search.specs.Branching.{GoesOn, Search, place, places, search_of}
-use Rattle.second_search.specs.Looking.{AreRowsSettled, IsFirstUnsettled}
+use Rattle.second_search.specs.Looking.{AreRowsSettled, IsFirstUnsettled, ShowOthers}
 use Rattle.second_search.specs.Searching.{KeepsOutside, NamesLinesOf}
 use Rattle.second_search.specs.Stepping.{Steps}
 use Rattle.split_choice.specs.Through.{CanLie, NamesLinesAt, across, down}
 use Rattle.second_search.specs.Through.{NamesBoth}
+use Rattle.second_search.proofs.LookLemmas.{others_settled}
 
 -- ---- sizes
 
@@ -86,14 +87,25 @@ quiet_outside law clues cells picture facts lines is e k n line has not =
       fits = (own, fits);
     }
 
+-- each row that is not named shows the picture
+pub show_others : (cells : List ℕ) (picture facts : List (List ℕ)) (lines : Lines) → IsPicture picture → KeepsOutside cells picture facts → NamesLinesOf cells lines → ShowOthers picture lines facts
+show_others cells picture facts lines is k n row col out h l =
+    let shape = k.same_shape in
+    let here = shape.each row in
+    let first = shape.each 0 in
+    let wide = is.rectangular row (omega arith) in
+    k.outside row col (omega arith) (λ has. out (n row col has).0)
+
 -- ---- a cell held in closed facts
 
--- facts in which a cell lies, each line but the two through it is quiet, and each row above it settled
-pub record IsQuietBut (clues : Clues) (facts : List (List ℕ)) (cell : Cell) : Type 0 where
+-- facts in which a cell lies, each line but the two through it is quiet, each row above it settled, and each that is not named shows a
+-- known picture
+pub record IsQuietBut (clues : Clues) (known : List (List ℕ)) (rows : Lines) (facts : List (List ℕ)) (cell : Cell) : Type 0 where
   pub in_rows : cell.row < length facts
   pub in_columns : cell.col < width_of facts
   pub quiet : (lines : Lines) → NamesBoth lines cell.row cell.col → QuietOutside clues facts lines
   pub above : AreRowsSettled facts cell.row
+  pub others : ShowOthers known rows facts
 
 off_cell : (line : LineId) (lines : Lines) (row col i : ℕ) → NamesBoth lines row col → (HasName lines line → ⊥) → (row_on line.axis line.at i ≡ row) × (col_on line.axis line.at i ≡ col) → ⊥
 off_cell line lines row col i both not e = by line.axis not e
@@ -111,8 +123,8 @@ same_line_off facts row col x lines line both not =
     ∙ (off_with_cell facts row col x (row_on line.axis line.at j) (col_on line.axis line.at j) (off_cell line lines row col j both not)
     ∙ sym (cell_on facts line j)))
 
-quiet_held : (clues : Clues) (settled : List (List ℕ)) (row col x : ℕ) → IsClosed clues settled → EachFits clues settled → row < length settled → col < width_of settled → AreRowsSettled settled row → IsQuietBut clues (with_cell settled row col x) (place row col)
-quiet_held clues settled row col x closed fits h l above =
+quiet_held : (clues : Clues) (known : List (List ℕ)) (rows : Lines) (settled : List (List ℕ)) (row col x : ℕ) → IsClosed clues settled → EachFits clues settled → row < length settled → col < width_of settled → AreRowsSettled settled row → ShowOthers known rows settled → ((k : ℕ) → IsOnly (cell_at settled row col) k → ⊥) → IsQuietBut clues known rows (with_cell settled row col x) (place row col)
+quiet_held clues known rows settled row col x closed fits h l above others unsettled =
     let held_to = with_cell settled row col x in
     let shape = shape_with_cell settled row col x in
     record {
@@ -124,24 +136,31 @@ quiet_held clues settled row col x closed fits h l above =
       above = λ r c m w.
           let at = above r c m (omega arith) in
           (at.0, subst (λ (y : ℕ). IsOnly y at.0) (sym (off_with_cell settled row col x r c (λ e. absurd (let p = e.0 in omega arith)))) at.1);
+      others = λ r c out m w.
+          let at = others r c out (omega arith) (omega arith) in
+          let here : r ≡ row → c ≡ col → ⊥ = λ e f.
+          let P : ℕ → Type 0 = λ y. IsOnly (cell_at settled y c) (cell_at known r c) in
+          let Q : ℕ → Type 0 = λ y. IsOnly (cell_at settled row y) (cell_at known r c) in
+          unsettled (cell_at known r c) (subst Q f (subst P e at)) in
+          subst (λ (y : ℕ). IsOnly y (cell_at known r c)) (sym (off_with_cell settled row col x r c (λ e. here e.0 e.1))) at;
     }
 
 -- Each of some facts has the shape of the first ones, and is quiet but for the lines through its cell.
-abbrev pub EachQuiet : Clues → List (List ℕ) → List (List (List ℕ)) → List Cell → Type 0
-EachQuiet clues first [] cells = Unit {0}
-EachQuiet clues first (facts ∷ others) [] = ⊥
-EachQuiet clues first (facts ∷ others) (cell ∷ cells) = (SameShape first facts × IsQuietBut clues facts cell) × EachQuiet clues first others cells
+abbrev pub EachQuiet : Clues → List (List ℕ) → Lines → List (List ℕ) → List (List (List ℕ)) → List Cell → Type 0
+EachQuiet clues known rows first [] cells = Unit {0}
+EachQuiet clues known rows first (facts ∷ others) [] = ⊥
+EachQuiet clues known rows first (facts ∷ others) (cell ∷ cells) = (SameShape first facts × IsQuietBut clues known rows facts cell) × EachQuiet clues known rows first others cells
 
-each_held : (clues : Clues) (first settled : List (List ℕ)) (row col : ℕ) (others : List (List (List ℕ))) (cells : List Cell) → SameShape first settled → IsClosed clues settled → EachFits clues settled → row < length settled → col < width_of settled → AreRowsSettled settled row → EachQuiet clues first others cells → (ks : List ℕ) → EachQuiet clues first (held settled row col ks ++ others) (map (λ (k : ℕ). place row col) ks ++ cells)
-each_held clues first settled row col others cells s c f h l a o [] = o
-each_held clues first settled row col others cells s c f h l a o (k ∷ ks) = (
-  (shape_trans s (shape_with_cell settled row col (2 ^ k)), quiet_held clues settled row col (2 ^ k) c f h l a),
-  each_held clues first settled row col others cells s c f h l a o ks,
+each_held : (clues : Clues) (known : List (List ℕ)) (rows : Lines) (first settled : List (List ℕ)) (row col : ℕ) (others : List (List (List ℕ))) (cells : List Cell) → SameShape first settled → IsClosed clues settled → EachFits clues settled → row < length settled → col < width_of settled → AreRowsSettled settled row → ShowOthers known rows settled → ((k : ℕ) → IsOnly (cell_at settled row col) k → ⊥) → EachQuiet clues known rows first others cells → (ks : List ℕ) → EachQuiet clues known rows first (held settled row col ks ++ others) (map (λ (k : ℕ). place row col) ks ++ cells)
+each_held clues known rows first settled row col others cells s c f h l a b u o [] = o
+each_held clues known rows first settled row col others cells s c f h l a b u o (k ∷ ks) = (
+  (shape_trans s (shape_with_cell settled row col (2 ^ k)), quiet_held clues known rows settled row col (2 ^ k) c f h l a b u),
+  each_held clues known rows first settled row col others cells s c f h l a b u o ks,
 )
 
 -- the branches of a cell of closed facts
-pub each_branch : (clues : Clues) (first settled : List (List ℕ)) (row col mask : ℕ) (others : List (List (List ℕ))) (cells : List Cell) → SameShape first settled → IsClosed clues settled → EachFits clues settled → row < length settled → col < width_of settled → AreRowsSettled settled row → EachQuiet clues first others cells → EachQuiet clues first (branches settled row col mask ++ others) (places row col mask ++ cells)
-each_branch clues first settled row col mask others cells s c f h l a o = each_held clues first settled row col others cells s c f h l a o (colours_of mask)
+pub each_branch : (clues : Clues) (known : List (List ℕ)) (rows : Lines) (first settled : List (List ℕ)) (row col mask : ℕ) (others : List (List (List ℕ))) (cells : List Cell) → SameShape first settled → IsClosed clues settled → EachFits clues settled → row < length settled → col < width_of settled → AreRowsSettled settled row → ShowOthers known rows settled → ((k : ℕ) → IsOnly (cell_at settled row col) k → ⊥) → EachQuiet clues known rows first others cells → EachQuiet clues known rows first (branches settled row col mask ++ others) (places row col mask ++ cells)
+each_branch clues known rows first settled row col mask others cells s c f h l a b u o = each_held clues known rows first settled row col others cells s c f h l a b u o (colours_of mask)
 
 pub above_first : (facts : List (List ℕ)) (cell : Cell) → IsFirstUnsettled facts cell → AreRowsSettled facts cell.row
 above_first facts cell f = λ r c l w. f.before r c w (inl l)
@@ -150,20 +169,21 @@ above_first facts cell f = λ r c l w. f.before r c w (inl l)
 
 -- the lines of a set are those of the facts, which have the first ones' shape, each other line is quiet, and each row above one
 -- settled
-pub record IsReady (clues : Clues) (first facts : List (List ℕ)) (lines : Lines) (top : ℕ) : Type 0 where
+pub record IsReady (clues : Clues) (known : List (List ℕ)) (rows : Lines) (first facts : List (List ℕ)) (lines : Lines) (top : ℕ) : Type 0 where
   pub same_shape : SameShape first facts
   pub are_lines : AreLinesOf facts lines
   pub quiet : QuietOutside clues facts lines
   pub above : AreRowsSettled facts top
+  pub others : ShowOthers known rows facts
 
-pub ready_first : (clues : Clues) (first : List (List ℕ)) (lines : Lines) (s : Search) → s ≡ search_of first [] [] → AreLinesOf first lines → QuietOutside clues first lines → IsReady clues first s.at_hand lines 0 × EachQuiet clues first s.behind s.cells
-ready_first clues first lines s e of quiet =
-    let P : Search → Type 0 = λ x. IsReady clues first x.at_hand lines 0 × EachQuiet clues first x.behind x.cells in
-    subst P (sym e) (record { same_shape = shape_refl first; are_lines = of; quiet = quiet; above = λ r c l w. absurd (omega arith) }, tt)
+pub ready_first : (clues : Clues) (known : List (List ℕ)) (rows : Lines) (first : List (List ℕ)) (lines : Lines) (s : Search) → s ≡ search_of first [] [] → AreLinesOf first lines → QuietOutside clues first lines → ShowOthers known rows first → IsReady clues known rows first s.at_hand lines 0 × EachQuiet clues known rows first s.behind s.cells
+ready_first clues known rows first lines s e of quiet others =
+    let P : Search → Type 0 = λ x. IsReady clues known rows first x.at_hand lines 0 × EachQuiet clues known rows first x.behind x.cells in
+    subst P (sym e) (record { same_shape = shape_refl first; are_lines = of; quiet = quiet; above = λ r c l w. absurd (omega arith); others = others }, tt)
 
-pub quiet_at : (clues : Clues) (first : List (List ℕ)) (s t : Search) (cell : Cell) → EachQuiet clues first s.behind s.cells → GoesOn s t (Some cell) → (SameShape first t.at_hand × IsQuietBut clues t.at_hand cell) × EachQuiet clues first t.behind t.cells
-quiet_at clues first s t cell q on =
-    subst (λ (x : List Cell). EachQuiet clues first (t.at_hand ∷ t.behind) x) on.1 (subst (λ (x : List (List (List ℕ))). EachQuiet clues first x s.cells) on.0 q)
+pub quiet_at : (clues : Clues) (known : List (List ℕ)) (rows : Lines) (first : List (List ℕ)) (s t : Search) (cell : Cell) → EachQuiet clues known rows first s.behind s.cells → GoesOn s t (Some cell) → (SameShape first t.at_hand × IsQuietBut clues known rows t.at_hand cell) × EachQuiet clues known rows first t.behind t.cells
+quiet_at clues known rows first s t cell q on =
+    subst (λ (x : List Cell). EachQuiet clues known rows first (t.at_hand ∷ t.behind) x) on.1 (subst (λ (x : List (List (List ℕ))). EachQuiet clues known rows first x s.cells) on.0 q)
 
 -- the two lines through a cell of facts are named
 pub both_named : (first facts : List (List ℕ)) (cell : Cell) (lines : Lines) → IsFacts first → SameShape first facts → cell.row < length facts → cell.col < width_of facts → NamesLinesAt lines cell → NamesBoth lines cell.row cell.col
@@ -173,8 +193,8 @@ both_named first facts cell lines is s h l names =
     let is_there : CanLie cell = (omega arith, omega arith) in
     ((names (across cell.row)).1 (is_there, inl refl), (names (down cell.col)).1 (is_there, inr refl))
 
-pub ready_at : (clues : Clues) (first facts : List (List ℕ)) (cell : Cell) (lines : Lines) → IsFacts first → SameShape first facts → IsQuietBut clues facts cell → NamesLinesAt lines cell → IsReady clues first facts lines cell.row
-ready_at clues first facts cell lines is s q names = record {
+pub ready_at : (clues : Clues) (known : List (List ℕ)) (rows : Lines) (first facts : List (List ℕ)) (cell : Cell) (lines : Lines) → IsFacts first → SameShape first facts → IsQuietBut clues known rows facts cell → NamesLinesAt lines cell → IsReady clues known rows first facts lines cell.row
+ready_at clues known rows first facts cell lines is s q names = record {
   same_shape = s;
   are_lines = λ line has. elim ((names line).0 has).1 [
     | inl a ↦ let P : LineId → Type 0 = λ x. HasLine facts x in subst P (sym a) q.in_rows
@@ -182,15 +202,16 @@ ready_at clues first facts cell lines is s q names = record {
   ];
   quiet = q.quiet lines (both_named first facts cell lines is s q.in_rows q.in_columns names);
   above = q.above;
+  others = q.others;
 }
 
 -- where a look goes on, nothing changed, or what waits now are branches of closed facts
-pub quiet_goes : (clues : Clues) (known first : List (List ℕ)) (s t : Search) (before after : Budget) → SameShape first s.at_hand → EachQuiet clues first s.behind s.cells → Steps clues known s t before after None → EachQuiet clues first t.behind t.cells
-quiet_goes clues known first s t before after shape q (inl h) =
-    subst (λ (x : Search). EachQuiet clues first x.behind x.cells) (sym h.1.0) q
-quiet_goes clues known first s t before after shape q (inr h) =
+pub quiet_goes : (clues : Clues) (known first : List (List ℕ)) (rows : Lines) (s t : Search) (before after : Budget) → SameShape first s.at_hand → ShowOthers known rows s.at_hand → EachQuiet clues known rows first s.behind s.cells → Steps clues known s t before after None → EachQuiet clues known rows first t.behind t.cells
+quiet_goes clues known first rows s t before after shape others q (inl h) =
+    subst (λ (x : Search). EachQuiet clues known rows first x.behind x.cells) (sym h.1.0) q
+quiet_goes clues known first rows s t before after shape others q (inr h) =
     let to = h.0.comes.0 in
     let at = h.0.comes.1.is in
     let cell = h.0.cell in
-    let P : Search → Type 0 = λ x. EachQuiet clues first x.behind x.cells in
-    subst P (sym h.0.new_is) (each_branch clues first h.0.settled cell.row cell.col (cell_at h.0.settled cell.row cell.col) s.behind s.cells (shape_trans shape to.least.holds.same_shape) to.least.closed to.fits at.in_rows at.in_columns (above_first h.0.settled cell h.0.comes.1) q)
+    let P : Search → Type 0 = λ x. EachQuiet clues known rows first x.behind x.cells in
+    subst P (sym h.0.new_is) (each_branch clues known rows first h.0.settled cell.row cell.col (cell_at h.0.settled cell.row cell.col) s.behind s.cells (shape_trans shape to.least.holds.same_shape) to.least.closed to.fits at.in_rows at.in_columns (above_first h.0.settled cell h.0.comes.1) (others_settled clues known s.at_hand h.0.settled rows to.least.holds to.fits others) at.unsettled q)

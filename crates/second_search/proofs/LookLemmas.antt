@@ -3,6 +3,7 @@ use Rattle.std.proofs.Common.{◌≡◌, ℕ, ◌+◌, ◌<◌, List, [], length
 use Rattle.std.specs.Prelude.{IsBitSet}
 use Rattle.std.proofs.lemmas.Bool.{cases_eq, cases_lt}
 use Rattle.std.proofs.lemmas.List.{get_or_past}
+use Rattle.picture.specs.LineSet.{Lines}
 use Rattle.picture.specs.Rows.{width_of, row_at, cell_at, with_cell}
 use Rattle.clues.specs.ClueBook.{Clues, clues_of}
 use Rattle.line_settle.specs.Masks.{IsOnly}
@@ -12,8 +13,8 @@ use Rattle.line_settle.specs.declared.line_engine.Outcome.TheVariants.{Narrowed}
 use Rattle.fixpoint.specs.Closing.{Closes, EachFits}
 use Rattle.fixpoint.specs.Filling.{Fills, only}
 use Rattle.fixpoint.specs.Laws.{OnlyIsClosed}
-use Rattle.second_search.specs.Branching.{AreSameAbove}
-use Rattle.second_search.specs.Looking.{AreRowsSettled, Shows}
+use Rattle.second_search.specs.Branching.{AreOthersSame, AreSameAbove}
+use Rattle.second_search.specs.Looking.{AreRowsSettled, ShowOthers, Shows}
 use Rattle.second_search.specs.Through.{across}
 use Rattle.line_settle.specs.GridLaws.{shape_sym, shape_trans, at_with_cell, off_with_cell, shape_with_cell}
 use Rattle.picture.specs.BitLaws.{bit_below, fewer_le, no_bit}
@@ -86,6 +87,11 @@ stays_only clues facts settled row col k w fits only = elim (cases_lt col (lengt
   ]
 ]
 
+-- rows that show a picture's colours alone do so where facts exclude more and some list fits each row
+pub others_settled : (clues : Clues) (picture facts settled : List (List ℕ)) (rows : Lines) → IsWithin facts settled → EachFits clues settled → ShowOthers picture rows facts → ShowOthers picture rows settled
+others_settled clues picture facts settled rows w fits h r col out l m =
+    stays_only clues facts settled r col (cell_at picture r col) w fits (h r col out (omega arith) (omega arith))
+
 -- rows that are settled stay so where facts are closed and some list fits each line
 pub rows_stay : (clues : Clues) (facts first settled : List (List ℕ)) (outcome : Outcome) (rows : ℕ) → first ≡ facts → Closes clues first settled outcome → outcome ≡ Narrowed → AreRowsSettled facts rows → AreRowsSettled settled rows
 rows_stay clues facts first settled outcome rows same c e h r col l w =
@@ -99,17 +105,30 @@ same_only a b k p q =
     let m = fewer_le b a (λ j s. (p j).1 ((q j).0 s)) in
     omega arith
 
--- and are the same
-pub rows_same : (clues : Clues) (facts settled : List (List ℕ)) (rows : ℕ) → IsFacts settled → IsWithin facts settled → EachFits clues settled → AreRowsSettled facts rows → AreSameAbove facts settled rows
-rows_same clues facts settled rows is w fits h r col l =
+-- and so do rows that show a picture's colours alone
+pub others_stay : (clues : Clues) (picture facts first settled : List (List ℕ)) (outcome : Outcome) (rows : Lines) → first ≡ facts → Closes clues first settled outcome → outcome ≡ Narrowed → ShowOthers picture rows facts → ShowOthers picture rows settled
+others_stay clues picture facts first settled outcome rows same c e h =
+    others_settled clues picture facts settled rows (subst (λ (x : List (List ℕ)). IsWithin x settled) same c.holds) (c.fits e) h
+
+-- a row that is settled is the same
+row_same : (clues : Clues) (facts settled : List (List ℕ)) (r : ℕ) → IsFacts settled → IsWithin facts settled → EachFits clues settled → ((col : ℕ) → col < width_of facts → (k : ℕ) × IsOnly (cell_at facts r col) k) → (col : ℕ) → cell_at facts r col ≡ cell_at settled r col
+row_same clues facts settled r is w fits h col =
     elim (cases_lt col (width_of facts)) [
-      | inl m ↦ let at = h r col l m in same_only (cell_at facts r col) (cell_at settled r col) at.0 at.1 (stays_only clues facts settled r col at.0 w fits at.1)
+      | inl m ↦ let at = h col m in same_only (cell_at facts r col) (cell_at settled r col) at.0 at.1 (stays_only clues facts settled r col at.0 w fits at.1)
       | inr p ↦
           let rect : (i : ℕ) → i < length facts → length (row_at facts i) ≡ width_of facts = λ i m.
           omega arith in
           cell_outside facts (width_of facts) rect r col (λ _ m. absurd (omega arith))
           ∙ sym (cell_outside settled (width_of settled) is.rectangular r col (λ _ m. absurd (omega arith)))
     ]
+
+pub others_same : (clues : Clues) (picture facts settled : List (List ℕ)) (rows : Lines) → IsFacts settled → IsWithin facts settled → EachFits clues settled → ShowOthers picture rows facts → AreOthersSame facts settled rows
+others_same clues picture facts settled rows is w fits h r col l out =
+    row_same clues facts settled r is w fits (λ c m. (cell_at picture r c, h r c out (omega arith) m)) col
+
+-- the first rows are the same
+pub rows_same : (clues : Clues) (facts settled : List (List ℕ)) (rows : ℕ) → IsFacts settled → IsWithin facts settled → EachFits clues settled → AreRowsSettled facts rows → AreSameAbove facts settled rows
+rows_same clues facts settled rows is w fits h r col l = row_same clues facts settled r is w fits (λ c m. h r c l m) col
 
 -- a cell of the facts that leave a picture's colours alone
 pub only_there : OnlyIsClosed → (picture : List (List ℕ)) (row col : ℕ) → col < length (row_at picture row) → IsOnly (cell_at (only picture) row col) (cell_at picture row col)

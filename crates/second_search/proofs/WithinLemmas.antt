@@ -1,6 +1,6 @@
 -- How the search of a part ends where no allowance is set: within some splits of the fixed order, or by what is true; and what is
 -- found in a window.
-use Rattle.std.proofs.Common.{◌≡◌, ℕ, ◌<◌, Option, None, Some, List, refl, subst, inl, inr, [], ◌∷◌, length, sym, ap}
+use Rattle.std.proofs.Common.{◌≡◌, ℕ, ◌<◌, Option, None, Some, List, refl, subst, inl, inr, [], ◌∷◌, length, sym, ap, arith}
 use Rattle.std.specs.Prelude.{IfSome}
 use Rattle.clues.specs.ClueBook.{Clues}
 use Rattle.clues.specs.Laws.{BooksAreTheirClues, CluesAreOfLines}

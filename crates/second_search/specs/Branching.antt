@@ -1,11 +1,13 @@
 -- Facts that wait to be searched, and the notes from which they are told.
-use Rattle.std.specs.Prelude.{◌≡◌, ℕ, ◌^◌, ◌<◌, ◌⊎◌, Option, None, Some, List, [], ◌∷◌, ◌++◌, map}
+use Rattle.std.specs.Prelude.{◌≡◌, ℕ, ◌^◌, ◌<◌, ◌⊎◌, Option, None, Some, List, [], ◌∷◌, ◌++◌, length, map}
+use Rattle.picture.specs.LineSet.{Lines, HasName}
 use Rattle.picture.specs.Rows.{cell_at, with_cell}
 use Rattle.clues.specs.ClueBook.{Clues}
 use Rattle.line_settle.specs.FactSets.{SameShape}
 use Rattle.line_settle.specs.Branches.{branches, colours_of}
 use Rattle.fixpoint.specs.Filling.{Fills}
 use Rattle.split_choice.specs.declared.cell.Cell.{Cell}
+use Rattle.second_search.specs.Through.{across}
 use Rattle.second_search.specs.declared.note.CellMask.{CellMask}
 use Rattle.second_search.specs.declared.note.Note.{Note}
 use Rattle.second_search.specs.declared.note.Note.TheVariants.{Restore, Branch}
@@ -66,6 +68,10 @@ pub record IsRowTaken (old settled new : List (List ℕ)) (row : ℕ) : Type 0 w
 -- the first rows are those of other facts
 abbrev pub AreSameAbove : List (List ℕ) → List (List ℕ) → ℕ → Type 0
 AreSameAbove facts settled rows = (row col : ℕ) → row < rows → cell_at facts row col ≡ cell_at settled row col
+
+-- the rows that are not named are those of other facts
+abbrev pub AreOthersSame : List (List ℕ) → List (List ℕ) → Lines → Type 0
+AreOthersSame facts settled rows = (row col : ℕ) → row < length settled → (HasName rows (across row) → ⊥) → cell_at facts row col ≡ cell_at settled row col
 
 -- the search goes on to the next facts that wait, in which this cell is held, or none do
 abbrev pub GoesOn : Search → Search → Option Cell → Type 0

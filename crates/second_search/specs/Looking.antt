@@ -1,5 +1,6 @@
 -- Settled facts, the picture that they show, and the first cell that is not settled.
 use Rattle.std.specs.Prelude.{◌≡◌, ℕ, ◌<◌, List, Option, None, Some, length}
+use Rattle.picture.specs.LineSet.{Lines, HasName}
 use Rattle.picture.specs.Picture.{IsPicture}
 use Rattle.picture.specs.Rows.{width_of, cell_at}
 use Rattle.clues.specs.ClueBook.{Clues}
@@ -9,6 +10,7 @@ use Rattle.fixpoint.specs.Filling.{Fills}
 use Rattle.split_choice.specs.declared.cell.Cell.{Cell}
 use Rattle.split_choice.specs.Choosing.{IsUnsettled}
 use Rattle.second_search.specs.Parts.{IsBefore}
+use Rattle.second_search.specs.Through.{across}
 
 -- in each cell just one colour is left
 abbrev pub AreSettled : List (List ℕ) → Type 0
@@ -17,6 +19,14 @@ AreSettled facts = (row col : ℕ) → row < length facts → col < width_of fac
 -- the same of the cells in the first rows
 abbrev pub AreRowsSettled : List (List ℕ) → ℕ → Type 0
 AreRowsSettled facts rows = (row col : ℕ) → row < rows → col < width_of facts → (k : ℕ) × IsOnly (cell_at facts row col) k
+
+-- the same of the cells in the rows that are not named
+abbrev pub AreOthersSettled : Lines → List (List ℕ) → Type 0
+AreOthersSettled rows facts = (row col : ℕ) → (HasName rows (across row) → ⊥) → row < length facts → col < width_of facts → (k : ℕ) × IsOnly (cell_at facts row col) k
+
+-- in the rows that are not named a picture's colours alone are left
+abbrev pub ShowOthers : List (List ℕ) → Lines → List (List ℕ) → Type 0
+ShowOthers picture rows facts = (row col : ℕ) → (HasName rows (across row) → ⊥) → row < length facts → col < width_of facts → IsOnly (cell_at facts row col) (cell_at picture row col)
 
 -- The first cell in row order in which not just one colour is left. Where some list fits each line no cell is left without a
 -- colour, so this is the first open cell.

@@ -2,20 +2,20 @@
 
 ghost use Rattle.std.specs.Prelude.{◌≡◌, ◌<◌, ◌≤◌, IfOk, OnOk};
 ghost use Rattle.picture.specs.LineSet.{name_count};
-ghost use Rattle.line_settle.specs.FactSets.{IsFacts};
+ghost use Rattle.line_settle.specs.FactSets.{IsFacts, SameShape};
 ghost use Rattle.fixpoint.specs.Closing.{AreClosable, EachFits, QuietOutside};
 ghost use Rattle.fixpoint.specs.LineNames.{AreLinesOf};
-ghost use Rattle.second_search.specs.Looking.{AreRowsSettled, Shows};
+ghost use Rattle.second_search.specs.Looking.{AreRowsSettled, ShowOthers, Shows};
 ghost use Rattle.second_search.specs.Searching.{Comes, ComesClosed, IsCalled};
 
-use crate::looking::{first_unsettled, shown_picture};
+use crate::looking::{first_unsettled, shown_beside};
 use crate::near::NOTHING_DONE;
 use clues::ClueBook;
 use fixpoint::close_facts;
 use line_settle::{Facts, LineEngine, Outcome};
 use picture::{LineSet, Picture};
 use split_choice::Cell;
-use std::alloc::{AllocError, Global};
+use std::alloc::AllocError;
 use worklist::InOrder;
 
 // What facts come to: no list fits some line, or they leave one picture, or a cell is to be split.
@@ -26,18 +26,20 @@ pub(crate) enum Coming {
     Splits(Facts, Cell),
 }
 
-// What is due at facts: the lines that may still exclude something, and the row above which each cell is settled.
+// What is due at facts: the lines that may still exclude something, the rows that may leave more than a known picture's colours,
+// and the row above which each cell is settled.
 #[derive(Drop)]
 pub(crate) struct Due {
     pub lines: LineSet,
+    pub rows: LineSet,
     pub top: u8,
 }
 
 // Closes facts and looks at what they leave. A line is due, and each line that is not has to be quiet.
 pub(crate) fn come_to<E: LineEngine>(
-    alloc: Global,
     engine: &mut E,
     book: &ClueBook,
+    known: &Picture,
     facts: &Facts,
     due: &Due,
 ) -> Result<Coming, AllocError>
@@ -46,30 +48,40 @@ pub(crate) fn come_to<E: LineEngine>(
     requires quiet { QuietOutside book.now facts.now due.now.lines }
     requires some { 0 < name_count due.now.lines }
     requires above { AreRowsSettled facts.now due.now.top }
+    requires same_shape { SameShape known.now facts.now }
+    requires others { ShowOthers known.now due.now.rows facts.now }
     ensures comes { IfOk result (Comes book.now facts.now) }
     ensures calls { E.calls engine.old ≤ E.calls engine.new }
     ensures called { OnOk result (IsCalled (E.calls engine.old) (E.calls engine.new)) }
     ensures same_longest { E.longest engine.new ≡ E.longest engine.old }
 {
     let _ = engine.calls();
-    let Due { lines, top } = due;
     let mut settled = facts.copy()?;
     let mut agenda = InOrder::make();
     let mut meter = NOTHING_DONE;
-    match close_facts(engine, &mut agenda, &mut settled, book, lines, &mut meter) {
+    match close_facts(
+        engine,
+        &mut agenda,
+        &mut settled,
+        book,
+        &due.lines,
+        &mut meter,
+    ) {
         Outcome::Dead => Ok(Coming::Dies),
-        Outcome::Narrowed => split_or_end(alloc, settled, *top),
+        Outcome::Narrowed => split_or_end(known, settled, due),
     }
 }
 
 // The first open cell of closed facts, or the picture that they leave. Each row above one has to be settled.
-fn split_or_end(alloc: Global, settled: Facts, top: u8) -> Result<Coming, AllocError>
-    requires { AreRowsSettled settled top }
+fn split_or_end(known: &Picture, settled: Facts, due: &Due) -> Result<Coming, AllocError>
+    requires above { AreRowsSettled settled due.now.top }
+    requires same_shape { SameShape known.now settled }
+    requires others { ShowOthers known.now due.now.rows settled }
     ensures { IfOk result (ComesClosed settled) }
 {
     let _ = settled.height();
-    match first_unsettled(&settled, top) {
+    match first_unsettled(&settled, &due.rows, due.top) {
         Some(cell) => Ok(Coming::Splits(settled, cell)),
-        None => Ok(Coming::Ends(shown_picture(alloc, &settled)?)),
+        None => Ok(Coming::Ends(shown_beside(known, &settled, &due.rows)?)),
     }
 }

@@ -4,7 +4,8 @@ ghost use Rattle.std.specs.Prelude.{◌≡◌, ◌<◌, ◌≤◌, ℕ, IfOk, On
 ghost use Rattle.picture.specs.LineSet.{name_count};
 ghost use Rattle.fixpoint.specs.Closing.{AreClosable, QuietOutside};
 ghost use Rattle.fixpoint.specs.LineNames.{AreLinesOf};
-ghost use Rattle.second_search.specs.Looking.{AreRowsSettled};
+ghost use Rattle.line_settle.specs.FactSets.{SameShape};
+ghost use Rattle.second_search.specs.Looking.{AreRowsSettled, ShowOthers};
 ghost use Rattle.second_search.specs.Searching.{EndsAs, IsCalled, raised};
 ghost use Rattle.second_search.specs.Stepping.{Compares, Spends, Steps};
 
@@ -84,6 +85,8 @@ pub(crate) fn search_counted<E: LineEngine>(
     requires lines { AreLinesOf start.facts start.lines }
     requires quiet { QuietOutside book.now start.facts start.lines }
     requires some { 0 < name_count start.lines }
+    requires same_shape { SameShape known.now start.facts }
+    requires others { ShowOthers known.now start.lines start.facts }
     ensures ends { IfOk result (λ searched. (n : ℕ) × ((searched.splits ≡ raised 0 n)
         × EndsAs book.now known.now start.facts start.allowance searched.ending n)) }
     ensures calls { E.calls engine.old ≤ E.calls engine.new }
@@ -98,14 +101,18 @@ pub(crate) fn search_counted<E: LineEngine>(
     } = start;
     let mut search = Counted {
         pending: Pending::start(alloc, facts),
-        due: Due { lines, top: 0 },
+        due: Due {
+            lines,
+            rows: lines,
+            top: 0,
+        },
         budget: Budget {
             left: allowance,
             splits: 0,
         },
     };
     loop {
-        let found = search.look_once(alloc, engine, book, known)?;
+        let found = search.look_once(engine, book, known)?;
         let splits = search.budget.splits;
         match found {
             Some(ending) => return Ok(Searched { ending, splits }),
@@ -117,6 +124,7 @@ pub(crate) fn search_counted<E: LineEngine>(
         };
         search.due = Due {
             lines: cell.lines(),
+            rows: lines,
             top: cell.row,
         };
     }
@@ -126,7 +134,6 @@ impl Counted {
     // Looks at the facts at hand once, and splits them where a split is still allowed. None where the search goes on.
     fn look_once<E: LineEngine>(
         &mut self,
-        alloc: Global,
         engine: &mut E,
         book: &ClueBook,
         known: &Picture,
@@ -136,13 +143,15 @@ impl Counted {
         requires quiet { QuietOutside book.now self.old.pending.at_hand self.old.due.lines }
         requires some { 0 < name_count self.old.due.lines }
         requires above { AreRowsSettled self.old.pending.at_hand self.old.due.top }
+        requires same_shape { SameShape known.now self.old.pending.at_hand }
+        requires others { ShowOthers known.now self.old.due.rows self.old.pending.at_hand }
         ensures steps { IfOk result (Steps book.now known.now self.old.pending self.new.pending
             self.old.budget self.new.budget) }
         ensures calls { E.calls engine.old ≤ E.calls engine.new }
         ensures called { OnOk result (IsCalled (E.calls engine.old) (E.calls engine.new)) }
         ensures same_longest { E.longest engine.new ≡ E.longest engine.old }
     {
-        let coming = come_to(alloc, engine, book, self.pending.at_hand(), &self.due)?;
+        let coming = come_to(engine, book, known, self.pending.at_hand(), &self.due)?;
         match coming {
             Coming::Dies => Ok(None),
             Coming::Ends(picture) => Ok(compare(picture, known)),
@@ -151,7 +160,7 @@ impl Counted {
                     return Ok(Some(Ending::BrokenOff));
                 };
                 self.budget = budget;
-                self.pending.narrow(&settled, self.due.top)?;
+                self.pending.narrow(&settled, &self.due.rows, self.due.top)?;
                 self.pending.split(cell)?;
                 Ok(None)
             }

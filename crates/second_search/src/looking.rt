@@ -1,23 +1,26 @@
 //! The first cell of facts that is not settled, and the picture that settled facts show.
 
-ghost use Rattle.std.specs.Prelude.{◌≡◌, ℕ, ◌<◌, List, length, IfOk, IsTrue, MatchOption};
+ghost use Rattle.std.specs.Prelude.{◌≡◌, ℕ, ◌<◌, ◌↔◌, List, length, IfOk, IsTrue, MatchOption};
+ghost use Rattle.picture.specs.LineSet.{HasName};
 ghost use Rattle.picture.specs.Rows.{width_of, cell_at};
 ghost use Rattle.line_settle.specs.Masks.{IsOnly};
 ghost use Rattle.line_settle.specs.FactSets.{SameShape};
-ghost use Rattle.second_search.specs.Looking.{AreRowsSettled, AreSettled, IsFirstUnsettled, Shows, ShowsRow};
+ghost use Rattle.second_search.specs.Through.{across};
+ghost use Rattle.second_search.specs.Looking.{AreOthersSettled, AreRowsSettled, AreSettled, IsFirstUnsettled, ShowOthers, Shows, ShowsRow};
 
 use line_settle::Facts;
-use picture::Picture;
+use picture::{Axis, LineId, LineSet, MAX_SIDE, Picture};
 use split_choice::Cell;
 use std::alloc::{AllocError, Global};
 
-// The first cell in row order in which not just one colour is left, where there is none above a row.
-pub(crate) fn first_unsettled(facts: &Facts, top: u8) -> Option<Cell>
-    requires { AreRowsSettled facts.now top }
+// The first cell in row order in which not just one colour is left, where there is none above a row or in a row that is not named.
+pub(crate) fn first_unsettled(facts: &Facts, rows: &LineSet, top: u8) -> Option<Cell>
+    requires others { AreOthersSettled rows.now facts.now }
+    requires above { AreRowsSettled facts.now top }
     ensures { MatchOption result (AreSettled facts.now) (IsFirstUnsettled facts.now) }
 {
     for row in top..facts.height() {
-        match unsettled_in_row(facts, row) {
+        match unsettled_in_row(facts, rows, row) {
             Some(col) => return Some(Cell { row, col }),
             None => {}
         }
@@ -26,20 +29,36 @@ pub(crate) fn first_unsettled(facts: &Facts, top: u8) -> Option<Cell>
 }
 
 // The first such cell of a row.
-fn unsettled_in_row(facts: &Facts, row: u8) -> Option<u8>
-    requires { row < length facts.now }
+fn unsettled_in_row(facts: &Facts, rows: &LineSet, row: u8) -> Option<u8>
+    requires others { AreOthersSettled rows.now facts.now }
+    requires in_rows { row < length facts.now }
     ensures { MatchOption
         result
         ((col : ℕ) → col < width_of facts.now → (k : ℕ) × IsOnly (cell_at facts.now row col) k)
         (λ col. (col < width_of facts.now) × ((k : ℕ) → IsOnly (cell_at facts.now row col) k → ⊥)
         × ((c : ℕ) → c < col → (k : ℕ) × IsOnly (cell_at facts.now row c) k)) }
 {
-    for col in 0..facts.width() {
+    let width = facts.width();
+    if !has_row(rows, row) {
+        return None;
+    }
+    for col in 0..width {
         let Some(_) = facts.shown(row, col) else {
             return Some(col);
         };
     }
     None
+}
+
+// Whether a row is named.
+pub(crate) fn has_row(rows: &LineSet, row: u8) -> bool
+    requires { row < MAX_SIDE }
+    ensures { IsTrue result ↔ HasName rows.now (across row) }
+{
+    rows.has(LineId {
+        axis: Axis::Across,
+        at: row,
+    })
 }
 
 // The picture that settled facts show.
@@ -53,6 +72,40 @@ pub(crate) fn shown_picture(alloc: Global, facts: &Facts) -> Result<Picture, All
     }
     let _ = picture.height();
     Ok(picture)
+}
+
+// The same, made of a picture that they show in the rows that are not named.
+pub(crate) fn shown_beside(
+    known: &Picture,
+    facts: &Facts,
+    rows: &LineSet,
+) -> Result<Picture, AllocError>
+    requires settled { AreSettled facts.now }
+    requires same_shape { SameShape known.now facts.now }
+    requires others { ShowOthers known.now rows.now facts.now }
+    ensures { IfOk result (Shows facts.now) }
+{
+    let mut picture = known.copy()?;
+    for row in 0..facts.height() {
+        show_named(facts, rows, &mut picture, row);
+    }
+    let _ = picture.height();
+    Ok(picture)
+}
+
+// Shows the settled cells of a row, if it is named; else they are shown already.
+fn show_named(facts: &Facts, rows: &LineSet, picture: &mut Picture, row: u8)
+    requires settled { AreSettled facts.now }
+    requires same_shape { SameShape picture.old facts.now }
+    requires in_rows { row < length facts.now }
+    requires shown { (HasName rows.now (across row) → ⊥) → (col : ℕ) → col < width_of facts.now
+        → IsOnly (cell_at facts.now row col) (cell_at picture.old row col) }
+    ensures { ShowsRow facts.now picture.old picture.new row }
+{
+    let _ = facts.width();
+    if has_row(rows, row) {
+        show_row(facts, picture, row);
+    }
 }
 
 // Shows the settled cells of a row.

@@ -4,10 +4,12 @@ ghost use Rattle.std.specs.Prelude.{◌≡◌, ℕ, ◌<◌, [], ◌∷◌, ◌+
 ghost use Rattle.picture.specs.Rows.{width_of, cell_at, with_cell};
 ghost use Rattle.line_settle.specs.FactSets.{SameShape};
 ghost use Rattle.line_settle.specs.Branches.{branches};
-ghost use Rattle.second_search.specs.Branching.{place, places, search_of, AreInside, AreSameAbove, GoesOn, IsInside, IsRowTaken, PutsBack};
+ghost use Rattle.second_search.specs.Branching.{place, places, search_of, AreInside, AreOthersSame, AreSameAbove, GoesOn, IsInside, IsRowTaken, PutsBack};
 
+use crate::looking::has_row;
 use crate::note::{CellMask, Note};
 use line_settle::Facts;
+use picture::LineSet;
 use split_choice::Cell;
 use std::alloc::{AllocError, Global};
 use std::marker::Model;
@@ -51,30 +53,39 @@ impl Pending {
         &self.facts
     }
 
-    // Narrows the facts at hand to others of their shape, which are the same above a row, and notes each cell that changes.
-    pub(crate) fn narrow(&mut self, settled: &Facts, top: u8) -> Result<(), AllocError>
+    // Narrows the facts at hand to others of their shape, which are the same above a row and in rows that are not named, and notes
+    // each cell that changes.
+    pub(crate) fn narrow(
+        &mut self,
+        settled: &Facts,
+        rows: &LineSet,
+        top: u8,
+    ) -> Result<(), AllocError>
         requires same_shape { SameShape self.old.at_hand settled.now }
         requires above { AreSameAbove self.old.at_hand settled.now top }
+        requires others { AreOthersSame self.old.at_hand settled.now rows.now }
         ensures { OnOk result (self.new ≡ search_of settled.now self.old.behind self.old.cells) }
     {
         for row in top..settled.height() {
-            self.narrow_row(settled, row)?;
+            self.narrow_row(settled, rows, row)?;
         }
         Ok(())
     }
 
     // Narrows a row of the facts at hand to that of others of their shape.
-    fn narrow_row(&mut self, settled: &Facts, row: u8) -> Result<(), AllocError>
+    fn narrow_row(&mut self, settled: &Facts, rows: &LineSet, row: u8) -> Result<(), AllocError>
         requires same_shape { SameShape self.old.at_hand settled.now }
+        requires others { AreOthersSame self.old.at_hand settled.now rows.now }
         requires in_rows { row < length settled.now }
         ensures behind { OnOk result (self.new.behind ≡ self.old.behind) }
         ensures cells { OnOk result (self.new.cells ≡ self.old.cells) }
         ensures row { OnOk result (IsRowTaken self.old.at_hand settled.now self.new.at_hand row) }
     {
-        if self.facts.same_row(settled, row) {
+        let width = settled.width();
+        if !has_row(rows, row) || self.facts.same_row(settled, row) {
             return Ok(());
         }
-        for col in 0..settled.width() {
+        for col in 0..width {
             self.hold(row, col, settled.left(row, col))?;
         }
         Ok(())

@@ -104,7 +104,7 @@ impl Growing {
             Outcome::Dead => return Ok(None),
             Outcome::Narrowed => {}
         }
-        self.pending.narrow(&facts, 0)?;
+        self.pending.narrow(&facts, &all_lines(&facts), 0)?;
         let _ = facts.height();
         let step = next_step(alloc, engine, scene, &facts, way)?;
         match step {

@@ -12,6 +12,7 @@ use crate::scene::Scene;
 use crate::tree_lines::line_number;
 use cert_text::CertLine;
 use clues::ClueBook;
+use fixpoint::all_lines;
 use line_settle::{Facts, LineEngine, Outcome, force};
 use picture::{Axis, LineId, Picture};
 use split_choice::{Cell, Choice, Chosen, Node, Puzzle, choose, filled, fills_all, leaves};
@@ -70,7 +71,7 @@ pub(crate) fn next_step<E: LineEngine>(
             }
         }
     }
-    if let Some(cell) = first_unsettled(facts, 0) {
+    if let Some(cell) = first_unsettled(facts, &all_lines(facts), 0) {
         return Ok(TreeStep::Splits(cell));
     }
     let shown = shown_picture(alloc, facts)?;

@@ -1,4 +1,5 @@
 use Rattle.std.proofs.Common.{◌≡◌, ◌∙◌, [], None, Option, Some, arith, refl, subst}
+use Rattle.line_settle.specs.GridLaws.{shape_trans}
 use Rattle.split_choice.specs.declared.cell.Cell.{Cell}
 use Rattle.second_search.specs.Branching.{GoesOn, Search}
 use Rattle.second_search.specs.Through.{across}
@@ -10,10 +11,11 @@ use Rattle.second_search.proofs.counting.search_counted.Goals as goal
 
 pub loop-search-init : goal.loop-search-init
 loop-search-init g c =
-    let ready = ready_first c.args.book.now c.args.start.facts c.args.start.lines c.start.result c.start.ensures c.requires.lines c.requires.quiet in
+    let ready = ready_first c.args.book.now c.args.known.now c.args.start.lines c.args.start.facts c.args.start.lines c.start.result c.start.ensures c.requires.lines c.requires.quiet c.requires.others in
     record {
       counting = counting_starts c.args.book.now c.args.known.now c.args.start.facts c.args.start.allowance c.start.result c.start.ensures;
       ready = ready.0;
+      rows = refl;
       some = c.requires.some;
       behind = ready.1;
       calls = omega arith;
@@ -24,6 +26,12 @@ pub look_once-requires-clause-closable : goal.look_once-requires-clause-closable
 look_once-requires-clause-closable g c =
     let i = c.loop-search.invariant in
     can_close_like c.args.book.now _ _ c.args.start.facts c.loop-search.search.pending.at_hand i.ready.same_shape i.same_longest c.requires.closable
+
+pub look_once-requires-clause-same_shape : goal.look_once-requires-clause-same_shape
+look_once-requires-clause-same_shape g c = shape_trans c.requires.same_shape c.loop-search.invariant.ready.same_shape
+
+pub look_once-requires-clause-others : goal.look_once-requires-clause-others
+look_once-requires-clause-others g c = rw c.loop-search.invariant.rows c.loop-search.invariant.ready.others
 
 pub returns-in-Some-clause-ends : goal.returns-in-Some-clause-ends
 returns-in-Some-clause-ends g c =
@@ -52,16 +60,17 @@ loop-search-preserved g c =
     let first = c.args.start.facts in
     let steps = steps_as _ _ s t _ _ _ _ c.in-None.is c.in_ok-found.ensures.steps in
     let counting = counting_goes least_is_unique _ _ _ _ s t _ _ c.loop-search.invariant.counting steps in
-    let quiet = quiet_goes book c.args.known.now first s t _ _ c.loop-search.invariant.ready.same_shape c.loop-search.invariant.behind steps in
+    let quiet = quiet_goes book c.args.known.now first c.args.start.lines s t _ _ c.loop-search.invariant.ready.same_shape c.loop-search.invariant.ready.others c.loop-search.invariant.behind steps in
     let P : Option Cell → Type 0 = GoesOn t u in
     let on : GoesOn t u (Some cell) = subst P c.in-Some-2.is c.in_ok-cell.ensures in
-    let next = quiet_at book first t u cell quiet on in
+    let next = quiet_at book c.args.known.now c.args.start.lines first t u cell quiet on in
     let at = next.0.1 in
     let lines = c.lines.result in
     let is = c.height-2.ensures.facts in
     record {
       counting = counting_at _ _ _ _ _ u _ counting on.0;
-      ready = ready_at book first u.at_hand cell lines is next.0.0 at c.lines.ensures;
+      ready = ready_at book c.args.known.now c.args.start.lines first u.at_hand cell lines is next.0.0 at c.lines.ensures;
+      rows = refl;
       some = name_counts lines (across cell.row) (both_named first u.at_hand cell lines is next.0.0 at.in_rows at.in_columns c.lines.ensures).0;
       behind = next.1;
       calls = omega arith;

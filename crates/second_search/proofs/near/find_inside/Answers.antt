@@ -3,7 +3,7 @@ use Rattle.line_settle.specs.FactSets.{SameShape}
 use Rattle.line_settle.specs.GridLaws.{shape_sym, shape_trans}
 use Rattle.second_search.specs.Near.{OpensIn}
 use Rattle.second_search.proofs.AloneLemmas.{closable_alone, lines_alone}
-use Rattle.second_search.proofs.KeepLemmas.{quiet_outside}
+use Rattle.second_search.proofs.KeepLemmas.{quiet_outside, show_others}
 use Rattle.second_search.proofs.WithinLemmas.{found_inside, opened_outside}
 use Rattle.second_search.proofs.KnownLaws.{books_are_their_clues, closing_keeps_fillings, clues_are_of_lines, fillings_are_of_facts, only_is_closed}
 use Rattle.second_search.proofs.near.find_inside.Goals as goal
@@ -25,6 +25,8 @@ search_counted-requires g c =
       closable = closable_alone clues_are_of_lines s.clues.now window.cells s.picture.now facts _ c.requires.can.is_scene.has_clues keeps c.requires.can.tall c.requires.can.wide;
       lines = lines_alone window.cells s.picture.now s.facts.now facts window.lines c.requires.can.is_scene.sound.same_shape keeps c.requires.window.lines;
       quiet = quiet_outside clues_are_of_lines s.clues.now window.cells s.picture.now facts window.lines c.requires.can.is_scene.is_picture c.requires.can.is_scene.has_clues keeps c.requires.window.through;
+      same_shape = keeps.same_shape;
+      others = show_others window.cells s.picture.now facts window.lines c.requires.can.is_scene.is_picture keeps c.requires.window.through;
       some = omega arith;
     }
 

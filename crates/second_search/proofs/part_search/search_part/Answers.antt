@@ -1,6 +1,6 @@
 use Rattle.std.proofs.Common.{refl}
 use Rattle.second_search.proofs.AloneLemmas.{closable_alone, lines_alone, names_lines, names_some}
-use Rattle.second_search.proofs.KeepLemmas.{quiet_outside}
+use Rattle.second_search.proofs.KeepLemmas.{quiet_outside, show_others}
 use Rattle.second_search.proofs.KnownLaws.{clues_are_of_lines}
 use Rattle.second_search.proofs.part_search.search_part.Goals as goal
 
@@ -17,6 +17,8 @@ search_counted-requires g c =
       closable = closable_alone clues_are_of_lines s.clues.now cells s.picture.now facts _ scene.has_clues keeps c.requires.can.tall c.requires.can.wide;
       lines = lines_alone cells s.picture.now s.facts.now facts lines.result scene.sound.same_shape keeps lines.ensures.lines;
       quiet = quiet_outside clues_are_of_lines s.clues.now cells s.picture.now facts lines.result scene.is_picture scene.has_clues keeps names;
+      same_shape = keeps.same_shape;
+      others = show_others cells s.picture.now facts lines.result scene.is_picture keeps names;
       some = names_some s.facts.now cells lines.result c.requires.part names;
     }
 

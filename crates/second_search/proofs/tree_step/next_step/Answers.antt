@@ -4,9 +4,13 @@ use Rattle.std.specs.Prelude.{MatchOption}
 use Rattle.picture.specs.declared.line_id.LineId.{LineId}
 use Rattle.fixpoint.specs.Closing.{EachFits}
 use Rattle.second_search.specs.Trees.{IsDeadLine}
+use Rattle.second_search.specs.Through.{across}
 use Rattle.second_search.proofs.TreeLemmas.{compare_continues, dead_continues, none_dead}
 use Rattle.second_search.proofs.KnownLaws.{books_are_their_clues, clues_are_of_lines}
 use Rattle.second_search.proofs.tree_step.next_step.Goals as goal
+
+pub first_unsettled-requires-clause-others : goal.first_unsettled-requires-clause-others
+first_unsettled-requires-clause-others g c = λ row col out h l. absurd (out ((c.all_lines.ensures.lines (across row)).1 h))
 
 pub returns-then-has_clues-clause-continues : goal.returns-then-has_clues-clause-continues
 returns-then-has_clues-clause-continues g c =

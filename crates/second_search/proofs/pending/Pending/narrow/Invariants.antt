@@ -1,6 +1,6 @@
 use Rattle.std.proofs.Common.{◌≡◌}
 use Rattle.line_settle.specs.FactSets.{SameShape}
-use Rattle.second_search.specs.Branching.{AreSameAbove}
+use Rattle.second_search.specs.Branching.{AreOthersSame, AreSameAbove}
 use Rattle.second_search.proofs.pending.Pending.narrow.Given as goal
 
 abbrev pub invariant-loop-row : goal.invariant-loop-row
@@ -9,4 +9,5 @@ invariant-loop-row l = record {
   behind : l.self.behind ≡ l.fn.self.behind;
   cells : l.self.cells ≡ l.fn.self.cells;
   above : AreSameAbove l.self.at_hand l.settled l.row;
+  others : AreOthersSame l.self.at_hand l.settled l.rows;
 }

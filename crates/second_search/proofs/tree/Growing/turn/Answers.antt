@@ -9,7 +9,11 @@ use Rattle.second_search.specs.Branching.{Search}
 use Rattle.second_search.specs.Trees.{Continues, IsOtherIn, Settles}
 use Rattle.second_search.proofs.KeepLemmas.{can_close_like}
 use Rattle.second_search.proofs.TreeLemmas.{dead_turn, ends_turn, splits_turn, turn_on}
+use Rattle.second_search.specs.Through.{across}
 use Rattle.second_search.proofs.tree.Growing.turn.Goals as goal
+
+pub narrow-requires-clause-others : goal.narrow-requires-clause-others
+narrow-requires-clause-others g c = λ row col h out. absurd (out ((c.all_lines.ensures.lines (across row)).1 h))
 
 pub returns-in-Dead-clause-turns : goal.returns-in-Dead-clause-turns
 returns-in-Dead-clause-turns g c =
