@@ -228,6 +228,13 @@ pub fn colour_line<W: Word>(set: W, colour: u8, keep: bool, out: &mut [u16])
         colour_cells(set.low_eight(), colour, keep, 0, cells, out);
         return;
     }
+    // The last eight cells: some of them once more than the others, which changes nothing.
+    let last = cells - 8;
+    if cells < 16 {
+        colour_cells(set.low_eight(), colour, keep, 0, 8, out);
+        colour_cells(set.down(last).low_eight(), colour, keep, last, 8, out);
+        return;
+    }
     let mut rest = set;
     for chunk in 0..cells / 8 {
         // Always eight cells, so that they are coloured together.
@@ -235,8 +242,6 @@ pub fn colour_line<W: Word>(set: W, colour: u8, keep: bool, out: &mut [u16])
         rest = rest.down(8);
     }
     if cells % 8 != 0 {
-        // The last eight cells: some of them once more, which changes nothing.
-        let last = cells - 8;
         colour_cells(set.down(last).low_eight(), colour, keep, last, 8, out);
     }
 }
