@@ -25,9 +25,9 @@ UNCHECKED = (
     ('u16x8::from_slice(&left[first..])', 'unsafe { left.as_ptr().add(first).cast::<u16x8>().read_unaligned() }'),
     ('u16x16::from_slice(&left[first..])', 'unsafe { left.as_ptr().add(first).cast::<u16x16>().read_unaligned() }'),
     ('let cells = out.len();', 'let cells = out.len(); let all = out.as_mut_ptr();'),
-    ('    for j in 0..count {\n        out[first + j] = with_colour(out[first + j],',
-     '    let at = unsafe { std::slice::from_raw_parts_mut(out.as_mut_ptr().add(first), count) };\n'
-     '    for j in 0..count {\n        at[j] = with_colour(at[j],'),
+    ('    for j in 0..cells.end - cells.start {\n        let i = cells.start + j;\n',
+     '    let out = unsafe { std::slice::from_raw_parts_mut(out.as_mut_ptr().add(cells.start), cells.end - cells.start) };\n'
+     '    for j in 0..cells.end - cells.start {\n        let i = j;\n'),
     ('    for j in 0..count {\n        out[first + j] = colour_bit(',
      '    let at = unsafe { std::slice::from_raw_parts_mut(out.as_mut_ptr().add(first), count) };\n'
      '    for j in 0..count {\n        at[j] = colour_bit('),
