@@ -20,8 +20,7 @@ pub(crate) fn parsed<'a>(
     ensures { IfOk result (λ r. (formats : _)
         × (AreFormats formats × ParsesAs formats (texts words.entry.now) r)) }
 {
-    let command = command(alloc)?;
-    Ok(command.try_get_matches_from(words))
+    Ok(command(alloc)?.try_get_matches_from(words))
 }
 
 // The words that are taken. Each stands in a function of its own, since the parser's values are long to prove about.
@@ -65,9 +64,7 @@ fn opening<'a>(alloc: Global) -> Result<Command<'a>, AllocError>
         × (AreFormats formats × (shape_of c ≡ opening_shape formats))) }
     ensures local { IfOk result IsLocal }
 {
-    let command = file_command(alloc)?;
-    let format = format(alloc);
-    command.arg(format)
+    file_command(alloc)?.arg(format(alloc))
 }
 
 // The session's file.

@@ -50,8 +50,7 @@ pub fn read_words<'a>(alloc: Global, words: &'a [&str]) -> Result<Task<'a>, Prog
     if words.is_empty() {
         return Ok(Task::Clues);
     }
-    let parsed = parsed(alloc, words)?;
-    match parsed {
+    match parsed(alloc, words)? {
         Ok(matches) => task_of(&matches),
         Err(error) => untaken(alloc, &error),
     }
@@ -108,22 +107,21 @@ fn is_non(matches: &ArgMatches<'_>) -> bool
     ensures { (result ≡ true)
         ↔ (first_value (found_of matches.now) (codes "format") ≡ Some (codes "non")) }
 {
-    match matches.get_str("format") {
-        Some(format) => format == "non",
-        None => false,
-    }
+    matches
+        .get_str("format")
+        .is_some_and(|format| format == "non")
 }
 
 // The colour of the background, where one is given.
 fn background_of(matches: &ArgMatches<'_>) -> Result<Option<Rgb>, ProgramFault>
     ensures { result ≡ background_asked (first_value (found_of matches.now) (codes "background")) }
 {
-    match matches.get_str("background") {
-        None => Ok(None),
-        Some(text) => match background_in(text.as_bytes()) {
-            None => Err(ProgramFault::Background),
-            background => Ok(background),
-        },
+    let Some(text) = matches.get_str("background") else {
+        return Ok(None);
+    };
+    match background_in(text.as_bytes()) {
+        None => Err(ProgramFault::Background),
+        background => Ok(background),
     }
 }
 
