@@ -86,30 +86,7 @@ fn read_cells(
     Ok(cells)
 }
 
-// What stands before the cells: the width, the height and the palette, and the scanner behind them.
-type Head<'a> = (u8, u8, Palette, Scanner<'a>);
-
-#[tactic(auto, unfolding(crate::specs::Ppm::header_of))]
-// Reads what stands before the cells.
-fn read_head(alloc: Global, bytes: &[u8], background: Option<Rgb>) -> Read<Head<'_>>
-    ensures read { Gives Memory (λ h. record {
-      width = h.0;
-      height = h.1;
-      colours = h.2;
-      rest = h.3;
-    }) result (header_of bytes.now background) }
-    ensures fault { IfErr (header_of bytes.now background) (λ fault. result ≡ Err fault) }
-    ensures wide { IfOk result (λ h. (0 < h.0) × (h.0 ≤ MAX_SIDE)) }
-    ensures tall { IfOk result (λ h. (0 < h.1) × (h.1 ≤ MAX_SIDE)) }
-{
-    let mut scanner = Scanner::start(bytes)?;
-    let width = read_side(&mut scanner)?;
-    let height = read_side(&mut scanner)?;
-    let palette = read_palette(alloc, &mut scanner, background)?;
-    Ok((width, height, palette, scanner))
-}
-
-#[tactic(auto, using(crate::proofs::Cells::read_cells, picture::specs::FlatLaws::cell_at_below), unfolding(crate::specs::Ppm::ppm_of))]
+#[tactic(auto, using(crate::proofs::Cells::read_cells, picture::specs::FlatLaws::cell_at_below), unfolding(crate::specs::Ppm::ppm_of, crate::specs::Ppm::header_of))]
 /// Reads a plain PPM text (P3) whole: the magic, the width and the height from 1 to 120, the maxval
 /// from 1 to 65535, and the samples of each cell in row order, each a decimal number of any length.
 ///
@@ -126,7 +103,10 @@ pub fn read_ppm(alloc: Global, bytes: &[u8], background: Option<Rgb>) -> Result<
     ensures read { Gives Memory content_of result (ppm_of bytes.now background) }
     ensures header { IfErr (header_of bytes.now background) (λ fault. result ≡ Err fault) }
 {
-    let (width, height, mut palette, mut scanner) = read_head(alloc, bytes, background)?;
+    let mut scanner = Scanner::start(bytes)?;
+    let width = read_side(&mut scanner)?;
+    let height = read_side(&mut scanner)?;
+    let mut palette = read_palette(alloc, &mut scanner, background)?;
     let count = usize::from(height) * usize::from(width);
     let cells = read_cells(alloc, &mut scanner, &mut palette, count)?;
     if let Some(place) = scanner.next_place() {
