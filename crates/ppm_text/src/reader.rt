@@ -86,53 +86,7 @@ fn read_cells(
     Ok(cells)
 }
 
-#[tactic(auto, using(picture::specs::FlatLaws::cell_at_below))]
-// The document of these cells, which has no given.
-fn document_of(palette: Palette, height: u8, width: u8, cells: Vec<u8>) -> Document
-    requires has_row { 0 < height }
-    requires rows_fit { height ≤ MAX_SIDE }
-    requires has_column { 0 < width }
-    requires columns_fit { width ≤ MAX_SIDE }
-    requires count { length cells.items ≡ height * width }
-    requires coloured { (k : ℕ) → slice_index cells.items k < length palette.triples }
-    ensures { content_of result ≡ record {
-      colours = palette;
-      rows = rows_of height width cells.items;
-      givens = no_cells;
-    } }
-{
-    let _ = palette.len();
-    Document {
-        palette,
-        picture: Picture::from_cells(height, width, cells),
-        givens: CellSet::empty(),
-    }
-}
-
-// What stands before the cells: the width, the height and the palette, and the scanner behind them.
-type Head<'a> = (u8, u8, Palette, Scanner<'a>);
-
-#[tactic(auto, unfolding(crate::specs::Ppm::header_of))]
-// Reads what stands before the cells.
-fn read_head(alloc: Global, bytes: &[u8], background: Option<Rgb>) -> Read<Head<'_>>
-    ensures read { Gives Memory (λ h. record {
-      width = h.0;
-      height = h.1;
-      colours = h.2;
-      rest = h.3;
-    }) result (header_of bytes.now background) }
-    ensures fault { IfErr (header_of bytes.now background) (λ fault. result ≡ Err fault) }
-    ensures wide { IfOk result (λ h. (0 < h.0) × (h.0 ≤ MAX_SIDE)) }
-    ensures tall { IfOk result (λ h. (0 < h.1) × (h.1 ≤ MAX_SIDE)) }
-{
-    let mut scanner = Scanner::start(bytes)?;
-    let width = read_side(&mut scanner)?;
-    let height = read_side(&mut scanner)?;
-    let palette = read_palette(alloc, &mut scanner, background)?;
-    Ok((width, height, palette, scanner))
-}
-
-#[tactic(auto, using(crate::proofs::Cells::read_cells), unfolding(crate::specs::Ppm::ppm_of))]
+#[tactic(auto, using(crate::proofs::Cells::read_cells, picture::specs::FlatLaws::cell_at_below), unfolding(crate::specs::Ppm::ppm_of, crate::specs::Ppm::header_of))]
 /// Reads a plain PPM text (P3) whole: the magic, the width and the height from 1 to 120, the maxval
 /// from 1 to 65535, and the samples of each cell in row order, each a decimal number of any length.
 ///
@@ -149,11 +103,19 @@ pub fn read_ppm(alloc: Global, bytes: &[u8], background: Option<Rgb>) -> Result<
     ensures read { Gives Memory content_of result (ppm_of bytes.now background) }
     ensures header { IfErr (header_of bytes.now background) (λ fault. result ≡ Err fault) }
 {
-    let (width, height, mut palette, mut scanner) = read_head(alloc, bytes, background)?;
+    let mut scanner = Scanner::start(bytes)?;
+    let width = read_side(&mut scanner)?;
+    let height = read_side(&mut scanner)?;
+    let mut palette = read_palette(alloc, &mut scanner, background)?;
     let count = usize::from(height) * usize::from(width);
     let cells = read_cells(alloc, &mut scanner, &mut palette, count)?;
     if let Some(place) = scanner.next_place() {
         return Err(PpmFault::TrailingToken(place));
     }
-    Ok(document_of(palette, height, width, cells))
+    let _ = palette.len();
+    Ok(Document {
+        palette,
+        picture: Picture::from_cells(height, width, cells),
+        givens: CellSet::empty(),
+    })
 }

@@ -77,9 +77,7 @@ impl Agenda for InOrder {
         ensures members { self.new.waiting ≡ no_names }
         ensures start { self.new ≡ round no_names 0 }
     {
-        self.lines = LineSet::empty();
-        self.axis = Axis::Across;
-        self.from = 0;
+        *self = InOrder::make();
     }
 }
 
