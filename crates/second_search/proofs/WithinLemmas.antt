@@ -1,6 +1,6 @@
 -- How the search of a part ends where no allowance is set: within some splits of the fixed order, or by what is true; and what is
 -- found in a window.
-use Rattle.std.proofs.Common.{◌≡◌, ℕ, ◌<◌, Option, None, Some, List, refl, subst, inl, inr, [], ◌∷◌, length, sym, ap, arith}
+use Rattle.std.proofs.Common.{◌≡◌, ℕ, ◌<◌, Option, None, Some, List, refl, subst, inl, inr, length, sym, ap, arith}
 use Rattle.std.specs.Prelude.{IfSome}
 use Rattle.clues.specs.ClueBook.{Clues}
 use Rattle.clues.specs.Laws.{BooksAreTheirClues, CluesAreOfLines}
@@ -9,7 +9,7 @@ use Rattle.second_search.specs.declared.counting.Ending.{Ending}
 use Rattle.second_search.specs.declared.counting.Ending.TheVariants as ending
 use Rattle.second_search.specs.Laws.{AnswersPart, FillingsAreOfFacts, SoundFacts}
 use Rattle.second_search.specs.Parts.{IsOtherFilling, IsScene}
-use Rattle.second_search.specs.Searching.{EndsAs, EndsPast, EndsTrue, EndsWithin, alone, fixed_splits, Searches, raised}
+use Rattle.second_search.specs.Searching.{EndsAs, EndsPast, EndsTrue, EndsWithin, alone, fixed_splits, raised}
 use Rattle.second_search.proofs.EndLemmas.{none_found, one_found}
 use Rattle.picture.specs.CellSet.{HasCell, PutsCell}
 use Rattle.picture.specs.LineSet.{Lines}

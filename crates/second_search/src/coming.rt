@@ -8,7 +8,7 @@ ghost use Rattle.fixpoint.specs.LineNames.{AreLinesOf};
 ghost use Rattle.second_search.specs.Looking.{AreRowsSettled, ShowOthers, Shows};
 ghost use Rattle.second_search.specs.Searching.{Comes, ComesClosed, IsCalled};
 
-use crate::looking::{first_unsettled, shown_beside};
+use crate::looking::{first_unsettled, shown_on};
 use crate::near::NOTHING_DONE;
 use clues::ClueBook;
 use fixpoint::close_facts;
@@ -82,6 +82,6 @@ fn split_or_end(known: &Picture, settled: Facts, due: &Due) -> Result<Coming, Al
     let _ = settled.height();
     match first_unsettled(&settled, &due.rows, due.top) {
         Some(cell) => Ok(Coming::Splits(settled, cell)),
-        None => Ok(Coming::Ends(shown_beside(known, &settled, &due.rows)?)),
+        None => Ok(Coming::Ends(shown_on(known.copy()?, &settled, &due.rows))),
     }
 }

@@ -8,6 +8,7 @@ ghost use Rattle.line_settle.specs.FactSets.{SameShape};
 ghost use Rattle.second_search.specs.Through.{across};
 ghost use Rattle.second_search.specs.Looking.{AreOthersSettled, AreRowsSettled, AreSettled, IsFirstUnsettled, ShowOthers, Shows, ShowsRow};
 
+use fixpoint::all_lines;
 use line_settle::Facts;
 use picture::{Axis, LineId, LineSet, MAX_SIDE, Picture};
 use split_choice::Cell;
@@ -66,35 +67,27 @@ pub(crate) fn shown_picture(alloc: Global, facts: &Facts) -> Result<Picture, All
     requires { AreSettled facts.now }
     ensures { IfOk result (Shows facts.now) }
 {
-    let mut picture = Picture::blank(alloc, facts.height(), facts.width())?;
-    for row in 0..facts.height() {
-        show_row(facts, &mut picture, row);
-    }
-    let _ = picture.height();
-    Ok(picture)
+    let blank = Picture::blank(alloc, facts.height(), facts.width())?;
+    Ok(shown_on(blank, facts, &all_lines(facts)))
 }
 
 // The same, made of a picture that they show in the rows that are not named.
-pub(crate) fn shown_beside(
-    known: &Picture,
-    facts: &Facts,
-    rows: &LineSet,
-) -> Result<Picture, AllocError>
+pub(crate) fn shown_on(picture: Picture, facts: &Facts, rows: &LineSet) -> Picture
     requires settled { AreSettled facts.now }
-    requires same_shape { SameShape known.now facts.now }
-    requires others { ShowOthers known.now rows.now facts.now }
-    ensures { IfOk result (Shows facts.now) }
+    requires same_shape { SameShape picture facts.now }
+    requires others { ShowOthers picture rows.now facts.now }
+    ensures { Shows facts.now result }
 {
-    let mut picture = known.copy()?;
+    let mut shown = picture;
     for row in 0..facts.height() {
-        show_named(facts, rows, &mut picture, row);
+        show_row(facts, rows, &mut shown, row);
     }
-    let _ = picture.height();
-    Ok(picture)
+    let _ = shown.height();
+    shown
 }
 
-// Shows the settled cells of a row, if it is named; else they are shown already.
-fn show_named(facts: &Facts, rows: &LineSet, picture: &mut Picture, row: u8)
+// Shows the settled cells of a row, which are shown already where it is not named.
+fn show_row(facts: &Facts, rows: &LineSet, picture: &mut Picture, row: u8)
     requires settled { AreSettled facts.now }
     requires same_shape { SameShape picture.old facts.now }
     requires in_rows { row < length facts.now }
@@ -102,20 +95,11 @@ fn show_named(facts: &Facts, rows: &LineSet, picture: &mut Picture, row: u8)
         → IsOnly (cell_at facts.now row col) (cell_at picture.old row col) }
     ensures { ShowsRow facts.now picture.old picture.new row }
 {
-    let _ = facts.width();
-    if has_row(rows, row) {
-        show_row(facts, picture, row);
+    let width = facts.width();
+    if !has_row(rows, row) {
+        return;
     }
-}
-
-// Shows the settled cells of a row.
-fn show_row(facts: &Facts, picture: &mut Picture, row: u8)
-    requires settled { AreSettled facts.now }
-    requires same_shape { SameShape picture.old facts.now }
-    requires in_rows { row < length facts.now }
-    ensures { ShowsRow facts.now picture.old picture.new row }
-{
-    for col in 0..facts.width() {
+    for col in 0..width {
         match facts.shown(row, col) {
             Some(colour) => picture.set(row, col, colour),
             None => {}

@@ -10,7 +10,7 @@ ghost use Rattle.second_search.specs.Parts.{IsOtherFilling, IsScene};
 ghost use Rattle.second_search.specs.Scene.{CanSearch};
 
 use crate::counting::{Ending, Searched, Start, search_counted};
-use crate::part_search::{facts_at_home, lines_through, put_both};
+use crate::part_search::{facts_on, lines_through, put_both};
 use crate::parts::Parts;
 use crate::scene::Scene;
 use fixpoint::{CloseFault, settle_afresh};
@@ -115,7 +115,7 @@ pub(crate) fn find_near<E: LineEngine>(
     ensures same_longest { E.longest engine.new ≡ E.longest engine.old }
 {
     let _ = (engine.calls(), scene.facts.height());
-    let home = facts_at_home(scene)?;
+    let home = facts_on(scene, &CellSet::empty())?;
     let lines = lines_through(cells, scene.facts);
     let rows = places_along(alloc, &lines, Axis::Across)?;
     let columns = places_along(alloc, &lines, Axis::Down)?;

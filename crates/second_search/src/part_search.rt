@@ -3,7 +3,6 @@
 ghost use Rattle.std.specs.Prelude.{◌≡◌, ◌<◌, ◌≤◌, ℕ, length, IfOk, OnOk};
 ghost use Rattle.picture.specs.Rows.{width_of};
 ghost use Rattle.line_settle.specs.FactSets.{SameShape};
-ghost use Rattle.fixpoint.specs.Filling.{only};
 ghost use Rattle.fixpoint.specs.LineNames.{AreLinesOf};
 ghost use Rattle.second_search.specs.Parts.{IsPart};
 ghost use Rattle.second_search.specs.Searching.{EndsAs, IsCalled, KeepsOutside, alone, raised};
@@ -66,15 +65,6 @@ fn put_through(cells: &CellSet, facts: &Facts, row: u8, lines: &mut LineSet)
             put_both(lines, row, col);
         }
     }
-}
-
-// The facts that leave the colours of a scene's picture alone.
-pub(crate) fn facts_at_home(scene: &Scene) -> Result<Facts, AllocError>
-    requires { IsWhole scene.now }
-    ensures { IfOk result (λ facts. facts ≡ only scene.now.picture.now) }
-{
-    let facts = facts_on(scene, &CellSet::empty())?;
-    Ok(facts)
 }
 
 // The facts of a scene on some cells, with the picture's colours alone left elsewhere.

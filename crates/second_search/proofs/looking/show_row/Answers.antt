@@ -7,7 +7,7 @@ use Rattle.second_search.proofs.looking.show_row.Goals as goal
 use Rattle.second_search.proofs.looking.show_row.Goals.{in-Some, in-None}
 
 pub set-requires-clause-in_colours : goal.set-requires-clause-in_colours
-set-requires-clause-in_colours c = only_small c.args.facts.now c.args.row c.loop-col.col c.in-Some.colour c.width-col-end.ensures.facts c.in-Some.ensures
+set-requires-clause-in_colours c = only_small c.args.facts.now c.args.row c.loop-col.col c.in-Some.colour c.width-width.ensures.facts c.in-Some.ensures
 
 pub loop-col-preserved : goal.loop-col-preserved
 loop-col-preserved c =
@@ -16,7 +16,7 @@ loop-col-preserved c =
     let old = c.loop-col.picture in
     let row = c.args.row in
     let col = c.loop-col.col in
-    let is = c.width-col-end.ensures.facts in
+    let is = c.width-width.ensures.facts in
     let h : row < length facts = c.requires.in_rows in
     let l : col < width_of facts = omega arith in
     let P : List (List ℕ) → Type 0 = λ new. record {
