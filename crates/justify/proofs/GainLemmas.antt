@@ -1,14 +1,12 @@
 -- Facts that gain what a step draws, premise after premise.
-use Rattle.std.proofs.Common.{◌≡◌, ℕ, ◌+◌, ◌<◌, ◌↔◌, List, length, refl, sym, ap, ◌∙◌, subst, arith, inl, inr}
+use Rattle.std.proofs.Common.{◌≡◌, ℕ, ◌+◌, ◌<◌, ◌↔◌, List, sym, ap, ◌∙◌, subst, arith, inl, inr}
 use Rattle.std.specs.Prelude.{IsBitSet}
 use Rattle.std.proofs.lemmas.Bool.{cases_eq}
 use Rattle.picture.specs.declared.line_id.LineId.{LineId}
 use Rattle.picture.specs.Rows.{cell_at}
 use Rattle.line_settle.specs.FactSets.{Leaves, SameShape, ExcludesAt, row_on, col_on}
 use Rattle.justify.specs.declared.premise.Premise.{Premise}
-use Rattle.justify.specs.declared.step.Step.{Step}
 use Rattle.justify.specs.Premises.{premise_at}
-use Rattle.justify.specs.Book.{GainDrawn}
 use Rattle.line_settle.specs.GridLaws.{shape_trans}
 
 -- one of the first n premises says that colour k is not in a cell

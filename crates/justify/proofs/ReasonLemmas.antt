@@ -14,7 +14,7 @@ use Rattle.justify.specs.declared.step.Step.{Step}
 use Rattle.justify.specs.Premises.{IsMark, LeavesRest, Mentions, Says, SaysBut}
 use Rattle.justify.specs.Forcing.{CanHaveWithout, ForcesFrom}
 use Rattle.justify.specs.Steps.{step_at, Draws, IsForced}
-use Rattle.justify.specs.Book.{Account, CanFollow, IsAccount, IsDerivation, IsDrawnBefore}
+use Rattle.justify.specs.Book.{Account, CanFollow, IsAccount, IsDerivation}
 use Rattle.justify.specs.Needs.{AreNeeded}
 use Rattle.justify.specs.Reasons.{Argues, Supports}
 use Rattle.picture.specs.BitLaws.{no_bit, power_has}

@@ -1,15 +1,13 @@
 -- Whether a line forces what a step draws.
-use Rattle.std.proofs.Common.{◌≡◌, ℕ, ◌<◌, ◌≤◌, ◌↔◌, Bool, true, false, List, length, refl, sym, subst, arith, get_or, IsTrue, MatchBool}
+use Rattle.std.proofs.Common.{◌≡◌, ℕ, ◌<◌, ◌↔◌, Bool, true, false, List, length, refl, sym, subst, arith, IsTrue, MatchBool}
 use Rattle.std.proofs.lemmas.Bool.{false≢true}
-use Rattle.std.proofs.lemmas.List.{length-map}
 use Rattle.picture.specs.declared.line_id.Axis.{Axis}
 use Rattle.picture.specs.declared.line_id.Axis.TheVariants.{Across, Down}
 use Rattle.picture.specs.declared.line_id.LineId.{LineId}
-use Rattle.picture.specs.Rows.{line_along, line_of, lines_along, width_of, HasLine}
+use Rattle.picture.specs.Rows.{line_of, lines_along, width_of, HasLine}
 use Rattle.clues.specs.declared.block.Block.{Block}
 use Rattle.clues.specs.ClueBook.{Clues, clue_at, clues_along, HasClue}
 use Rattle.line_settle.specs.declared.line_engine.Outcome.{Outcome}
-use Rattle.line_settle.specs.FactSets.{IsFacts}
 use Rattle.line_settle.specs.Narrowing.{Narrows}
 use Rattle.justify.specs.declared.premise.Premise.{Premise}
 use Rattle.justify.specs.declared.step.Step.{Step}
@@ -34,10 +32,6 @@ module _ (clue : List Block) (step : Step) (left out : List ℕ) (outcome : Outc
   forced_is false h = ((λ t. absurd (false≢true t)), (λ f. absurd (not_forced h f)))
 
 -- ---- lines of facts
-
-long_along : (axis : Axis) (at : ℕ) (rows : List (List ℕ)) (longest : ℕ) → IsFacts rows → at < lines_along axis rows → width_of rows ≤ longest → length rows ≤ longest → length (line_along axis at rows) ≤ longest
-long_along Across at rows longest is h wide tall = let r = is.rectangular at h in omega arith
-long_along Down at rows longest is h wide tall = let m = length-map rows (λ (row : List ℕ). get_or row at 0) in omega arith
 
 clue_along : (axis : Axis) (at : ℕ) (rows : List (List ℕ)) (clues : Clues) → length rows ≡ length clues.rows → width_of rows ≡ length clues.columns → at < lines_along axis rows → at < length (clues_along axis clues)
 clue_along Across at rows clues r c h = omega arith
