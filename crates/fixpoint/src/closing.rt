@@ -29,9 +29,7 @@ pub fn close_facts<E: LineEngine, A: Agenda>(
         (E.calls engine.old) (E.calls engine.new) }
     ensures same_longest { E.longest engine.new ≡ E.longest engine.old }
 {
-    let _calls = engine.calls();
-    let _evaluations = meter.evaluations;
-    let _trials = meter.trials;
+    let (_calls, _evaluations, _trials) = (engine.calls(), meter.evaluations, meter.trials);
     agenda.clear();
     agenda.put_all(dirty);
     while let Some(line) = agenda.take() {

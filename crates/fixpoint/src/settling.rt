@@ -28,9 +28,7 @@ pub fn settle_afresh<E: LineEngine, A: Agenda>(
         (E.calls engine.new) }
     ensures same_longest { E.longest engine.new ≡ E.longest engine.old }
 {
-    let _calls = engine.calls();
-    let _evaluations = meter.evaluations;
-    let _trials = meter.trials;
+    let (_calls, _evaluations, _trials) = (engine.calls(), meter.evaluations, meter.trials);
     let mut facts = base.copy()?;
     let lines = all_lines(&facts);
     match close_facts(engine, agenda, &mut facts, book, &lines, meter) {
