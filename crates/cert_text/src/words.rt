@@ -39,7 +39,10 @@ pub(crate) fn three_words(line: &[u8]) -> Option<(&[u8], &[u8], &[u8])>
 {
     let (word, behind) = cut_word(line)?;
     let (first, second) = cut_word(behind)?;
-    cut_word(second).is_none().then_some((word, first, second))
+    match cut_word(second) {
+        None => Some((word, first, second)),
+        Some(_) => None,
+    }
 }
 
 // A number of one to three digits, without leading zeros.
@@ -50,6 +53,5 @@ pub(crate) fn number_in(bytes: &[u8]) -> Option<u16>
     if matches!(bytes, [b'0', _, ..]) {
         return None;
     }
-    let number = short_number_in(bytes, 3)?;
-    Some(number as u16)
+    Some(short_number_in(bytes, 3)? as u16)
 }

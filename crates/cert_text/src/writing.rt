@@ -3,7 +3,7 @@
 ghost use Rattle.std.specs.Prelude.{◌≡◌, OnOk, OnErr};
 ghost use Rattle.std.specs.Io.KnownBytes.{Appends};
 ghost use Rattle.picture.specs.Writing.{AppendsFront};
-ghost use Rattle.cert_text.specs.Writing.{axis_text, cell_text, cert_text, givens_text, line_text, lines_text, named_text};
+ghost use Rattle.cert_text.specs.Writing.{axis_text, cell_text, cert_text, givens_text, line_text, lines_text, named_text, version_text};
 
 use crate::cert::Cert;
 use crate::tree_line::{CellNumber, CertLine, LineNumber};
@@ -89,6 +89,17 @@ fn send_lines<W: Write>(lines: &[CertLine], writer: &mut W) -> Result<(), WriteF
     Ok(())
 }
 
+// The first line of a certificate.
+fn version_word(version: u8) -> &'static [u8]
+    ensures { result.now ≡ version_text version }
+{
+    if version == 1 {
+        b"nonocert 1\n"
+    } else {
+        b"nonocert 2\n"
+    }
+}
+
 #[tactic(auto, using(picture::specs::SendingLaws::sending))]
 /// Writes a certificate as a text, each line with a line feed: the version, the givens and the lines. `read_cert` reads it as
 /// the same certificate. Nothing is kept in memory, and after a fault a front of the text is written.
@@ -98,8 +109,7 @@ pub fn write_cert<W: Write>(cert: &Cert, writer: &mut W) -> Result<(), WriteFaul
     ensures err { OnErr result
         (AppendsFront (W.contents writer.old) (W.contents writer.new) (cert_text cert.now)) }
 {
-    send(b"nonocert ", writer)?;
-    send_number(u16::from(cert.version()), b'\n', writer)?;
+    send(version_word(cert.version()), writer)?;
     send_givens(cert.givens(), writer)?;
     send_lines(cert.lines(), writer)
 }

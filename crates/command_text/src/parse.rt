@@ -122,9 +122,8 @@ fn read_allow(rest: &[u8]) -> Result<Command, CommandFault>
     ensures bounded { IfOk result IsBounded }
 {
     let (word, _) = read_word(counted(rest, 1)?)?;
-    allowance_in(word)
-        .map(Command::Allow)
-        .ok_or(CommandFault::BadNumber)
+    let splits = allowance_in(word).ok_or(CommandFault::BadNumber)?;
+    Ok(Command::Allow(splits))
 }
 
 // Why a cell does not have a colour.

@@ -113,7 +113,7 @@ fn begins_white(text: &[u8]) -> bool
     matches!(text, [b' ' | 9..=13, ..])
 }
 
-#[tactic(auto, using(crate::proofs::NextNumeral::next_numeral, crate::proofs::Counting::counting))]
+#[tactic(auto, using(crate::proofs::NextNumeral::next_numeral))]
 #[inline(never)]
 // The same for any number, with white space and comments before it.
 fn any_numeral(bytes: &[u8], from: usize) -> Read<(Numeral, usize)>
@@ -125,8 +125,8 @@ fn any_numeral(bytes: &[u8], from: usize) -> Read<(Numeral, usize)>
     if place >= bytes.len() {
         return Err(PpmFault::Truncated(place));
     }
-    let (value, rest) = count_on(0, &bytes[place..]);
-    match behind_token(bytes, bytes.len() - rest.len()) {
+    let (value, end) = count_digits(bytes, place);
+    match behind_token(bytes, end) {
         Some(behind) => Ok((Numeral { place, value }, behind)),
         None => Err(PpmFault::BadNumber(place)),
     }
@@ -182,6 +182,22 @@ fn comment_end(bytes: &[u8], from: usize) -> usize
         at += 1;
     }
     at
+}
+
+#[tactic(auto, using(crate::proofs::Counting::counting))]
+#[inline(always)]
+// The number that the digits from a place on spell, and where they end.
+fn count_digits(bytes: &[u8], from: usize) -> (u32, usize)
+    requires { from ≤ length bytes.now }
+    ensures within { result.1 ≤ length bytes.now }
+    ensures value { number_on (Some result.0) (drop result.1 bytes.now)
+        ≡ number_on (Some 0) (drop from bytes.now) }
+    ensures rest { tokens_from true result.1 (without_comments false (drop result.1 bytes.now))
+        ≡ tokens_from true from (without_comments false (drop from bytes.now)) }
+    ensures stops { begins_number (drop result.1 bytes.now) ≡ false }
+{
+    let (value, rest) = count_on(0, &bytes[from..]);
+    (value, bytes.len() - rest.len())
 }
 
 #[tactic(auto, using(crate::proofs::Counting::counting))]
