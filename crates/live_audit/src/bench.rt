@@ -302,12 +302,8 @@ impl<E: LineEngine + Drop, A: Agenda + Drop> Bench<E, A> {
         ensures audited { IsAudited self.new }
     {
         let _ = &self.audit;
-        certify_ordered(
-            self.alloc,
-            &mut self.engine,
-            self.studio.document(),
-            judging,
-        )
+        let document = self.studio.document();
+        certify_ordered(self.alloc, &mut self.engine, document, judging)
     }
 
     /// The present document.

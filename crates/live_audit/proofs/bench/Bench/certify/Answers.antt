@@ -1,4 +1,3 @@
-use Rattle.std.proofs.Common.{sym, ◌∙◌}
 use Rattle.live_audit.proofs.LearnLemmas.{proved_on}
 use Rattle.live_audit.proofs.bench.Bench.certify.Goals as goal
 
