@@ -26,7 +26,7 @@ fn write_tree<E: LineEngine>(
     engine: &mut E,
     scene: &Scene,
     first_bound: u64,
-    spent: u64,
+    judging: u64,
 ) -> Result<Option<Vec<CertLine>>, AllocError>
     requires can { CanCheck scene.now.picture.now scene.now.clues.now (E.longest engine.old) }
     requires same_shape { SameShape scene.now.picture.now scene.now.facts.now }
@@ -37,7 +37,7 @@ fn write_tree<E: LineEngine>(
 {
     let ladder = Ladder {
         first_bound,
-        spent,
+        judging,
         holds: true,
         keeps: true,
     };
@@ -99,13 +99,14 @@ fn with_version(givens: Vec<CellNumber>, lines: Vec<CertLine>) -> Cert
     Cert::new(version, givens, lines)
 }
 
-// Whether a scene has another picture that differs in one window alone, where windows may split at all. There may be others where
-// it has not.
+// Whether a scene that was not judged has another picture that differs in one window alone, where windows may split at all. There may
+// be others where it has not.
 fn has_near_other<E: LineEngine>(
     alloc: Global,
     engine: &mut E,
     scene: &Scene,
     splits: u32,
+    judged: Option<u64>,
 ) -> Result<bool, AllocError>
     requires scene { IsScene scene.now.clues.now scene.now.givens.now scene.now.facts.now
         scene.now.picture.now }
@@ -115,7 +116,7 @@ fn has_near_other<E: LineEngine>(
     ensures same_longest { E.longest engine.new ≡ E.longest engine.old }
     ensures calls { E.calls engine.old ≤ E.calls engine.new }
 {
-    if splits == 0 {
+    if splits == 0 || judged.is_some() {
         return Ok(false);
     }
     let near = find_near_other(alloc, engine, scene, splits)?;
@@ -141,20 +142,20 @@ pub fn make_cert<E: LineEngine>(
     ensures same_longest { E.longest engine.new ≡ E.longest engine.old }
     ensures calls { E.calls engine.old ≤ E.calls engine.new }
 {
-    make_cert_within(alloc, engine, picture, givens, BOUNDS, 0)
+    make_cert_within(alloc, engine, picture, givens, BOUNDS, None)
 }
 
 #[tactic(auto, using(crate::proofs::MadeLemmas::making))]
-/// Makes a certificate as `make_cert` does, within other bounds than the program's, and after a search that evaluated so many lines:
-/// what these may have climbed in vain is not climbed again. What is promised is the same whatever they are; the bounds of the fixed
-/// order are not looked at.
+/// Makes a certificate as `make_cert` does, within other bounds than the program's; those of the fixed order are not looked at. Where
+/// the picture was judged before by so many evaluations, no near one is looked for, and trees that were broken off are not begun
+/// again. What is promised is the same whatever these are.
 pub fn make_cert_within<E: LineEngine>(
     alloc: Global,
     engine: &mut E,
     picture: &Picture,
     givens: &CellSet,
     bounds: Bounds,
-    spent: u64,
+    judged: Option<u64>,
 ) -> Result<Option<Cert>, AllocError>
     requires inside { AreInside givens.now picture.now }
     requires wide { width_of picture.now ≤ E.longest engine.old }
@@ -177,10 +178,11 @@ pub fn make_cert_within<E: LineEngine>(
         facts: &facts,
         picture,
     };
-    if has_near_other(alloc, engine, &scene, bounds.window_splits)? {
+    if has_near_other(alloc, engine, &scene, bounds.window_splits, judged)? {
         return Ok(None);
     }
-    let Some(lines) = write_tree(alloc, engine, &scene, bounds.first_bound, spent)? else {
+    let judging = judged.unwrap_or(0);
+    let Some(lines) = write_tree(alloc, engine, &scene, bounds.first_bound, judging)? else {
         return Ok(None);
     };
     Ok(Some(with_version(cells, lines)))

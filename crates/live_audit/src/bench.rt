@@ -288,12 +288,8 @@ impl<E: LineEngine + Drop, A: Agenda + Drop> Bench<E, A> {
         ensures calls { self.old.calls ≤ self.new.calls }
         ensures audited { IsAudited self.new }
     {
-        certify_ordered(
-            self.alloc,
-            &mut self.engine,
-            self.studio.document(),
-            judging,
-        )
+        let document = self.studio.document();
+        certify_ordered(self.alloc, &mut self.engine, document, judging)
     }
 
     /// The present document.

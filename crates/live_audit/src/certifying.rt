@@ -7,16 +7,10 @@ ghost use Rattle.live_audit.specs.Certify.{Certifies};
 use certificate::{Cert, make_cert_within};
 use line_settle::LineEngine;
 use picture::{Document, MAX_SIDE};
-use second_search::{BOUNDS, Bounds};
+use second_search::BOUNDS;
 use std::alloc::{AllocError, Global};
 
-// Where judging evaluated more lines, it has written trees; and as many lines its first tree may evaluate.
-const NO_TREE: u64 = 40_000;
-
-const JUDGED_BOUND: u64 = 160_000;
-
-/// Makes a certificate of a document with its colours numbered as they appear, after judging it evaluated so many lines. No near
-/// picture is looked for, and trees that judging broke off are not begun again.
+/// Makes a certificate of a document with its colours numbered as they appear, after judging it evaluated so many lines.
 pub(crate) fn certify_ordered<E: LineEngine>(
     alloc: Global,
     engine: &mut E,
@@ -32,22 +26,6 @@ pub(crate) fn certify_ordered<E: LineEngine>(
     let _ = document.palette.len();
     let document = document.ordered()?;
     let _ = document.picture.height();
-    let (first_bound, spent) = if judging > NO_TREE {
-        (JUDGED_BOUND, judging)
-    } else {
-        (BOUNDS.first_bound, 0)
-    };
-    let bounds = Bounds {
-        window_splits: 0,
-        first_bound,
-        ..BOUNDS
-    };
-    make_cert_within(
-        alloc,
-        engine,
-        &document.picture,
-        &document.givens,
-        bounds,
-        spent,
-    )
+    let (picture, givens) = (&document.picture, &document.givens);
+    make_cert_within(alloc, engine, picture, givens, BOUNDS, Some(judging))
 }

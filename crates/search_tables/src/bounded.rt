@@ -60,7 +60,8 @@ pub fn push_cert<E: LineEngine>(
     let picture = &document.picture;
     ensure!(picture.height() <= engine.longest(), "too many rows");
     ensure!(picture.width() <= engine.longest(), "too many columns");
-    let Some(cert) = make_cert_within(alloc, engine, picture, &document.givens, bounds, 0)? else {
+    let Some(cert) = make_cert_within(alloc, engine, picture, &document.givens, bounds, None)?
+    else {
         text.push_str("none")?;
         return Ok(());
     };

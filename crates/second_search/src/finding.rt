@@ -95,7 +95,7 @@ pub(crate) fn find_filling<E: LineEngine>(
     let _ = engine.calls();
     let ladder = Ladder {
         first_bound,
-        spent: 0,
+        judging: 0,
         holds,
         keeps: false,
     };

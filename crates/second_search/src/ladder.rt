@@ -4,6 +4,7 @@ ghost use Rattle.std.specs.Prelude.{◌≡◌, ◌≤◌, IfOk};
 ghost use Rattle.fixpoint.specs.Closing.{AreClosable};
 ghost use Rattle.second_search.specs.Trees.{Decides};
 
+use crate::part_decision::LONGER;
 use crate::scene::Scene;
 use crate::tree::write_tree;
 use crate::tree_lines::Lines;
@@ -23,12 +24,12 @@ pub enum Decided {
     OtherPicture(Picture),
 }
 
-/// How the ladder is climbed: how many lines a tree may evaluate at first, how many were evaluated before on rungs that are not
-/// climbed again, and whether the known picture is held on to, and the lines are kept.
+/// How the ladder is climbed: how many lines a tree may evaluate at first, how many a judgement evaluated before, and whether the
+/// known picture is held on to, and the lines are kept. Trees that the judgement seems to have broken off are not begun again.
 #[derive(Clone, Copy)]
 pub struct Ladder {
     pub first_bound: u64,
-    pub spent: u64,
+    pub judging: u64,
     pub holds: bool,
     pub keeps: bool,
 }
@@ -49,7 +50,12 @@ pub fn climb<E: LineEngine>(
 {
     let _ = engine.calls();
     let mut bound = ladder.first_bound;
-    let mut spent = ladder.spent;
+    let mut spent = ladder.judging;
+    if spent > bound.saturating_mul(4) {
+        bound = bound.saturating_mul(LONGER);
+    } else {
+        spent = 0;
+    }
     for _ in 0..MOST_ROUNDS {
         for choice in [Choice::Look, Choice::First].iter() {
             if spent > bound {

@@ -18,7 +18,7 @@ use std::alloc::{AllocError, Global};
 
 // How many times as many lines a tree of a part may evaluate at first: where the fixed order has gone so far, few small trees
 // close.
-const LONGER: u64 = 16;
+pub(crate) const LONGER: u64 = 16;
 
 // Decides a part under an allowance; or, where none is set, within the bounds of the program.
 pub(crate) fn decide_part<E: LineEngine>(

@@ -21,4 +21,4 @@ find_near_other-requires-clause-wide g c =
 pub returns-clause-other : goal.returns-clause-other
 returns-clause-other g c =
     let s = c.args.scene.now in
-    λ yes. near_other s.picture.now s.givens.now s.clues.now c.in_ok-near.near c.requires.can.clues_are c.in_ok-near.ensures.other (sym c.is_some.ensures ∙ yes)
+    λ yes. near_other s.picture.now s.givens.now s.clues.now c.in_ok-near.near c.requires.can.clues_are c.in_ok-near.ensures.other (sym c.is_some-2.ensures ∙ yes)
