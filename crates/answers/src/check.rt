@@ -36,8 +36,7 @@ pub fn run_check<W: Write>(
     ensures unique { OnOk result (IsOnlyPicture file.now background cert.now) }
 {
     let text = checked_text(alloc, file, cert, background)?;
-    send(&text, writer)?;
-    Ok(())
+    Ok(send(&text, writer)?)
 }
 
 // The line for a certificate that is accepted.

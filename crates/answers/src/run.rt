@@ -28,8 +28,7 @@ pub fn run_clues<W: Write>(
 {
     let edit = paint.map(|(row, col, colour)| Edit::Paint { row, col, colour });
     let text = answer_text(alloc, bytes, edit)?;
-    send(&text, writer)?;
-    Ok(())
+    Ok(send(&text, writer)?)
 }
 
 // The clues of the picture, as text.

@@ -11,19 +11,13 @@ use std::process::ExitCode;
 pub fn ending(rt: &impl Eprint, outcome: Result<(), ProgramFault>) -> ExitCode
     ensures { exit_status result ≡ status_after outcome }
 {
-    match outcome {
-        Ok(()) => ExitCode::from(0),
-        Err(fault) => {
-            say(rt, &fault);
-            ExitCode::from(fault.status())
-        }
-    }
-}
-
-// Says why the program ends. What the parser of the words says is said as it is.
-fn say(rt: &impl Eprint, fault: &ProgramFault) {
-    let _unwritten = match fault {
+    let Err(fault) = outcome else {
+        return ExitCode::from(0);
+    };
+    // What the parser of the words says is said as it is.
+    let _unwritten = match &fault {
         ProgramFault::Words(text) => eprint!(rt; "{text}"),
         _ => eprintln!(rt; "nonobench: {fault}"),
     };
+    ExitCode::from(fault.status())
 }

@@ -3,7 +3,6 @@ use Rattle.std.proofs.lemmas.Result.{err_from_is_err_and}
 use Rattle.nonobench.proofs.WorkLemmas.{broke_off, ran}
 use Rattle.nonobench.proofs.work.run_work.Goals as goal
 
--- src/work.rt:33:5
 pub returns-in_err-run_session : goal.returns-in_err-run_session
 returns-in_err-run_session g c =
     let p = err_from_is_err_and c.from_residual-in_err-run_session.result c.from_residual-in_err-run_session.ensures.1 in
@@ -11,7 +10,6 @@ returns-in_err-run_session g c =
     (ran _ _ _ _ c.args.file.now c.args.options c.in_ok-bench.bench c.run_session.new.bench c.run_session.result (Err c.in_err-run_session.field-0.0)
     c.in_ok-bench.ensures (search rules) c.run_session.ensures)
 
--- src/work.rt:19:1
 pub returns : goal.returns
 returns g c =
     ran _ _ _ _ c.args.file.now c.args.options c.in_ok-bench.bench c.run_session.new.bench c.run_session.result (Ok tt)
