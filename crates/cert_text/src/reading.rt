@@ -3,7 +3,7 @@
 ghost use Rattle.std.specs.Prelude.{◌≡◌, ◌+◌, ◌^◌, ◌<◌, ◌≤◌, length, IfOk, IfSome};
 ghost use Rattle.picture.specs.Reading.{Gives};
 ghost use Rattle.cert_text.specs.Cert.{AreOrdered, AreWritable, IsShort, IsWritable, rank};
-ghost use Rattle.cert_text.specs.Text.{axis_of, cell_named, cert_line, cert_of, given_line, given_lines, givens_seen, line_named, lines_of, tree_lines};
+ghost use Rattle.cert_text.specs.Text.{cell_named, cert_line, cert_of, given_line, given_lines, givens_seen, line_named, lines_of, tree_lines};
 
 use crate::cert::Cert;
 use crate::fault::CertFault;
@@ -12,23 +12,16 @@ use crate::words::{first_line, is_word, number_in, three_words};
 use picture::Axis;
 use std::alloc::Global;
 
-// The axis that a letter names.
-fn axis_in(word: &[u8]) -> Option<Axis>
-    ensures { result ≡ axis_of word.now }
-{
-    match word {
-        b"r" => Some(Axis::Across),
-        b"c" => Some(Axis::Down),
-        _ => None,
-    }
-}
-
 // The line that two words name.
 fn line_named(first: &[u8], second: &[u8]) -> Option<LineNumber>
     ensures value { result ≡ line_named first.now second.now }
     ensures short { IfSome result (λ line. IsShort line.number) }
 {
-    let axis = axis_in(first)?;
+    let axis = match first {
+        b"r" => Axis::Across,
+        b"c" => Axis::Down,
+        _ => return None,
+    };
     let number = number_in(second)?;
     Some(LineNumber { axis, number })
 }

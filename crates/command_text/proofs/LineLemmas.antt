@@ -1,10 +1,10 @@
 -- The lines of bytes, cut piece by piece.
-use Rattle.std.proofs.Common.{◌≡◌, ℕ, zero, suc, ◌+◌, ◌-◌, ◌<◌, ◌≤◌, Bool, true, false, cond, not, ◌&&◌, List, [], ◌∷◌, ◌++◌, length, get_or, length-take-le, min, take, drop, slice_index, ◌==◌, nat_lt, Err, Option, Some, None, is_some, unwrap_or, refl, sym, ap, ◌∙◌, append_assoc, append-nil, add-zero, arith}
+use Rattle.std.proofs.Common.{◌≡◌, ℕ, zero, suc, ◌+◌, ◌-◌, ◌<◌, ◌≤◌, Bool, true, false, cond, not, ◌&&◌, List, [], ◌∷◌, ◌++◌, length, get_or, length-take-le, min, take, drop, slice_index, ◌==◌, nat_lt, Err, Option, Some, None, is_some, unwrap_or, refl, sym, ap, ◌∙◌, append_assoc, append-nil, arith}
 use Rattle.std.specs.Int.{from_bool}
 use Rattle.std.specs.List.{slice_split, position}
 use Rattle.std.specs.Str.Lines.{strip_carriage_return}
 use Rattle.std.proofs.lemmas.Bool.{eqb-true, false_from_ne_true, lt-leb, lt-ltb, ltb-true, ltb-false, true≢false}
-use Rattle.std.proofs.lemmas.List.{drop-take, length-append, length-take, take_all, take_min}
+use Rattle.std.proofs.lemmas.List.{drop_all, drop-take, length-append, length-take, take_all, take_min}
 use Rattle.std.proofs.lemmas.Slice.{take-put_mid}
 use borrow.Rule.Slice.PartMut.{put_mid}
 use Rattle.std.proofs.Math.Seq.{take-append-add, drop-drop}
@@ -100,13 +100,6 @@ front_decides raw = front_by raw (nat_lt 202 (length raw)) refl
 
 -- ---- pieces come to a line
 
--- up to the line feed
-pub piece_ends : (waiting after had kept : List ℕ) (end : ℕ) → position is_feed waiting ≡ Some end → kept ≡ take 202 (had ++ take end waiting) → after ≡ drop (end + 1) waiting
-    → (piece : List ℕ) × ((waiting ≡ piece ++ 10 ∷ after) × (NoFeed piece × (kept ≡ take 202 (had ++ piece))))
-piece_ends waiting after had kept end at is rest =
-    let found = feed_found waiting end at in
-    (take end waiting, (found.1 ∙ ap (λ (xs : List ℕ). take end waiting ++ 10 ∷ xs) (sym rest), (found.0, is)))
-
 min_swap : (a b : ℕ) → min a b ≡ min b a
 min_swap a b = omega arith
 
@@ -133,19 +126,14 @@ skipped room now start end count view fits =
     sym (ap (drop count) (sym view ∙ ap (λ n. take n (drop start room)) split) ∙ drop-take count (end - (start + count)) (drop start room)
     ∙ ap (take (end - (start + count))) (drop-drop count start room))
 
-pub all_skipped : (taken now : List ℕ) → taken ≡ now → drop (length taken) now ≡ []
-all_skipped taken now same = ap (λ (xs : List ℕ). drop (length xs) now) same ∙ none_left now
-  where
-    none_left : (xs : List ℕ) → drop (length xs) xs ≡ []
-    none_left [] = refl
-    none_left (x ∷ xs) = none_left xs
-
 -- up to a line feed, or all of it
 pub piece_taken : (old new : Lines) (had kept : List ℕ) (feed : Option ℕ) → position is_feed old.inbox ≡ feed → kept ≡ take 202 (had ++ take (unwrap_or feed (length old.inbox)) old.inbox)
     → new.inbox ≡ drop (unwrap_or feed (length old.inbox) + from_bool (is_some feed)) old.inbox → TakesPiece old new had kept (is_some feed)
-piece_taken old new had kept (Some end) at is rest = piece_ends old.inbox new.inbox had kept end at is rest
+piece_taken old new had kept (Some end) at is rest =
+    let found = feed_found old.inbox end at in
+    (take end old.inbox, (found.1 ∙ ap (λ (xs : List ℕ). take end old.inbox ++ 10 ∷ xs) (sym rest), (found.0, is)))
 piece_taken old new had kept None at is rest = (
-  rest ∙ ap (λ n. drop n old.inbox) (add-zero (length old.inbox)) ∙ all_skipped old.inbox old.inbox refl,
+  rest ∙ drop_all (length old.inbox + 0) old.inbox (omega arith),
   (none_passes is_feed old.inbox at, is ∙ ap (λ (xs : List ℕ). take 202 (had ++ xs)) (take_all (length old.inbox) old.inbox (omega arith))),
 )
 

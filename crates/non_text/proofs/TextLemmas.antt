@@ -31,18 +31,12 @@ pub clue_text_none : (blocks : List Block) → length blocks ≡ 0 → clue_text
 clue_text_none [] e = refl
 clue_text_none (b ∷ blocks) e = absurd (omega (arith, e))
 
-pub clue_text_some : (blocks : List Block) (first : Block) → 0 < length blocks → first ≡ get_or blocks 0 first → clue_text blocks ≡ decimal first.len ++ flat_map (λ (other : Block). 44 ∷ decimal other.len) (take (length blocks - 1) (drop 1 blocks))
-clue_text_some [] first some e = absurd (omega (arith, some))
-clue_text_some (b ∷ blocks) first some e =
-    join-others b blocks
-    ∙ ap (λ (c : Block). decimal c.len ++ flat_map (λ (other : Block). 44 ∷ decimal other.len) blocks) (sym e)
-    ∙ ap (λ (others : List Block). decimal first.len ++ flat_map (λ (other : Block). 44 ∷ decimal other.len) others) (sym (take_all (length (b ∷ blocks) - 1) blocks (omega arith)))
-
 pub clue_text_at : (blocks : List Block) (d : Block) → 0 < length blocks → clue_text blocks ≡ decimal (get_or blocks 0 d).len ++ flat_map (λ (other : Block). 44 ∷ decimal other.len) (take (length blocks - 1) (drop 1 blocks))
 clue_text_at [] d some = absurd (omega (arith, some))
-clue_text_at (b ∷ blocks) d some = clue_text_some (b ∷ blocks) b some refl
+clue_text_at (b ∷ blocks) d some =
+    join-others b blocks ∙ ap (λ (others : List Block). decimal b.len ++ flat_map (λ (other : Block). 44 ∷ decimal other.len) others) (sym (take_all (length (b ∷ blocks) - 1) blocks (omega arith)))
 
-pub ruleset clue_texts = (clue_text_none, clue_text_some, append_assoc)
+pub ruleset clue_texts = (clue_text_none, append_assoc)
 
 -- ---- the whole
 

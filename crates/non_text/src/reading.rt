@@ -3,7 +3,7 @@
 ghost use Rattle.std.specs.Prelude.{◌≡◌, ◌<◌, ◌≤◌};
 ghost use Rattle.picture.specs.Reading.{Gives};
 ghost use Rattle.non_text.specs.Lines.{lines_of};
-ghost use Rattle.non_text.specs.Puzzle.{goal_behind, agreeing, non_of};
+ghost use Rattle.non_text.specs.Puzzle.{goal_behind, non_of};
 
 use crate::fault::{NonFault, Read};
 use crate::goal::goal_in;
@@ -15,7 +15,7 @@ use clues::ClueBook;
 use picture::{MAX_SIDE, Picture};
 use std::alloc::Global;
 
-#[tactic(auto, using(crate::proofs::PuzzleLemmas::parts), unfolding(crate::specs::Puzzle::puzzle_of))]
+#[tactic(auto, using(crate::proofs::PuzzleLemmas::parts, crate::proofs::PuzzleLemmas::agreement), unfolding(crate::specs::Puzzle::puzzle_of))]
 /// Reads the puzzle of a .non text: the clues, and the goal where it has one.
 ///
 /// Keywords come in any order, lines that begin with `#` and other keywords are skipped, and bytes need not be UTF-8.
@@ -33,7 +33,13 @@ pub fn read_non(alloc: Global, bytes: &[u8]) -> Result<NonPuzzle, NonFault>
     let rows = clues_behind(alloc, bytes, b"rows", height, width)?;
     let columns = clues_behind(alloc, bytes, b"columns", width, height)?;
     let goal = goal_behind(alloc, bytes, height, width)?;
-    agreeing(ClueBook::from_parts(rows, columns), goal)
+    let clues = ClueBook::from_parts(rows, columns);
+    if let Some(picture) = &goal
+        && !clues.has_clues(picture)
+    {
+        return Err(NonFault::GoalDisagrees);
+    }
+    Ok(NonPuzzle { clues, goal })
 }
 
 #[tactic(auto, unfolding(crate::specs::Puzzle::goal_behind))]
@@ -50,17 +56,4 @@ fn goal_behind(alloc: Global, text: &[u8], height: u8, width: u8) -> Read<Option
         None => Ok(None),
         Some((line, _)) => Ok(Some(goal_in(alloc, value(line), height, width)?)),
     }
-}
-
-#[tactic(auto, using(crate::proofs::PuzzleLemmas::agreement))]
-// The puzzle with these clues, which the goal has to have.
-fn agreeing(clues: ClueBook, goal: Option<Picture>) -> Read<NonPuzzle>
-    ensures { result ≡ agreeing clues goal }
-{
-    if let Some(picture) = &goal
-        && !clues.has_clues(picture)
-    {
-        return Err(NonFault::GoalDisagrees);
-    }
-    Ok(NonPuzzle { clues, goal })
 }

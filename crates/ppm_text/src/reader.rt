@@ -8,7 +8,7 @@ ghost use Rattle.picture.specs.Content.{content_of};
 ghost use Rattle.picture.specs.Reading.{Gives, Refuses};
 ghost use Rattle.ppm_text.specs.declared.fault.PpmFault.TheVariants.{Memory};
 ghost use Rattle.ppm_text.specs.Known.{AreKnown};
-ghost use Rattle.ppm_text.specs.Ppm.{first_palette, palette_at, cell_at, cells_at, header_of, ppm_of};
+ghost use Rattle.ppm_text.specs.Ppm.{palette_at, cell_at, cells_at, header_of, ppm_of};
 
 use crate::fault::{PpmFault, Read};
 use crate::fields::{read_side, read_triple};
@@ -18,7 +18,7 @@ use picture::{CellSet, Document, MAX_SIDE, Palette, PaletteFault, Picture, Rgb};
 use std::alloc::Global;
 
 #[tactic(auto, using(crate::proofs::Caps::palette_caps))]
-// Reads the maxval, and begins the palette with the background.
+// Reads the maxval, and begins the palette with the background that was handed in, or else with white.
 fn read_palette(alloc: Global, scanner: &mut Scanner, background: Option<Rgb>) -> Read<Palette>
     ensures read { Gives Memory (λ p. (p, scanner.new.tokens)) result
         (palette_at background scanner.old.end scanner.old.tokens) }
@@ -30,15 +30,7 @@ fn read_palette(alloc: Global, scanner: &mut Scanner, background: Option<Rgb>) -
     if value == 0 || value > u32::from(u16::MAX) {
         return Err(PpmFault::BadMaxval(place));
     }
-    begin_palette(alloc, place, value as u16, background)
-}
-
-// The palette of the background that was handed in, or else of white.
-fn begin_palette(alloc: Global, place: usize, maxval: u16, background: Option<Rgb>) -> Read<Palette>
-    requires { 0 < maxval }
-    ensures read { Gives Memory (λ p. p) result (first_palette background maxval place) }
-    ensures fault { Refuses Memory result (result_err (first_palette background maxval place)) }
-{
+    let maxval = value as u16;
     let white = Rgb {
         r: maxval,
         g: maxval,

@@ -1,4 +1,4 @@
-use Rattle.std.proofs.Common.{◌<◌, length, arith, [], ◌≡◌, ◌∙◌}
+use Rattle.std.proofs.Common.{arith, [], ◌≡◌, ◌∙◌}
 use Rattle.edits.specs.Note.{changed_in_row, joined}
 use Rattle.edits.proofs.PaintLemmas.{row_before, row_ends_none, row_none_more, rows_begin, rows_end}
 use Rattle.edits.proofs.painting.changes_cells.Goals as goal
@@ -7,15 +7,12 @@ pub loop-row-init : goal.loop-row-init
 loop-row-init c = rows_begin _ _ _ _ _ _ c.area-top.ensures
 
 pub loop-col-init : goal.loop-col-init
-loop-col-init c =
-    let in_rows : c.loop-row.row < length c.args.picture.now = omega (arith, c.area-top.ensures.rows_fit) in
-    row_before _ _ _ _ _ _ c.area-top.ensures c.loop-row.row in_rows
+loop-col-init c = row_before _ _ _ _ _ _ c.area-top.ensures c.loop-row.row (omega (arith, c.area-top.ensures.rows_fit))
 
 pub loop-row-preserved : goal.loop-row-preserved
 loop-row-preserved c =
-    let in_rows : c.loop-row.row < length c.args.picture.now = omega (arith, c.area-top.ensures.rows_fit) in
     row_none_more c.args.edit.now c.args.picture.now c.loop-row.row c.loop-row.invariant
-    (row_ends_none _ _ _ _ _ _ c.area-top.ensures c.loop-row.row c.loop-col.col in_rows (omega (arith, c.area-top.ensures.columns_ordered)) c.loop-col.invariant)
+    (row_ends_none _ _ _ _ _ _ c.area-top.ensures c.loop-row.row c.loop-col.col (omega (arith, c.area-top.ensures.rows_fit)) (omega (arith, c.area-top.ensures.columns_ordered)) c.loop-col.invariant)
 
 pub returns : goal.returns
 returns c =

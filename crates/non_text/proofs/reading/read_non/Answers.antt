@@ -4,8 +4,8 @@ use Rattle.non_text.proofs.SectionLemmas.{clues_count}
 use Rattle.non_text.proofs.PuzzleLemmas.{size_limits}
 use Rattle.non_text.proofs.reading.read_non.Goals as goal
 
-pub from_parts-requires : goal.from_parts-requires
-from_parts-requires c =
+pub from_parts-clues-requires : goal.from_parts-clues-requires
+from_parts-clues-requires c =
     let lines = lines_of c.args.bytes.now in
     let width = size_limits (codes "width") lines c.in_ok-width.width (sym c.size_behind.ensures ∙ c.in_ok-width.ensures.ok_part) in
     let height = size_limits (codes "height") lines c.in_ok-height.height (sym c.size_behind-2.ensures ∙ c.in_ok-height.ensures.ok_part) in
