@@ -1,5 +1,5 @@
 -- How much is left to do, and how much was done.
-use Rattle.std.proofs.Common.{◌≡◌, ℕ, zero, suc, ◌+◌, ◌^◌, ◌<◌, ◌≤◌, List, length, get_or, ◌==◌, ◌/◌, ◌↔◌, cond, Bool, true, false, eq-eqb, eqb-true, refl, sym, ap, subst, ◌∙◌, arith, inl, inr}
+use Rattle.std.proofs.Common.{◌≡◌, ℕ, zero, suc, ◌+◌, ◌^◌, ◌<◌, ◌≤◌, List, length, get_or, ◌==◌, ◌/◌, ◌↔◌, cond, Bool, true, false, eq-eqb, eqb-true, refl, sym, ap, ◌∙◌, arith, add-one, inl, inr}
 use Rattle.std.specs.Prelude.{IsBitSet, count_ones}
 use Rattle.std.specs.Int.{bit_at}
 use Rattle.std.specs.Int.Count.{ones_step}
@@ -241,12 +241,7 @@ module _ (clues : Clues) (dirty : Lines) (base old new : List (List ℕ)) (agend
   drawn = changes (line_of old line) (line_of new line) (length (line_of old line))
 
   both_counts : Counts (suc w.evaluations) 0 m0 m2 c0 c2
-  both_counts =
-      let P : ℕ → Type 0 = λ n. Counts n 0 m0 m2 c0 c2 in
-      let e : w.evaluations + 1 ≡ suc w.evaluations = omega arith in
-      let Q : ℕ → Type 0 = λ n. Counts (w.evaluations + 1) n m0 m2 c0 c2 in
-      let z : 0 + 0 ≡ 0 = omega arith in
-      subst P e (subst Q z (counting_adds w.evaluations 0 1 0 m0 m1 m2 c0 c1 c2 w.counts counts))
+  both_counts = rw add-one at (counting_adds w.evaluations 0 1 0 m0 m1 m2 c0 c1 c2 w.counts counts)
 
   both_draw : Draws clues base new (suc w.evaluations) (w.cells + drawn)
   unfolding drawn

@@ -75,8 +75,7 @@ account_more base steps old new step is can g = record {
   base_facts = is.base_facts;
   follows = λ n l. elim (cases_eq n (length steps)) [
     | inl e ↦
-        let Q : Step → Type 0 = λ s. CanFollow base (steps ++ step ∷ []) (length steps) s in
-        subst (λ (m : ℕ). CanFollow base (steps ++ step ∷ []) m (step_at (steps ++ step ∷ []) m)) (sym e) (subst Q (sym (step_last steps step)) (follows_more base steps step (length steps) step (omega arith) can))
+        subst (λ (m : ℕ). CanFollow base (steps ++ step ∷ []) m (step_at (steps ++ step ∷ []) m)) (sym e) (rw (step_last steps step) (follows_more base steps step (length steps) step (omega arith) can))
     | inr other ↦
         let len = one_longer steps step in
         let m : n < length steps = omega arith in

@@ -139,8 +139,7 @@ module _ (masks : List ℕ) (place end bits : ℕ) (are : AreColoured masks plac
     each = λ j.
         let e : bit_at (bits / 2 ^ s / 2) j ≡ bit_at bits (s + (1 + j)) = bit_down 1 (bits / 2 ^ s) j ∙ bit_down s bits (1 + j) in
         let at : place + (s + (1 + j)) ≡ place + s + 1 + j = omega arith in
-        let Q : ℕ → Type 0 = λ b. (b ≡ 1) ↔ ((place + s + 1 + j < end) × (0 < get_or masks (place + s + 1 + j) 0)) in
-        subst Q (sym e) (subst (λ (n : ℕ). (bit_at bits (s + (1 + j)) ≡ 1) ↔ ((n < end) × (0 < get_or masks n 0))) at (are.each (s + (1 + j))));
+        rw e (subst (λ (n : ℕ). (bit_at bits (s + (1 + j)) ≡ 1) ↔ ((n < end) × (0 < get_or masks n 0))) at (are.each (s + (1 + j))));
   }
 
 abbrev some : ℕ → Bool

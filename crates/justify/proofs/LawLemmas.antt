@@ -151,14 +151,12 @@ derives_more clues old new step is a forced d = record {
   rows = ap length a.base ∙ d.rows;
   columns = ap width_of a.base ∙ d.columns;
   forced =
-      let P : List (List ℕ) → Type 0 = λ base. (n : ℕ) → n < length new.steps → IsForced (clue_at clues (step_at new.steps n).line) (length (line_of base (step_at new.steps n).line)) (step_at new.steps n) in
-      subst P (sym a.base) (each_added (λ s. IsForced (clue_at clues s.line) (length (line_of old.base s.line)) s) old new step a.steps d.forced forced);
+      rw a.base (each_added (λ s. IsForced (clue_at clues s.line) (length (line_of old.base s.line)) s) old new step a.steps d.forced forced);
 }
 
 trimmed_more : (clues : Clues) (old new : Account) (step : Step) → IsAccount old → Adds old step new → IsTrimmed (clue_at clues step.line) (length (line_of old.base step.line)) step → AreTrimmed clues old → AreTrimmed clues new
 trimmed_more clues old new step is a trimmed t =
-    let P : List (List ℕ) → Type 0 = λ base. (n : ℕ) → n < length new.steps → IsTrimmed (clue_at clues (step_at new.steps n).line) (length (line_of base (step_at new.steps n).line)) (step_at new.steps n) in
-    subst P (sym a.base) (each_added (λ s. IsTrimmed (clue_at clues s.line) (length (line_of old.base s.line)) s) old new step a.steps t trimmed)
+    rw a.base (each_added (λ s. IsTrimmed (clue_at clues s.line) (length (line_of old.base s.line)) s) old new step a.steps t trimmed)
 
 pub derivations_grow : DerivationsGrow
 derivations_grow = record { derives = derives_more; trimmed = trimmed_more }

@@ -122,8 +122,7 @@ module _ (lines : Lines) (axis : Axis) (from : ℕ) (is : IsLineSet lines) (with
 
 pub newest_put : (old : Pile) (stack : List LineId) (len : ℕ) (lines new : Lines) (line : LineId) → pile lines (take len stack) ≡ old → (HasName lines line → ⊥) → len < length stack → PutsNewest old (pile new (take (len + 1) (set stack len line))) line
 newest_put old stack len lines new line e n l =
-    let P : Pile → Type 0 = λ p. PutsNewest p (pile new (take (len + 1) (set stack len line))) line in
-    subst P e (record { known = λ h. absurd (n h); fresh = λ _. take_more_set stack len line l })
+    rw (← e) (record { known = λ h. absurd (n h); fresh = λ _. take_more_set stack len line l })
 
 pub newest_taken : (old : Pile) (stack : List LineId) (len : ℕ) (lines : Lines) → pile lines (take len stack) ≡ old → (len ≡ 0 → ⊥) → len ≤ length stack → old.order ≡ take (len - 1) stack ++ name_at stack (len - 1) ∷ []
 newest_taken old stack len lines e h l =

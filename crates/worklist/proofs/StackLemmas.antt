@@ -31,8 +31,7 @@ module _ (stack : List LineId) (len : ℕ) (old new : Lines) (line : LineId) (is
       | inl e ↦ (p (name_at (set stack len line) i)).1 (inr (ap (name_at (set stack len line)) e ∙ same_top))
       | inr d ↦
           let low : i < len = omega arith in
-          let P : LineId → Type 0 = λ x. HasName new x in
-          subst P (sym (same_below i low)) ((p (name_at stack i)).1 (inl (is.members i low)))
+          rw (same_below i low) ((p (name_at stack i)).1 (inl (is.members i low)))
     ];
     apart = λ i j h g e. elim (cases_eq i len) [
       | inl x ↦ elim (cases_eq j len) [
@@ -69,5 +68,4 @@ pub popped_one : (stack : List LineId) (len : ℕ) (old new : Lines) → IsStack
 popped_one stack len old new is h within t =
     let d : len ≢ 0 = h in
     let e : len ≡ len - 1 + 1 = omega arith in
-    let P : ℕ → Type 0 = λ n. IsStack stack n old in
-    popped stack (len - 1) old new (subst P e is) within t
+    popped stack (len - 1) old new (rw (← e) is) within t

@@ -14,11 +14,9 @@ loop-place-preserved c =
     elim c.if-colours-ne0.branch [
       | then-colours-ne0 w ↦
           let room : s.count < length s.found = (let v = s.invariant.within in omega arith) in
-          let D : ℕ → Type 0 = λ count. Gathered masks (s.place + 1) (set s.found s.count (premise s.place (get_or masks s.place 0))) count in
-          subst C (sym w.found-is) (subst D (sym w.count-is) (gathered_take masks s.place s.found s.count (premise s.place (get_or masks s.place 0)) s.invariant room refl refl (omega arith)))
+          subst C (sym w.found-is) (rw w.count-is (gathered_take masks s.place s.found s.count (premise s.place (get_or masks s.place 0)) s.invariant room refl refl (omega arith)))
       | else-colours-ne0 w ↦
-          let D : ℕ → Type 0 = λ count. Gathered masks (s.place + 1) s.found count in
-          subst C (sym w.found-is) (subst D (sym w.count-is) (gathered_over masks s.place (s.place + 1) s.found s.count (omega arith) (λ i h l. let e : i ≡ s.place = omega arith in let P : ℕ → Type 0 = λ n. get_or masks n 0 ≡ 0 in subst P (sym e) (omega arith)) s.invariant))
+          subst C (sym w.found-is) (rw w.count-is (gathered_over masks s.place (s.place + 1) s.found s.count (omega arith) (λ i h l. let e : i ≡ s.place = omega arith in let P : ℕ → Type 0 = λ n. get_or masks n 0 ≡ 0 in subst P (sym e) (omega arith)) s.invariant))
     ]
 
 pub returns-clause-gathers : goal.returns-clause-gathers

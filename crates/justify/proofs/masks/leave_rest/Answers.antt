@@ -1,4 +1,4 @@
-use Rattle.std.proofs.Common.{ℕ, ◌+◌, ◌-◌, length, set, subst, sym, refl, arith}
+use Rattle.std.proofs.Common.{ℕ, ◌+◌, ◌-◌, length, set, refl, arith}
 use Rattle.justify.specs.Premises.{premise_at}
 use Rattle.justify.proofs.LineMaskLemmas.{Rest, rest_more, rest_all}
 use Rattle.justify.proofs.StandingLemmas.{place_inside}
@@ -15,8 +15,7 @@ loop-premise-preserved c =
     let n = c.loop-premise.premise-index in
     let left = c.loop-premise.left in
     let at = place_inside premises premises n (length c.args.left.now) refl c.requires.inside c.loop-premise-test.true in
-    let P : ℕ → Type 0 = λ place. Rest premises (n + 1) (set left place (65535 - (premise_at premises n).colours)) in
-    subst P (sym c.from.ensures) (rest_more premises n left c.requires.premises c.loop-premise-test.true (omega arith) c.loop-premise.invariant)
+    rw c.from.ensures (rest_more premises n left c.requires.premises c.loop-premise-test.true (omega arith) c.loop-premise.invariant)
 
 pub returns : goal.returns
 returns c =

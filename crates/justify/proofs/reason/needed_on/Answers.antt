@@ -1,4 +1,4 @@
-use Rattle.std.proofs.Common.{◌≡◌, ℕ, List, length, subst, sym, ◌∙◌, arith}
+use Rattle.std.proofs.Common.{◌≡◌, ℕ, List, length, ◌∙◌, arith}
 use Rattle.std.proofs.lemmas.Result.{IfOk-weaker}
 use Rattle.justify.specs.declared.premise.Premise.{Premise}
 use Rattle.justify.specs.Premises.{LeavesRest, Says}
@@ -18,18 +18,14 @@ needed_for-requires-clause-forced c =
     let clue = c.args.clue.now in
     let left = c.leave_rest.new.left in
     let len : length left ≡ c.args.cells = c.leave_rest.auto.left ∙ c.requires.left_room in
-    let R : List Premise → Type 0 = λ ps. LeavesRest ps left in
-    let P : ℕ → Type 0 = λ cells. ForcesFrom clue cells (Says c.args.premises.now) c.args.exclusion.at c.args.exclusion.colour in
-    forces_mark clue c.args.premises.now left c.mark.new.masks c.args.exclusion.at c.args.exclusion.colour (subst R c.as_slice.ensures.value c.leave_rest.ensures) c.mark.ensures (subst P (sym len) c.requires.forced)
+    forces_mark clue c.args.premises.now left c.mark.new.masks c.args.exclusion.at c.args.exclusion.colour (rw (← c.as_slice.ensures.value) c.leave_rest.ensures) c.mark.ensures (rw len c.requires.forced)
 
 pub returns : goal.returns
 returns c =
     let clue = c.args.clue.now in
     let left = c.leave_rest.new.left in
     let len : length left ≡ c.args.cells = c.leave_rest.auto.left ∙ c.requires.left_room in
-    let R : List Premise → Type 0 = λ ps. LeavesRest ps left in
     IfOk-weaker _ (AreNeeded clue left c.mark.new.masks) (Supports clue c.args.cells c.args.premises.now c.args.exclusion.at c.args.exclusion.colour)
     (λ premises a.
-    let Q : ℕ → Type 0 = λ cells. Supports clue cells c.args.premises.now c.args.exclusion.at c.args.exclusion.colour premises in
-    subst Q len (supports clue c.args.premises.now left c.mark.new.masks c.args.exclusion.at c.args.exclusion.colour (subst R c.as_slice.ensures.value c.leave_rest.ensures) c.mark.ensures premises a))
+    rw (← len) (supports clue c.args.premises.now left c.mark.new.masks c.args.exclusion.at c.args.exclusion.colour (rw (← c.as_slice.ensures.value) c.leave_rest.ensures) c.mark.ensures premises a))
     c.needed_for.ensures

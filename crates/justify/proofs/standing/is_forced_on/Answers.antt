@@ -1,4 +1,4 @@
-use Rattle.std.proofs.Common.{◌≡◌, ◌↔◌, ℕ, List, length, subst, ◌∙◌, arith, IsTrue, MatchBool}
+use Rattle.std.proofs.Common.{◌≡◌, ◌↔◌, ℕ, List, length, ◌∙◌, arith, IsTrue, MatchBool}
 use Rattle.justify.specs.declared.premise.Premise.{Premise}
 use Rattle.justify.specs.Premises.{HasSaid, LeavesRest}
 use Rattle.justify.specs.Steps.{IsForced}
@@ -21,7 +21,4 @@ returns-clause-forced g c =
     let left = c.leave_rest.new.left in
     let out = c.narrow.new.out in
     let len : length left ≡ c.args.cells = c.leave_rest.auto.left ∙ c.requires.left_room in
-    let R : List Premise → Type 0 = λ ps. LeavesRest ps left in
-    let M : List Premise → Type 0 = λ ps. MatchBool c.has_none.result (HasSaid ps out → ⊥) (HasSaid ps out) in
-    let Q : ℕ → Type 0 = λ cells. IsTrue c.has_none.result ↔ IsForced clue cells step in
-    subst Q len (forced_is clue step left out c.narrow.result (subst R c.as_slice.ensures.value c.leave_rest.ensures) c.narrow.ensures.narrows c.has_none.result (subst M c.as_slice-2.ensures.value c.has_none.ensures))
+    rw (← len) (forced_is clue step left out c.narrow.result (rw (← c.as_slice.ensures.value) c.leave_rest.ensures) c.narrow.ensures.narrows c.has_none.result (rw (← c.as_slice-2.ensures.value) c.has_none.ensures))

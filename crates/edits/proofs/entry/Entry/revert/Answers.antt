@@ -1,7 +1,6 @@
 use Rattle.std.proofs.Common.{◌≡◌, ℕ, rules, ap, sym, refl, subst, ◌∙◌, map, List, length}
 use Rattle.picture.specs.Document.{AreColoured}
-use Rattle.picture.specs.Palette.{with_triple}
-use Rattle.picture.specs.Rows.{with_cell, line_inserted, line_deleted, lines_swapped}
+use Rattle.picture.specs.Rows.{line_inserted}
 use Rattle.clues.specs.declared.places.Places.TheVariants.{Inserted}
 use Rattle.edits.specs.Design.{Design, design, design_of}
 use Rattle.edits.specs.Note.{Cell, Note, as_mark, cells_of_line, givens_of_line, note_of, with_cells}
@@ -67,20 +66,13 @@ returns-in-Paint c =
     (p.back d n.cells n.triple n.givens ∙ ap (λ (cells : List Cell). design d.colours (with_cells d.rows cells) d.marks) (sym c.deref.ensures.value)) c.with_cells.ensures
 
 pub returns-in-InsertLine : goal.returns-in-InsertLine
-returns-in-InsertLine c =
-    let d = design_of c.args.document.now in
-    gives_before c.deleted.result (design d.colours (line_deleted d.rows c.in-InsertLine.line) (line_deleted d.marks c.in-InsertLine.line)) d (note_of c.args.self.now) (rw c.in-InsertLine.is refl) c.deleted.ensures
+returns-in-InsertLine c = gives_before c.deleted.result _ _ (note_of c.args.self.now) (rw c.in-InsertLine.is refl) c.deleted.ensures
 
 pub returns-in-SwapLines : goal.returns-in-SwapLines
-returns-in-SwapLines c =
-    let d = design_of c.args.document.now in
-    let axis = c.in-SwapLines.axis in
-    gives_before c.swapped.result (design d.colours (lines_swapped axis c.in-SwapLines.first c.in-SwapLines.second d.rows) (lines_swapped axis c.in-SwapLines.first c.in-SwapLines.second d.marks)) d (note_of c.args.self.now) (rw c.in-SwapLines.is refl) c.swapped.ensures
+returns-in-SwapLines c = gives_before c.swapped.result _ _ (note_of c.args.self.now) (rw c.in-SwapLines.is refl) c.swapped.ensures
 
 pub returns-in-Some : goal.returns-in-Some
-returns-in-Some c =
-    let d = design_of c.args.document.now in
-    gives_before c.recoloured.result (design (with_triple d.colours c.in-SetColour.colour c.in-Some.rgb) d.rows d.marks) d (note_of c.args.self.now) (rw (c.in-SetColour.is, c.in-Some.is) refl) c.recoloured.ensures
+returns-in-Some c = gives_before c.recoloured.result _ _ (note_of c.args.self.now) (rw (c.in-SetColour.is, c.in-Some.is) refl) c.recoloured.ensures
 
 pub returns-in-None : goal.returns-in-None
 returns-in-None c =
@@ -88,14 +80,10 @@ returns-in-None c =
     gives_before c.copy.result d d (note_of c.args.self.now) (rw (c.in-SetColour.is, c.in-None.is) refl) (search rules)
 
 pub returns-in-Pin : goal.returns-in-Pin
-returns-in-Pin c =
-    let d = design_of c.args.document.now in
-    gives_before c.unpinned.result (design d.colours d.rows (with_cell d.marks c.in-Pin.row c.in-Pin.col 0)) d (note_of c.args.self.now) (rw c.in-Pin.is refl) c.unpinned.ensures
+returns-in-Pin c = gives_before c.unpinned.result _ _ (note_of c.args.self.now) (rw c.in-Pin.is refl) c.unpinned.ensures
 
 pub returns-in-Unpin : goal.returns-in-Unpin
-returns-in-Unpin c =
-    let d = design_of c.args.document.now in
-    gives_before c.pinned.result (design d.colours d.rows (with_cell d.marks c.in-Unpin.row c.in-Unpin.col 1)) d (note_of c.args.self.now) (rw c.in-Unpin.is refl) c.pinned.ensures
+returns-in-Unpin c = gives_before c.pinned.result _ _ (note_of c.args.self.now) (rw c.in-Unpin.is refl) c.pinned.ensures
 
 pub returns-in-DeleteLine : goal.returns-in-DeleteLine
 returns-in-DeleteLine c =

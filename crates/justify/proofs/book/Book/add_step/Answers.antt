@@ -18,6 +18,4 @@ invariant_of-self-2 c =
     let inside = c.self.inside in
     let can = subst (λ (b : Account). CanAdd b c.args.step) (sym c.self.view_is) c.requires in
     let e = found_last inside.steps.items c.push.new.self.items c.args.step c.index.result.now c.len-last.result (let e = c.len-last.ensures in omega (arith, inside.steps.ok.0)) c.in_ok-push.ensures.items c.index.ensures in
-    let G : Step → Type 0 = λ s. GainDrawn s inside.facts c.gain_drawn.new.facts in
-    let Q : List Step → Type 0 = λ steps. IsAccount (account inside.base steps c.gain_drawn.new.facts) in
-    subst Q (sym c.in_ok-push.ensures.items) (account_more inside.base inside.steps.items inside.facts c.gain_drawn.new.facts c.args.step c.self.invariant can (subst G e c.gain_drawn.ensures))
+    rw c.in_ok-push.ensures.items (account_more inside.base inside.steps.items inside.facts c.gain_drawn.new.facts c.args.step c.self.invariant can (rw (← e) c.gain_drawn.ensures))

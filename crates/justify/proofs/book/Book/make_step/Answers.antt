@@ -19,5 +19,4 @@ returns-clause-makes g c =
     let premises = c.in_ok-premises.premises in
     let lost = c.in_ok-lost.lost in
     let e : left ≡ line_of c.args.self.now.facts c.args.line = c.copy_line.ensures ∙ ap (λ (f : List (List ℕ)). line_of f c.args.line) c.facts-2.ensures.value in
-    let P : List ℕ → Type 0 = λ masks. IsNewStep clue c.args.line masks (record { line = c.args.line; premises = premises; drawn = lost }) in
-    subst P e (new_step clue left c.narrow.new.out c.keep_lost.new.masks lost c.in-Narrowed.ensures.narrows c.keep_lost.ensures c.in_ok-lost.ensures c.args.line premises c.in_ok-premises.ensures (λ none. false≢true (c.if-are_empty.ensures.1 none)))
+    rw (← e) (new_step clue left c.narrow.new.out c.keep_lost.new.masks lost c.in-Narrowed.ensures.narrows c.keep_lost.ensures c.in_ok-lost.ensures c.args.line premises c.in_ok-premises.ensures (λ none. false≢true (c.if-are_empty.ensures.1 none)))
