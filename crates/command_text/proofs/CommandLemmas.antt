@@ -7,10 +7,7 @@ use Rattle.command_text.specs.Parse.{IsAsking, as_command, command_by, edit_at}
 
 pub asked_some : (m : Option (List (List ℕ) → Result Command CommandFault)) (word : List ℕ) (words : List (List ℕ)) (asked : Result Command CommandFault) → IsAsking m words (Some asked)
     → Reads (λ c. c) asked (command_by m word words)
-asked_some None word words asked is = absurd (no asked is)
-  where
-    no : (asked : Result Command CommandFault) → Some asked ≡ None → ⊥
-    no asked e = cc
+asked_some None word words asked is = let none : Some asked ≡ None = is in absurd cc
 asked_some (Some read) word words asked is = is
 
 pub not_asked : (m : Option (List (List ℕ) → Result Command CommandFault)) (word : List ℕ) (words : List (List ℕ)) → IsAsking m words None → command_by m word words ≡ as_command (edit_at word words)

@@ -2,7 +2,7 @@
 
 ghost use Rattle.std.specs.Prelude.{◌≡◌, []};
 ghost use Rattle.non_text.specs.Lines.{has_keyword, lines_of};
-ghost use Rattle.non_text.specs.Puzzle.{size_in, is_size_line, first_fault, size_behind};
+ghost use Rattle.non_text.specs.Puzzle.{size_in, first_fault, size_behind};
 ghost use Rattle.non_text.specs.Seen.{is_seen, seen_with, fault_below};
 
 use crate::clue_line::number;
@@ -49,13 +49,6 @@ fn seen_with(seen: Seen, line: &[u8]) -> Seen
     }
 }
 
-// Whether a line gives the width or the height.
-fn is_size_line(line: &[u8]) -> bool
-    ensures { result ≡ is_size_line line.now }
-{
-    has_keyword(line, b"width") | has_keyword(line, b"height")
-}
-
 #[tactic(auto, using(crate::proofs::SeenLemmas::sizes))]
 // The size that a value gives.
 fn size_in(value: &[u8]) -> Option<u8>
@@ -72,9 +65,10 @@ fn size_in(value: &[u8]) -> Option<u8>
 fn fault_below(seen: Seen, line: &[u8]) -> Option<NonFault>
     ensures { result ≡ fault_below seen line.now }
 {
+    let is_size = has_keyword(line, b"width") | has_keyword(line, b"height");
     if is_seen(seen, line) {
         Some(NonFault::Repeated)
-    } else if is_size_line(line) && size_in(value(line)).is_none() {
+    } else if is_size && size_in(value(line)).is_none() {
         Some(NonFault::BadSize)
     } else {
         None
