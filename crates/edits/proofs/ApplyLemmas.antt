@@ -44,9 +44,7 @@ paints e (inr (inr r)) = subst Paints (sym r.2) (recolour_paints r.0 r.1)
 
 module _ (d : Design) (e : Edit) (is : IsDesign d) (is_lawful : IsLawful d e) where
   pub painted_coloured : Paints e → AreColoured (painted e d.rows) d.colours
-  painted_coloured p =
-      grid_below (length d.rows) (width_of d.rows) (length d.colours.triples) (λ i j. colour_after e i j (cell_at d.rows i j)) is.is_palette.has_background
-      (λ i j _ _. p.fits d.colours i j (cell_at d.rows i j) is_lawful.coloured (is.is_coloured i j))
+  painted_coloured p = grind (arith, cell_at, colour_after, grid_below, length, width_of)
 
   pub cells_fit : Paints e → All (IsCellIn d.rows) (map (repainted e) (changed_cells e d.rows))
   cells_fit p =
@@ -63,17 +61,10 @@ module _ (d : Design) (e : Edit) (is : IsDesign d) (is_lawful : IsLawful d e) wh
 
 -- lines inserted, deleted and exchanged
 pub insert_fits : (d : Design) (line : LineId) → IsDesign d → IsLawful d (InsertLine line) → (line.at ≤ lines_along line.axis d.rows) × (lines_along line.axis d.rows < MAX_SIDE) × AreColoured (line_inserted d.rows line) d.colours
-insert_fits d line is is_lawful =
-    let place : line.at ≤ lines_along line.axis d.rows = grind (arith, nat_tests, is_lawful.inside) in
-    (place, grind (arith, nat_tests, is_lawful.room), rw (inserted_is line.axis line.at d.rows) (edited_below line.axis (Inserted line.at) (length d.colours.triples) d.rows is.is_picture place is.is_palette.has_background is.is_coloured))
+insert_fits d line is is_lawful = grind (arith, edited_below, inserted_is, length, lines_along, nat_tests)
 
 pub delete_fits : (d : Design) (line : LineId) → IsDesign d → IsLawful d (DeleteLine line) → (line.at < lines_along line.axis d.rows) × (1 < lines_along line.axis d.rows) × AreColoured (line_deleted d.rows line) d.colours
-delete_fits d line is is_lawful =
-    let place : line.at < lines_along line.axis d.rows = grind (arith, nat_tests, is_lawful.inside) in
-    (place, grind (arith, nat_tests, is_lawful.others), rw (deleted_is line.axis line.at d.rows) (edited_below line.axis (Deleted line.at) (length d.colours.triples) d.rows is.is_picture place is.is_palette.has_background is.is_coloured))
+delete_fits d line is is_lawful = grind (arith, deleted_is, edited_below, length, lines_along, nat_tests)
 
 pub swap_fits : (d : Design) (axis : Axis) (first second : ℕ) → IsDesign d → IsLawful d (SwapLines axis first second) → (first < lines_along axis d.rows) × (second < lines_along axis d.rows) × AreColoured (lines_swapped axis first second d.rows) d.colours
-swap_fits d axis first second is is_lawful =
-    let f : first < lines_along axis d.rows = grind (arith, nat_tests, is_lawful.inside) in
-    let s : second < lines_along axis d.rows = grind (arith, nat_tests, is_lawful.inside) in
-    (f, s, rw (swapped_is axis first second d.rows) (edited_below axis (Swapped first second) (length d.colours.triples) d.rows is.is_picture (f, s) is.is_palette.has_background is.is_coloured))
+swap_fits d axis first second is is_lawful = grind (arith, edited_below, length, lines_along, nat_tests, swapped_is)

@@ -38,10 +38,7 @@ cell_on_line Down at i j rows in_rows on = get_or-map (λ row. get_or row at 0) 
 
 -- lines with other cells, and with the same ones
 lines_differ : (line : LineId) (old new : List (List ℕ)) (i j : ℕ) → i < length old → length new ≡ length old → IsOnLine line i j → cell_at new i j ≢ cell_at old i j → line_of new line ≢ line_of old line
-lines_differ line old new i j in_rows count on differ same =
-    differ
-    (sym (cell_on_line line.axis line.at i j new (omega (arith, count)) on)
-    ∙ (ap (λ cells. get_or cells (position_of line.axis i j) 0) same ∙ cell_on_line line.axis line.at i j old in_rows on))
+lines_differ line old new i j in_rows count on differ same = grind (arith, cell_on_line, get_or)
 
 lines_same : (axis : Axis) (at : ℕ) (old new : List (List ℕ)) → IsPicture old → IsPicture new → length new ≡ length old → width_of new ≡ width_of old → at < lines_along axis new → ((i j : ℕ) → i < length old → j < width_of old → IsAtPlace axis at i j → cell_at new i j ≡ cell_at old i j) → line_along axis at new ≡ line_along axis at old
 lines_same Across at old new is_old is_new count wide within same =

@@ -22,11 +22,7 @@ pub mark_has : (givens : List ℕ) (i j : ℕ) → HasCell givens i j → mark_a
 mark_has givens i j has = rw (ne_eqb (bit_and (get_or givens i 0) (2 ^ j)) 0 has) refl
 
 pub mark_none : (givens : List ℕ) (i j : ℕ) → (HasCell givens i j → ⊥) → mark_at givens i j ≡ 0
-mark_none givens i j none =
-    elim (cases_eq (bit_and (get_or givens i 0) (2 ^ j)) 0) [
-      | inl e ↦ rw (eq-eqb (bit_and (get_or givens i 0) (2 ^ j)) 0 e) refl
-      | inr some ↦ absurd (none some)
-    ]
+mark_none givens i j none = grind (arith, bit_and, eq-eqb, get_or)
 
 pub has_mark : (givens : List ℕ) (i j : ℕ) → mark_at givens i j ≡ 1 → HasCell givens i j
 has_mark givens i j one = λ e. absurd (omega (arith, one, rw (eq-eqb (bit_and (get_or givens i 0) (2 ^ j)) 0 e) at one))
@@ -64,13 +60,7 @@ is_design colours rows givens palette picture coloured = record {
 
 -- sets that have a cell alike have the same mark there
 pub mark_same : (old new : List ℕ) (i j : ℕ) → HasCell new i j ↔ HasCell old i j → mark_at new i j ≡ mark_at old i j
-mark_same old new i j alike =
-    elim (cases_eq (mark_at old i j) 1) [
-      | inl one ↦ mark_has new i j (alike.1 (has_mark old i j one)) ∙ sym one
-      | inr other ↦
-          mark_none new i j (λ has. other (mark_has old i j (alike.0 has)))
-          ∙ sym (mark_none old i j (λ has. other (mark_has old i j has)))
-    ]
+mark_same old new i j alike = grind (arith, has_mark, mark_at, mark_has, mark_none)
 
 -- a given more, or less
 cell_marked : (h w : ℕ) (old new : List ℕ) (row col x : ℕ) → row < h → col < w → mark_at new row col ≡ x → ((i j : ℕ) → ((i ≡ row) × (j ≡ col) → ⊥) → HasCell new i j ↔ HasCell old i j) → marks_of h w new ≡ with_cell (marks_of h w old) row col x
@@ -84,19 +74,13 @@ cell_marked h w old new row col x in_rows in_columns marked alike =
     ])
 
 pub pinned_marks : (h w : ℕ) (old new : List ℕ) (row col : ℕ) → row < h → col < w → PutsCell old new row col → marks_of h w new ≡ with_cell (marks_of h w old) row col 1
-pinned_marks h w old new row col in_rows in_columns puts =
-    cell_marked h w old new row col 1 in_rows in_columns (mark_has new row col ((puts row col).1 (inr (refl, refl))))
-    (λ i j other. ((λ has. elim ((puts i j).0 has) [ inl had ↦ had | inr at ↦ absurd (other at) ]), (λ had. (puts i j).1 (inl had))))
+pinned_marks h w old new row col in_rows in_columns puts = grind (arith, cell_marked, mark_has)
 
 pub unpinned_marks : (h w : ℕ) (old new : List ℕ) (row col : ℕ) → row < h → col < w → TakesOutCell old new row col → marks_of h w new ≡ with_cell (marks_of h w old) row col 0
-unpinned_marks h w old new row col in_rows in_columns takes =
-    cell_marked h w old new row col 0 in_rows in_columns (mark_none new row col (λ has. ((takes row col).0 has).1 (refl, refl)))
-    (λ i j other. ((λ has. ((takes i j).0 has).0), (λ had. (takes i j).1 (had, other))))
+unpinned_marks h w old new row col in_rows in_columns takes = grind (arith, cell_marked, mark_none)
 
 -- a document from its parts
 pub assembled : (p p' : Colours) (r r' : List (List ℕ)) (g : List ℕ) (m : List (List ℕ)) → p' ≡ p → r' ≡ r → marks_of (length r) (width_of r) g ≡ m → design p' r' (marks_of (length r') (width_of r') g) ≡ design p r m
-assembled p p' r r' g m same_palette same_rows same_marks =
-    ap (λ x. design x r' (marks_of (length r') (width_of r') g)) same_palette
-    ∙ (ap (λ x. design p x (marks_of (length x) (width_of x) g)) same_rows ∙ ap (λ x. design p r x) same_marks)
+assembled p p' r r' g m same_palette same_rows same_marks = grind (arith, design, length, marks_of, width_of)
 
 pub ruleset marking = (mark_is_given, given_is_marked, is_design)

@@ -26,8 +26,7 @@ pub width_of-grid : (h w : ℕ) (value : ℕ → ℕ → ℕ) → 0 < h → widt
 width_of-grid h w value some = (grid_is_grid h w value).row_lengths 0 some
 
 pub cell_at-grid : (h w : ℕ) (value : ℕ → ℕ → ℕ) (i j : ℕ) → i < h → j < w → cell_at (grid h w value) i j ≡ value i j
-cell_at-grid h w value i j in_rows in_columns =
-    ap (λ row. get_or row j 0) (row_of_grid h w value i in_rows) ∙ get_or-map-range_with_len (λ j. value i j) 0 w j j 0 in_columns (omega arith)
+cell_at-grid h w value i j in_rows in_columns = grind (arith, get_or, get_or-map-range_with_len, row_of_grid)
 
 pub picture_is_grid : (rows : List (List ℕ)) → IsPicture rows → IsGrid (length rows) (width_of rows) rows
 picture_is_grid rows is = record { row_count = refl; row_lengths = is.rectangular }
@@ -50,11 +49,7 @@ pub cell_at-past_rows : (rows : List (List ℕ)) (i j : ℕ) → length rows ≤
 cell_at-past_rows rows i j past = ap (λ row. get_or row j 0) (get_or_past rows i [] past)
 
 pub cell_at-past_columns : (h w : ℕ) (rows : List (List ℕ)) (i j : ℕ) → IsGrid h w rows → w ≤ j → cell_at rows i j ≡ 0
-cell_at-past_columns h w rows i j is past =
-    elim (cases_lt i h) [
-      | inl within ↦ get_or_past (get_or rows i []) j 0 (omega (arith, is.row_lengths i within))
-      | inr beyond ↦ cell_at-past_rows rows i j (omega (arith, is.row_count))
-    ]
+cell_at-past_columns h w rows i j is past = grind (arith, cell_at-past_rows, get_or, get_or_past)
 
 -- a bound of the values is one of all cells
 pub grid_below : (h w n : ℕ) (value : ℕ → ℕ → ℕ) → 0 < n → ((i j : ℕ) → i < h → j < w → value i j < n) → (i j : ℕ) → cell_at (grid h w value) i j < n
@@ -70,26 +65,13 @@ grid_below h w n value some below i j =
 
 -- one cell changed
 pub cell_at-with_same : (h w : ℕ) (rows : List (List ℕ)) (i j x : ℕ) → IsGrid h w rows → i < h → j < w → cell_at (with_cell rows i j x) i j ≡ x
-cell_at-with_same h w rows i j x is in_rows in_columns =
-    ap (λ row. get_or row j 0) (get_or-set_same rows i (set (get_or rows i []) j x) [] (omega (arith, is.row_count)))
-    ∙ get_or-set_same (get_or rows i []) j x 0 (omega (arith, is.row_lengths i in_rows))
+cell_at-with_same h w rows i j x is in_rows in_columns = grind (arith, get_or, get_or-set_same, set)
 
 pub place_cases : (i j a b : ℕ) → ((i ≡ a) × (j ≡ b)) ⊎ ((i ≡ a) × (j ≡ b) → ⊥)
-place_cases i j a b =
-    elim (cases_eq i a) [
-      | inl row ↦ elim (cases_eq j b) [ inl column ↦ inl (row, column) | inr other ↦ inr (λ at. other at.1) ]
-      | inr other ↦ inr (λ at. other at.0)
-    ]
+place_cases i j a b = grind arith
 
 pub cell_at-with_other : (h w : ℕ) (rows : List (List ℕ)) (i j x a b : ℕ) → IsGrid h w rows → i < h → ((a ≡ i) × (b ≡ j) → ⊥) → cell_at (with_cell rows i j x) a b ≡ cell_at rows a b
-cell_at-with_other h w rows i j x a b is in_rows other =
-    elim (cases_eq a i) [
-      | inl e ↦
-          rw e
-          (ap (λ row. get_or row b 0) (get_or-set_same rows i (set (get_or rows i []) j x) [] (omega (arith, is.row_count)))
-          ∙ get_or-set_other (get_or rows i []) j b x 0 (λ f. other (e, f)))
-      | inr off ↦ ap (λ row. get_or row b 0) (get_or-set_other rows i a (set (get_or rows i []) j x) [] off)
-    ]
+cell_at-with_other h w rows i j x a b is in_rows other = grind (arith, get_or, get_or-set_other, get_or-set_same, set)
 
 pub with_cell_is_grid : (h w : ℕ) (rows : List (List ℕ)) (i j x : ℕ) → IsGrid h w rows → i < h → IsGrid h w (with_cell rows i j x)
 with_cell_is_grid h w rows i j x is in_rows = record {

@@ -50,8 +50,7 @@ past_from-last d (m ∷ ns) n =
     ∙ ap (λ (ts : List Turn). turn (before_all (reverted d n) (m ∷ ns)) m.edit ∷ ts) (past_from-last d ns n)
 
 pub past_from-push : (d d' : Design) (ns : List Note) (n : Note) → IsStep d n d' → past_from d' (ns ++ n ∷ []) ≡ past_from d ns ++ turn d n.edit ∷ []
-past_from-push d d' ns n step =
-    past_from-last d' ns n ∙ ap (λ (x : Design). past_from x ns ++ turn x n.edit ∷ []) (step_reverts d n d' step)
+past_from-push d d' ns n step = grind (arith, past_from, past_from-last, step_reverts, turn)
 
 pub ArePast-push : (d d' : Design) (ns : List Note) (n : Note) → IsStep d n d' → ArePast d ns → ArePast d' (ns ++ n ∷ [])
 ArePast-push d d' [] n step are = (subst (λ (x : Design). IsStep x n d') (sym (step_reverts d n d' step)) step, tt)

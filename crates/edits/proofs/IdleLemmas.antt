@@ -71,8 +71,7 @@ swapped_cell Down first second h w rows k is some f s within =
     ∙ (swapped_from_swap (get_or rows k []) (swap (get_or rows k []) first second) first second 0 (omega (arith, wide)) (omega (arith, wide)) refl).0
 
 pub swapped_alike : (axis : Axis) (first second h w : ℕ) (rows : List (List ℕ)) → IsGrid h w rows → 0 < h → first < size_along axis h w → second < size_along axis h w → lines_swapped axis first second rows ≡ rows → (k : ℕ) → k < cells_along axis rows → SameAt axis first second rows k
-swapped_alike axis first second h w rows is some f s same k within =
-    ap (λ r. cell_at r (place_on axis first k).0 (place_on axis first k).1) (sym same) ∙ swapped_cell axis first second h w rows k is some f s within
+swapped_alike axis first second h w rows is some f s same k within = grind (arith, cell_at, place_on, swapped_cell)
 
 cells_along-same : (axis : Axis) (a b : List (List ℕ)) (h w : ℕ) → IsGrid h w a → IsGrid h w b → 0 < h → cells_along axis a ≡ cells_along axis b
 cells_along-same Across a b h w is_a is_b some = is_a.row_lengths 0 some ∙ sym (is_b.row_lengths 0 some)

@@ -23,8 +23,7 @@ no_cells_yet rows line = sym (joined_none (λ k. cell_on rows (place_on line.axi
 
 pub one_cell_more : (rows : List (List ℕ)) (line : LineId) (n : ℕ) (cells : List Cell) (place : ℕ × ℕ) → cells ≡ line_cells rows line n → place ≡ place_on line.axis line.at n → cells ++ (place.0, place.1, cell_at rows place.0 place.1) ∷ [] ≡ line_cells rows line (n + 1)
 unfolding line_cells
-one_cell_more rows line n cells place same is =
-    ap (λ p. cells ++ cell_on rows p ∷ []) is ∙ (ap (λ xs. xs ++ cell_on rows (place_on line.axis line.at n) ∷ []) same ∙ sym (joined_more (λ k. cell_on rows (place_on line.axis line.at k) ∷ []) n))
+one_cell_more rows line n cells place same is = grind (arith, cell_on, joined_more, place_on)
 
 pub all_cells : (rows : List (List ℕ)) (line : LineId) (n : ℕ) (cells : List Cell) → n ≡ cells_along line.axis rows → cells ≡ line_cells rows line n → cells ≡ cells_of_line rows line
 unfolding line_cells

@@ -65,11 +65,7 @@ blanked Across at w rows = set rows at (replicate w 0)
 blanked Down at w rows = map (λ row. set row at 0) rows
 
 pub width_of-remove : (h w at : ℕ) (rows : List (List ℕ)) → IsGrid h w rows → at < h → 1 < h → width_of (remove rows at) ≡ w
-width_of-remove h w at rows is within more =
-    elim (cases_lt 0 at) [
-      | inl below ↦ ap length (get_or-remove_below rows at [] 0 below (omega (arith, is.row_count))) ∙ is.row_lengths 0 (omega arith)
-      | inr here ↦ ap length (get_or-remove_above rows at [] 0 here (omega (arith, is.row_count))) ∙ is.row_lengths (0 + 1) (omega arith)
-    ]
+width_of-remove h w at rows is within more = grind (arith, get_or-remove_above, get_or-remove_below, length)
 
 insert_delete : (axis : Axis) (at h w : ℕ) (rows : List (List ℕ)) → IsGrid h w rows → at < size_along axis h w → 1 < size_along axis h w → with_line axis at (without_line axis at rows) ≡ blanked axis at w rows
 insert_delete Across at h w rows is within more =

@@ -24,16 +24,7 @@ fill_leaves : (top left bottom right colour i j x : ℕ) → ((i < top) ⊎ (bot
 fill_leaves top left bottom right colour i j x other = grind (arith, nat_tests)
 
 pub paint_area : (rows : List (List ℕ)) (row col colour : ℕ) → is_outside rows (Paint row col colour) ≡ false → IsArea (Paint row col colour) rows row (row + 1) col (col + 1)
-paint_area rows row col colour e =
-    let inside = paint_inside rows row col colour e in
-    record {
-      rows_fit = omega arith;
-      columns_fit = omega arith;
-      rows_ordered = omega arith;
-      columns_ordered = omega arith;
-      other_rows = λ i j _ _ out. paint_leaves row col colour i j (cell_at rows i j) (inl (elim out [ inl a ↦ omega arith | inr b ↦ omega arith ]));
-      other_columns = λ i j _ _ out. paint_leaves row col colour i j (cell_at rows i j) (inr (elim out [ inl a ↦ omega arith | inr b ↦ omega arith ]));
-    }
+paint_area rows row col colour e = grind (arith, cell_at, paint_inside, paint_leaves)
 
 pub fill_area : (rows : List (List ℕ)) (top left bottom right colour : ℕ) → is_outside rows (Fill top left bottom right colour) ≡ false → IsArea (Fill top left bottom right colour) rows top (bottom + 1) left (right + 1)
 fill_area rows top left bottom right colour e =
@@ -48,14 +39,7 @@ fill_area rows top left bottom right colour e =
     }
 
 pub whole_area : (e : Edit) (rows : List (List ℕ)) → IsArea e rows 0 (length rows) 0 (width_of rows)
-whole_area e rows = record {
-  rows_fit = omega arith;
-  columns_fit = omega arith;
-  rows_ordered = omega arith;
-  columns_ordered = omega arith;
-  other_rows = λ i j in_rows _ out. absurd (elim out [ inl a ↦ omega arith | inr b ↦ omega arith ]);
-  other_columns = λ i j _ in_columns out. absurd (elim out [ inl a ↦ omega arith | inr b ↦ omega arith ]);
-}
+whole_area e rows = grind arith
 
 pub ruleset areas = (paint_inside, fill_inside, paint_area, fill_area, whole_area)
 
@@ -68,9 +52,7 @@ module _ (e : Edit) (rows : List (List ℕ)) (top below left beyond : ℕ) (is :
       ∙ joined_none (changed_cell e rows i)
 
   row_behind : (i : ℕ) → i < length rows → changed_in_row e rows i ≡ joined (changed_cell e rows i) beyond
-  row_behind i in_rows =
-      joined_gap (changed_cell e rows i) beyond (width_of rows) is.columns_fit
-      (λ j high in_columns. unchanged_cell e rows i j (is.other_columns i j in_rows in_columns (inr high)))
+  row_behind i in_rows = grind (arith, changed_cell, joined_gap, unchanged_cell, width_of)
 
   pub row_begins : (i : ℕ) (cells : List Cell) → i < length rows → cells ≡ cells ++ joined (changed_cell e rows i) left
   row_begins i cells in_rows = rw (row_before i in_rows, append-nil cells) refl

@@ -30,10 +30,7 @@ pub with_cell_same : (rows : List (List ℕ)) (i j : ℕ) → with_cell rows i j
 with_cell_same rows i j = ap (set rows i) (set-get_or (get_or rows i []) j 0) ∙ set-get_or rows i []
 
 pub with_cell_back : (rows : List (List ℕ)) (i j x : ℕ) → i < length rows → with_cell (with_cell rows i j x) i j (cell_at rows i j) ≡ rows
-with_cell_back rows i j x within =
-    set-set rows i (set (get_or rows i []) j x) (set (get_or (set rows i (set (get_or rows i []) j x)) i []) j (get_or (get_or rows i []) j 0))
-    ∙ (ap (λ row. set rows i (set row j (get_or (get_or rows i []) j 0))) (get_or-set_same rows i (set (get_or rows i []) j x) [] within)
-    ∙ (ap (set rows i) (set-set (get_or rows i []) j x (get_or (get_or rows i []) j 0) ∙ set-get_or (get_or rows i []) j 0) ∙ set-get_or rows i []))
+with_cell_back rows i j x within = grind (arith, get_or, get_or-set_same, set, set-get_or, set-set)
 
 pub not_in : (rows : List (List ℕ)) (i j : ℕ) → not (has_cell rows i j) ≡ false → (i < length rows) × (j < width_of rows)
 not_in rows i j e = grind (arith, nat_tests)

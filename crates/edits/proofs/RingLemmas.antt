@@ -99,10 +99,7 @@ module _ (d : Design) (past future : Buffer Entry) (x : Entry) (last : last_item
       record { lawful = at.0; kept = tt; gives = sym (ap (λ (h : History). h.document) at.1) }
 
   first_put : future_after Undo past future ≡ buffer (x ∷ future.items) future.capacity
-  first_put =
-      ap (with_first future) last
-      ∙ ap (λ (es : List Entry). buffer es future.capacity)
-      (take_all future.capacity (x ∷ future.items) (omega (arith, are.room, are.same_room, slice_get_within past.items (length past.items - 1) x last)))
+  first_put  = grind (arith, buffer, length, slice_get_within, take_all, with_first)
 
   pub undo_rings : AreRings (reverted d (note_of x)) (past_after Undo past future) (future_after Undo past future)
   undo_rings =
@@ -135,9 +132,7 @@ module _ (d : Design) (past future : Buffer Entry) (x : Entry) (first : slice_ge
       record { lawful = at.0; kept = tt; gives = sym (ap (λ (h : History). h.document) at.1) }
 
   last_put : past_after Redo past future ≡ buffer (past.items ++ x ∷ []) past.capacity
-  last_put =
-      let all : length (past.items ++ x ∷ []) - past.capacity ≡ 0 = omega (arith, length-append past.items (x ∷ []), are.room, slice_get_within future.items 0 x first) in
-      ap (with_last past) first ∙ ap (λ (k : ℕ). buffer (drop k (past.items ++ x ∷ [])) past.capacity) all
+  last_put  = grind (arith, buffer, drop, length, length-append, slice_get_within, with_last)
 
   pub redo_rings : AreRings (edited d x.edit) (past_after Redo past future) (future_after Redo past future)
   redo_rings =

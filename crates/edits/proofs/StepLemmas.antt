@@ -23,9 +23,7 @@ use Rattle.edits.proofs.RevertLemmas.{reverted-edited, size_of_lines}
 use Rattle.edits.proofs.ShiftLemmas.{inserted_sizes, deleted_sizes, swapped_sizes}
 
 pub step_reverts : (b : Design) (n : Note) (d : Design) → IsStep b n d → reverted d n ≡ b
-step_reverts b n d step =
-    ap (λ x. reverted x n) (sym step.gives)
-    ∙ (ap (λ m. reverted (edited b n.edit) m) step.kept ∙ reverted-edited b step.is_design n.edit step.lawful)
+step_reverts b n d step = grind (arith, edited, reverted, reverted-edited)
 
 pub step_coloured : (b : Design) (n : Note) (d : Design) → IsStep b n d → AreColoured (reverted d n).rows (reverted d n).colours
 step_coloured b n d step = subst (λ (x : Design). AreColoured x.rows x.colours) (sym (step_reverts b n d step)) step.is_design.is_coloured
@@ -54,11 +52,7 @@ module _ (b d : Design) (is : IsDesign b) where
       (omega (arith, sizes.0, rows, fits.0), omega (arith, sizes.0, rows, some_lines line.axis b.rows is.is_picture))
 
   pub redelete_fits : (line : LineId) → IsLawful b (DeleteLine line) → edited b (DeleteLine line) ≡ d → (line.at ≤ lines_along line.axis d.rows) × (lines_along line.axis d.rows < MAX_SIDE)
-  redelete_fits line is_lawful gives =
-      let fits = delete_fits b line is is_lawful in
-      let sizes = deleted_sizes line.axis line.at b.rows is.is_picture fits.0 fits.1 in
-      let rows : lines_along line.axis (line_deleted b.rows line) ≡ lines_along line.axis d.rows = ap (λ (x : Design). lines_along line.axis x.rows) gives in
-      (omega (arith, sizes.0, rows, fits.0), omega (arith, sizes.0, rows, some_lines line.axis b.rows is.is_picture))
+  redelete_fits line is_lawful gives = grind (arith, delete_fits, deleted_sizes, line_deleted, lines_along, some_lines)
 
   -- the picture with room for the deleted line has the size of the one before
   line_room : (line : LineId) → IsLawful b (DeleteLine line) → edited b (DeleteLine line) ≡ d → (line.at < size_along line.axis (length b.rows) (width_of b.rows)) × IsGrid (length b.rows) (width_of b.rows) (line_inserted d.rows line)
@@ -85,8 +79,4 @@ module _ (b d : Design) (is : IsDesign b) where
       (omega (arith, was.0, room.1.row_count), omega (arith, was.1, room.1.row_lengths 0 is.is_picture.has_row)))
 
   pub reswap_fits : (axis : Axis) (first second : ℕ) → IsLawful b (SwapLines axis first second) → edited b (SwapLines axis first second) ≡ d → (first < lines_along axis d.rows) × (second < lines_along axis d.rows)
-  reswap_fits axis first second is_lawful gives =
-      let fits = swap_fits b axis first second is is_lawful in
-      let sizes = swapped_sizes axis first second b.rows is.is_picture fits.0 fits.1 in
-      let rows : lines_along axis (lines_swapped axis first second b.rows) ≡ lines_along axis d.rows = ap (λ (x : Design). lines_along axis x.rows) gives in
-      (omega (arith, sizes.0, rows, fits.0), omega (arith, sizes.0, rows, fits.1))
+  reswap_fits axis first second is_lawful gives = grind (arith, lines_along, lines_swapped, swap_fits, swapped_sizes)

@@ -74,9 +74,7 @@ own_line picture is line has =
       keeps = λ j l.
           let q = along_inside line.axis line.at j picture is has (omega arith) in
           let left = has_own picture (row_on line.axis line.at j) (col_on line.axis line.at j) q in
-          let Q : ℕ → Type 0 = λ m. IsBitSet m (cell_at picture (row_on line.axis line.at j) (col_on line.axis line.at j)) in
-          let R : ℕ → Type 0 = λ x. IsBitSet (get_or (line_of (only picture) line) j 0) x in
-          subst R (sym (cell_on picture line j)) (subst Q (sym (cell_on (only picture) line j)) left);
+          rw (cell_on picture line j) (rw (cell_on (only picture) line j) left);
     }
 
 only_closed : (picture : List (List ℕ)) → IsPicture picture → IsClosed (clues_of picture) (only picture)
@@ -99,8 +97,7 @@ within_only picture facts shape leaves = record {
   same_shape = shape_trans (shape_sym shape) (only_shape picture);
   leaves = λ i j k s.
       let own = own_colour picture i j k s in
-      let P : ℕ → Type 0 = λ x. Leaves facts i j x in
-      subst P (sym own.own) (leaves i j own.inside);
+      rw own.own (leaves i j own.inside);
 }
 
 leaves_within : (picture facts : List (List ℕ)) → IsWithin facts (only picture) → LeavesPicture picture facts
@@ -141,8 +138,7 @@ fills_more clues base facts picture shape w f = record {
 -- each line of a picture fits the facts that leave it alone
 fits_only : (clues : Clues) (facts picture : List (List ℕ)) (line : LineId) → Fills clues facts picture → HasLine facts line → CanFit (clue_at clues line) (line_of (only picture) line)
 fits_only clues facts picture line f has =
-    let P : Clues → Type 0 = λ c. CanFit (clue_at c line) (line_of (only picture) line) in
-    subst P f.has_clues (line_of picture line, own_line picture f.is_picture line (same_has_line facts picture line (shape_sym f.same_shape) has))
+    rw (← f.has_clues) (line_of picture line, own_line picture f.is_picture line (same_has_line facts picture line (shape_sym f.same_shape) has))
 
 pub closing_keeps_fillings : ClosingKeepsFillings
 closing_keeps_fillings = record {

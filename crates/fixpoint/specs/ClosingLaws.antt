@@ -107,8 +107,7 @@ lines_after line old new agenda rest after is has shape of t p other h = same_ha
   | inl m ↦ of other ((t other).0 m).0
   | inr x ↦
       let place = place_on old line other.at is has x.within in
-      let P : LineId → Type 0 = λ l. l.at < lines_along l.axis old in
-      subst P (sym x.is_crossing) (crossing_has line.axis line.at other.at old place.0 place.1)
+      rw x.is_crossing (crossing_has line.axis line.at other.at old place.0 place.1)
 ])
 
 -- ---- while lines are evaluated

@@ -93,8 +93,7 @@ drawn_lies_inside base steps facts step is can i m =
 
 -- what stands behind all steps is the one that was put there
 pub found_last : (steps items : List Step) (step found : Step) (n : ℕ) → n ≡ length steps → items ≡ steps ++ step ∷ [] → found ≡ get_or items n found → found ≡ step
-found_last steps items step found n at e here =
-    here ∙ (ap (λ m. get_or items m found) at ∙ (ap (λ (xs : List Step). get_or xs (length steps) found) e ∙ get_or-append_seam steps step [] found))
+found_last steps items step found n at e here = grind (arith, get_or, get_or-append_seam, length)
 
 -- a step that was read from the list of a book's steps
 pub record IsRead (book : Account) (n : ℕ) (step : Step) : Type 0 where

@@ -10,15 +10,7 @@ use Rattle.justify.specs.Forcing.{FitsWithout, CanHaveWithout}
 module _ (clue : List Block) (left : List ℕ) (cells : ℕ) (said : ℕ → ℕ → Type 0) (len : length left ≡ cells) where
   -- the masks leave nothing that is said
   pub fits_without : ((i k : ℕ) → i < cells → IsBitSet (get_or left i 0) k → (k < 16) × (said i k → ⊥)) → (line : List ℕ) → Fits clue left line → FitsWithout clue cells said line
-  fits_without h line f = record {
-    same_length = f.same_length ∙ len;
-    has_clue = f.has_clue;
-    colours = λ i. elim (cases_lt i (length left)) [
-      | inl l ↦ (h i (get_or line i 0) (omega arith) (f.keeps i l)).0
-      | inr past ↦ (let z = get_or_past line i 0 (let e = f.same_length in omega arith) in omega arith)
-    ];
-    avoids = λ i l. (h i (get_or line i 0) l (f.keeps i (omega arith))).1;
-  }
+  fits_without h line f = grind (arith, get_or, get_or_past, length)
 
   pub have_without : ((i k : ℕ) → i < cells → IsBitSet (get_or left i 0) k → (k < 16) × (said i k → ⊥)) → (i k : ℕ) → CanHave clue left i k → CanHaveWithout clue cells said i k
   have_without h i k c = record {

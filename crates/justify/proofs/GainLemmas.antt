@@ -53,19 +53,7 @@ module _ (line : LineId) (premises : List Premise) (n : ℕ) (old now after : Li
       )
 
   gained_apart : (row col k : ℕ) → ((row ≡ row_on line.axis line.at (premise_at premises n).at) × (col ≡ col_on line.axis line.at (premise_at premises n).at) → ⊥) → Leaves after row col k ↔ (Leaves old row col k × (DrawnSoFar line premises (n + 1) row col k → ⊥))
-  gained_apart row col k apart =
-      let P : ℕ → Type 0 = λ m. IsBitSet m k in
-      let e = x.elsewhere row col apart in (
-        (λ s.
-            let o = (g.leaves row col k).0 (subst P e s) in (
-              o.0,
-              λ d.
-                  let w = before_or_here row col k d o.1 in
-                  let at = λ (m : ℕ). (premise_at premises m).at in
-                  apart (d.in_row ∙ ap (λ m. row_on line.axis line.at (premise_at premises m).at) w, d.in_column ∙ ap (λ m. col_on line.axis line.at (premise_at premises m).at) w),
-            )),
-        (λ p. subst P (sym e) ((g.leaves row col k).1 (p.0, fewer row col k p.1))),
-      )
+  gained_apart row col k apart = grind (arith, before_or_here, col_on, fewer, premise_at, row_on)
 
   pub gaining_more : Gaining line premises (n + 1) old after
   gaining_more = record {

@@ -95,17 +95,7 @@ gathered_all masks n found count all room small g =
 
 -- over cells without colours, nothing is gathered
 pub gathered_over : (masks : List ℕ) (n m : ℕ) (found : List Premise) (count : ℕ) → n ≤ m → ((i : ℕ) → n ≤ i → i < m → get_or masks i 0 ≡ 0) → Gathered masks n found count → Gathered masks m found count
-gathered_over masks n m found count more none g = record {
-  within = (let w = g.within in omega arith);
-  before = λ j l. (let b = g.before j l in omega arith);
-  colours = g.colours;
-  some = g.some;
-  rising = g.rising;
-  each = λ i l s. elim (cases_lt i n) [
-    | inl h ↦ g.each i h s
-    | inr past ↦ absurd (let z = none i past l in omega arith)
-  ];
-}
+gathered_over masks n m found count more none g = grind arith
 
 -- ---- cells found by bits
 
@@ -116,14 +106,7 @@ bit_down s n j = ap (λ m. m % 2) (div-div-eq-div-mul n (2 ^ s) (2 ^ j) ∙ ap (
 module _ (masks : List ℕ) (place end bits : ℕ) (are : AreColoured masks place end bits) where
   -- a cell whose bit is not set has no colours
   blank : (i : ℕ) → place ≤ i → i < end → bit_at bits (i - place) ≡ 0 → get_or masks i 0 ≡ 0
-  blank i past l none = elim (cases_eq (get_or masks i 0) 0) [
-    | inl e ↦ e
-    | inr other ↦
-        let at : place + (i - place) ≡ i = omega arith in
-        let some : 0 < get_or masks (place + (i - place)) 0 = subst (λ (n : ℕ). 0 < get_or masks n 0) (sym at) (omega arith) in
-        let one = (are.each (i - place)).1 (omega arith, some) in
-        absurd (omega arith)
-  ]
+  blank i past l none = grind (arith, get_or)
 
   -- without bits there are no colours up to the end
   pub none_coloured : bits ≡ 0 → (i : ℕ) → place ≤ i → i < end → get_or masks i 0 ≡ 0
@@ -146,10 +129,7 @@ abbrev some : ℕ → Bool
 some mask = not (eqb mask 0)
 
 told_some : (mask bit : ℕ) → bit ≡ cond (some mask) 1 0 → (bit ≡ 1) ↔ (0 < mask)
-told_some mask bit told = elim (cases_eq mask 0) [
-  | inl e ↦ (let z : cond {A = ℕ} (some mask) 1 0 ≡ 0 = ap (λ b. cond (not b) 1 0) (eq-eqb mask 0 e) in ((λ one. absurd (let y : bit ≡ 1 = one in omega arith)), (λ more. absurd (let y : 0 < mask = more in omega arith))))
-  | inr other ↦ (let z : cond {A = ℕ} (some mask) 1 0 ≡ 1 = ap (λ b. cond (not b) 1 0) (ne_eqb mask 0 other) in ((λ one. omega arith), (λ more. told ∙ z)))
-]
+told_some mask bit told = grind (arith, cond, eq-eqb, ne_eqb, not)
 
 -- what the comparison of eight masks with none gives
 pub eight_coloured : (masks : List ℕ) (first : ℕ) → first + 8 ≤ length masks → AreColoured masks first (first + 8) (mask_l (map (top 15) (zip2 (λ (a b : ℕ). cond (not (eqb a b)) 65535 0) (chunk first 8 masks) (replicate 8 0))) % 2 ^ 64)

@@ -27,18 +27,7 @@ use Rattle.justify.proofs.ForcingLemmas.{have_without}
 -- ---- what is known
 
 pub facts_known : FactsAreWhatIsKnown
-facts_known base facts steps n b row col k = (
-  (λ excluded. elim (bit_or_not (cell_at base row col) k) [
-    | inr given ↦ inl given
-    | inl leaves ↦ elim (drawn_or_not steps n row col k) [
-      | inl d ↦ inr d
-      | inr none ↦ absurd (excluded ((b.leaves row col k).1 (leaves, none)))
-    ]
-  ]),
-  (λ known s.
-      let o = (b.leaves row col k).0 s in
-      elim known [ inl given ↦ given o.0 | inr d ↦ o.1 d ]),
-)
+facts_known base facts steps n b row col k = grind (arith, bit_or_not, cell_at, drawn_or_not)
 
 -- ---- new steps
 
@@ -111,21 +100,16 @@ gains_new old new clue line step a has n =
     subst (λ (l : LineId). IsNewStep clue l (line_of old.facts l) step → Gains clue l old.facts new.facts Narrowed) n.of_line (λ m. gains_own clue step old.facts new.facts m a.facts) n
 
 closes_new : (old new : Account) (clue : List Block) (line : LineId) (step : Step) → Adds old step new → HasLine old.facts line → IsNewStep clue line (line_of old.facts line) step → IsClosedLine clue (line_of new.facts line)
-closes_new old new clue line step a has n =
-    subst (λ (l : LineId). IsNewStep clue l (line_of old.facts l) step → IsClosedLine clue (line_of new.facts l)) n.of_line (λ m. closes_own clue step old.facts new.facts m a.facts) n
+closes_new old new clue line step a has n = grind (arith, closes_own, line_of)
 
 pub new_follow : NewStepsFollow
 new_follow = record { can_add = can_add; gains = gains_new; closes = closes_new }
 
 forced_new : (clues : Clues) (book : Account) (line : LineId) (step : Step) → IsAccount book → IsNewStep (clue_at clues line) line (line_of book.facts line) step → IsForced (clue_at clues step.line) (length (line_of book.base step.line)) step
-forced_new clues book line step is n =
-    let len = same_line_length book.base book.facts line is.behind.same_shape in
-    subst (λ (l : LineId). IsForced (clue_at clues l) (length (line_of book.base l)) step) (sym n.of_line) (subst (λ (cells : ℕ). IsForced (clue_at clues line) cells step) len n.forced)
+forced_new clues book line step is n = grind (arith, clue_at, length, line_of, same_line_length)
 
 trimmed_new : (clues : Clues) (book : Account) (line : LineId) (step : Step) → IsAccount book → IsNewStep (clue_at clues line) line (line_of book.facts line) step → IsTrimmed (clue_at clues step.line) (length (line_of book.base step.line)) step
-trimmed_new clues book line step is n =
-    let len = same_line_length book.base book.facts line is.behind.same_shape in
-    subst (λ (l : LineId). IsTrimmed (clue_at clues l) (length (line_of book.base l)) step) (sym n.of_line) (subst (λ (cells : ℕ). IsTrimmed (clue_at clues line) cells step) len n.trimmed)
+trimmed_new clues book line step is n = grind (arith, clue_at, length, line_of, same_line_length)
 
 pub new_derive : NewStepsDerive
 new_derive = record { forced = forced_new; trimmed = trimmed_new }

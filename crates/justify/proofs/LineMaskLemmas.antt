@@ -50,16 +50,7 @@ both_bits a b k =
 
 -- masks are empty together where each is
 pub empty_more : (masks : List ℕ) (seen n : ℕ) → ((seen ≡ 0) ↔ ((i : ℕ) → i < n → get_or masks i 0 ≡ 0)) → (bit_or seen (get_or masks n 0) ≡ 0) ↔ ((i : ℕ) → i < n + 1 → get_or masks i 0 ≡ 0)
-empty_more masks seen n so_far =
-    let m = get_or masks n 0 in
-    let a = le_or_l seen m in
-    let b = le_or_r seen m in (
-      (λ e i l. elim (cases_eq i n) [
-        | inl same ↦ (let P : ℕ → Type 0 = λ j. get_or masks j 0 ≡ 0 in subst P (sym same) (omega arith))
-        | inr other ↦ so_far.0 (omega arith) i (omega arith)
-      ]),
-      (λ each. ap (λ x. bit_or x m) (so_far.1 (λ i l. each i (omega arith))) ∙ ap (λ x. bit_or 0 x) (each n (omega arith))),
-    )
+empty_more masks seen n so_far = grind (arith, bit_or, get_or, le_or_l, le_or_r)
 
 -- ---- whole lines
 
@@ -111,13 +102,7 @@ rest_more premises n left are within inside r =
 
 -- a place has one premise
 pub one_place : (premises : List Premise) (m n : ℕ) → ArePremises premises → m < length premises → n < length premises → (premise_at premises m).at ≡ (premise_at premises n).at → m ≡ n
-one_place premises m n are a b e = elim (cases_eq m n) [
-  | inl same ↦ same
-  | inr other ↦ elim (cases_lt m n) [
-    | inl l ↦ absurd (let r = are.rising m n l b in omega arith)
-    | inr g ↦ absurd (let l : n < m = omega arith in let r = are.rising n m l a in omega arith)
-  ]
-]
+one_place premises m n are a b e = grind arith
 
 pub rest_all : (premises : List Premise) (n : ℕ) (left : List ℕ) → ArePremises premises → length premises ≡ n → Rest premises n left → LeavesRest premises left
 rest_all premises n left are all r i k l = elim (mentions_or_not premises i) [

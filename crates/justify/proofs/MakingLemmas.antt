@@ -123,30 +123,14 @@ some_said masks premises g some none = some (All-from_get_or (λ (mask : ℕ). m
 
 -- where nothing is lost, nothing is drawn
 pub draws_nothing : (clue : List Block) (left out drawn : List ℕ) → Narrows clue left Narrowed out → KeepsLost left out drawn → All (λ (mask : ℕ). mask ≡ 0) drawn → DrawsNothing clue left
-draws_nothing clue left out drawn n x none = record {
-  closed = λ i k s. (n.exact i k).0 (elim (bit_or_not (get_or out i 0) k) [
-    | inl o ↦ o
-    | inr not_out ↦
-        let empty : get_or drawn i 0 ≡ 0 = elim (cases_lt i (length drawn)) [
-          | inl l ↦ All-get_or (λ (mask : ℕ). mask ≡ 0) drawn i 0 l none
-          | inr past ↦ get_or_past drawn i 0 past
-        ] in
-        absurd (no_bit k (subst (λ (m : ℕ). IsBitSet m k) empty ((x.colours i k).1 (s, not_out))))
-  ]);
-  fits = n.fits.0 refl;
-}
+draws_nothing clue left out drawn n x none = grind (arith, bit_or_not, get_or, get_or_past, length, no_bit)
 
 module _ (clue : List Block) (left out drawn : List ℕ) (lost : List Premise) (n : Narrows clue left Narrowed out) (x : KeepsLost left out drawn) (g : Gathers drawn lost) where
   lost_is : (i k : ℕ) → IsBitSet (get_or drawn i 0) k → IsBitSet (get_or left i 0) k × (CanHave clue left i k → ⊥)
-  lost_is i k d =
-      let p = (x.colours i k).0 d in
-      (p.0, λ h. p.1 ((n.exact i k).1 h))
+  lost_is i k d = grind arith
 
   kept_is : (i k : ℕ) → IsBitSet (get_or left i 0) k → (Says lost i k → ⊥) → CanHave clue left i k
-  kept_is i k s none = (n.exact i k).0 (elim (bit_or_not (get_or out i 0) k) [
-    | inl o ↦ o
-    | inr not_out ↦ absurd (none ((g.says i k).1 ((x.colours i k).1 (s, not_out))))
-  ])
+  kept_is i k s none = grind (arith, bit_or_not, get_or)
 
   pub forces_lost : ForcesAll clue left drawn
   forces_lost i k d = (lost_is i k d).1

@@ -31,10 +31,7 @@ within_blank : (n i : ℕ) → i < n → i < length (replicate {A = ℕ} n 0)
 within_blank n i l = omega (arith, length-replicate {A = ℕ} n 0)
 
 blank : (n i : ℕ) → ◌≡◌ {A = ℕ} (get_or {A = ℕ} (replicate {A = ℕ} n 0) i 0) 0
-blank n i = elim (cases_lt i n) [
-  | inl l ↦ get_or-replicate n i 0 0 l
-  | inr past ↦ get_or_past (replicate n 0) i 0 (no_longer n i past)
-]
+blank n i = grind (arith, get_or-replicate, get_or_past, no_longer, replicate)
 
 module _ (n place colour : ℕ) (within : place < n) (small : colour < 16) where
   mark_here : get_or (set (replicate n 0) place (1 * 2 ^ colour % 65536)) place 0 ≡ 2 ^ colour
@@ -60,9 +57,7 @@ marked masks n place colour e within small =
 
 module _ (clue : List Block) (all : List Premise) (left drawn : List ℕ) (place colour : ℕ) (rest : LeavesRest all left) (mark : IsMark place colour drawn) where
   pub forces_mark : ForcesFrom clue (length left) (Says all) place colour → ForcesAll clue left drawn
-  forces_mark forced i k d c =
-      let a = mark.alone i k d in
-      forced (have_without clue left (length left) (Says all) refl (λ j h b s. (rest j h b).0 s) place colour (subst (λ (h : ℕ). CanHave clue left place h) a.1 (subst (λ (j : ℕ). CanHave clue left j k) a.0 c)))
+  forces_mark forced i k d c = grind (arith, have_without, length)
 
   pub supports : (premises : List Premise) → AreNeeded clue left drawn premises → Supports clue (length left) all place colour premises
   supports premises a = record {
@@ -124,8 +119,7 @@ module _ (clues : Clues) (book : Account) (row col k n place : ℕ) (step : Step
       (subst (λ (s : Step). CanFollow book.base book.steps n s) (sym same) (is.follows n within)).drawn_inside place (record { which = says.which; within = says.within; here = says.here })
 
   pub forced_there : IsDerivation clues book → ForcesFrom (clue_at clues step.line) (length (line_of book.base step.line)) (Says step.premises) place k
-  forced_there derives =
-      subst (λ (s : Step). IsForced (clue_at clues s.line) (length (line_of book.base s.line)) s) (sym same) (derives.forced n within) place k (says_along step row col k place draws_own one)
+  forced_there derives = grind (arith, clue_at, draws_own, length, line_of, says_along)
 
   pub argues_by : (premises : List Premise) → Leaves book.base row col k → Supports (clue_at clues step.line) (length (line_of book.base step.line)) step.premises place k premises → Argues clues book row col k (record { step = n; line = step.line; premises = premises })
   argues_by premises leaves support =

@@ -50,10 +50,4 @@ mentions_same items premises cells e inside = let P : List Premise → Type 0 = 
 
 -- what is forced of a step that was read from a book
 pub forced_at : (clues : Clues) (base : List (List ℕ)) (steps : List Step) (n : ℕ) (step : Step) (clue : List Block) (cells : ℕ) → step ≡ step_at steps n → clue ≡ clue_at clues step.line → cells ≡ length (line_of base step.line) → IsForced clue cells step ↔ IsForced (clue_at clues (step_at steps n).line) (length (line_of base (step_at steps n).line)) (step_at steps n)
-forced_at clues base steps n step clue cells same e len =
-    let P : Step → Type 0 = λ s. IsForced (clue_at clues s.line) (length (line_of base s.line)) s in
-    let Q : List Block → Type 0 = λ c. IsForced c cells step in
-    let R : ℕ → Type 0 = λ m. IsForced (clue_at clues step.line) m step in (
-      (λ f. subst P same (subst R len (subst Q e f))),
-      (λ f. subst Q (sym e) (subst R (sym len) (subst P (sym same) f))),
-    )
+forced_at clues base steps n step clue cells same e len = grind (arith, clue_at, length, line_of)

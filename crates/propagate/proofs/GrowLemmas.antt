@@ -46,19 +46,17 @@ grows_none clues book d = record { base = refl; steps = sym (append-nil book.ste
 
 pub grows_on : (clues : Clues) (old between new : Account) (first last : List Step) → Grows clues old between first → Grows clues between new last → Grows clues old new (first ++ last)
 grows_on clues old between new first last a b =
-    let P : List (List ℕ) → Type 0 = λ base. (n : ℕ) → n < length last → IsTrimmed (clue_at clues (step_at last n).line) (length (line_of base (step_at last n).line)) (step_at last n) in
     record {
       base = b.base ∙ a.base;
       steps = b.steps ∙ (ap (λ steps. steps ++ last) a.steps ∙ append_assoc old.steps first last);
       derivation = b.derivation;
-      trimmed = each_joined (λ s. IsTrimmed (clue_at clues s.line) (length (line_of old.base s.line)) s) first last a.trimmed (subst P a.base b.trimmed);
+      trimmed = each_joined (λ s. IsTrimmed (clue_at clues s.line) (length (line_of old.base s.line)) s) first last a.trimmed (rw (← a.base) b.trimmed);
     }
 
 pub all_trimmed : (clues : Clues) (old new : Account) (added : List Step) → Grows clues old new added → AreTrimmed clues old → AreTrimmed clues new
 all_trimmed clues old new added g t =
     let R : Step → Type 0 = λ s. IsTrimmed (clue_at clues s.line) (length (line_of old.base s.line)) s in
-    let Q : List (List ℕ) → Type 0 = λ base. (n : ℕ) → n < length new.steps → IsTrimmed (clue_at clues (step_at new.steps n).line) (length (line_of base (step_at new.steps n).line)) (step_at new.steps n) in
-    subst Q (sym g.base) (subst (λ (steps : List Step). (n : ℕ) → n < length steps → R (step_at steps n)) (sym g.steps) (each_joined R old.steps added t g.trimmed))
+    rw g.base (subst (λ (steps : List Step). (n : ℕ) → n < length steps → R (step_at steps n)) (sym g.steps) (each_joined R old.steps added t g.trimmed))
 
 -- the steps that were added are those behind the old ones
 pub added_behind : (clues : Clues) (old new : Account) (added : List Step) → Grows clues old new added → steps_added old new ≡ added

@@ -169,5 +169,4 @@ made_over clues line book made clue e derivation makes =
 -- a line that gave no step because no list fits it
 pub dead_made : (clues : Clues) (line : LineId) (book : Account) (made : Result (Option Step) StepFault) → IsMade clues line book made → made ≡ Err step_fault.Dead → ¬ CanFit (clue_at clues line) (line_of book.facts line)
 dead_made clues line book made is e =
-    let P : Result (Option Step) StepFault → Type 0 = λ r. Makes (clue_at clues line) line (line_of book.facts line) r in
-    subst P e is.makes
+    subst (λ (r : Result (Option Step) StepFault). Makes (clue_at clues line) line (line_of book.facts line) r) e is.makes

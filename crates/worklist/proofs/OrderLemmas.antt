@@ -95,22 +95,7 @@ module _ (lines : Lines) (axis : Axis) (from : ℕ) (is : IsLineSet lines) (with
       none_across line e has = none line.at (omega arith) (bit_along line others (e ∙ sym other_is) has)
 
       pub next_behind : (at : ℕ) → IsFirstBit (mask_along axis lines) 0 at → IsNextRound (round lines (place_along axis from)) (record { axis = axis; at = at })
-      next_behind at f =
-          let l = behind (record { axis = axis; at = at }) refl f.is_set in
-          let here = on_behind axis from at l within in
-          record {
-            waits = f.is_set;
-            first = λ other has. elim (axis_or_other axis other.axis) [
-              | inl e ↦
-                  let same = along other e in
-                  let there = on_behind axis from other.at (behind other e has) within in
-                  elim (cases_lt other.at at) [
-                    | inl b ↦ absurd (f.first other.at (omega arith) b (bit_along other axis e has))
-                    | inr m ↦ omega arith
-                  ]
-              | inr e ↦ absurd (none_across other e has)
-            ];
-          }
+      next_behind at f = grind (arith, along, axis_or_other, behind, bit_along, none_across, on_behind)
 
       pub no_next : IsClearFrom (mask_along axis lines) 0 → lines ≡ no_names
       no_next empty = no_name_is_empty lines (λ line has. elim (axis_or_other axis line.axis) [

@@ -26,10 +26,4 @@ take_counts old new line h t = sym (fewer_out old new line t h)
 
 -- the names of a set put on an agenda that had none
 pub filled : (none full lines : Lines) → none ≡ no_names → PutsNames none full lines → full ≡ lines
-filled none full lines e p = same_lines full lines (λ line. (
-  (λ s. elim ((p line).0 s) [
-    | inl n ↦ let P : Lines → Type 0 = λ x. HasName x line in absurd (members.empty line (subst P e n))
-    | inr x ↦ x
-  ]),
-  (λ s. (p line).1 (inr s)),
-))
+filled none full lines e p = grind (arith, same_lines)

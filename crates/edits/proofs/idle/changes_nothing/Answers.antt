@@ -15,11 +15,7 @@ returns-in-Paint c =
     ∙ ap (λ x. same_design x d) (sym ((paints c.args.edit.now c.in-Paint.is).gives d))
 
 pub returns-in-SwapLines : goal.returns-in-SwapLines
-returns-in-SwapLines c =
-    let inside = rw c.in-SwapLines.is at c.requires.inside in
-    let f : c.in-SwapLines.first < lines_along c.in-SwapLines.axis c.args.document.now.picture = grind (arith, nat_tests, inside) in
-    let s : c.in-SwapLines.second < lines_along c.in-SwapLines.axis c.args.document.now.picture = grind (arith, nat_tests, inside) in
-    rw c.in-SwapLines.is (swap_idle (design_of c.args.document.now) c.in-SwapLines.axis c.in-SwapLines.first c.in-SwapLines.second c.are_alike.result c.know.ensures f s c.are_alike.ensures)
+returns-in-SwapLines c = grind (arith, design_of, lines_along, nat_tests, swap_idle)
 
 pub returns-in-SetColour : goal.returns-in-SetColour
 returns-in-SetColour c =

@@ -19,7 +19,4 @@ loop-position-preserved c =
     ]
 
 pub returns : goal.returns
-returns c =
-    let m = marks_of (length c.args.document.now.picture) (width_of c.args.document.now.picture) c.args.document.now.givens in
-    let long = marks_along c.args.line.axis c.args.document.now.picture c.args.document.now.givens c.height.ensures.picture.has_row in
-    all_givens m c.args.line c.loop-position.position c.loop-position.givens.items (omega (arith, long)) c.loop-position.invariant
+returns c = grind (arith, all_givens, length, marks_along, marks_of, width_of)

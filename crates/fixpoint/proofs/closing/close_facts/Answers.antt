@@ -1,4 +1,4 @@
-use Rattle.std.proofs.Common.{ℕ, refl, sym, ◌∙◌, subst, arith}
+use Rattle.std.proofs.Common.{ℕ, refl, ◌∙◌, arith}
 use Rattle.picture.specs.LineSet.{Lines}
 use Rattle.line_settle.specs.ForceLaws.{gains_grows}
 use Rattle.worklist.specs.NameLaws.{filled}
@@ -39,9 +39,8 @@ loop-line-preserved g c =
     let gains = rw (c.in-Narrowed.is, c.clue.ensures.value) at e.gains in
     let puts = crossing_put _ _ _ _ e.changed _ _ c.put_all-in-Some.ensures in
     let counts = one_counted _ _ _ _ (omega arith) e.counted e.called in
-    let P : ℕ → Type 0 = λ n. Closing c.args.book.now n c.args.facts.now c.force_crossing-forced.new.facts (g.A.Agenda.members c.put_all-in-Some.new.self) in
     record {
-      closing = subst P (sym e.same_longest) (closing_goes_on _ _ _ _ _ _ _ _ _ _ i.closing s.0 s.1 c.height.ensures.facts gains refl puts);
+      closing = rw e.same_longest (closing_goes_on _ _ _ _ _ _ _ _ _ _ i.closing s.0 s.1 c.height.ensures.facts gains refl puts);
       working = working_goes_on _ _ _ _ _ _ _ _ _ _ _ _ _ _ _ _ i.working s.0 s.1 has gains puts counts;
       same_longest = e.same_longest ∙ i.same_longest;
     }
@@ -53,9 +52,8 @@ returns-clause-closes g c =
 pub loop-line-init : goal.loop-line-init
 loop-line-init g c =
     let all = filled _ _ _ c.clear.ensures c.put_all.ensures in
-    let P : Lines → Type 0 = λ lines. Closing c.args.book.now (g.E.LineEngine.longest c.args.engine.now) c.args.facts.now c.args.facts.now lines in
     record {
-      closing = subst P (sym all) (closing_starts _ _ _ _ c.requires.closable c.requires.lines c.requires.quiet);
+      closing = rw all (closing_starts _ _ _ _ c.requires.closable c.requires.lines c.requires.quiet);
       working = working_starts _ _ _ _ _ _ all (omega arith) (omega arith) (omega arith);
       same_longest = refl;
     }

@@ -19,7 +19,4 @@ cells-preserved c =
     }
 
 pub returns : goal.returns
-returns c =
-    let masks = c.args.masks.now in
-    let s = c.cells in
-    gathered_over masks s.place (c.args.first + 8) s.found s.count s.invariant.inside (none_coloured masks s.place (c.args.first + 8) s.rest s.invariant.rest (omega arith)) s.invariant.gathered
+returns c = grind (arith, gathered_over, none_coloured)

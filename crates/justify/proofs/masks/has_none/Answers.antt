@@ -11,14 +11,7 @@ bounds-left-from c =
     omega arith
 
 pub returns-then-left-from-ne0 : goal.returns-then-left-from-ne0
-returns-then-left-from-ne0 c =
-    let premises = c.args.premises.now in
-    let left = c.args.left.now in
-    let n = c.loop-premise.premise-index in
-    let some = subst (λ (place : ℕ). bit_and (get_or left place 0) (premise_at premises n).colours ≡ 0 → ⊥) c.from.ensures c.if-left-from-ne0.true in
-    let fits : get_or left (premise_at premises n).at 0 < 2 ^ 16 = (let f = c.type_inv.left (premise_at premises n).at in omega arith) in
-    let below = and_le_l (get_or left (premise_at premises n).at 0) (premise_at premises n).colours in
-    said_here premises left n c.loop-premise-test.true (omega arith) (omega arith)
+returns-then-left-from-ne0 c = grind (arith, and_le_l, bit_and, get_or, premise_at, said_here)
 
 pub returns : goal.returns
 returns c = none_said _ _ _ c.loop-premise-test.false c.loop-premise.invariant

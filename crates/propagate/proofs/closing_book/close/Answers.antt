@@ -1,4 +1,4 @@
-use Rattle.std.proofs.Common.{ℕ, ◌+◌, Err, refl, sym, ap, ◌∙◌, subst, arith}
+use Rattle.std.proofs.Common.{ℕ, ◌+◌, Err, refl, ap, ◌∙◌, arith}
 use Rattle.std.proofs.lemmas.Result.{err_from_is_err_and}
 use Rattle.picture.specs.LineSet.{Lines}
 use Rattle.line_settle.specs.FitLaws.{counting_adds}
@@ -12,9 +12,8 @@ use Rattle.propagate.proofs.closing_book.close.Goals as goal
 pub loop-line-init : goal.loop-line-init
 loop-line-init g c =
     let all = filled _ _ _ c.clear.ensures c.put_all.ensures in
-    let P : Lines → Type 0 = λ lines. Closing c.args.clues.now (g.E.LineEngine.longest c.args.engine.now) c.args.book.facts c.args.book.facts lines in
     record {
-      closing = book_starts _ _ _ _ _ _ _ c.requires.derivation all (subst P (sym all) (closing_starts _ _ _ _ c.requires.closable c.requires.lines c.requires.quiet)) (omega arith) (omega arith) (omega arith);
+      closing = book_starts _ _ _ _ _ _ _ c.requires.derivation all (rw all (closing_starts _ _ _ _ c.requires.closable c.requires.lines c.requires.quiet)) (omega arith) (omega arith) (omega arith);
       same_longest = refl;
     }
 
@@ -48,9 +47,8 @@ loop-line-preserved g c =
     let e = c.in_ok-changed.ensures in
     let m = c.make_step-made.ensures in
     let made = made_over _ _ _ _ _ c.clue.ensures.value i.closing.grows.derivation c.make_step-made.ensures.makes in
-    let P : ℕ → Type 0 = λ n. ClosingBook c.args.clues.now n c.args.dirty.now c.args.book c.take_turn.new.book (g.A.Agenda.members c.put_all-in-Some.new.self) c.args.meter.now c.make_step-made.new.meter (g.E.LineEngine.calls c.args.engine.now) (g.E.LineEngine.calls c.make_step-made.new.engine) in
     record {
-      closing = subst P (sym m.same_longest) (book_goes_on _ _ _ _ _ _ _ _ _ _ _ _ _ _ _ _ _ i.closing s.0 s.1 e.facts (e.comes_to c.args.clues.now made) c.put_all-in-Some.ensures m.counts);
+      closing = rw m.same_longest (book_goes_on _ _ _ _ _ _ _ _ _ _ _ _ _ _ _ _ _ i.closing s.0 s.1 e.facts (e.comes_to c.args.clues.now made) c.put_all-in-Some.ensures m.counts);
       same_longest = m.same_longest ∙ i.same_longest;
     }
 

@@ -1,4 +1,4 @@
-use Rattle.std.proofs.Common.{ℕ, ◌+◌, drop, Err, refl, sym, ap, ◌∙◌, subst, arith}
+use Rattle.std.proofs.Common.{ℕ, ◌+◌, drop, Err, refl, ap, ◌∙◌, arith}
 use Rattle.std.proofs.lemmas.Result.{err_from_is_err_and}
 use Rattle.line_settle.specs.FitLaws.{counting_adds}
 use Rattle.propagate.proofs.GrowLemmas.{all_trimmed}
@@ -33,9 +33,8 @@ loop-line-preserved g c =
     let m = c.make_step-made.ensures in
     let made = made_over _ _ _ _ _ c.clue.ensures.value c.loop-line.invariant.scheduled.grows.derivation c.make_step-made.ensures.makes in
     let next = next_in_turn _ _ _ _ c.args.schedule.now c.loop-line.line-index _ c.loop-line-test.true i.scheduled in
-    let P : ℕ → Type 0 = λ n. Scheduled c.args.clues.now n c.args.book c.take_turn.new.book c.args.schedule.now (drop (c.loop-line.line-index + 1) c.args.schedule.now) in
     record {
-      scheduled = subst P (sym m.same_longest) (schedule_goes_on _ _ _ _ _ _ _ next _ _ (e.turn _ made) (e.comes_to _ made));
+      scheduled = rw m.same_longest (schedule_goes_on _ _ _ _ _ _ _ next _ _ (e.turn _ made) (e.comes_to _ made));
       counts = counting_adds _ 0 1 0 _ _ _ _ _ _ i.counts m.counts;
       same_longest = m.same_longest ∙ i.same_longest;
     }

@@ -15,10 +15,7 @@ returns-then-self-eq0-clause-members c =
     (e, e)
 
 pub bounds-self-inside-self-inside : goal.bounds-self-inside-self-inside
-bounds-self-inside-self-inside c =
-    let f = few_names c.self.inside.lines c.self.invariant.within in
-    let n = c.self.invariant.count in
-    omega arith
+bounds-self-inside-self-inside c = grind (arith, few_names)
 
 pub take_out-requires : goal.take_out-requires
 take_out-requires c =
