@@ -10,7 +10,7 @@ use edits::EditFault;
 use non_text::NonFault;
 use picture::WriteFault;
 use ppm_text::PpmFault;
-use std::alloc::{AllocError, AllocFailed};
+use std::alloc::AllocError;
 use std::fmt;
 
 /// Why the program ends without its answer, in the order of its parts.
@@ -63,14 +63,6 @@ impl ProgramFault {
             ProgramFault::Read | ProgramFault::Write => 3,
             _ => 1,
         }
-    }
-}
-
-impl<T: Drop> From<AllocFailed<T>> for ProgramFault {
-    ghost from_gives = { λ _ e. e ≡ Memory };
-
-    fn from(_refused: AllocFailed<T>) -> ProgramFault {
-        ProgramFault::Memory
     }
 }
 

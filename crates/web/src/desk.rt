@@ -37,15 +37,13 @@ impl Desk {
         ensures seats { IfOk result (λ desk. desk.value.seats.items ≡ []) }
         ensures given { IfOk result (λ desk. desk.value.given ≡ 0) }
     {
-        Ok(Box::new(
+        let desk = Desk {
             alloc,
-            Desk {
-                alloc,
-                seats: Vec::new(alloc),
-                given: 0,
-                text: Vec::new(alloc),
-            },
-        )?)
+            seats: Vec::new(alloc),
+            given: 0,
+            text: Vec::new(alloc),
+        };
+        Ok(Box::new(alloc, desk)?)
     }
 
     /// Opens a bench on a file, and tells the status and the handle, which was never given before, or 0. A fault is the text.
@@ -108,12 +106,12 @@ impl Desk {
         ensures fault { IfErr result (λ fault.
             (fault ≡ Memory) ⊎ OpensFile file.now options.now (Err fault)) }
     {
-        if self.given == u32::MAX {
-            return Err(ProgramFault::Memory);
-        }
-        let handle = self.given + 1;
+        let handle = self.given.checked_add(1).ok_or(ProgramFault::Memory)?;
         let bench = start_bench(self.alloc, file, options)?;
-        self.seats.push(Seat { handle, bench })?;
+        match self.seats.push(Seat { handle, bench }) {
+            Ok(()) => {}
+            Err(_) => return Err(ProgramFault::Memory),
+        }
         self.given = handle;
         Ok(handle)
     }
@@ -131,13 +129,11 @@ impl Desk {
         if matches!(fault, ProgramFault::Memory | ProgramFault::Write) {
             return MEMORY;
         }
-        match format!(in self.alloc; "{fault}") {
-            Ok(text) => {
-                self.text = text.into_bytes();
-                u32::from(fault.status())
-            }
-            Err(_) => MEMORY,
-        }
+        let Ok(text) = format!(in self.alloc; "{fault}") else {
+            return MEMORY;
+        };
+        self.text = text.into_bytes();
+        u32::from(fault.status())
     }
 
     // Where the bench of a handle stands.
