@@ -72,12 +72,6 @@ come_back = record {
     moved cells r c row col at has = subst (λ j. HasCell cells row j) at.1 (subst (λ i. HasCell cells i c) at.0 has)
 
     cases_cell : (r c row col : ℕ) → ((r ≡ row) × (c ≡ col)) ⊎ ¬ ((r ≡ row) × (c ≡ col))
-    cases_cell r c row col = elim (cases_eq r row) [
-      | inl e ↦ elim (cases_eq c col) [
-        | inl f ↦ inl (e, f)
-        | inr other ↦ inr (λ at. other at.1)
-      ]
-      | inr other ↦ inr (λ at. other at.0)
-    ]
+    cases_cell r c row col = grind arith
 
 pub ruleset laws = (same_cells, members, come_back)

@@ -25,27 +25,11 @@ module _ (masks : List ℕ) (row col : ℕ) (is : IsCellSet masks) (lt : row < l
 
   -- one cell put into the set
   pub puts : PutsCell masks (set masks row (bit_or (get_or masks row 0) (1 * 2 ^ col % 2 ^ 128))) row col
-  puts r c =
-      let mask = bit_or (get_or masks row 0) (1 * 2 ^ col % 2 ^ 128) in
-      elim (cases_eq r row) [
-        | inl e ↦
-            let by = raised (get_or masks row 0) col c inside in
-            rw (e, get_or-set_same masks row mask 0 lt)
-            ((λ h. elim (by.0 h) [ inl had ↦ inl had | inr same ↦ inr (refl, same) ]), (λ either. elim either [ inl had ↦ by.1 (inl had) | inr at ↦ by.1 (inr at.1) ]))
-        | inr other ↦
-            rw (get_or-set_other masks row r mask 0 other)
-            ((λ h. inl h), (λ either. elim either [ inl had ↦ had | inr at ↦ absurd (other at.0) ]))
-      ]
+  puts r c = grind (arith, bit_or, get_or, get_or-set_other, get_or-set_same, raised)
 
   -- either way it stays a table
   stays : (mask : ℕ) → mask < 2 ^ MAX_SIDE → IsCellSet (set masks row mask)
-  stays mask small = record {
-    rows = length-set masks row mask ∙ is.rows;
-    within = λ r. elim (cases_eq r row) [
-      | inl e ↦ rw (e, get_or-set_same masks row mask 0 lt) small
-      | inr other ↦ rw (get_or-set_other masks row r mask 0 other) (is.within r)
-    ];
-  }
+  stays mask small = grind (arith, get_or-set_other, get_or-set_same, length-set)
 
   pub stays_put : IsCellSet (set masks row (bit_or (get_or masks row 0) (1 * 2 ^ col % 2 ^ 128)))
   stays_put = stays _ (raised_small (get_or masks row 0) col (is.within row) inside)

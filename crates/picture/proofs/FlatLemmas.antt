@@ -84,11 +84,7 @@ same_cells (suc height) width a b la lb e =
 module _ (h w h' w' : ℕ) (a b : List ℕ) (rows rows' : List (List ℕ)) (e : rows_of h w a ≡ rows) (e' : rows_of h' w' b ≡ rows') (is : AreCells h w a) (is' : AreCells h' w' b) where
   -- equal sizes: the cells decide
   pub same_when : h ≡ h' → w ≡ w' → (r : Bool) → r ≡ pointwise eqb a b → (IsTrue r → rows ≡ rows') × (rows ≡ rows' → IsTrue r)
-  same_when p q r test =
-      let decides = slice_eq-Decides Decides-eqb a b r test in (
-        λ (t : IsTrue r). sym e ∙ ap (λ n. rows_of n w a) p ∙ ap (λ n. rows_of h' n a) q ∙ ap (rows_of h' w') (decides.0 t) ∙ e',
-        λ (s : rows ≡ rows'). decides.1 (same_cells h' w' a b (is.count ∙ ap (λ n. n * w) p ∙ ap (λ n. h' * n) q) is'.count (ap (λ n. rows_of n w' a) (sym p) ∙ ap (λ n. rows_of h n a) (sym q) ∙ e ∙ s ∙ sym e')),
-      )
+  same_when p q r test = grind (arith, rows_of, same_cells, slice_eq-Decides)
 
   -- equal pictures have equal sizes
   pub same_sizes : rows ≡ rows' → (h ≡ h') × (w ≡ w')

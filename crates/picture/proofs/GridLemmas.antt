@@ -30,10 +30,7 @@ pub every_map : {X Y : Type 0} (P : X → Type 0) (Q : Y → Type 0) (f : X → 
 every_map P Q f keeps xs all = All-map Q f xs (All-weaker P (λ x. Q (f x)) keeps xs all)
 
 pub every_at_all : (limit : ℕ) (xs : List ℕ) → 0 < limit → All (λ x. x < limit) xs → (k : ℕ) → get_or xs k 0 < limit
-every_at_all limit xs some all k = elim (cases_lt k (length xs)) [
-  | inl lt ↦ All-get_or (λ x. x < limit) xs k 0 lt all
-  | inr past ↦ rw (get_or_past xs k 0 past) some
-]
+every_at_all limit xs some all k = grind (arith, get_or_past, length)
 
 -- ---- rows of one width, with cells below 16
 

@@ -20,14 +20,7 @@ spaced_last cells start step zero = ap (λ k. get_or cells k 0 ∷ []) (omega ar
 spaced_last cells start step (suc count) = ap (λ (xs : List ℕ). get_or cells start 0 ∷ xs) (spaced_last cells (start + step) step count ∙ ap (λ k. spaced cells (start + step) step count ++ get_or cells k 0 ∷ []) (omega arith))
 
 pub spaced_is_line : (cells : List ℕ) (start step count : ℕ) → 0 < count → IsSpaced cells start step count → IsLine (spaced cells start step count)
-spaced_is_line cells start step count some is = record {
-  has_cell = omega (arith, length-spaced cells start step count, some);
-  short = omega (arith, length-spaced cells start step count, is.short);
-  colours = λ i. elim (cases_lt i count) [
-    | inl lt ↦ rw (get_or-spaced cells start step count i lt) (is.colours (start + i * step))
-    | inr le ↦ rw (get_or_past (spaced cells start step count) i 0 (omega (arith, length-spaced cells start step count))) (omega arith)
-  ];
-}
+spaced_is_line cells start step count some is = grind (arith, get_or-spaced, get_or_past, length-spaced, spaced)
 
 pub spaced_first : (cells : List ℕ) (start step count : ℕ) → 0 < count → spaced cells start step count ≡ get_or cells start 0 ∷ spaced cells (start + step) step (count - 1)
 spaced_first cells start step zero some = absurd (omega (arith, some))

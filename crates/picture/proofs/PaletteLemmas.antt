@@ -14,10 +14,7 @@ use Rattle.picture.specs.ColourLaws.{same_rgb, rgb_eq-sym}
 use Rattle.picture.specs.Palette.{Colours, rgb_eq, fits, place_of, add_fault, with_triple, stands_elsewhere, IsPalette}
 
 later : (k n : ℕ) → cond (ltb (1 + k) (suc n)) (Some (1 + k)) None ≡ option_map (λ j. j + 1) (cond (ltb k n) (Some k) None)
-later k n = elim (cases_lt k n) [
-  | inl lt ↦ let front : 1 + k < suc n = omega (arith, lt) in rw (lt-ltb (1 + k) (suc n) front, lt-ltb k n lt) (ap Some (omega arith))
-  | inr le ↦ let past : suc n ≤ 1 + k = omega (arith, le) in rw (le-ltb (1 + k) (suc n) past, le-ltb k n le) refl
-]
+later k n = grind (arith, le-ltb, lt-ltb)
 
 pub position-place_of : (rgb : Rgb) (triples : List Rgb) → position (rgb_eq rgb) triples ≡ place_of rgb triples
 position-place_of rgb [] = refl

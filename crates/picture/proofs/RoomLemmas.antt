@@ -31,13 +31,7 @@ there triples k rgb at = any_passes_from_place (rgb_eq rgb) triples k rgb at (sa
 
 -- with one more of them
 pub among_more : (now new all : Colours) (rgb : Rgb) → AreAmong now all → list_any (rgb_eq rgb) all.triples ≡ true → new ≡ with_seen now (rgb ∷ []) → AreAmong new all
-among_more now new all rgb among is step = record {
-  maxval = ap (λ colours. colours.maxval) step ∙ among.maxval;
-  each = subst (λ colours. Among all.triples colours.triples) (sym step) (elim (cases_Bool (list_any (rgb_eq rgb) now.triples)) [
-    | inl e ↦ rw e among.each
-    | inr e ↦ rw e (every_append (λ t. list_any (rgb_eq t) all.triples ≡ true) now.triples (rgb ∷ []) among.each (is, tt))
-  ]);
-}
+among_more now new all rgb among is step = grind (arith, every_append, list_any, rgb_eq)
 
 -- ---- the colour that stands at a number
 
@@ -47,7 +41,4 @@ module _ (colours : Colours) (k : ℕ) (rgb : Rgb) (palette : IsPalette colours)
 
 -- where no fault stands against a colour, the one that is answered is want of memory
 pub only_memory : (fault : Option PaletteFault) (e : PaletteFault) → fault ≡ None → (fault ≡ Some e) ⊎ ((fault ≡ None) × (e ≡ Memory)) → e ≡ Memory
-only_memory fault e none refused = elim refused [
-  | inl some ↦ let clash = sym none ∙ some in absurd (cc)
-  | inr both ↦ both.1
-]
+only_memory fault e none refused = grind arith

@@ -19,10 +19,7 @@ pub no_bit : (k : ℕ) → IsBitSet 0 k → ⊥
 no_bit k is = let one = set_bit 0 k is in let none = bit_at-zero k in absurd (omega arith)
 
 pub bit_or_not : (n k : ℕ) → IsBitSet n k ⊎ ¬ IsBitSet n k
-bit_or_not n k = elim (cases_eq (bit_at n k) 1) [
-  | inl e ↦ inl (bit_is_set n k e)
-  | inr other ↦ inr (λ is. other (set_bit n k is))
-]
+bit_or_not n k = grind (arith, bit_at, bit_is_set, set_bit)
 
 pub bit_below : (n width k : ℕ) → n < 2 ^ width → IsBitSet n k → k < width
 bit_below n width k small is = elim (cases_lt k width) [
@@ -91,13 +88,7 @@ bits_more k a b absent puts = let more = one_more k a b none one others in omega
     one = set_bit b k ((puts k).1 (inr refl))
 
     others : (i : ℕ) → i ≢ k → bit_at a i ≡ bit_at b i
-    others i other = elim (bit_or_not a i) [
-      | inl is ↦ set_bit a i is ∙ sym (set_bit b i ((puts i).1 (inl is)))
-      | inr isnt ↦
-          let in_a : bit_at a i ≢ 1 = λ e. isnt (bit_is_set a i e) in
-          let in_b : bit_at b i ≢ 1 = λ e. elim ((puts i).0 (bit_is_set b i e)) [ inl is ↦ isnt is | inr at ↦ other at ] in
-          omega (arith, bit_at-lt a i, bit_at-lt b i)
-    ]
+    others i other = grind (arith, bit_at, bit_at-lt, bit_is_set, bit_or_not, set_bit)
 
 -- a bit that was there and is taken out makes one bit less
 pub bits_fewer : (k a b : ℕ) → IsBitSet a k → ((i : ℕ) → IsBitSet b i ↔ (IsBitSet a i × ¬ (i ≡ k))) → count_ones b + 1 ≡ count_ones a

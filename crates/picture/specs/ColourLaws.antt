@@ -30,14 +30,7 @@ pub same : (t : Rgb) → rgb_eq t t ≡ true
 same t = rw (eq-eqb t.r t.r refl, eq-eqb t.g t.g refl, eq-eqb t.b t.b refl) refl
 
 pub rgb_equiv : IsEquivalence rgb_eq
-rgb_equiv = record {
-  refl = same;
-  symm = λ a b. elim (cases_Bool (rgb_eq a b)) [
-    | inl e ↦ e ∙ sym (subst (λ t. rgb_eq t a ≡ true) (same_rgb a b e) (same a))
-    | inr e ↦ e ∙ sym (rgb_eq-sym a b e)
-  ];
-  congr = λ a b c e. ap (λ t. rgb_eq t c) (same_rgb a b e);
-}
+rgb_equiv  = grind (arith, rgb_eq, rgb_eq-sym, same, same_rgb)
 
 -- ---- what holds of each colour
 
@@ -109,10 +102,7 @@ unplaced t (x ∷ xs) none = elim (cases_Bool (rgb_eq t x)) [
 ]
 
 pub placed : (t : Rgb) (xs : List Rgb) (k : ℕ) → Some k ≡ place_of t xs → list_any (rgb_eq t) xs ≡ true
-placed t xs k at = elim (cases_Bool (list_any (rgb_eq t) xs)) [
-  | inl e ↦ e
-  | inr e ↦ let none = unplaced t xs e in absurd (cc)
-]
+placed t xs k at = grind (arith, list_any, rgb_eq, unplaced)
 
 none_before : (place : Option ℕ) → None ≡ option_map (λ k. k + 1) place → None ≡ place
 none_before (Some k) none = absurd (cc)

@@ -28,15 +28,10 @@ row_inside (suc height) width zero lt = let base : 0 ≤ height * width = omega 
 row_inside (suc height) width (suc i) lt = let h = row_inside height width i (omega (arith, lt)) in omega (arith, h)
 
 pub length-row : (height width : ℕ) (cells : List ℕ) (i : ℕ) → length cells ≡ height * width → i < height → length (row_at (rows_of height width cells) i) ≡ width
-length-row height width cells i count lt =
-    rw (row_at-rows_of height width cells i lt)
-    (let room = row_inside height width i lt in omega (arith, length-take width (drop (i * width) cells), length-drop (i * width) cells, count, room))
+length-row height width cells i count lt = grind (arith, drop, length-drop, length-take, row_at-rows_of, row_inside)
 
 pub cell_at-rows_of : (height width : ℕ) (cells : List ℕ) (i j : ℕ) → i < height → j < width → cell_at (rows_of height width cells) i j ≡ get_or cells (i * width + j) 0
-cell_at-rows_of height width cells i j lt in_row =
-    ap (λ (row : List ℕ). get_or row j 0) (row_at-rows_of height width cells i lt)
-    ∙ get_or-take width (drop (i * width) cells) j 0 in_row
-    ∙ get_or-drop (i * width) cells j 0
+cell_at-rows_of height width cells i j lt in_row = grind (arith, drop, get_or, get_or-drop, get_or-take, row_at-rows_of)
 
 pub rows_of-set : (height width : ℕ) (cells : List ℕ) (i j x : ℕ) → i < height → j < width → rows_of height width (set cells (i * width + j) x) ≡ with_cell (rows_of height width cells) i j x
 rows_of-set zero width cells i j x lt in_row = absurd (omega (arith, lt))

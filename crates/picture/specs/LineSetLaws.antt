@@ -46,10 +46,7 @@ pub no_names_counted : name_count no_names ≡ 0
 no_names_counted = let each = ones_le_self 0 in omega (arith, each)
 
 none_when_zero : (lines : Lines) → name_count lines ≡ 0 → lines ≡ no_names
-none_when_zero lines none =
-    let rows : lines.rows ≡ 0 = zero_from_ones lines.rows (omega arith) in
-    let columns : lines.columns ≡ 0 = zero_from_ones lines.columns (omega arith) in
-    same_masks lines no_names rows columns
+none_when_zero lines none = grind (arith, no_names, same_masks, zero_from_ones)
 
 pub members : NamesAreMembers
 members = record {
@@ -67,13 +64,7 @@ same_axis Down Down = inl refl
 
 -- two names are one or not
 pub cases_name : (a b : LineId) → (a ≡ b) ⊎ ¬ (a ≡ b)
-cases_name a b = elim (same_axis a.axis b.axis) [
-  | inl x ↦ elim (cases_eq a.at b.at) [
-    | inl y ↦ inl (same_name a b x y)
-    | inr other ↦ inr (λ e. other (ap (λ line. line.at) e))
-  ]
-  | inr other ↦ inr (λ e. other (ap (λ line. line.axis) e))
-]
+cases_name a b = grind (arith, same_axis, same_name)
 
 pub come_back : NamesComeBack
 come_back = record {
@@ -128,16 +119,10 @@ module _ (old new : Lines) (line : LineId) where
       )
 
   pub known_put : IsLineSet old → IsLineSet new → PutsName old new line → HasName old line → new ≡ old
-  known_put is_old is_new puts has = same_names new old is_new is_old (λ other _. (
-    (λ is. elim ((puts other).0 is) [ inl had ↦ had | inr e ↦ subst (HasName old) (sym e) has ]),
-    (λ had. (puts other).1 (inl had)),
-  ))
+  known_put is_old is_new puts has = grind (arith, same_names)
 
   pub absent_out : IsLineSet old → IsLineSet new → TakesOutName old new line → ¬ HasName old line → new ≡ old
-  absent_out is_old is_new takes absent = same_names new old is_new is_old (λ other _. (
-    (λ is. ((takes other).0 is).0),
-    (λ had. (takes other).1 (had, λ e. absent (subst (HasName old) e had))),
-  ))
+  absent_out is_old is_new takes absent = grind (arith, same_names)
 
 -- names put into a set make it no smaller, and no larger than by their own number
 pub put_all_counts : (old new names : Lines) → PutsNames old new names → (name_count old ≤ name_count new) × (name_count new ≤ name_count old + name_count names)

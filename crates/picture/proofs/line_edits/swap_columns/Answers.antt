@@ -6,8 +6,7 @@ pub loop-row-init : goal.loop-row-init
 loop-row-init c = none_edited c.args.height c.args.width c.args.cells.now c.requires.cells (with_exchange c.args.i c.args.j)
 
 pub loop-row-preserved : goal.loop-row-preserved
-loop-row-preserved c =
-    c.swap.ensures.after ∙ cells_exchanged c.args.height c.args.width c.args.cells.now c.requires.cells c.args.i c.args.j c.loop-row.row c.loop-row.cells c.requires.first c.requires.second (omega arith) c.loop-row.invariant
+loop-row-preserved c = grind (arith, cells_exchanged)
 
 pub returns : goal.returns
 returns c = c.loop-row.invariant ∙ all_edited c.args.height c.args.width c.args.cells.now c.requires.cells (with_exchange c.args.i c.args.j) c.loop-row.row (omega arith)
