@@ -25,9 +25,9 @@ use Rattle.second_search.specs.Searching.{KeepsOutside, NamesLinesOf, alone}
 use Rattle.second_search.specs.Through.{LeavesAlone, LeavesRowAlone, NamesBoth, PutsBoth, PutsRow, PutsThrough, across, down}
 use Rattle.second_search.proofs.FindLemmas.{can_close}
 use Rattle.second_search.proofs.ChainLemmas.{bit_or_not, chain_end, open_inside}
-use Rattle.second_search.proofs.GridLemmas.{same_inside}
+use Rattle.second_search.proofs.GridLemmas.{same_inside, same_grid}
 use Rattle.second_search.proofs.LookLemmas.{below_next}
-use Rattle.second_search.proofs.PickLemmas.{off_part, on_cells, rect_like, same_cells, shape_of_picked}
+use Rattle.second_search.proofs.PickLemmas.{off_part, on_cells, rect_like, shape_of_picked}
 
 -- ---- the facts of a part
 
@@ -56,7 +56,7 @@ alone_is law cells picture facts new rows is shape full left =
 pub alone_none : OnlyIsClosed → (cells : List ℕ) (picture facts : List (List ℕ)) → IsPicture picture → ((row col : ℕ) → HasCell cells row col → ⊥) → alone cells facts picture ≡ only picture
 alone_none law cells picture facts is none =
     let rect = rect_like picture (only picture) (law.same_shape picture) is.rectangular in
-    same_cells (alone cells facts picture) (only picture) (shape_of_picked cells facts (only picture) rect) (λ r c. off_part cells facts (only picture) r c rect (none r c))
+    same_grid (alone cells facts picture) (only picture) (shape_of_picked cells facts (only picture) rect) (λ r c. off_part cells facts (only picture) r c rect (none r c))
 
 -- nothing is left alone yet
 pub leaves_none : (cells : List ℕ) (picture facts new : List (List ℕ)) → new ≡ facts → LeavesAlone cells picture facts new 0

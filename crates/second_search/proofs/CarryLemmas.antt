@@ -26,8 +26,10 @@ use Rattle.second_search.proofs.ChainLemmas.{bit_or_not}
 use Rattle.second_search.proofs.GrowLemmas.{at_place, line_inside}
 use Rattle.second_search.proofs.RowLemmas.{has_first, same_part}
 use Rattle.second_search.proofs.PartLemmas.{open_in_picture, part_open}
-use Rattle.second_search.proofs.PickLemmas.{off_part, on_part, outside_is_0, same_cells, shape_back, shape_of_picked, shape_on}
+use Rattle.second_search.proofs.PickLemmas.{off_part, on_part, outside_is_0, shape_of_picked}
 use Rattle.second_search.proofs.VerdictLemmas.{each_is_part, each_more, part_of_kept, same_parts}
+use Rattle.second_search.proofs.GridLemmas.{same_grid}
+use Rattle.line_settle.specs.GridLaws.{shape_sym, shape_trans}
 
 -- ---- colours put on some cells
 
@@ -35,11 +37,11 @@ pub is_picked : (cells : List ℕ) (other old new : List (List ℕ)) (rows : ℕ
 is_picked cells other old new rows is full p =
     let rect = is.rectangular in
     let like = shape_of_picked cells other old rect in
-    let shape = shape_on new old (picked cells other old) (shape_back old new p.same_shape) (shape_back (picked cells other old) old like) in
+    let shape = shape_trans (shape_sym p.same_shape) (shape_sym like) in
     let outside : (row col : ℕ) → length (row_at old row) ≤ col → cell_at new row col ≡ cell_at (picked cells other old) row col = λ row col q.
     outside_is_0 new row col (omega arith) ∙ sym (outside_is_0 (picked cells other old) row col (omega arith))
     in
-    same_cells new (picked cells other old) shape (λ row col. elim (bit_or_not (slice_index cells row) col) [
+    same_grid new (picked cells other old) shape (λ row col. elim (bit_or_not (slice_index cells row) col) [
       | inr n ↦ p.kept row col n ∙ sym (off_part cells other old row col rect n)
       | inl h ↦ elim (cases_lt col (length (row_at old row))) [
         | inr q ↦ outside row col q

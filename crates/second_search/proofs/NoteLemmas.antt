@@ -95,14 +95,13 @@ holds s facts new notes more cell mask v is h w m n e =
     let front = ap (λ (x : Search). x.at_hand) v in
     let tall = ap length front in
     let wide = ap width_of front in
-    let P : List (List ℕ) → Type 0 = λ x. search_of x (waiting x (reverse more)) (cells_held (reverse more)) ≡ search_of (with_cell s.at_hand cell.row cell.col mask) s.behind s.cells in
     let back : with_cell (with_cell facts cell.row cell.col mask) cell.row cell.col cell.mask ≡ facts =
     ap (λ x. with_cell (with_cell facts cell.row cell.col mask) cell.row cell.col x) m ∙ cell_back facts cell.row cell.col mask (omega arith) (omega arith) in
     let held_to = with_cell facts cell.row cell.col mask in
     let behind : waiting held_to (reverse more) ≡ s.behind =
     ap (waiting held_to) (newest notes more (Restore cell) e) ∙ (ap (λ x. waiting x (reverse notes)) back ∙ ap (λ (x : Search). x.behind) v) in
     let cells : cells_held (reverse more) ≡ s.cells = ap cells_held (newest notes more (Restore cell) e) ∙ ap (λ (x : Search). x.cells) v in
-    subst P (sym n) (ap (λ (x : List (List (List ℕ))). search_of held_to x (cells_held (reverse more))) behind
+    rw n (ap (λ (x : List (List (List ℕ))). search_of held_to x (cells_held (reverse more))) behind
     ∙ (ap (λ (x : List Cell). search_of held_to s.behind x) cells
     ∙ ap (λ (x : List (List ℕ)). search_of (with_cell x cell.row cell.col mask) s.behind s.cells) front))
 

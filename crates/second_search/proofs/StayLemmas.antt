@@ -14,7 +14,8 @@ use Rattle.second_search.specs.Laws.{FillingsStay}
 use Rattle.second_search.specs.Parts.{GoesThrough, HasTwoColours, IsChained, IsOpenCell, IsOtherFilling, IsPart, IsScene, KeepsLines, ShareLine, begins, goes_on, picked}
 use Rattle.second_search.proofs.ChainLemmas.{bit_or_not}
 use Rattle.second_search.proofs.PartLemmas.{part_open, picked_picture, through_or_not}
-use Rattle.second_search.proofs.PickLemmas.{cells_along, clue_known, off_part, on_part, same_along, same_cells, same_clues, same_count, same_len, shape_of_picked}
+use Rattle.second_search.proofs.PickLemmas.{cells_along, clue_known, off_part, on_part, same_along, same_clues, same_count, same_len, shape_of_picked}
+use Rattle.second_search.proofs.GridLemmas.{same_grid}
 
 -- the row and the column of a cell
 abbrev row_through : ℕ → LineId
@@ -117,7 +118,7 @@ module _ (of_lines : CluesAreOfLines) (books : BooksAreTheirClues) (members : Ce
                   o.differ (t.sound.hold_givens r c o.one g o.has_one ∙ sym (t.sound.hold_givens r c o.other g o.has_other)))
             ];
           };
-          differs = λ e. f.is_other.differs (same_cells other picture like (λ r c. elim (bit_or_not (slice_index cells r) c) [
+          differs = λ e. f.is_other.differs (same_grid other picture like (λ r c. elim (bit_or_not (slice_index cells r) c) [
             | inl h ↦ sym (on r c h) ∙ (ap (λ x. cell_at x r c) e ∙ sym (shown (row_through r) r c (in_row cells r c h) refl))
             | inr n ↦ f.elsewhere r c n
           ]));

@@ -34,8 +34,7 @@ answer_for-requires c =
     let keeps = named_keeps b.clues.now b.facts.now b.picture.now a.clues.now a.givens.now a.facts.now a.picture.now c.args.same.now c.args.cells.now c.requires.after c.requires.part c.requires.same (c.if-not-are_named.ensures.0 refl) in
     let part = part_before b.clues.now b.facts.now b.picture.now a.clues.now a.givens.now a.facts.now a.picture.now fillings_stay c.args.cells.now c.requires.part keeps in
     let same = answer_is c.self.inside.kept.items kept at c.index.result.now c.self.view_is c.place_of-at.ensures.place c.index.ensures in
-    let P : Answer → Type 0 = λ x. IsTrueOf b.clues.now b.givens.now b.picture.now (cells_at kept at) x in
-    holds_known b.clues.now b.givens.now b.facts.now b.picture.now c.args.cells.now (cells_at kept at) c.index.result.now.answer c.requires.before part c.place_of-at.ensures.cells (subst P same (c.requires.true_answers at c.place_of-at.ensures.place))
+    holds_known b.clues.now b.givens.now b.facts.now b.picture.now c.args.cells.now (cells_at kept at) c.index.result.now.answer c.requires.before part c.place_of-at.ensures.cells (rw same at (c.requires.true_answers at c.place_of-at.ensures.place))
 
 pub returns : goal.returns
 returns c =
