@@ -8,7 +8,7 @@ use Rattle.std.proofs.lemmas.List.{get_or_past, get_or-map, length-map}
 use Rattle.std.proofs.lemmas.List.Elements.{filter_passes}
 use Rattle.std.proofs.Math.Pow.{pow_pos, pow_mono}
 use Rattle.picture.specs.Rows.{width_of, row_at, cell_at}
-use Rattle.picture.specs.BitLaws.{bit_below, bit_is_set, fewer_le, power_has}
+use Rattle.picture.specs.BitLaws.{bit_below, bit_is_set, fewer_le, power_has, bit_or_not}
 use Rattle.clues.specs.ClueBook.{Clues}
 use Rattle.line_settle.specs.Branches.{branches, colours_of, held}
 use Rattle.line_settle.specs.FactSets.{IsFacts, SameShape}
@@ -36,7 +36,6 @@ use Rattle.second_search.specs.Judging.{EndsBy, Passes, answer_at, cells_at}
 use Rattle.second_search.specs.Parts.{IsScene}
 use Rattle.second_search.proofs.AloneLemmas.{own_power}
 use Rattle.second_search.proofs.KnownLaws.{costs_are_unique, only_is_closed}
-use Rattle.second_search.proofs.ChainLemmas.{bit_or_not}
 
 -- ---- equal or not
 
@@ -45,11 +44,8 @@ same_grid = same_list (same_list cases_eq)
 
 -- ---- settled cells
 
-abbrev IsPower : ℕ → ℕ → Type 0
-IsPower mask k = mask ≡ 2 ^ k
-
 settled_or_not : (mask : ℕ) → mask < 2 ^ 16 → ((k : ℕ) × IsOnly mask k) ⊎ ((k : ℕ) → IsOnly mask k → ⊥)
-settled_or_not mask small = elim (find_below (IsPower mask) (λ k. cases_eq mask (2 ^ k)) 16) [
+settled_or_not mask small = elim (find_below (λ k. mask ≡ 2 ^ k) (λ k. cases_eq mask (2 ^ k)) 16) [
   | inl found ↦ inl (found.0, (let P : ℕ → Type 0 = λ m. IsOnly m found.0 in subst P (sym found.1.1) (power_has found.0)))
   | inr none ↦ inr (λ k o. none k (bit_below mask 16 k small ((o k).1 refl)) (only_is_power mask k o))
 ]

@@ -56,11 +56,6 @@ pub place_on : (axis : Axis) (at i : ℕ) → IsAtPlace axis at (row_on axis at 
 place_on Across at i = refl
 place_on Down at i = refl
 
--- the places of a line lie in the grid
-pub place_inside : (facts : List (List ℕ)) (axis : Axis) (at i : ℕ) → IsFacts facts → at < lines_along axis facts → i < length (line_along axis at facts) → (row_on axis at i < length facts) × (col_on axis at i < width_of facts)
-place_inside facts Across at i is l m = (l, (let r = is.rectangular at l in omega arith))
-place_inside facts Down at i is l m = ((let n = length-map facts (λ (row : List ℕ). get_or row at 0) in omega arith), l)
-
 -- a place past the end of a line has no open cell
 pub none_past : (facts : List (List ℕ)) (axis : Axis) (at i : ℕ) → IsFacts facts → at < lines_along axis facts → IsOpenCell facts (row_on axis at i) (col_on axis at i) → i < length (line_along axis at facts)
 none_past facts Across at i is l o = let q = open_inside facts at i is o in let r = is.rectangular at l in omega (arith, q.1)

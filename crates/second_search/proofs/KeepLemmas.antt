@@ -33,12 +33,9 @@ use Rattle.second_search.proofs.LookLemmas.{others_settled}
 
 -- ---- sizes
 
-closable_like : (clues : Clues) (longest : ℕ) (a b : List (List ℕ)) → SameShape a b → AreClosable clues longest a → AreClosable clues longest b
-closable_like clues longest a b s c =
-    record { rows = omega arith; columns = omega arith; wide = omega arith; tall = omega arith }
-
 pub can_close_like : (clues : Clues) (before after : ℕ) (first facts : List (List ℕ)) → SameShape first facts → after ≡ before → AreClosable clues before first → AreClosable clues after facts
-can_close_like clues before after first facts s e c = rw e (closable_like clues before first facts s c)
+can_close_like clues before after first facts s e c =
+    rw e (record { rows = omega arith; columns = omega arith; wide = omega arith; tall = omega arith })
 
 -- the clues have as many lines as the facts
 pub sized_lines : (clues : Clues) (longest : ℕ) (facts : List (List ℕ)) (axis : Axis) → AreClosable clues longest facts → length (clues_along axis clues) ≡ lines_along axis facts

@@ -19,10 +19,11 @@ use Rattle.line_settle.specs.GridLaws.{cell_on, same_has_line, shape_refl, shape
 use Rattle.line_settle.specs.MaskLaws.{without_bit}
 use Rattle.fixpoint.specs.Closing.{EachFits, HasDeadLine}
 use Rattle.second_search.proofs.GridLemmas.{both_or_not, set_each}
-use Rattle.second_search.proofs.GrowLemmas.{line_named, place_inside}
+use Rattle.second_search.proofs.GrowLemmas.{line_named}
 use Rattle.second_search.proofs.PickLemmas.{find_below, same_list, Below, OrNot, some_below}
 use Rattle.second_search.proofs.WeightLemmas.{weight, weight_with_cell}
 use Rattle.clues.specs.Clue.{block, clue_of}
+use Rattle.line_settle.specs.AlongLaws.{place_on}
 
 -- ---- equal or not
 
@@ -268,7 +269,7 @@ force_one clues base facts line i k a has l small forced =
     let is = a.are_facts in
     let row = row_on line.axis line.at i in
     let col = col_on line.axis line.at i in
-    let place = place_inside facts line.axis line.at i is has l in
+    let place = place_on facts line i is has l in
     let s : Leaves facts row col k = rw (cell_on facts line i) at forced.is_left in
     let more = with_less facts row col k in (
       more,

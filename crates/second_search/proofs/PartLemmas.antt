@@ -22,10 +22,11 @@ use Rattle.fixpoint.specs.Filling.{Fills, only}
 use Rattle.fixpoint.specs.Laws.{OnlyIsClosed}
 use Rattle.second_search.specs.Laws.{FillingsAreOfFacts, PartsAreApart, PartsDecide}
 use Rattle.second_search.specs.Parts.{AreParts, GoesThrough, IsBefore, IsOpenCell, IsOtherFilling, IsPart, IsScene, goes_on, part_at, picked}
-use Rattle.second_search.proofs.ChainLemmas.{bit_or_not, chain_back, chain_end, chain_on, none_has_two}
+use Rattle.second_search.proofs.ChainLemmas.{chain_back, chain_end, chain_on, none_has_two}
 use Rattle.second_search.proofs.GrowLemmas.{on_one_line}
-use Rattle.second_search.proofs.PickLemmas.{clue_known, differing_cell, find_below, off_part, on_cells, outside_is_0, rect_like, same_along, same_clues, same_count, same_len, shape_of_picked}
-use Rattle.line_settle.specs.GridLaws.{shape_sym, shape_trans}
+use Rattle.second_search.proofs.PickLemmas.{clue_known, differing_cell, find_below, off_part, on_cells, outside_is_0, rect_like, same_along, same_clues, same_count, shape_of_picked}
+use Rattle.line_settle.specs.GridLaws.{shape_sym, shape_trans, same_line_length}
+use Rattle.picture.specs.BitLaws.{bit_or_not}
 
 -- ---- parts
 
@@ -158,14 +159,14 @@ one_filling of_lines books members clues givens facts picture other cells row co
     let off : (r c : ℕ) → (HasCell cells r c → ⊥) → cell_at new r c ≡ cell_at picture r c = λ r c n. off_part cells other picture r c rect n in
     let clue : (line : LineId) → HasLine new line → clue_of (line_of new line) ≡ clue_of (line_of picture line) = λ line has. elim (through_or_not cells line members p.from.set) [
       | inl t ↦
-          let same = same_along new other line.axis line.at (same_len new other like_other line.axis line.at) (λ r c at. elim (bit_or_not (slice_index cells r) c) [
+          let same = same_along new other line.axis line.at (sym (same_line_length new other line like_other)) (λ r c at. elim (bit_or_not (slice_index cells r) c) [
             | inl x ↦ on r c x
             | inr n ↦ off r c n ∙ sym (same_off_part clues givens facts picture other cells line r c s p o.solves t at n)
           ]) in
           let n = same_count new other like_other line.axis in
           let m = same_count new picture shape line.axis in
           ap clue_of same ∙ (clue_known of_lines clues other line o.solves.has_clues (omega arith) ∙ sym (clue_known of_lines clues picture line s.has_clues (omega arith)))
-      | inr none ↦ ap clue_of (same_along new picture line.axis line.at (same_len new picture shape line.axis line.at) (λ r c at. off r c (λ x. none (record { row = r; col = c; has = x; on_line = at }))))
+      | inr none ↦ ap clue_of (same_along new picture line.axis line.at (sym (same_line_length new picture line shape)) (λ r c at. off r c (λ x. none (record { row = r; col = c; has = x; on_line = at }))))
     ] in
     record {
       is_other = record {

@@ -156,10 +156,6 @@ pub same_count : (a b : List (List ℕ)) → SameShape a b → (axis : Axis) →
 same_count a b s Across = s.rows
 same_count a b s Down = s.each 0
 
-pub same_len : (a b : List (List ℕ)) → SameShape a b → (axis : Axis) (at : ℕ) → length (line_along axis at a) ≡ length (line_along axis at b)
-same_len a b s Across at = s.each at
-same_len a b s Down at = length-map a (λ (row : List ℕ). get_or row at 0) ∙ (s.rows ∙ sym (length-map b (λ (row : List ℕ). get_or row at 0)))
-
 -- lines of one length with the same cells are one
 pub same_along : (a b : List (List ℕ)) (axis : Axis) (at : ℕ) → length (line_along axis at a) ≡ length (line_along axis at b) → ((row col : ℕ) → IsAtPlace axis at row col → cell_at a row col ≡ cell_at b row col) → line_along axis at a ≡ line_along axis at b
 same_along a b Across at e h = ext_get_or 0 (row_at a at) (row_at b at) e (λ c _. h at c refl)

@@ -24,10 +24,10 @@ use Rattle.fixpoint.specs.Closing.{EachFits}
 use Rattle.line_settle.specs.Masks.{IsOnly}
 use Rattle.line_settle.specs.GridLaws.{shape_sym, shape_trans}
 use Rattle.fixpoint.specs.Filling.{Fills, only}
-use Rattle.second_search.proofs.ChainLemmas.{bit_or_not}
 use Rattle.second_search.proofs.LookLemmas.{only_there}
 use Rattle.second_search.proofs.PartLemmas.{solves_itself}
 use Rattle.second_search.proofs.PickLemmas.{off_part, on_cells, rect_like, shape_of_picked}
+use Rattle.picture.specs.BitLaws.{bit_or_not}
 
 -- ---- what an ending says of a part
 

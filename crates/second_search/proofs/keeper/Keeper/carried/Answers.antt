@@ -4,13 +4,15 @@ use Rattle.std.proofs.lemmas.Bool.{false≢true}
 use Rattle.second_search.specs.declared.keeper.Answer.{Answer}
 use Rattle.second_search.specs.Carrying.{IsCarried, carried}
 use Rattle.second_search.specs.Judging.{IsTrueOf, answer_at, cells_at}
-use Rattle.second_search.proofs.CarryLemmas.{answer_carried, carried_true, holds_known, named_keeps, nothing_carried, part_before, part_in_facts}
+use Rattle.second_search.proofs.CarryLemmas.{answer_carried, carried_true, holds_known, named_keeps, nothing_carried, part_before}
 use Rattle.second_search.proofs.VerdictLemmas.{answer_is}
 use Rattle.second_search.proofs.KnownLaws.{fillings_stay}
 use Rattle.second_search.proofs.keeper.Keeper.carried.Goals as goal
+use Rattle.second_search.proofs.AloneLemmas.{part_inside}
 
 pub are_named-requires : goal.are_named-requires
-are_named-requires c = part_in_facts c.args.after.now.facts.now c.args.cells.now c.height.ensures.facts c.requires.part
+are_named-requires c = λ row col h.
+    part_inside c.args.after.now.facts.now c.args.cells.now row col c.height.ensures.facts c.requires.part h
 
 pub returns-then-not-are_named-clause-carried : goal.returns-then-not-are_named-clause-carried
 returns-then-not-are_named-clause-carried c =
