@@ -14,7 +14,7 @@ use Rattle.clues.specs.Laws.{CluesAreOfLines}
 use Rattle.line_settle.specs.Masks.{IsOnly}
 use Rattle.line_settle.specs.FactSets.{IsFacts, SameShape}
 use Rattle.line_settle.specs.GridLaws.{same_has_line, shape_refl, shape_sym, shape_trans}
-use Rattle.picture.specs.BitLaws.{power_has}
+use Rattle.picture.specs.BitLaws.{power_has, bit_or_not}
 use Rattle.line_settle.specs.MaskLaws.{only_is_power}
 use Rattle.fixpoint.specs.Closing.{AreClosable}
 use Rattle.fixpoint.specs.Filling.{only}
@@ -24,18 +24,16 @@ use Rattle.second_search.specs.Parts.{IsPart, begins}
 use Rattle.second_search.specs.Searching.{KeepsOutside, NamesLinesOf, alone}
 use Rattle.second_search.specs.Through.{LeavesAlone, LeavesRowAlone, NamesBoth, PutsBoth, PutsRow, PutsThrough, across, down}
 use Rattle.second_search.proofs.FindLemmas.{can_close}
-use Rattle.second_search.proofs.ChainLemmas.{bit_or_not, chain_end, open_inside}
-use Rattle.second_search.proofs.GridLemmas.{same_inside}
-use Rattle.second_search.proofs.LookLemmas.{below_next}
-use Rattle.second_search.proofs.PickLemmas.{off_part, on_cells, rect_like, same_cells, shape_of_picked}
+use Rattle.second_search.proofs.ChainLemmas.{chain_end, open_inside}
+use Rattle.second_search.proofs.GridLemmas.{same_inside, same_grid}
+use Rattle.second_search.proofs.LookLemmas.{below_next, only_there}
+use Rattle.second_search.proofs.PickLemmas.{off_part, on_cells, rect_like, shape_of_picked}
 
 -- ---- the facts of a part
 
 pub own_power : OnlyIsClosed → (picture : List (List ℕ)) (row col : ℕ) → col < length (row_at picture row) → cell_at (only picture) row col ≡ 2 ^ cell_at picture row col
-own_power law picture row col l = only_is_power (cell_at (only picture) row col) (cell_at picture row col) (λ j. (
-  (λ s. ((law.leaves picture row col j).0 s).1),
-  (λ e. (law.leaves picture row col j).1 (l, e)),
-))
+own_power law picture row col l =
+    only_is_power (cell_at (only picture) row col) (cell_at picture row col) (only_there law picture row col l)
 
 -- facts with the picture's colours alone left outside of some cells are those of the cells alone
 pub alone_is : OnlyIsClosed → (cells : List ℕ) (picture facts new : List (List ℕ)) (rows : ℕ) → IsPicture picture → SameShape picture facts → rows ≡ length facts → LeavesAlone cells picture facts new rows → new ≡ alone cells facts picture
@@ -56,7 +54,7 @@ alone_is law cells picture facts new rows is shape full left =
 pub alone_none : OnlyIsClosed → (cells : List ℕ) (picture facts : List (List ℕ)) → IsPicture picture → ((row col : ℕ) → HasCell cells row col → ⊥) → alone cells facts picture ≡ only picture
 alone_none law cells picture facts is none =
     let rect = rect_like picture (only picture) (law.same_shape picture) is.rectangular in
-    same_cells (alone cells facts picture) (only picture) (shape_of_picked cells facts (only picture) rect) (λ r c. off_part cells facts (only picture) r c rect (none r c))
+    same_grid (alone cells facts picture) (only picture) (shape_of_picked cells facts (only picture) rect) (λ r c. off_part cells facts (only picture) r c rect (none r c))
 
 -- nothing is left alone yet
 pub leaves_none : (cells : List ℕ) (picture facts new : List (List ℕ)) → new ≡ facts → LeavesAlone cells picture facts new 0

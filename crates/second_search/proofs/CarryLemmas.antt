@@ -22,12 +22,14 @@ use Rattle.second_search.specs.Judging.{IsTrueOf, Starts, answer_at, cells_at, p
 use Rattle.second_search.specs.Laws.{FillingsStay}
 use Rattle.second_search.specs.Parts.{AreParts, GoesThrough, IsPart, IsScene, KeepsLines, part_at, picked}
 use Rattle.second_search.proofs.AloneLemmas.{part_inside}
-use Rattle.second_search.proofs.ChainLemmas.{bit_or_not}
 use Rattle.second_search.proofs.GrowLemmas.{at_place, line_inside}
 use Rattle.second_search.proofs.RowLemmas.{has_first, same_part}
 use Rattle.second_search.proofs.PartLemmas.{open_in_picture, part_open}
-use Rattle.second_search.proofs.PickLemmas.{off_part, on_part, outside_is_0, same_cells, shape_back, shape_of_picked, shape_on}
+use Rattle.second_search.proofs.PickLemmas.{off_part, on_part, outside_is_0, shape_of_picked}
 use Rattle.second_search.proofs.VerdictLemmas.{each_is_part, each_more, part_of_kept, same_parts}
+use Rattle.second_search.proofs.GridLemmas.{same_grid}
+use Rattle.line_settle.specs.GridLaws.{shape_sym, shape_trans}
+use Rattle.picture.specs.BitLaws.{bit_or_not}
 
 -- ---- colours put on some cells
 
@@ -35,11 +37,11 @@ pub is_picked : (cells : List ℕ) (other old new : List (List ℕ)) (rows : ℕ
 is_picked cells other old new rows is full p =
     let rect = is.rectangular in
     let like = shape_of_picked cells other old rect in
-    let shape = shape_on new old (picked cells other old) (shape_back old new p.same_shape) (shape_back (picked cells other old) old like) in
+    let shape = shape_trans (shape_sym p.same_shape) (shape_sym like) in
     let outside : (row col : ℕ) → length (row_at old row) ≤ col → cell_at new row col ≡ cell_at (picked cells other old) row col = λ row col q.
     outside_is_0 new row col (omega arith) ∙ sym (outside_is_0 (picked cells other old) row col (omega arith))
     in
-    same_cells new (picked cells other old) shape (λ row col. elim (bit_or_not (slice_index cells row) col) [
+    same_grid new (picked cells other old) shape (λ row col. elim (bit_or_not (slice_index cells row) col) [
       | inr n ↦ p.kept row col n ∙ sym (off_part cells other old row col rect n)
       | inl h ↦ elim (cases_lt col (length (row_at old row))) [
         | inr q ↦ outside row col q
@@ -76,9 +78,6 @@ through_inside rows cells line inside t = let i = inside t.row t.col t.has in li
 module _ (clues : Clues) (givens : List ℕ) (facts picture : List (List ℕ)) where
   pub part_in_picture : (cells : List ℕ) → IsScene clues givens facts picture → IsPart facts cells → LieInside cells picture
   part_in_picture cells s p row col h = open_in_picture clues givens facts picture row col s (part_open facts cells row col p h)
-
-pub part_in_facts : (facts : List (List ℕ)) (cells : List ℕ) → IsFacts facts → IsPart facts cells → LieInside cells facts
-part_in_facts facts cells is p row col h = part_inside facts cells row col is p h
 
 module _ (clues : Clues) (facts picture : List (List ℕ)) (clues_after : Clues) (givens_after : List ℕ) (facts_after picture_after : List (List ℕ)) where
   pub named_keeps : (lines : Lines) (cells : List ℕ) → IsScene clues_after givens_after facts_after picture_after → IsPart facts_after cells → AreSameLines clues facts picture clues_after facts_after picture_after lines → NamesThrough lines cells → KeepsLines clues facts picture clues_after facts_after picture_after cells

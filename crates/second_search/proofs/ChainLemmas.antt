@@ -1,39 +1,20 @@
 -- Chains of open cells, and the masks of open cells.
-use Rattle.std.proofs.Common.{◌≡◌, ◌≢◌, ℕ, ◌*◌, ◌%◌, ◌^◌, ◌<◌, ◌⊎◌, ◌↔◌, List, [], length, get_or, refl, sym, ap, subst, ◌∙◌, arith, inl, inr, bit_and, Bool, true, false, not, nat_eq, IsTrue, eq-eqb, ne_eqb}
+use Rattle.std.proofs.Common.{◌≡◌, ◌≢◌, ℕ, ◌*◌, ◌%◌, ◌^◌, ◌<◌, ◌↔◌, List, [], length, get_or, refl, sym, ap, subst, ◌∙◌, arith, inl, inr, bit_and, Bool, true, false, not, nat_eq, IsTrue, eq-eqb, ne_eqb}
 use Rattle.std.specs.Prelude.{IsBitSet}
 use Rattle.std.specs.Int.{bit_at, bit_not, trailing_zeros, w16}
 use Rattle.std.proofs.lemmas.Bool.{cases_eq, cases_lt}
 use Rattle.std.proofs.lemmas.List.{get_or_past}
-use Rattle.std.proofs.lemmas.Nat.{and_le_l, bit_set_by_shift}
-use Rattle.std.proofs.lemmas.Nat.Bits.{shr_and_one, bit_at-zero, bit_at_above, bit_at-trailing_zeros, bit_at_clear_same, bit_at_clear_other}
+use Rattle.std.proofs.lemmas.Nat.{and_le_l}
+use Rattle.std.proofs.lemmas.Nat.Bits.{bit_at-zero, bit_at-trailing_zeros, bit_at_clear_same, bit_at_clear_other}
 use Rattle.picture.specs.Rows.{width_of, row_at, cell_at}
 use Rattle.line_settle.specs.FactSets.{IsFacts}
 use Rattle.second_search.specs.Parts.{HasTwoColours, IsChained, IsOpenCell, ShareLine, begins, goes_on}
-
--- ---- bits
-
-pub one_bit : (n k : ℕ) → IsBitSet n k → bit_at n k ≡ 1
-one_bit n k is = sym (shr_and_one n k) ∙ (bit_set_by_shift n k).1 is
-
-pub bit_of_one : (n k : ℕ) → bit_at n k ≡ 1 → IsBitSet n k
-bit_of_one n k one = (bit_set_by_shift n k).0 (shr_and_one n k ∙ one)
-
-pub zero_has_none : (k : ℕ) → IsBitSet 0 k → ⊥
-zero_has_none k is = let one = one_bit 0 k is in let none = bit_at-zero k in absurd (omega arith)
-
-pub bit_or_not : (n k : ℕ) → IsBitSet n k ⊎ (IsBitSet n k → ⊥)
-bit_or_not n k = elim (cases_eq (bit_and n (2 ^ k)) 0) [ inl e ↦ inr (λ is. is e) | inr d ↦ inl d ]
-
-below_sixteen : (mask k : ℕ) → mask < 2 ^ 16 → IsBitSet mask k → k < 16
-below_sixteen mask k small is = elim (cases_lt k 16) [
-  | inl l ↦ l
-  | inr p ↦ let one = one_bit mask k is in let none = bit_at_above mask 16 k small p in absurd (omega arith)
-]
+use Rattle.picture.specs.BitLaws.{bit_below, bit_is_set, no_bit, set_bit}
 
 -- ---- masks with more than one colour
 
 pub none_has_two : (mask : ℕ) → mask ≡ 0 → HasTwoColours mask → ⊥
-none_has_two mask e h = zero_has_none h.one (let P : ℕ → Type 0 = λ m. IsBitSet m h.one in subst P e h.has_one)
+none_has_two mask e h = no_bit h.one (let P : ℕ → Type 0 = λ m. IsBitSet m h.one in subst P e h.has_one)
 
 abbrev pub but_lowest : ℕ → ℕ
 but_lowest mask = bit_and mask (bit_not w16 (1 * 2 ^ trailing_zeros w16 mask % 65536))
@@ -53,8 +34,8 @@ two_colours mask some small less d =
     record {
       one = low;
       other = next;
-      has_one = bit_of_one mask low t.1;
-      has_other = bit_of_one mask next (sym (bit_at_clear_other w16 mask low t.0 next u.0 apart) ∙ u.1);
+      has_one = bit_is_set mask low t.1;
+      has_other = bit_is_set mask next (sym (bit_at_clear_other w16 mask low t.0 next u.0 apart) ∙ u.1);
       differ = λ e. apart (sym e);
     }
 
@@ -65,10 +46,10 @@ only_lowest mask k some small e is =
     elim (cases_eq k low) [
       | inl same ↦ same
       | inr d ↦ absurd (
-          let same = bit_at_clear_other w16 mask low t.0 k (below_sixteen mask k small is) d in
+          let same = bit_at_clear_other w16 mask low t.0 k (bit_below mask 16 k small is) d in
           let none = ap (λ m. bit_at m k) e in
           let zero = bit_at-zero k in
-          let one = one_bit mask k is in
+          let one = set_bit mask k is in
           omega arith)
     ]
 

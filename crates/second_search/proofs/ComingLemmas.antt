@@ -1,13 +1,12 @@
 -- What facts come to is one, and from it what a search does next.
 use Rattle.std.proofs.Common.{◌≡◌, ℕ, suc, ◌+◌, ◌<◌, ◌⊎◌, Option, None, Some, List, [], ◌∷◌, ◌++◌, refl, sym, ap, subst, ◌∙◌, arith, inl, inr, Result, Ok, Err}
-use Rattle.std.specs.Prelude.{IsBitSet, IfOk, OnOk}
+use Rattle.std.specs.Prelude.{IfOk, OnOk}
 use Rattle.std.specs.declared.alloc.AllocError.{AllocError}
 use Rattle.std.proofs.lemmas.Bool.{cases_lt}
 use Rattle.picture.specs.Rows.{width_of, cell_at}
 use Rattle.clues.specs.ClueBook.{Clues}
 use Rattle.line_settle.specs.Counting.{counted}
 use Rattle.line_settle.specs.Laws.{LeastIsUnique}
-use Rattle.line_settle.specs.Masks.{IsOnly}
 use Rattle.line_settle.specs.FactSets.{IsFacts}
 use Rattle.line_settle.specs.GridLaws.{same_has_line, shape_sym, shape_trans}
 use Rattle.line_settle.specs.declared.line_engine.Outcome.{Outcome}
@@ -38,14 +37,11 @@ Agree (Splits s c) (Splits t d) = (s ≡ t) × (c ≡ d)
 alive : (clues : Clues) (facts settled : List (List ℕ)) → SettlesTo clues facts settled → HasDeadLine clues facts → ⊥
 alive clues facts settled s d = d.dead settled s.least.closed s.least.holds (s.fits d.line (same_has_line facts settled d.line s.least.holds.same_shape d.has))
 
-one_only : (mask other j k : ℕ) → mask ≡ other → IsOnly mask j → IsOnly other k → j ≡ k
-one_only mask other j k e a b = let P : ℕ → Type 0 = λ m. IsBitSet m j in (b j).0 (subst P e ((a j).1 refl))
-
 -- settled facts show one picture
 one_shown : (settled p q : List (List ℕ)) → IsFacts settled → Shows settled p → Shows settled q → p ≡ q
 one_shown settled p q is a b =
     same_inside p q (width_of q) (shape_trans a.same_shape (shape_sym b.same_shape)) b.is_picture.rectangular (λ r c h l.
-    one_only (cell_at settled r c) (cell_at settled r c) (cell_at p r c) (cell_at q r c) refl (a.only r c (omega arith) (omega arith)) (b.only r c (omega arith) (omega arith)))
+    (b.only r c (omega arith) (omega arith) (cell_at p r c)).0 ((a.only r c (omega arith) (omega arith) (cell_at p r c)).1 refl))
 
 same_place : (c d : Cell) → c.row ≡ d.row → c.col ≡ d.col → c ≡ d
 same_place c d e f = ap (λ (r : ℕ). let x : Cell = record { row = r; col = c.col } in x) e ∙ ap (λ (k : ℕ). let x : Cell = record { row = d.row; col = k } in x) f
@@ -128,9 +124,6 @@ leads unique clues known facts others coming found n c s =
     let b = begins clues known (facts ∷ others) found n s in
     leads_as clues known others found n b.0 coming (agree unique clues facts b.0 coming b.1.0 c) b.1.1
 
-pub nothing_waits : (clues : Clues) (known : List (List ℕ)) (found : Option (List (List ℕ))) (n : ℕ) → Searches clues known [] found n → (found ≡ None) × (n ≡ 0)
-nothing_waits clues known found n s = begins clues known [] found n s
-
 -- ---- facts that were closed
 
 comes_of : (clues : Clues) (facts settled : List (List ℕ)) (outcome : Outcome) → Closes clues facts settled outcome → outcome ≡ Narrowed → (coming : Coming) → ComesClosed settled coming → Comes clues facts coming
@@ -155,7 +148,7 @@ counted_some (Err fault) P p = tt
 -- ---- a search ends in one way
 
 one_search : LeastIsUnique → (clues : Clues) (known : List (List ℕ)) (waiting : List (List (List ℕ))) (found : Option (List (List ℕ))) (n : ℕ) → Searches clues known waiting found n → (other : Option (List (List ℕ))) (m : ℕ) → Searches clues known waiting other m → n ≡ m
-one_search unique clues known _ _ _ none_waits other m t = sym (nothing_waits clues known other m t).1
+one_search unique clues known _ _ _ none_waits other m t = sym (begins clues known [] other m t).1
 one_search unique clues known _ _ _ (is_dead facts others found n c s) other m t = one_search unique clues known others found n s other m (leads unique clues known facts others Dies other m c t)
 one_search unique clues known _ _ _ (is_known facts others found n c s) other m t = elim (leads unique clues known facts others (Ends known) other m c t) [
   | inl l ↦ one_search unique clues known others found n s other m l.1

@@ -8,7 +8,7 @@ use Rattle.std.proofs.lemmas.List.{get_or_past, get_or-map, length-map}
 use Rattle.std.proofs.lemmas.List.Elements.{filter_passes}
 use Rattle.std.proofs.Math.Pow.{pow_pos, pow_mono}
 use Rattle.picture.specs.Rows.{width_of, row_at, cell_at}
-use Rattle.picture.specs.BitLaws.{bit_below, bit_is_set, fewer_le, power_has}
+use Rattle.picture.specs.BitLaws.{bit_below, bit_is_set, fewer_le, power_has, bit_or_not}
 use Rattle.clues.specs.ClueBook.{Clues}
 use Rattle.line_settle.specs.Branches.{branches, colours_of, held}
 use Rattle.line_settle.specs.FactSets.{IsFacts, SameShape}
@@ -19,8 +19,8 @@ use Rattle.second_search.specs.declared.coming.Coming.{Coming}
 use Rattle.second_search.specs.declared.coming.Coming.TheVariants.{Dies, Ends, Splits}
 use Rattle.second_search.specs.Looking.{IsFirstUnsettled, Shows}
 use Rattle.second_search.specs.Searching.{Comes, HasCost, Searches, SettlesTo, none_waits, is_dead, is_known, is_other, is_split, CostsAreUnique, EndsAs, SplitsPast, alone, once_more, past_dead, past_known, past_split}
-use Rattle.second_search.proofs.LeastLemmas.{facts_lower, fits_or_dead, least_is_there}
-use Rattle.second_search.proofs.PickLemmas.{find_below, first_below, outside_is_0, same_list, IsRectangle, off_part, on_cells, shape_of_picked}
+use Rattle.second_search.proofs.LeastLemmas.{facts_like, facts_lower, fits_or_dead, least_is_there}
+use Rattle.second_search.proofs.PickLemmas.{find_below, first_below, outside_is_0, same_list, IsRectangle, off_part, on_cells, shape_of_picked, Below, OrNot, some_below}
 use Rattle.second_search.proofs.TreeLemmas.{ended_lighter, split_lighter, within_lighter}
 use Rattle.second_search.proofs.WeightLemmas.{load}
 use Rattle.picture.specs.Picture.{IsPicture}
@@ -36,7 +36,6 @@ use Rattle.second_search.specs.Judging.{EndsBy, Passes, answer_at, cells_at}
 use Rattle.second_search.specs.Parts.{IsScene}
 use Rattle.second_search.proofs.AloneLemmas.{own_power}
 use Rattle.second_search.proofs.KnownLaws.{costs_are_unique, only_is_closed}
-use Rattle.second_search.proofs.ChainLemmas.{bit_or_not}
 
 -- ---- equal or not
 
@@ -45,11 +44,8 @@ same_grid = same_list (same_list cases_eq)
 
 -- ---- settled cells
 
-abbrev IsPower : ℕ → ℕ → Type 0
-IsPower mask k = mask ≡ 2 ^ k
-
 settled_or_not : (mask : ℕ) → mask < 2 ^ 16 → ((k : ℕ) × IsOnly mask k) ⊎ ((k : ℕ) → IsOnly mask k → ⊥)
-settled_or_not mask small = elim (find_below (IsPower mask) (λ k. cases_eq mask (2 ^ k)) 16) [
+settled_or_not mask small = elim (find_below (λ k. mask ≡ 2 ^ k) (λ k. cases_eq mask (2 ^ k)) 16) [
   | inl found ↦ inl (found.0, (let P : ℕ → Type 0 = λ m. IsOnly m found.0 in subst P (sym found.1.1) (power_has found.0)))
   | inr none ↦ inr (λ k o. none k (bit_below mask 16 k small ((o k).1 refl)) (only_is_power mask k o))
 ]
@@ -64,13 +60,10 @@ unsettled_or_not facts row col is = elim (settled_or_not (cell_at facts row col)
 ]
 
 abbrev HasUnsettled : List (List ℕ) → ℕ → Type 0
-HasUnsettled facts row = (col : ℕ) × ((col < width_of facts) × IsUnsettledAt facts row col)
+HasUnsettled facts row = Below (IsUnsettledAt facts row) (width_of facts)
 
-row_or_not : (facts : List (List ℕ)) (row : ℕ) → IsFacts facts → HasUnsettled facts row ⊎ (HasUnsettled facts row → ⊥)
-row_or_not facts row is = elim (find_below (IsUnsettledAt facts row) (λ col. unsettled_or_not facts row col is) (width_of facts)) [
-  | inl found ↦ inl found
-  | inr none ↦ inr (λ f. none f.0 f.1.0 f.1.1)
-]
+row_or_not : (facts : List (List ℕ)) (row : ℕ) → IsFacts facts → OrNot (HasUnsettled facts row)
+row_or_not facts row is = some_below (IsUnsettledAt facts row) (λ col. unsettled_or_not facts row col is) (width_of facts)
 
 abbrev cell_named : ℕ → ℕ → Cell
 cell_named row col = record { row = row; col = col }
@@ -241,8 +234,6 @@ cost_is_there clues known facts is =
     let ended = search_ends (suc (load (facts ∷ []))) clues known (facts ∷ []) (omega arith) (is, tt) in
     (ended.1.0, (ended.0, ended.1.1))
 
--- ---- where a search is broken off, and what the parts cost that were passed
-
 -- ---- the facts of a part
 
 only_small : OnlyIsClosed → (picture : List (List ℕ)) (i j : ℕ) → IsPicture picture → cell_at (only picture) i j < 2 ^ 16
@@ -268,15 +259,7 @@ alone_facts law clues givens facts picture cells scene is =
     let rect : IsRectangle (only picture) = λ i l. (let tall = own.rows in let wide = own.each 0 in let each = own.each i in let r = scene.is_picture.rectangular i (omega arith) in omega arith) in
     let shape = shape_of_picked cells facts (only picture) rect in
     let same = shape_trans (shape_sym scene.sound.same_shape) own in
-    let onto = shape_trans same (shape_sym shape) in
-    record {
-      has_row = (let a = is.has_row in omega arith);
-      rows_fit = (let a = is.rows_fit in omega arith);
-      has_column = (let a = is.has_column in omega arith);
-      columns_fit = (let a = is.columns_fit in omega arith);
-      rectangular = λ i m. (let a = is.rectangular i (omega arith) in let b = onto.each i in omega arith);
-      masks = λ i j. alone_small law cells facts picture i j scene.is_picture is rect same;
-    }
+    facts_like facts (alone cells facts picture) is (shape_trans same (shape_sym shape)) (λ i j. alone_small law cells facts picture i j scene.is_picture is rect same)
 
 -- ---- what goes on past an allowance
 
@@ -303,8 +286,7 @@ part_is_cheap unique clues facts picture most cost searched splits cells answer 
 
 found_is_cheap : CostsAreUnique → (clues : Clues) (facts picture other : List (List ℕ)) (most cost searched splits : ℕ) (cells : List ℕ) (answer : Answer) → answer ≡ Unknown → EndsBy clues facts picture (Some most) cells answer (ending.Found other) searched splits → HasCost clues picture (alone cells facts picture) cost → most < cost → ⊥
 found_is_cheap unique clues facts picture other most cost searched splits cells answer e ends h l =
-    let P : Answer → Type 0 = λ x. EndsBy clues facts picture (Some most) cells x (ending.Found other) searched splits in
-    let known : EndsBy clues facts picture (Some most) cells Unknown (ending.Found other) searched splits = subst P e ends in
+    let known : EndsBy clues facts picture (Some most) cells Unknown (ending.Found other) searched splits = rw e at ends in
     cheap unique clues picture (alone cells facts picture) most cost splits (Some other) known.1.0 known.1.1 h l
 
 passed_are_cheap : CostsAreUnique → (clues : Clues) (facts picture : List (List ℕ)) (most : ℕ) (kept : List KeptPart) (n searched splits : ℕ) → Passes clues facts picture (Some most) kept n searched splits → (i : ℕ) → i < n → IsDear clues facts picture most kept i → ⊥

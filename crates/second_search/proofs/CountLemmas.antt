@@ -42,16 +42,9 @@ going_passes unique clues known first facts others n g (inl c) = record {
 going_passes unique clues known first facts others n g (inr c) = record {
   on = λ found m s. g.on found m (is_known facts others found m c s);
   back = λ found m s.
-      let b = g.back found m s in (
-        b.0,
-        (
-          b.1.0,
-          elim (leads unique clues known facts others (Ends known) found b.0 c b.1.1) [
-            | inl l ↦ l.1
-            | inr d ↦ absurd (d.0 refl)
-          ],
-        ),
-      );
+      let b = g.back found m s in
+      let l = leads unique clues known facts others (Ends known) found b.0 c b.1.1 in
+      (b.0, (b.1.0, elim l [ inl on ↦ on.1 | inr d ↦ absurd (d.0 refl) ]));
   past = λ m s. g.past m (past_known facts others m c s);
 }
 
@@ -144,27 +137,20 @@ counting_starts clues known first allowance s e =
       counted = omega arith;
     })
 
-pub counting_at : (clues : Clues) (known first : List (List ℕ)) (allowance : Option ℕ) (waiting : List (List (List ℕ))) (s : Search) (budget : Budget) → Counting clues known first allowance waiting budget → waiting ≡ s.at_hand ∷ s.behind → Counting clues known first allowance (s.at_hand ∷ s.behind) budget
-counting_at clues known first allowance waiting s budget c e =
-    subst (λ (x : List (List (List ℕ))). Counting clues known first allowance x budget) e c
-
 pub counting_goes : LeastIsUnique → (clues : Clues) (known first : List (List ℕ)) (allowance : Option ℕ) (s t : Search) (before after : Budget) → Counting clues known first allowance (s.at_hand ∷ s.behind) before → Steps clues known s t before after None → Counting clues known first allowance t.behind after
 counting_goes unique clues known first allowance s t before after c (inl h) =
-    let P : Budget → Type 0 = λ x. IsLeft allowance c.made x.left in
-    let Q : List (List (List ℕ)) → Type 0 = λ x. Going clues known first x c.made in
     let e = ap (λ (x : Search). x.behind) (sym h.1.0) in
     record {
       made = c.made;
-      going = subst Q e (going_passes unique clues known first s.at_hand s.behind c.made c.going h.0);
-      is_left = subst P (sym h.1.1) c.is_left;
+      going = rw e at (going_passes unique clues known first s.at_hand s.behind c.made c.going h.0);
+      is_left = rw h.1.1 c.is_left;
       counted = ap (λ (x : Budget). x.splits) h.1.1 ∙ c.counted;
     }
 counting_goes unique clues known first allowance s t before after c (inr h) =
-    let Q : List (List (List ℕ)) → Type 0 = λ x. Going clues known first x (suc c.made) in
     let e = ap (λ (x : Search). x.behind) (sym h.0.new_is) in
     record {
       made = suc c.made;
-      going = subst Q e (going_splits unique clues known first s.at_hand h.0.settled h.0.cell s.behind c.made c.going h.0.comes);
+      going = rw e at (going_splits unique clues known first s.at_hand h.0.settled h.0.cell s.behind c.made c.going h.0.comes);
       is_left = one_less allowance before.left after.left c.made c.is_left h.1.0;
       counted = raised_again before.splits after.splits c.made c.counted h.1.1;
     }
@@ -222,10 +208,5 @@ compared clues known facts picture s coming budget found e f c h =
     by None c e = let R : List (List ℕ) → Type 0 = λ x. Comes clues s.at_hand (Ends x) in inl (inr (subst R e c), (refl, refl))
     by (Some ending.Nothing) c e = absurd e
     by (Some (ending.Found other)) c e =
-        let R : List (List ℕ) → Type 0 = λ x. Comes clues s.at_hand (Ends x) in
-        ((subst R (sym e.0) c, (λ d. e.1 (sym e.0 ∙ d))), refl)
+        ((rw e.0 c, (λ d. e.1 (sym e.0 ∙ d))), refl)
     by (Some ending.BrokenOff) c e = absurd e
-
-pub steps_as : (clues : Clues) (known : List (List ℕ)) (s t : Search) (before after : Budget) (found named : Option Ending) → found ≡ named → Steps clues known s t before after found → Steps clues known s t before after named
-steps_as clues known s t before after found named e h =
-    subst (λ (x : Option Ending). Steps clues known s t before after x) e h

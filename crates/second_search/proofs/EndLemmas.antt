@@ -114,8 +114,8 @@ module _ (law : CluesAreOfLines) (books : BooksAreTheirClues) (closing : Closing
 
 sized_of : CluesAreOfLines → (clues : Clues) (picture facts : List (List ℕ)) → clues_of picture ≡ clues → SameShape picture facts → IsSized clues facts
 sized_of law clues picture facts e shape =
-    let P : Clues → Type 0 = λ c. IsSized c picture in
-    sized_like clues picture facts shape (subst P e (record { rows = sym (law.sizes picture Across); columns = sym (law.sizes picture Down) }))
+    let own : IsSized (clues_of picture) picture = record { rows = sym (law.sizes picture Across); columns = sym (law.sizes picture Down) } in
+    sized_like clues picture facts shape (rw e at own)
 
 -- what is found from facts of the known picture's size is another picture that fills them
 pub filling_found : CluesAreOfLines → BooksAreTheirClues → ClosingKeepsFillings → (clues : Clues) (known facts other : List (List ℕ)) (n : ℕ) → IsPicture known → clues_of known ≡ clues → SameShape known facts → Searches clues known (facts ∷ []) (Some other) n → Fills clues facts other × (other ≡ known → ⊥)

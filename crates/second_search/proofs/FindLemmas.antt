@@ -78,8 +78,7 @@ pub among_kept : (p : ℕ → Bool) (k n x : ℕ) → k ≤ x → x < k + n → 
 among_kept p k zero x l m e = absurd (omega arith)
 among_kept p k (suc n) x l m e = elim (cases_eq x k) [
   | inl same ↦
-      let P : List ℕ → Type 0 = λ xs. Among xs x in
-      subst P (sym (tested p k n true (ap p (sym same) ∙ e))) (inl same)
+      rw (tested p k n true (ap p (sym same) ∙ e)) (inl same)
   | inr d ↦
       let rest = among_kept p (k + 1) n x (omega arith) (omega arith) e in
       by (p k) refl rest
@@ -180,10 +179,9 @@ finds_other clues givens picture facts first (Some other) s e h =
 
 pub can_close : (clues : Clues) (picture facts first : List (List ℕ)) (longest : ℕ) → ((axis : Axis) → length (clues_along axis (clues_of picture)) ≡ lines_along axis picture) → clues_of picture ≡ clues → SameShape picture facts → first ≡ facts → length clues.rows ≤ longest → length clues.columns ≤ longest → AreClosable clues longest first
 can_close clues picture facts first longest sizes e s same tall wide =
-    let P : List (List ℕ) → Type 0 = AreClosable clues longest in
     let rows : length clues.rows ≡ length picture = ap (λ (c : Clues). length c.rows) (sym e) ∙ sizes Across in
     let columns : length clues.columns ≡ width_of picture = ap (λ (c : Clues). length c.columns) (sym e) ∙ sizes Down in
-    subst P (sym same) (record { rows = omega arith; columns = omega arith; wide = omega arith; tall = omega arith })
+    rw same (record { rows = omega arith; columns = omega arith; wide = omega arith; tall = omega arith })
 
 -- a picture with the clues fills facts of the clues' size that exclude nothing
 all_fills : (clues : Clues) (picture facts : List (List ℕ)) (height width : ℕ) → ((axis : Axis) → length (clues_along axis (clues_of picture)) ≡ lines_along axis picture) → HasClues clues picture → height ≡ length clues.rows → width ≡ length clues.columns → SameShape (replicate height (replicate {A = ℕ} width 65535)) facts → ((row col k : ℕ) → row < height → col < width → k < 16 → Leaves facts row col k) → Fills clues facts picture
@@ -211,8 +209,7 @@ all_fills clues picture facts height width sizes h tall wide shape left =
 
 pub finds_first : (clues : Clues) (facts blank : List (List ℕ)) (height width : ℕ) (found : Option (List (List ℕ))) → ((picture : List (List ℕ)) (axis : Axis) → length (clues_along axis (clues_of picture)) ≡ lines_along axis picture) → height ≡ length clues.rows → width ≡ length clues.columns → facts ≡ replicate height (replicate {A = ℕ} width 65535) → ((row col k : ℕ) → row < height → col < width → k < 16 → Leaves facts row col k) → (clues_of blank ≡ clues → ⊥) → FindsFilling clues facts blank found → FindsFirst clues found
 finds_first clues facts blank height width None sizes tall wide e left n h = λ picture has.
-    let P : List (List ℕ) → Type 0 = λ x. SameShape (replicate height (replicate {A = ℕ} width 65535)) x in
-    h picture (all_fills clues picture facts height width (sizes picture) has tall wide (subst P (sym e) (shape_refl _)) left) (λ same. n (subst (λ (x : List (List ℕ)). clues_of x ≡ clues) same has.has_clues))
+    h picture (all_fills clues picture facts height width (sizes picture) has tall wide (rw e (shape_refl _)) left) (λ same. n (subst (λ (x : List (List ℕ)). clues_of x ≡ clues) same has.has_clues))
 finds_first clues facts blank height width (Some picture) sizes tall wide e left n h = record { is_picture = h.0.is_picture; has_clues = h.0.has_clues }
 
 -- ---- sound facts

@@ -43,9 +43,7 @@ both_or_not (inr n) b = inr (λ p. n p.0)
 pub set_each : (facts : List (List ℕ)) (row col x : ℕ) → row < length facts → col < length (row_at facts row) → (P : ℕ → ℕ → ℕ → Type 0) → P row col x → ((r c : ℕ) → ((r ≡ row) × (c ≡ col) → ⊥) → P r c (cell_at facts r c)) → (r c : ℕ) → P r c (cell_at (with_cell facts row col x) r c)
 set_each facts row col x h l P here off r c = elim (both_or_not (cases_eq r row) (cases_eq c col)) [
   | inr d ↦ subst (P r c) (sym (off_with_cell facts row col x r c d)) (off r c d)
-  | inl e ↦
-      let R : ℕ → Type 0 = λ j. P row j (cell_at (with_cell facts row col x) row j) in
-      subst (λ (i : ℕ). P i c (cell_at (with_cell facts row col x) i c)) (sym e.0) (subst R (sym e.1) (subst (P row col) (sym (at_with_cell facts row col x h l)) here))
+  | inl e ↦ rw e.0 (rw e.1 (subst (P row col) (sym (at_with_cell facts row col x h l)) here))
 ]
 
 -- a cell that is set and set back

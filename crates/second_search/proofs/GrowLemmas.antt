@@ -56,11 +56,6 @@ pub place_on : (axis : Axis) (at i : ℕ) → IsAtPlace axis at (row_on axis at 
 place_on Across at i = refl
 place_on Down at i = refl
 
--- the places of a line lie in the grid
-pub place_inside : (facts : List (List ℕ)) (axis : Axis) (at i : ℕ) → IsFacts facts → at < lines_along axis facts → i < length (line_along axis at facts) → (row_on axis at i < length facts) × (col_on axis at i < width_of facts)
-place_inside facts Across at i is l m = (l, (let r = is.rectangular at l in omega arith))
-place_inside facts Down at i is l m = ((let n = length-map facts (λ (row : List ℕ). get_or row at 0) in omega arith), l)
-
 -- a place past the end of a line has no open cell
 pub none_past : (facts : List (List ℕ)) (axis : Axis) (at i : ℕ) → IsFacts facts → at < lines_along axis facts → IsOpenCell facts (row_on axis at i) (col_on axis at i) → i < length (line_along axis at facts)
 none_past facts Across at i is l o = let q = open_inside facts at i is o in let r = is.rectangular at l in omega (arith, q.1)
@@ -84,8 +79,7 @@ grown_first facts row col old new is o all no_cell no_line t = record {
   begins = (t.cells row col).1 (inr (refl, refl));
   chained = λ r c h. elim ((t.cells r c).0 h) [
     | inl was ↦ absurd (no_cell r c was)
-    | inr e ↦
-        subst (λ (j : ℕ). IsChained facts row col r j) (sym e.1) (subst (λ (i : ℕ). IsChained facts row col i col) (sym e.0) (begins o))
+    | inr e ↦ rw e.1 (subst (λ (i : ℕ). IsChained facts row col i col) (sym e.0) (begins o))
   ];
   waits = λ r c line h on un. (t.waiting line).1 (elim ((t.cells r c).0 h) [
     | inl was ↦ absurd (no_cell r c was)
@@ -98,9 +92,8 @@ grown_first facts row col old new is o all no_cell no_line t = record {
         (subst (λ (names : Lines). HasName names line) (sym t.unvisited) p.0, record { row = row; col = col; has = (t.cells row col).1 (inr (refl, refl)); on_line = p.1 })
   ];
   visited = λ r c line on un o.
-      let U : Lines → Type 0 = λ names. HasName names line in
       let i = open_inside facts r c is o in
-      absurd (un (subst U (sym t.unvisited) ((all line).1 (line_inside facts r c i.0 i.1 line.axis line.at on))));
+      absurd (un (rw t.unvisited ((all line).1 (line_inside facts r c i.0 i.1 line.axis line.at on))));
   inside = λ line un. let U : Lines → Type 0 = λ names. HasName names line in (all line).0 (subst U t.unvisited un);
 }
 
@@ -109,25 +102,21 @@ grown_more facts row col r c old new chain t g = record {
   begins = (t.cells row col).1 (inl g.begins);
   chained = λ s d h. elim ((t.cells s d).0 h) [
     | inl was ↦ g.chained s d was
-    | inr e ↦
-        subst (λ (j : ℕ). IsChained facts row col s j) (sym e.1) (subst (λ (i : ℕ). IsChained facts row col i c) (sym e.0) chain)
+    | inr e ↦ rw e.1 (subst (λ (i : ℕ). IsChained facts row col i c) (sym e.0) chain)
   ];
   waits = λ s d line h on un.
-      let U : Lines → Type 0 = λ names. HasName names line in
       (t.waiting line).1 (elim ((t.cells s d).0 h) [
-        | inl was ↦ inl (g.waits s d line was on (subst U t.unvisited un))
+        | inl was ↦ inl (g.waits s d line was on (rw t.unvisited at un))
         | inr e ↦
-            inr (subst U t.unvisited un, subst (λ (j : ℕ). IsOnLine line r j) e.1 (subst (λ (i : ℕ). IsOnLine line i d) e.0 on))
+            inr (rw t.unvisited at un, subst (λ (j : ℕ). IsOnLine line r j) e.1 (subst (λ (i : ℕ). IsOnLine line i d) e.0 on))
       ]);
   reached = λ line w.
-      let U : Lines → Type 0 = λ names. HasName names line in
       elim ((t.waiting line).0 w) [
-        | inl was ↦ let old_reach = g.reached line was in (subst U (sym t.unvisited) old_reach.0, record { row = old_reach.1.row; col = old_reach.1.col; has = (t.cells old_reach.1.row old_reach.1.col).1 (inl old_reach.1.has); on_line = old_reach.1.on_line })
-        | inr p ↦ (subst U (sym t.unvisited) p.0, record { row = r; col = c; has = (t.cells r c).1 (inr (refl, refl)); on_line = p.1 })
+        | inl was ↦ let old_reach = g.reached line was in (rw t.unvisited old_reach.0, record { row = old_reach.1.row; col = old_reach.1.col; has = (t.cells old_reach.1.row old_reach.1.col).1 (inl old_reach.1.has); on_line = old_reach.1.on_line })
+        | inr p ↦ (rw t.unvisited p.0, record { row = r; col = c; has = (t.cells r c).1 (inr (refl, refl)); on_line = p.1 })
       ];
   visited = λ s d line on un o.
-      let U : Lines → Type 0 = λ names. HasName names line in
-      (t.cells s d).1 (inl (g.visited s d line on (λ was. un (subst U (sym t.unvisited) was)) o));
+      (t.cells s d).1 (inl (g.visited s d line on (λ was. un (rw t.unvisited was)) o));
   inside = λ line un. let U : Lines → Type 0 = λ names. HasName names line in g.inside line (subst U t.unvisited un);
 }
 

@@ -33,13 +33,9 @@ use Rattle.second_search.proofs.LookLemmas.{others_settled}
 
 -- ---- sizes
 
-closable_like : (clues : Clues) (longest : ℕ) (a b : List (List ℕ)) → SameShape a b → AreClosable clues longest a → AreClosable clues longest b
-closable_like clues longest a b s c =
-    record { rows = omega arith; columns = omega arith; wide = omega arith; tall = omega arith }
-
 pub can_close_like : (clues : Clues) (before after : ℕ) (first facts : List (List ℕ)) → SameShape first facts → after ≡ before → AreClosable clues before first → AreClosable clues after facts
 can_close_like clues before after first facts s e c =
-    subst (λ (n : ℕ). AreClosable clues n facts) (sym e) (closable_like clues before first facts s c)
+    rw e (record { rows = omega arith; columns = omega arith; wide = omega arith; tall = omega arith })
 
 -- the clues have as many lines as the facts
 pub sized_lines : (clues : Clues) (longest : ℕ) (facts : List (List ℕ)) (axis : Axis) → AreClosable clues longest facts → length (clues_along axis clues) ≡ lines_along axis facts
@@ -139,9 +135,8 @@ quiet_held clues known rows settled row col x closed fits h l above others unset
       others = λ r c out m w.
           let at = others r c out (omega arith) (omega arith) in
           let here : r ≡ row → c ≡ col → ⊥ = λ e f.
-          let P : ℕ → Type 0 = λ y. IsOnly (cell_at settled y c) (cell_at known r c) in
-          let Q : ℕ → Type 0 = λ y. IsOnly (cell_at settled row y) (cell_at known r c) in
-          unsettled (cell_at known r c) (subst Q f (subst P e at)) in
+          let P : ℕ → Type 0 = λ y. IsOnly (cell_at settled row y) (cell_at known r c) in
+          unsettled (cell_at known r c) (subst P f (subst (λ (y : ℕ). IsOnly (cell_at settled y c) (cell_at known r c)) e at)) in
           subst (λ (y : ℕ). IsOnly y (cell_at known r c)) (sym (off_with_cell settled row col x r c (λ e. here e.0 e.1))) at;
     }
 
@@ -178,8 +173,7 @@ pub record IsReady (clues : Clues) (known : List (List ℕ)) (rows : Lines) (fir
 
 pub ready_first : (clues : Clues) (known : List (List ℕ)) (rows : Lines) (first : List (List ℕ)) (lines : Lines) (s : Search) → s ≡ search_of first [] [] → AreLinesOf first lines → QuietOutside clues first lines → ShowOthers known rows first → IsReady clues known rows first s.at_hand lines 0 × EachQuiet clues known rows first s.behind s.cells
 ready_first clues known rows first lines s e of quiet others =
-    let P : Search → Type 0 = λ x. IsReady clues known rows first x.at_hand lines 0 × EachQuiet clues known rows first x.behind x.cells in
-    subst P (sym e) (record { same_shape = shape_refl first; are_lines = of; quiet = quiet; above = λ r c l w. absurd (omega arith); others = others }, tt)
+    rw e (record { same_shape = shape_refl first; are_lines = of; quiet = quiet; above = λ r c l w. absurd (omega arith); others = others }, tt)
 
 pub quiet_at : (clues : Clues) (known : List (List ℕ)) (rows : Lines) (first : List (List ℕ)) (s t : Search) (cell : Cell) → EachQuiet clues known rows first s.behind s.cells → GoesOn s t (Some cell) → (SameShape first t.at_hand × IsQuietBut clues known rows t.at_hand cell) × EachQuiet clues known rows first t.behind t.cells
 quiet_at clues known rows first s t cell q on =
@@ -207,11 +201,9 @@ ready_at clues known rows first facts cell lines is s q names = record {
 
 -- where a look goes on, nothing changed, or what waits now are branches of closed facts
 pub quiet_goes : (clues : Clues) (known first : List (List ℕ)) (rows : Lines) (s t : Search) (before after : Budget) → SameShape first s.at_hand → ShowOthers known rows s.at_hand → EachQuiet clues known rows first s.behind s.cells → Steps clues known s t before after None → EachQuiet clues known rows first t.behind t.cells
-quiet_goes clues known first rows s t before after shape others q (inl h) =
-    subst (λ (x : Search). EachQuiet clues known rows first x.behind x.cells) (sym h.1.0) q
+quiet_goes clues known first rows s t before after shape others q (inl h) = rw h.1.0 q
 quiet_goes clues known first rows s t before after shape others q (inr h) =
     let to = h.0.comes.0 in
     let at = h.0.comes.1.is in
     let cell = h.0.cell in
-    let P : Search → Type 0 = λ x. EachQuiet clues known rows first x.behind x.cells in
-    subst P (sym h.0.new_is) (each_branch clues known rows first h.0.settled cell.row cell.col (cell_at h.0.settled cell.row cell.col) s.behind s.cells (shape_trans shape to.least.holds.same_shape) to.least.closed to.fits at.in_rows at.in_columns (above_first h.0.settled cell h.0.comes.1) (others_settled clues known s.at_hand h.0.settled rows to.least.holds to.fits others) at.unsettled q)
+    rw h.0.new_is (each_branch clues known rows first h.0.settled cell.row cell.col (cell_at h.0.settled cell.row cell.col) s.behind s.cells (shape_trans shape to.least.holds.same_shape) to.least.closed to.fits at.in_rows at.in_columns (above_first h.0.settled cell h.0.comes.1) (others_settled clues known s.at_hand h.0.settled rows to.least.holds to.fits others) at.unsettled q)

@@ -19,10 +19,11 @@ use Rattle.line_settle.specs.GridLaws.{cell_on, same_has_line, shape_refl, shape
 use Rattle.line_settle.specs.MaskLaws.{without_bit}
 use Rattle.fixpoint.specs.Closing.{EachFits, HasDeadLine}
 use Rattle.second_search.proofs.GridLemmas.{both_or_not, set_each}
-use Rattle.second_search.proofs.GrowLemmas.{line_named, place_inside}
-use Rattle.second_search.proofs.PickLemmas.{find_below, same_list}
+use Rattle.second_search.proofs.GrowLemmas.{line_named}
+use Rattle.second_search.proofs.PickLemmas.{find_below, same_list, Below, OrNot, some_below}
 use Rattle.second_search.proofs.WeightLemmas.{weight, weight_with_cell}
 use Rattle.clues.specs.Clue.{block, clue_of}
+use Rattle.line_settle.specs.AlongLaws.{place_on}
 
 -- ---- equal or not
 
@@ -142,7 +143,7 @@ record IsForced (clue : List Block) (left : List ℕ) (i k : ℕ) : Type 0 where
   forces : Forces clue left i k
 
 abbrev ForcesSome : List Block → List ℕ → Type 0
-ForcesSome clue left = (i : ℕ) × ((i < length left) × ((k : ℕ) × ((k < 16) × IsForced clue left i k)))
+ForcesSome clue left = Below (λ i. Below (IsForced clue left i) 16) (length left)
 
 forced_or_not : (clue : List Block) (left : List ℕ) (i k : ℕ) → AreSmall left → IsForced clue left i k ⊎ (IsForced clue left i k → ⊥)
 forced_or_not clue left i k small = elim (bit_or_not (get_or left i 0) k) [
@@ -153,17 +154,9 @@ forced_or_not clue left i k small = elim (bit_or_not (get_or left i 0) k) [
   ]
 ]
 
-forces_or_not : (clue : List Block) (left : List ℕ) → AreSmall left → ForcesSome clue left ⊎ (ForcesSome clue left → ⊥)
-forces_or_not clue left small = elim (find_below (λ i. (k : ℕ) × ((k < 16) × IsForced clue left i k)) at_place (length left)) [
-  | inl found ↦ inl found
-  | inr none ↦ inr (λ f. none f.0 f.1.0 f.1.1)
-]
-  where
-    at_place : (i : ℕ) → ((k : ℕ) × ((k < 16) × IsForced clue left i k)) ⊎ ((k : ℕ) × ((k < 16) × IsForced clue left i k) → ⊥)
-    at_place i = elim (find_below (λ k. IsForced clue left i k) (λ k. forced_or_not clue left i k small) 16) [
-      | inl found ↦ inl found
-      | inr none ↦ inr (λ f. none f.0 f.1.0 f.1.1)
-    ]
+forces_or_not : (clue : List Block) (left : List ℕ) → AreSmall left → OrNot (ForcesSome clue left)
+forces_or_not clue left small = some_below (λ i. Below (IsForced clue left i) 16)
+    (λ i. some_below (IsForced clue left i) (λ k. forced_or_not clue left i k small) 16) (length left)
 
 closed_line : (clue : List Block) (left : List ℕ) → AreSmall left → (ForcesSome clue left → ⊥) → IsClosedLine clue left
 closed_line clue left small none i k s = elim (have_or_not clue left i k small) [
@@ -206,22 +199,26 @@ less_is_less mask k m l s =
       | inr d ↦ omega arith
     ]
 
+pub facts_like : (a b : List (List ℕ)) → IsFacts a → SameShape a b → ((i j : ℕ) → cell_at b i j < 2 ^ 16) → IsFacts b
+facts_like a b is s masks =
+    let wide = s.each 0 in
+    record {
+      has_row = omega arith;
+      rows_fit = omega arith;
+      has_column = omega arith;
+      columns_fit = omega arith;
+      rectangular = λ i m. (let x = is.rectangular i (omega arith) in let y = s.each i in omega arith);
+      masks = masks;
+    }
+
 -- facts with a smaller mask in a cell are facts
 lower : (facts : List (List ℕ)) (row col x : ℕ) → row < length facts → col < length (row_at facts row) → x ≤ cell_at facts row col → (r c : ℕ) → cell_at (with_cell facts row col x) r c ≤ cell_at facts r c
 lower facts row col x h wide le = set_each facts row col x h wide (λ r c y. y ≤ cell_at facts r c) le (λ r c d. omega arith)
 
 pub facts_lower : (facts : List (List ℕ)) (row col x : ℕ) → IsFacts facts → row < length facts → col < width_of facts → x ≤ cell_at facts row col → IsFacts (with_cell facts row col x)
 facts_lower facts row col x is h w le =
-    let shape = shape_with_cell facts row col x in
     let small = lower facts row col x h (omega arith) le in
-    record {
-      has_row = (let a = is.has_row in omega arith);
-      rows_fit = (let a = is.rows_fit in omega arith);
-      has_column = (let a = is.has_column in omega arith);
-      columns_fit = (let a = is.columns_fit in omega arith);
-      rectangular = λ i m. (let a = is.rectangular i (omega arith) in let b = shape.each i in omega arith);
-      masks = λ i j. (let a = is.masks i j in let b = small i j in omega arith);
-    }
+    facts_like facts (with_cell facts row col x) is (shape_with_cell facts row col x) (λ i j. (let a = is.masks i j in let b = small i j in omega arith))
 
 abbrev with_less : List (List ℕ) → ℕ → ℕ → ℕ → List (List ℕ)
 with_less facts row col k = with_cell facts row col (less (cell_at facts row col) k)
@@ -272,9 +269,8 @@ force_one clues base facts line i k a has l small forced =
     let is = a.are_facts in
     let row = row_on line.axis line.at i in
     let col = col_on line.axis line.at i in
-    let place = place_inside facts line.axis line.at i is has l in
-    let M : ℕ → Type 0 = λ m. IsBitSet m k in
-    let s : Leaves facts row col k = subst M (cell_on facts line i) forced.is_left in
+    let place = place_on facts line i is has l in
+    let s : Leaves facts row col k = rw (cell_on facts line i) at forced.is_left in
     let more = with_less facts row col k in (
       more,
       (
@@ -288,7 +284,7 @@ force_one clues base facts line i k a has l small forced =
                 same_shape = shape_trans (shape_sym (shape facts row col k is place.0 place.1 small)) in_facts.same_shape;
                 leaves = λ r c j t. left_then facts row col k is place.0 place.1 small r c j (in_facts.leaves r c j t) (λ e.
                     let here : Leaves others row col k = subst (λ (x : ℕ). Leaves others row col x) e.1.1 (subst (λ (x : ℕ). Leaves others row x j) e.1.0 (subst (λ (x : ℕ). Leaves others x c j) e.0 t)) in
-                    let on : IsBitSet (get_or (line_of others line) i 0) k = subst M (sym (cell_on others line i)) here in
+                    let on : IsBitSet (get_or (line_of others line) i 0) k = rw (cell_on others line i) here in
                     let have = closed line (same_has_line facts others line in_facts.same_shape has) i k on in
                     forced.forces (tighter_have (clue_at clues line) (line_of facts line) (line_of others line) (within_tighter facts others in_facts line) i k have));
               };

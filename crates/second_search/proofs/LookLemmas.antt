@@ -38,15 +38,12 @@ shape_shown facts picture row col colour s = shape_trans (shape_sym (shape_with_
 pub more_shown : (facts picture : List (List ℕ)) (row col colour : ℕ) → IsFacts facts → SameShape picture facts → row < length facts → col < width_of facts → IsOnly (cell_at facts row col) colour → ((c : ℕ) → c < col → IsOnly (cell_at facts row c) (cell_at picture row c)) → (c : ℕ) → c < col + 1 → IsOnly (cell_at facts row c) (cell_at (with_cell picture row col colour) row c)
 more_shown facts picture row col colour is s h l only before = below_next (λ c. IsOnly (cell_at facts row c) (cell_at (with_cell picture row col colour) row c)) col
     (λ c m.
-    let P : ℕ → Type 0 = λ x. IsOnly (cell_at facts row c) x in
-    subst P (sym (off_with_cell picture row col colour row c (λ p. absurd (let e = p.1 in omega arith)))) (before c m))
+    rw (off_with_cell picture row col colour row c (λ p. absurd (let e = p.1 in omega arith))) (before c m))
     (let P : ℕ → Type 0 = λ x. IsOnly (cell_at facts row col) x in
     subst P (sym (at_with_cell picture row col colour (omega arith) (omega arith))) only)
 
 pub others_shown : (first picture : List (List ℕ)) (row col colour : ℕ) → ((r c : ℕ) → (r ≡ row → ⊥) → cell_at picture r c ≡ cell_at first r c) → (r c : ℕ) → (r ≡ row → ⊥) → cell_at (with_cell picture row col colour) r c ≡ cell_at first r c
 others_shown first picture row col colour h r c n = off_with_cell picture row col colour r c (λ p. n p.0) ∙ h r c n
-
--- ---- one more row shown
 
 -- ---- the picture shown
 

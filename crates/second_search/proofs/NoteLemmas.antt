@@ -16,9 +16,6 @@ use Rattle.line_settle.specs.MaskLaws.{lowest_below, shifted}
 use Rattle.line_settle.specs.Branches.{branches, colours_of, held}
 use Rattle.second_search.proofs.GridLemmas.{cell_back}
 
-has : ℕ → ℕ → Bool
-has mask k = bit_at mask k == 1
-
 abbrev from : ℕ → ℕ → ℕ → List ℕ
 from mask k n = filter (λ j. bit_at mask j == 1) (range_with_len k n)
 
@@ -95,23 +92,19 @@ holds s facts new notes more cell mask v is h w m n e =
     let front = ap (λ (x : Search). x.at_hand) v in
     let tall = ap length front in
     let wide = ap width_of front in
-    let P : List (List ℕ) → Type 0 = λ x. search_of x (waiting x (reverse more)) (cells_held (reverse more)) ≡ search_of (with_cell s.at_hand cell.row cell.col mask) s.behind s.cells in
     let back : with_cell (with_cell facts cell.row cell.col mask) cell.row cell.col cell.mask ≡ facts =
     ap (λ x. with_cell (with_cell facts cell.row cell.col mask) cell.row cell.col x) m ∙ cell_back facts cell.row cell.col mask (omega arith) (omega arith) in
     let held_to = with_cell facts cell.row cell.col mask in
     let behind : waiting held_to (reverse more) ≡ s.behind =
     ap (waiting held_to) (newest notes more (Restore cell) e) ∙ (ap (λ x. waiting x (reverse notes)) back ∙ ap (λ (x : Search). x.behind) v) in
     let cells : cells_held (reverse more) ≡ s.cells = ap cells_held (newest notes more (Restore cell) e) ∙ ap (λ (x : Search). x.cells) v in
-    subst P (sym n) (ap (λ (x : List (List (List ℕ))). search_of held_to x (cells_held (reverse more))) behind
+    rw n (ap (λ (x : List (List (List ℕ))). search_of held_to x (cells_held (reverse more))) behind
     ∙ (ap (λ (x : List Cell). search_of held_to s.behind x) cells
     ∙ ap (λ (x : List (List ℕ)). search_of (with_cell x cell.row cell.col mask) s.behind s.cells) front))
 
 -- no colours make no branches
 pub no_branches : (s : Search) (row col mask : ℕ) → mask ≡ 0 → s ≡ search_of s.at_hand (branches s.at_hand row col mask ++ s.behind) (places row col mask ++ s.cells)
 no_branches s row col mask e = ap (λ xs. search_of s.at_hand (held s.at_hand row col xs ++ s.behind) (map (λ (k : ℕ). place row col) xs ++ s.cells)) (sym (ap colours_of e ∙ no_colours))
-
-first_branch : (facts : List (List ℕ)) (row col mask : ℕ) → 0 < mask → mask < 2 ^ 16 → branches facts row col mask ≡ with_cell facts row col (2 ^ trailing_zeros w16 mask) ∷ branches facts row col (bit_and mask (bit_not w16 (1 * 2 ^ trailing_zeros w16 mask % 65536)))
-first_branch facts row col mask p q = ap (held facts row col) (lowest_colour mask p q)
 
 -- the first branch begun, and the others put before what waits
 pub begins : (s t u : Search) (row col mask lowest rest : ℕ) → 0 < mask → mask < 2 ^ 16 → lowest ≡ 1 * 2 ^ trailing_zeros w16 mask % 65536 → rest ≡ bit_and mask (bit_not w16 lowest) → t ≡ search_of s.at_hand (branches s.at_hand row col rest ++ s.behind) (places row col rest ++ s.cells) → u ≡ search_of (with_cell t.at_hand row col lowest) t.behind t.cells → branches s.at_hand row col mask ++ s.behind ≡ u.at_hand ∷ u.behind
@@ -120,20 +113,17 @@ begins s t u row col mask lowest rest p q l r et eu =
     let others : bit_and mask (bit_not w16 (1 * 2 ^ trailing_zeros w16 mask % 65536)) ≡ rest = ap (λ n. bit_and mask (bit_not w16 n)) (sym l) ∙ sym r in
     let front : with_cell s.at_hand row col lowest ≡ u.at_hand = sym (ap (λ (x : Search). x.at_hand) eu ∙ ap (λ (x : Search). with_cell x.at_hand row col lowest) et) in
     let behind : branches s.at_hand row col rest ++ s.behind ≡ u.behind = sym (ap (λ (x : Search). x.behind) eu ∙ ap (λ (x : Search). x.behind) et) in
-    ap (λ xs. xs ++ s.behind) (first_branch s.at_hand row col mask p q)
+    ap (λ xs. xs ++ s.behind) (ap (held s.at_hand row col) (lowest_colour mask p q))
     ∙ (ap (λ n. with_cell s.at_hand row col n ∷ (branches s.at_hand row col (bit_and mask (bit_not w16 (1 * 2 ^ trailing_zeros w16 mask % 65536))) ++ s.behind)) power
     ∙ (ap (λ n. with_cell s.at_hand row col lowest ∷ (branches s.at_hand row col n ++ s.behind)) others
     ∙ (ap (λ x. x ∷ (branches s.at_hand row col rest ++ s.behind)) front ∙ ap (λ xs. u.at_hand ∷ xs) behind)))
-
-first_place : (row col mask : ℕ) → 0 < mask → mask < 2 ^ 16 → places row col mask ≡ place row col ∷ places row col (bit_and mask (bit_not w16 (1 * 2 ^ trailing_zeros w16 mask % 65536)))
-first_place row col mask p q = ap (λ (xs : List ℕ). map (λ (k : ℕ). place row col) xs) (lowest_colour mask p q)
 
 -- its cell is the one held
 pub begins_held : (s t u : Search) (row col mask lowest rest : ℕ) → 0 < mask → mask < 2 ^ 16 → lowest ≡ 1 * 2 ^ trailing_zeros w16 mask % 65536 → rest ≡ bit_and mask (bit_not w16 lowest) → t ≡ search_of s.at_hand (branches s.at_hand row col rest ++ s.behind) (places row col rest ++ s.cells) → u ≡ search_of (with_cell t.at_hand row col lowest) t.behind t.cells → places row col mask ++ s.cells ≡ place row col ∷ u.cells
 begins_held s t u row col mask lowest rest p q l r et eu =
     let others : bit_and mask (bit_not w16 (1 * 2 ^ trailing_zeros w16 mask % 65536)) ≡ rest = ap (λ n. bit_and mask (bit_not w16 n)) (sym l) ∙ sym r in
     let cells : places row col rest ++ s.cells ≡ u.cells = sym (ap (λ (x : Search). x.cells) eu ∙ ap (λ (x : Search). x.cells) et) in
-    ap (λ xs. xs ++ s.cells) (first_place row col mask p q)
+    ap (λ xs. xs ++ s.cells) (ap (λ (xs : List ℕ). map (λ (k : ℕ). place row col) xs) (lowest_colour mask p q))
     ∙ (ap (λ n. place row col ∷ (places row col n ++ s.cells)) others ∙ ap (λ xs. place row col ∷ xs) cells)
 
 -- a branch with no colours left is none

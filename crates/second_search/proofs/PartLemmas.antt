@@ -22,9 +22,11 @@ use Rattle.fixpoint.specs.Filling.{Fills, only}
 use Rattle.fixpoint.specs.Laws.{OnlyIsClosed}
 use Rattle.second_search.specs.Laws.{FillingsAreOfFacts, PartsAreApart, PartsDecide}
 use Rattle.second_search.specs.Parts.{AreParts, GoesThrough, IsBefore, IsOpenCell, IsOtherFilling, IsPart, IsScene, goes_on, part_at, picked}
-use Rattle.second_search.proofs.ChainLemmas.{bit_or_not, chain_back, chain_end, chain_on, none_has_two}
+use Rattle.second_search.proofs.ChainLemmas.{chain_back, chain_end, chain_on, none_has_two}
 use Rattle.second_search.proofs.GrowLemmas.{on_one_line}
-use Rattle.second_search.proofs.PickLemmas.{clue_known, differing_cell, find_below, off_part, on_cells, outside_is_0, rect_like, same_along, same_clues, same_count, same_len, shape_back, shape_of_picked, shape_on}
+use Rattle.second_search.proofs.PickLemmas.{clue_known, differing_cell, find_below, off_part, on_cells, outside_is_0, rect_like, same_along, same_clues, same_count, shape_of_picked}
+use Rattle.line_settle.specs.GridLaws.{shape_sym, shape_trans, same_line_length}
+use Rattle.picture.specs.BitLaws.{bit_or_not}
 
 -- ---- parts
 
@@ -76,7 +78,6 @@ pub picked_picture : (cells : List ℕ) (one other : List (List ℕ)) → ((row 
 picked_picture cells one other few q on =
     let t = shape_of_picked cells one other q.rectangular in
     let first : width_of (picked cells one other) ≡ width_of other = t.each 0 in
-    let P : ℕ → Type 0 = λ n. n < MAX_COLOURS in
     record {
       has_row = omega arith;
       rows_fit = omega arith;
@@ -84,8 +85,8 @@ picked_picture cells one other few q on =
       columns_fit = omega arith;
       rectangular = λ i l. t.each i ∙ (q.rectangular i (omega arith) ∙ sym first);
       colours = λ i j. elim (bit_or_not (slice_index cells i) j) [
-        | inl h ↦ subst P (sym (on i j h)) (few i j)
-        | inr n ↦ subst P (sym (off_part cells one other i j q.rectangular n)) (q.colours i j)
+        | inl h ↦ rw (on i j h) (few i j)
+        | inr n ↦ rw (off_part cells one other i j q.rectangular n) (q.colours i j)
       ];
     }
 
@@ -153,19 +154,19 @@ one_filling of_lines books members clues givens facts picture other cells row co
     let rect = s.is_picture.rectangular in
     let shape = shape_of_picked cells other picture rect in
     let of_other = solved_shape o.solves in
-    let like_other = shape_on new picture other shape (shape_back other picture of_other) in
+    let like_other = shape_trans shape (shape_sym of_other) in
     let on : (r c : ℕ) → HasCell cells r c → cell_at new r c ≡ cell_at other r c = λ r c x. on_cells cells other picture r c rect of_other x in
     let off : (r c : ℕ) → (HasCell cells r c → ⊥) → cell_at new r c ≡ cell_at picture r c = λ r c n. off_part cells other picture r c rect n in
     let clue : (line : LineId) → HasLine new line → clue_of (line_of new line) ≡ clue_of (line_of picture line) = λ line has. elim (through_or_not cells line members p.from.set) [
       | inl t ↦
-          let same = same_along new other line.axis line.at (same_len new other like_other line.axis line.at) (λ r c at. elim (bit_or_not (slice_index cells r) c) [
+          let same = same_along new other line.axis line.at (sym (same_line_length new other line like_other)) (λ r c at. elim (bit_or_not (slice_index cells r) c) [
             | inl x ↦ on r c x
             | inr n ↦ off r c n ∙ sym (same_off_part clues givens facts picture other cells line r c s p o.solves t at n)
           ]) in
           let n = same_count new other like_other line.axis in
           let m = same_count new picture shape line.axis in
           ap clue_of same ∙ (clue_known of_lines clues other line o.solves.has_clues (omega arith) ∙ sym (clue_known of_lines clues picture line s.has_clues (omega arith)))
-      | inr none ↦ ap clue_of (same_along new picture line.axis line.at (same_len new picture shape line.axis line.at) (λ r c at. off r c (λ x. none (record { row = r; col = c; has = x; on_line = at }))))
+      | inr none ↦ ap clue_of (same_along new picture line.axis line.at (sym (same_line_length new picture line shape)) (λ r c at. off r c (λ x. none (record { row = r; col = c; has = x; on_line = at }))))
     ] in
     record {
       is_other = record {
@@ -201,25 +202,24 @@ facts_filled closed clues givens facts picture other cells s =
     let alone = only picture in
     let like = closed.same_shape picture in
     let rect = rect_like picture alone like s.is_picture.rectangular in
-    let facts_like = shape_on facts picture alone (shape_back picture facts s.sound.same_shape) like in
+    let facts_like = shape_trans (shape_sym s.sound.same_shape) like in
     let shape = shape_of_picked cells facts alone rect in
     let on : (r c : ℕ) → HasCell cells r c → cell_at (picked cells facts alone) r c ≡ cell_at facts r c = λ r c x. on_cells cells facts alone r c rect facts_like x in
     let off : (r c : ℕ) → (HasCell cells r c → ⊥) → cell_at (picked cells facts alone) r c ≡ cell_at alone r c = λ r c n. off_part cells facts alone r c rect n in (
       (λ f. (
         record {
           is_picture = f.is_other.solves.is_picture;
-          same_shape = shape_on other picture (picked cells facts alone) (solved_shape f.is_other.solves) (shape_on picture alone (picked cells facts alone) like (shape_back (picked cells facts alone) alone shape));
+          same_shape = shape_trans (solved_shape f.is_other.solves) (shape_trans like (shape_sym shape));
           has_clues = f.is_other.solves.has_clues;
           leaves = λ r c l.
-              let P : ℕ → Type 0 = λ m. IsBitSet m (cell_at other r c) in
               elim (bit_or_not (slice_index cells r) c) [
-                | inl x ↦ subst P (sym (on r c x)) (s.sound.leave other f.is_other.solves r c l)
-                | inr n ↦ subst P (sym (off r c n)) ((closed.leaves picture r c (cell_at other r c)).1 (omega arith, f.elsewhere r c n))
+                | inl x ↦ rw (on r c x) (s.sound.leave other f.is_other.solves r c l)
+                | inr n ↦ rw (off r c n) ((closed.leaves picture r c (cell_at other r c)).1 (omega arith, f.elsewhere r c n))
               ];
         },
         f.is_other.differs,
       )),
-      (λ x. filled_back clues givens facts picture other cells s closed alone (shape_on other (picked cells facts alone) picture x.0.same_shape (shape_on (picked cells facts alone) alone picture shape (shape_back picture alone like))) on off x.0 x.1),
+      (λ x. filled_back clues givens facts picture other cells s closed alone (shape_trans x.0.same_shape (shape_trans shape (shape_sym like))) on off x.0 x.1),
     )
   where
     filled_back : (clues : Clues) (givens : List ℕ) (facts picture other : List (List ℕ)) (cells : List ℕ) → IsScene clues givens facts picture → OnlyIsClosed → (alone : List (List ℕ)) → SameShape other picture
@@ -227,9 +227,8 @@ facts_filled closed clues givens facts picture other cells s =
         → Fills clues (picked cells facts (only picture)) other → (other ≡ picture → ⊥) → IsOtherFilling clues givens picture cells other
     filled_back clues givens facts picture other cells s closed alone same on off fills d =
         let elsewhere : (r c : ℕ) → (HasCell cells r c → ⊥) → cell_at other r c ≡ cell_at picture r c = λ r c n.
-        let P : ℕ → Type 0 = λ m. IsBitSet m (cell_at other r c) in
         elim (cases_lt c (length (row_at other r))) [
-          | inl l ↦ ((closed.leaves picture r c (cell_at other r c)).0 (subst P (off r c n) (fills.leaves r c l))).1
+          | inl l ↦ ((closed.leaves picture r c (cell_at other r c)).0 (rw (off r c n) at (fills.leaves r c l))).1
           | inr p ↦ outside_is_0 other r c p ∙ sym (outside_is_0 picture r c (omega arith))
         ] in
         record {
@@ -242,9 +241,8 @@ facts_filled closed clues givens facts picture other cells s =
               keeps_givens = λ r c g. elim (bit_or_not (slice_index cells r) c) [
                 | inr n ↦ elsewhere r c n
                 | inl x ↦
-                    let P : ℕ → Type 0 = λ m. IsBitSet m (cell_at other r c) in
                     elim (cases_lt c (length (row_at other r))) [
-                      | inl l ↦ s.sound.hold_givens r c (cell_at other r c) g (subst P (on r c x) (fills.leaves r c l))
+                      | inl l ↦ s.sound.hold_givens r c (cell_at other r c) g (rw (on r c x) at (fills.leaves r c l))
                       | inr p ↦ outside_is_0 other r c p ∙ sym (outside_is_0 picture r c (omega arith))
                     ]
               ];

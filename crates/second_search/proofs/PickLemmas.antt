@@ -15,6 +15,7 @@ use Rattle.clues.specs.ClueBook.{Clues, clue_at, clues_of}
 use Rattle.clues.specs.Laws.{BooksAreTheirClues, CluesAreOfLines, IsAtPlace}
 use Rattle.line_settle.specs.FactSets.{SameShape}
 use Rattle.second_search.specs.Parts.{picked, picked_cell, picked_row}
+use Rattle.second_search.proofs.GridLemmas.{same_grid}
 
 -- ---- equal or not
 
@@ -50,21 +51,20 @@ find_below P by n = elim (first_below P by n) [
   | inr none ↦ inr none
 ]
 
+abbrev pub OrNot : Type 0 → Type 0
+OrNot A = A ⊎ (A → ⊥)
+
+abbrev pub Below : (ℕ → Type 0) → ℕ → Type 0
+Below P n = (i : ℕ) × ((i < n) × P i)
+
+pub some_below : (P : ℕ → Type 0) → ((i : ℕ) → P i ⊎ (P i → ⊥)) → (n : ℕ) → OrNot (Below P n)
+some_below P by n = elim (find_below P by n) [ inl found ↦ inl found | inr none ↦ inr (λ f. none f.0 f.1.0 f.1.1) ]
+
 -- ---- shapes
-
-pub shape_back : (a b : List (List ℕ)) → SameShape a b → SameShape b a
-shape_back a b s = record { rows = sym s.rows; each = λ i. sym (s.each i) }
-
-pub shape_on : (a b c : List (List ℕ)) → SameShape a b → SameShape b c → SameShape a c
-shape_on a b c s t = record { rows = s.rows ∙ t.rows; each = λ i. s.each i ∙ t.each i }
 
 -- cells outside a grid are 0
 pub outside_is_0 : (a : List (List ℕ)) (row col : ℕ) → length (row_at a row) ≤ col → cell_at a row col ≡ 0
 outside_is_0 a row col p = get_or_past (row_at a row) col 0 p
-
--- grids of one shape with the same cells are one
-pub same_cells : (a b : List (List ℕ)) → SameShape a b → ((row col : ℕ) → cell_at a row col ≡ cell_at b row col) → a ≡ b
-same_cells a b s h = ext_get_or [] a b s.rows (λ r _. ext_get_or 0 (row_at a r) (row_at b r) (s.each r) (λ c _. h r c))
 
 -- a rectangle: each row is as long as the first
 abbrev pub IsRectangle : List (List ℕ) → Type 0
@@ -133,16 +133,14 @@ on_cells cells one other row col rect s h =
     ]
 
 -- a place at which two grids of one shape differ
-differs_in_row : (a b : List (List ℕ)) (row : ℕ) → ((col : ℕ) × ((col < length (row_at b row)) × (cell_at a row col ≢ cell_at b row col))) ⊎ ((col : ℕ) × ((col < length (row_at b row)) × (cell_at a row col ≢ cell_at b row col)) → ⊥)
-differs_in_row a b row = elim (find_below (λ col. cell_at a row col ≢ cell_at b row col) (λ col. elim (cases_eq (cell_at a row col) (cell_at b row col)) [ inl e ↦ inr (λ d. d e) | inr d ↦ inl d ]) (length (row_at b row))) [
-  | inl found ↦ inl found
-  | inr none ↦ inr (λ x. none x.0 x.1.0 x.1.1)
-]
+differs_in_row : (a b : List (List ℕ)) (row : ℕ) → OrNot (Below (λ col. cell_at a row col ≢ cell_at b row col) (length (row_at b row)))
+differs_in_row a b row = some_below (λ col. cell_at a row col ≢ cell_at b row col)
+    (λ col. elim (cases_eq (cell_at a row col) (cell_at b row col)) [ inl e ↦ inr (λ d. d e) | inr d ↦ inl d ]) (length (row_at b row))
 
 pub differing_cell : (a b : List (List ℕ)) → SameShape a b → (a ≡ b → ⊥) → (row : ℕ) × ((col : ℕ) × (cell_at a row col ≢ cell_at b row col))
 differing_cell a b s d = elim (find_below (λ row. (col : ℕ) × ((col < length (row_at b row)) × (cell_at a row col ≢ cell_at b row col))) (differs_in_row a b) (length b)) [
   | inl found ↦ (found.0, (found.1.1.0, found.1.1.1.1))
-  | inr none ↦ absurd (d (same_cells a b s (λ row col.
+  | inr none ↦ absurd (d (same_grid a b s (λ row col.
       elim (cases_lt col (length (row_at b row))) [
         | inr p ↦ outside_is_0 a row col (omega arith) ∙ sym (outside_is_0 b row col p)
         | inl m ↦ elim (cases_eq (cell_at a row col) (cell_at b row col)) [
@@ -158,10 +156,6 @@ pub same_count : (a b : List (List ℕ)) → SameShape a b → (axis : Axis) →
 same_count a b s Across = s.rows
 same_count a b s Down = s.each 0
 
-pub same_len : (a b : List (List ℕ)) → SameShape a b → (axis : Axis) (at : ℕ) → length (line_along axis at a) ≡ length (line_along axis at b)
-same_len a b s Across at = s.each at
-same_len a b s Down at = length-map a (λ (row : List ℕ). get_or row at 0) ∙ (s.rows ∙ sym (length-map b (λ (row : List ℕ). get_or row at 0)))
-
 -- lines of one length with the same cells are one
 pub same_along : (a b : List (List ℕ)) (axis : Axis) (at : ℕ) → length (line_along axis at a) ≡ length (line_along axis at b) → ((row col : ℕ) → IsAtPlace axis at row col → cell_at a row col ≡ cell_at b row col) → line_along axis at a ≡ line_along axis at b
 same_along a b Across at e h = ext_get_or 0 (row_at a at) (row_at b at) e (λ c _. h at c refl)
@@ -173,8 +167,7 @@ same_along a b Down at e h =
 
 -- the cells of lines that are one
 pub cells_along : (a b : List (List ℕ)) (axis : Axis) (at row col : ℕ) → line_along axis at a ≡ line_along axis at b → IsAtPlace axis at row col → cell_at a row col ≡ cell_at b row col
-cells_along a b Across at row col e on =
-    subst (λ (x : ℕ). cell_at a x col ≡ cell_at b x col) (sym on) (ap (λ (xs : List ℕ). get_or xs col 0) e)
+cells_along a b Across at row col e on = rw on (ap (λ (xs : List ℕ). get_or xs col 0) e)
 cells_along a b Down at row col e on =
     subst (λ (y : ℕ). cell_at a row y ≡ cell_at b row y) (sym on) (sym (read_down a at row) ∙ (ap (λ (xs : List ℕ). get_or xs row 0) e ∙ read_down b at row))
   where

@@ -28,8 +28,7 @@ grown_rows facts parts row a here = record {
   ordered = a.ordered;
   above = λ i r c l p. let b = a.above i r c l p in omega arith;
   all = λ r c l o. elim (cases_eq r row) [
-    | inl e ↦
-        subst (λ (x : ℕ). HoldsCell parts x c) (sym e) (here c (subst (λ (x : ℕ). IsOpenCell facts x c) e o))
+    | inl e ↦ rw e (here c (subst (λ (x : ℕ). IsOpenCell facts x c) e o))
     | inr d ↦ a.all r c (omega arith) o
   ];
 }

@@ -12,9 +12,11 @@ use Rattle.clues.specs.Laws.{BooksAreTheirClues, CluesAreOfLines, IsOnLine}
 use Rattle.line_settle.specs.SolutionLaws.{solved_shape}
 use Rattle.second_search.specs.Laws.{FillingsStay}
 use Rattle.second_search.specs.Parts.{GoesThrough, HasTwoColours, IsChained, IsOpenCell, IsOtherFilling, IsPart, IsScene, KeepsLines, ShareLine, begins, goes_on, picked}
-use Rattle.second_search.proofs.ChainLemmas.{bit_or_not}
 use Rattle.second_search.proofs.PartLemmas.{part_open, picked_picture, through_or_not}
-use Rattle.second_search.proofs.PickLemmas.{cells_along, clue_known, off_part, on_part, same_along, same_cells, same_clues, same_count, same_len, shape_of_picked}
+use Rattle.second_search.proofs.PickLemmas.{cells_along, clue_known, off_part, on_part, same_along, same_clues, same_count, shape_of_picked}
+use Rattle.second_search.proofs.GridLemmas.{same_grid}
+use Rattle.picture.specs.BitLaws.{bit_or_not}
+use Rattle.line_settle.specs.GridLaws.{same_line_length}
 
 -- the row and the column of a cell
 abbrev row_through : ℕ → LineId
@@ -29,9 +31,6 @@ in_row cells row col h = record { row = row; col = col; has = h; on_line = refl 
 in_column : (cells : List ℕ) (row col : ℕ) → HasCell cells row col → GoesThrough (column_through col) cells
 in_column cells row col h = record { row = row; col = col; has = h; on_line = refl }
 
-open_by : (m n : ℕ) → m ≡ n → HasTwoColours m → HasTwoColours n
-open_by m n e h = subst HasTwoColours e h
-
 -- ---- the part
 
 module _ (clues clues_after : Clues) (facts picture facts_after picture_after : List (List ℕ)) (cells : List ℕ) where
@@ -42,11 +41,11 @@ module _ (clues clues_after : Clues) (facts picture facts_after picture_after : 
   shown_same k line row col t on = cells_along picture picture_after line.axis line.at row col (k line t).shown on
 
   open_after : KeepsLines clues facts picture clues_after facts_after picture_after cells → (row col : ℕ) → HasCell cells row col → IsOpenCell facts row col → IsOpenCell facts_after row col
-  open_after k row col h o = open_by (cell_at facts row col) (cell_at facts_after row col) (left_same k (row_through row) row col (in_row cells row col h) refl) o
+  open_after k row col h o = subst HasTwoColours (left_same k (row_through row) row col (in_row cells row col h) refl) o
 
   open_before : KeepsLines clues facts picture clues_after facts_after picture_after cells → (r c s d : ℕ) → HasCell cells r c → ShareLine r c s d → IsOpenCell facts_after s d → IsOpenCell facts s d
-  open_before k r c s d h (inl e) o = open_by (cell_at facts_after s d) (cell_at facts s d) (sym (left_same k (row_through r) s d (in_row cells r c h) (sym e))) o
-  open_before k r c s d h (inr e) o = open_by (cell_at facts_after s d) (cell_at facts s d) (sym (left_same k (column_through c) s d (in_column cells r c h) (sym e))) o
+  open_before k r c s d h (inl e) o = subst HasTwoColours (sym (left_same k (row_through r) s d (in_row cells r c h) (sym e))) o
+  open_before k r c s d h (inr e) o = subst HasTwoColours (sym (left_same k (column_through c) s d (in_column cells r c h) (sym e))) o
 
   chain_after : KeepsLines clues facts picture clues_after facts_after picture_after cells → (row col : ℕ) → ((r c : ℕ) → IsChained facts row col r c → HasCell cells r c) → (r c : ℕ) → IsChained facts row col r c → IsChained facts_after row col r c
   chain_after k row col all _ _ (begins o) = begins (open_after k row col (all row col (begins o)) o)
@@ -93,14 +92,14 @@ module _ (of_lines : CluesAreOfLines) (books : BooksAreTheirClues) (members : Ce
       let clue : (line : LineId) → HasLine new line → clue_of (line_of new line) ≡ clue_of (line_of picture_after line) = λ line has. elim (through_or_not cells line members p.from.set) [
         | inl through ↦
             let same = k line through in
-            let long = same_len new picture_after shape line.axis line.at ∙ (ap length (sym same.shown) ∙ sym (same_len other picture like line.axis line.at)) in
+            let long = sym (same_line_length new picture_after line shape) ∙ (ap length (sym same.shown) ∙ same_line_length other picture line like) in
             let one = same_along new other line.axis line.at long (λ r c at. elim (bit_or_not (slice_index cells r) c) [
               | inl h ↦ on r c h
               | inr n ↦ off r c n ∙ (sym (shown line r c through at) ∙ sym (f.elsewhere r c n))
             ]) in
             let n = same_count other picture like line.axis in
             ap clue_of one ∙ (clue_known of_lines clues other line f.is_other.solves.has_clues (omega arith) ∙ (same.clue ∙ sym (clue_known of_lines clues_after picture_after line t.has_clues same.after)))
-        | inr none ↦ ap clue_of (same_along new picture_after line.axis line.at (same_len new picture_after shape line.axis line.at) (λ r c at. off r c (λ h. none (record { row = r; col = c; has = h; on_line = at }))))
+        | inr none ↦ ap clue_of (same_along new picture_after line.axis line.at (sym (same_line_length new picture_after line shape)) (λ r c at. off r c (λ h. none (record { row = r; col = c; has = h; on_line = at }))))
       ] in
       let after = part_after clues clues_after facts picture facts_after picture_after cells k p in
       record {
@@ -117,7 +116,7 @@ module _ (of_lines : CluesAreOfLines) (books : BooksAreTheirClues) (members : Ce
                   o.differ (t.sound.hold_givens r c o.one g o.has_one ∙ sym (t.sound.hold_givens r c o.other g o.has_other)))
             ];
           };
-          differs = λ e. f.is_other.differs (same_cells other picture like (λ r c. elim (bit_or_not (slice_index cells r) c) [
+          differs = λ e. f.is_other.differs (same_grid other picture like (λ r c. elim (bit_or_not (slice_index cells r) c) [
             | inl h ↦ sym (on r c h) ∙ (ap (λ x. cell_at x r c) e ∙ sym (shown (row_through r) r c (in_row cells r c h) refl))
             | inr n ↦ f.elsewhere r c n
           ]));

@@ -49,8 +49,8 @@ use Rattle.second_search.proofs.FindLemmas.{Among, AreAlike, alike_both, among_k
 use Rattle.second_search.proofs.EndLemmas.{shown_clues}
 use Rattle.second_search.proofs.LeastLemmas.{within_refl, within_trans}
 use Rattle.second_search.proofs.LookLemmas.{shown_fills}
-use Rattle.second_search.proofs.PickLemmas.{same_cells}
 use Rattle.second_search.proofs.WeightLemmas.{branches_lighter, load, load_append, load_more, weight, weight_within}
+use Rattle.second_search.proofs.GridLemmas.{same_grid}
 
 -- ---- lines behind lines
 
@@ -122,7 +122,7 @@ quiet_settles clues clue line facts new names l g changed none =
     let crosses : (other : LineId) → CrossesChange line (line_of facts line) (line_of new line) other → ⊥ =
     λ other c. no_names_has other (let Q : Names → Type 0 = λ n. HasName n other in subst Q none ((changed other).1 c)) in
     let on : (i : ℕ) → i < length (line_of facts line) → get_or (line_of facts line) i 0 ≡ get_or (line_of new line) i 0 = same_line (line_of facts line) (line_of new line) line (sym g.narrows.same_length) crosses in
-    let all : facts ≡ new = same_cells facts new g.same_shape (λ row col. elim (on_or_not line row col) [
+    let all : facts ≡ new = same_grid facts new g.same_shape (λ row col. elim (on_or_not line row col) [
       | inl o ↦
           let at : (rows : List (List ℕ)) → cell_at rows row col ≡ get_or (line_of rows line) o.0 0 =
           λ rows. ap (λ r. cell_at rows r col) o.1 ∙ (ap (λ c. cell_at rows (row_on line.axis line.at o.0) c) o.2 ∙ sym (cell_on rows line o.0)) in
@@ -243,7 +243,7 @@ split_back clues facts picture cell h f =
 
 -- a picture that fills facts which leave the known one's colours alone is the known one
 only_known : (clues : Clues) (known facts picture : List (List ℕ)) → SameShape known facts → ShowsOnly known facts → Fills clues facts picture → picture ≡ known
-only_known clues known facts picture s only f = same_cells picture known (shape_trans f.same_shape (shape_sym s)) (λ row col. elim (cases_lt col (length (row_at picture row))) [
+only_known clues known facts picture s only f = same_grid picture known (shape_trans f.same_shape (shape_sym s)) (λ row col. elim (cases_lt col (length (row_at picture row))) [
   | inl l ↦ only row col (cell_at picture row col) (f.leaves row col l)
   | inr p ↦
       get_or_past (row_at picture row) col 0 p ∙ sym (get_or_past (row_at known row) col 0 (omega arith))
@@ -252,11 +252,9 @@ only_known clues known facts picture s only f = same_cells picture known (shape_
 module _ (clues : Clues) (known : List (List ℕ)) where
   step_alike : (first facts : List (List ℕ)) (line : CertLine) (next : List (List (List ℕ))) → SameShape first facts → Stands clues known facts line next → AreAlike first next
   step_alike first facts (Line number) next e s =
-      let P : List (List (List ℕ)) → Type 0 = AreAlike first in
-      subst P (sym s.1.1.1) (shape_trans e s.1.1.0.gains.same_shape, tt)
+      rw s.1.1.1 (shape_trans e s.1.1.0.gains.same_shape, tt)
   step_alike first facts (Split cell) next e s =
-      let P : List (List (List ℕ)) → Type 0 = AreAlike first in
-      subst P (sym s.1.0) (held_alike first facts (cell.row - 1) (cell.col - 1) e (colours_of (cell_at facts (cell.row - 1) (cell.col - 1))))
+      rw s.1.0 (held_alike first facts (cell.row - 1) (cell.col - 1) e (colours_of (cell_at facts (cell.row - 1) (cell.col - 1))))
   step_alike first facts (Dead number) next e s = let P : List (List (List ℕ)) → Type 0 = AreAlike first in subst P (sym s.1.1) tt
   step_alike first facts Done next e s = let P : List (List (List ℕ)) → Type 0 = AreAlike first in subst P (sym s.1) tt
 
@@ -360,12 +358,11 @@ pub ends_turn : (clues : Clues) (known : List (List ℕ)) (old new : Growing) (l
 ends_turn clues known old new line s e adds =
     let same : new.pending.behind ≡ old.pending.behind = ap (λ (x : Search). x.behind) e in
     let light = ended_lighter old.pending.at_hand old.pending.behind in
-    let P : List (List (List ℕ)) → Type 0 = λ x. load x < load (old.pending.at_hand ∷ old.pending.behind) in
     record {
       lines = line ∷ [];
       adds = adds;
       walks = ([], (s, sym same));
-      lighter = subst P (sym same) light;
+      lighter = rw same light;
     }
 
 pub splits_turn : (clues : Clues) (known : List (List ℕ)) (old new : Growing) (cell : Cell) (number : CellNumber) → IsFacts old.pending.at_hand → IsUnsettled old.pending.at_hand cell → number.row ≡ cell.row + 1 → number.col ≡ cell.col + 1 → new.pending ≡ search_of old.pending.at_hand (branches old.pending.at_hand cell.row cell.col (cell_at old.pending.at_hand cell.row cell.col) ++ old.pending.behind) (places cell.row cell.col (cell_at old.pending.at_hand cell.row cell.col) ++ old.pending.cells) → Adds old.lines new.lines (Split number ∷ []) → TurnsOn clues known old new
@@ -377,12 +374,11 @@ splits_turn clues known old new cell number is at er ec e adds =
     let c : cell.col ≡ number.col - 1 = omega (arith, ec) in
     let split : front ≡ split_at facts number = ap (λ (x : ℕ). branches facts x cell.col (cell_at facts x cell.col)) r ∙ ap (λ (y : ℕ). branches facts (number.row - 1) y (cell_at facts (number.row - 1) y)) c in
     let open_there : IsUnsettledAt facts number = subst (λ (y : ℕ). (k : ℕ) → IsOnly (cell_at facts (number.row - 1) y) k → ⊥) c (subst (λ (x : ℕ). (k : ℕ) → IsOnly (cell_at facts x cell.col) k → ⊥) r at.unsettled) in
-    let P : List (List (List ℕ)) → Type 0 = λ x. load x < load (facts ∷ old.pending.behind) in
     record {
       lines = Split number ∷ [];
       adds = adds;
       walks = (front, ((((let a : 0 < number.row = omega arith in a), (let a : number.row ≤ length facts = omega arith in a), (let a : 0 < number.col = omega arith in a), (let a : number.col ≤ width_of facts = omega arith in a)), (split, open_there)), sym same));
-      lighter = subst P (sym same) (split_lighter facts old.pending.behind cell is at);
+      lighter = rw same (split_lighter facts old.pending.behind cell is at);
     }
 
 -- a dead line was met while a branch was closed
@@ -390,14 +386,11 @@ pub dead_turn : (clues : Clues) (known first settled : List (List ℕ)) (old new
 dead_turn clues known first settled old new f e h =
     let says = h known in
     let same : new.pending.behind ≡ old.pending.behind = ap (λ (x : Search). x.behind) e in
-    let P : List (List (List ℕ)) → Type 0 = λ x. load x < load (old.pending.at_hand ∷ old.pending.behind) in
-    let Q : List (List ℕ) → Type 0 = λ x. Walks clues known says.lines (x ∷ old.pending.behind) old.pending.behind in
-    let R : List (List (List ℕ)) → Type 0 = λ x. Walks clues known says.lines (old.pending.at_hand ∷ old.pending.behind) x in
     record {
       lines = says.lines;
       adds = says.adds;
-      walks = subst R (sym same) (subst Q f (says.walks old.pending.behind));
-      lighter = subst P (sym same) (ended_lighter old.pending.at_hand old.pending.behind);
+      walks = rw same (rw f at (says.walks old.pending.behind));
+      lighter = rw same (ended_lighter old.pending.at_hand old.pending.behind);
     }
 
 turns_on : (clues : Clues) (known first settled : List (List ℕ)) (old mid new : Growing) → first ≡ old.pending.at_hand → Settles clues first settled old.lines mid.lines Narrowed → mid.pending ≡ search_of settled old.pending.behind old.pending.cells → TurnsOn clues known mid new → TurnsOn clues known old new
@@ -408,12 +401,10 @@ turns_on clues known first settled old mid new f h e t =
     let waits : mid.pending.at_hand ∷ mid.pending.behind ≡ settled ∷ old.pending.behind = ap (λ (x : Search). x.at_hand ∷ x.behind) e in
     let light = within_lighter old.pending.at_hand settled old.pending.behind (subst (λ (x : List (List ℕ)). IsWithin x settled) f h.0) in
     let lighter = subst (λ (x : List (List (List ℕ))). load new.pending.behind < load x) waits t.lighter in
-    let R : List (List ℕ) → Type 0 = λ x. Walks clues known says.lines (x ∷ old.pending.behind) (settled ∷ old.pending.behind) in
-    let S : List (List (List ℕ)) → Type 0 = λ x. Walks clues known t.lines x new.pending.behind in
     record {
       lines = says.lines ++ t.lines;
       adds = adds_on old.lines mid.lines new.lines says.lines t.lines says.adds t.adds;
-      walks = walks_on clues known says.lines t.lines (old.pending.at_hand ∷ old.pending.behind) (settled ∷ old.pending.behind) new.pending.behind (subst R f (says.walks old.pending.behind)) (subst S waits t.walks);
+      walks = walks_on clues known says.lines t.lines (old.pending.at_hand ∷ old.pending.behind) (settled ∷ old.pending.behind) new.pending.behind (rw f at (says.walks old.pending.behind)) (rw waits at t.walks);
       lighter = (let l : load new.pending.behind < load (old.pending.at_hand ∷ old.pending.behind) = omega arith in l);
     }
 
@@ -438,27 +429,28 @@ starts_said clues known facts first start g f e l =
     let waits : facts ∷ [] ≡ g.pending.at_hand ∷ g.pending.behind = sym (ap (λ (x : Search). x.at_hand ∷ x.behind) e ∙ ap (λ (x : List (List ℕ)). x ∷ []) f) in
     ([], (subst (λ (x : Lines). Adds start x []) (sym l) (adds_none start), waits))
 
+-- a turn leads on to what waits behind
+said_on : (clues : Clues) (known facts : List (List ℕ)) (start : Lines) (old mid : Growing) → Said clues known facts start old
+    → TurnsOn clues known old mid
+    → (lines : List CertLine) × (Adds start mid.lines lines × Walks clues known lines (facts ∷ []) mid.pending.behind)
+said_on clues known facts start old mid s t = (
+  s.0 ++ t.lines,
+  (
+    adds_on start old.lines mid.lines s.0 t.lines s.1.0 t.adds,
+    walks_on clues known s.0 t.lines (facts ∷ []) (old.pending.at_hand ∷ old.pending.behind) mid.pending.behind s.1.1 t.walks,
+  ),
+)
+
 pub goes_said : (clues : Clues) (known facts : List (List ℕ)) (start : Lines) (old mid new : Growing) → Said clues known facts start old → TurnsOn clues known old mid → Advances mid new true → Said clues known facts start new
 goes_said clues known facts start old mid new s t a =
-    let P : Lines → Type 0 = λ x. Adds start x (s.0 ++ t.lines) in
-    let Q : List (List (List ℕ)) → Type 0 = λ x. Walks clues known (s.0 ++ t.lines) (facts ∷ []) x in (
-      s.0 ++ t.lines,
-      (
-        subst P (sym a.1) (adds_on start old.lines mid.lines s.0 t.lines s.1.0 t.adds),
-        subst Q a.0 (walks_on clues known s.0 t.lines (facts ∷ []) (old.pending.at_hand ∷ old.pending.behind) mid.pending.behind s.1.1 t.walks),
-      ),
-    )
+    let on = said_on clues known facts start old mid s t in
+    (on.0, (rw a.1 on.1.0, subst (λ (x : List (List (List ℕ))). Walks clues known on.0 (facts ∷ []) x) a.0 on.1.1))
 
 pub ends_said : (clues : Clues) (known facts : List (List ℕ)) (start end : Lines) (old mid new : Growing) → Said clues known facts start old → TurnsOn clues known old mid → Advances mid new false → end ≡ new.lines → LeadsToEnd clues known facts start end
 ends_said clues known facts start end old mid new s t a e =
-    let P : Lines → Type 0 = λ x. Adds start x (s.0 ++ t.lines) in
-    let Q : List (List (List ℕ)) → Type 0 = λ x. Walks clues known (s.0 ++ t.lines) (facts ∷ []) x in (
-      s.0 ++ t.lines,
-      (
-        subst P (sym (e ∙ a.1)) (adds_on start old.lines mid.lines s.0 t.lines s.1.0 t.adds),
-        subst Q a.0 (walks_on clues known s.0 t.lines (facts ∷ []) (old.pending.at_hand ∷ old.pending.behind) mid.pending.behind s.1.1 t.walks),
-      ),
-    )
+    let on = said_on clues known facts start old mid s t in
+    let P : List (List (List ℕ)) → Type 0 = λ x. Walks clues known on.0 (facts ∷ []) x in
+    (on.0, (rw (e ∙ a.1) on.1.0, subst P a.0 on.1.1))
 
 pub shape_said : (clues : Clues) (known facts : List (List ℕ)) (start : Lines) (g : Growing) → Said clues known facts start g → SameShape facts g.pending.at_hand
 shape_said clues known facts start g s = (walk_alike clues known facts s.0 (facts ∷ []) (g.pending.at_hand ∷ g.pending.behind) s.1.1 (shape_refl facts, tt)).0
@@ -473,8 +465,7 @@ found_said own closing clues known facts picture start g s h = (
 )
 
 pub said_lighter : (clues : Clues) (known : List (List ℕ)) (old mid new : Growing) → TurnsOn clues known old mid → Advances mid new true → load (new.pending.at_hand ∷ new.pending.behind) < load (old.pending.at_hand ∷ old.pending.behind)
-said_lighter clues known old mid new t a =
-    subst (λ (x : List (List (List ℕ))). load x < load (old.pending.at_hand ∷ old.pending.behind)) a.0 t.lighter
+said_lighter clues known old mid new t a = rw a.0 at t.lighter
 
 -- what a tree decides
 pub tree_decides : (clues : Clues) (known facts : List (List ℕ)) (keeps : Bool) (start end : Lines) → AreNone keeps start → LeadsToEnd clues known facts start end → Decides clues known facts keeps (Tree end)

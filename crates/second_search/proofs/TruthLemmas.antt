@@ -40,14 +40,12 @@ module _ (clues : Clues) (givens : List ℕ) (picture : List (List ℕ)) where
 
   finds_true : (old new : List KeptPart) (at : ℕ) (other : List (List ℕ)) → Finds old new at other → ((i : ℕ) → i < at → i < length old → HasNone (cells_at old i)) → IsOtherFilling clues givens picture (cells_at old at) other → AreTrue clues givens picture old → AreTrue clues givens picture new
   finds_true old new at other c none one t i l =
-      let Q : List ℕ → Type 0 = λ cells. HasNone cells in
       elim (cases_eq i at) [
         | inl q ↦
-            let R : ℕ → Type 0 = λ k. IsTrueOf clues givens picture (cells_at new k) (answer_at new k) in
-            subst R (sym q) (subst (λ (a : Answer). IsTrueOf clues givens picture (cells_at new at) a) (sym c.here) (subst (λ (cells : List ℕ). IsOtherFilling clues givens picture cells other) (sym (c.cells at)) one))
+            rw q (subst (λ (a : Answer). IsTrueOf clues givens picture (cells_at new at) a) (sym c.here) (subst (λ (cells : List ℕ). IsOtherFilling clues givens picture cells other) (sym (c.cells at)) one))
         | inr d ↦ elim (cases_lt i at) [
           | inl m ↦
-              subst (λ (a : Answer). IsTrueOf clues givens picture (cells_at new i) a) (sym (c.before i m)) (subst Q (sym (c.cells i)) (none i m (omega arith)))
+              subst (λ (a : Answer). IsTrueOf clues givens picture (cells_at new i) a) (sym (c.before i m)) (rw (c.cells i) (none i m (omega arith)))
           | inr p ↦
               subst (λ (part : KeptPart). IsTrueOf clues givens picture part.cells part.answer) (sym (c.behind i (omega arith))) (t i (omega arith))
         ]

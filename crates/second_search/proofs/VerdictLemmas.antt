@@ -208,8 +208,7 @@ answer_is items kept i part e l p = ap (λ (x : KeptPart). x.answer) (sym (part_
 
 -- a part of which something is known is passed
 pub known_before : (clues : Clues) (facts picture : List (List ℕ)) (allowance : Option ℕ) (kept : List KeptPart) (i : ℕ) (part : KeptPart) → part ≡ kept_at kept i → (part.answer ≡ Unknown → ⊥) → EndsPart clues facts picture allowance (kept_at kept i) ending.Nothing 0 0
-known_before clues facts picture allowance kept i part e d =
-    subst (λ (x : KeptPart). EndsPart clues facts picture allowance x ending.Nothing 0 0) e (by part.answer d)
+known_before clues facts picture allowance kept i part e d = rw e at (by part.answer d)
   where
     by : (answer : Answer) → (answer ≡ Unknown → ⊥) → EndsBy clues facts picture allowance part.cells answer ending.Nothing 0 0
     by Unknown d = absurd (d refl)
@@ -224,12 +223,11 @@ once_counted p q e l called fits is = omega arith
 pub searched_once : (clues : Clues) (facts picture : List (List ℕ)) (allowance : Option ℕ) (kept : List KeptPart) (i : ℕ) (part : KeptPart) (found : Ending) (splits p q e : ℕ) → part ≡ kept_at kept i → part.answer ≡ Unknown → (n : ℕ) × ((splits ≡ raised 0 n) × EndsWithin clues picture (alone part.cells facts picture) allowance found n) → p ≤ q → IsCalled p q → q < 2 ^ 64 → e ≡ max (q - p) 1 → DoneBy (record { searched = 1; splits = splits; evaluations = e }) p q (EndsPart clues facts picture allowance (kept_at kept i) found)
 searched_once clues facts picture allowance kept i part found splits p q e here unknown ends l called fits is =
     let P : KeptPart → Type 0 = λ x. EndsPart clues facts picture allowance x found 1 ends.0 in
-    let Q : Answer → Type 0 = λ x. EndsBy clues facts picture allowance part.cells x found 1 ends.0 in
     record {
       searched = 1;
       splits = ends.0;
       evaluations = e;
-      is = subst P here (subst Q (sym unknown) (refl, ends.1.1));
+      is = subst P here (rw unknown (refl, ends.1.1));
       searched_is = refl;
       splits_is = ends.1.0;
       counts = record {

@@ -1,7 +1,7 @@
 -- How the search of a part ends where no allowance is set: within some splits of the fixed order, or by what is true; and what is
 -- found in a window.
 use Rattle.std.proofs.Common.{◌≡◌, ℕ, ◌<◌, Option, None, Some, List, refl, subst, inl, inr, length, sym, ap, arith}
-use Rattle.std.specs.Prelude.{IfSome}
+use Rattle.std.specs.Prelude.{IfSome, IsBitSet, slice_index}
 use Rattle.clues.specs.ClueBook.{Clues}
 use Rattle.clues.specs.Laws.{BooksAreTheirClues, CluesAreOfLines}
 use Rattle.fixpoint.specs.Laws.{ClosingKeepsFillings, OnlyIsClosed}
@@ -9,31 +9,25 @@ use Rattle.second_search.specs.declared.counting.Ending.{Ending}
 use Rattle.second_search.specs.declared.counting.Ending.TheVariants as ending
 use Rattle.second_search.specs.Laws.{AnswersPart, FillingsAreOfFacts, SoundFacts}
 use Rattle.second_search.specs.Parts.{IsOtherFilling, IsScene}
-use Rattle.second_search.specs.Searching.{EndsAs, EndsPast, EndsTrue, EndsWithin, alone, fixed_splits, raised}
-use Rattle.second_search.proofs.EndLemmas.{none_found, one_found}
+use Rattle.second_search.specs.Searching.{EndsAs, EndsPast, EndsTrue, EndsWithin, KeepsOutside, alone, fixed_splits, raised}
+use Rattle.second_search.proofs.EndLemmas.{filling_found, none_found, one_found}
 use Rattle.picture.specs.CellSet.{HasCell, PutsCell}
 use Rattle.picture.specs.LineSet.{Lines}
-use Rattle.picture.specs.Rows.{width_of}
+use Rattle.picture.specs.Rows.{cell_at, row_at, width_of}
 use Rattle.second_search.specs.declared.counting.Ending.TheVariants.{Found}
 use Rattle.second_search.specs.declared.near.Window.{Window}
-use Rattle.second_search.specs.Near.{IsWindow}
+use Rattle.second_search.specs.Near.{IsWindow, OpensIn}
 use Rattle.second_search.specs.Through.{PutsBoth, across, down}
 use Rattle.second_search.proofs.AloneLemmas.{lines_more}
-use Rattle.line_settle.specs.FactSets.{IsLeast}
+use Rattle.line_settle.specs.FactSets.{IsLeast, Leaves}
 use Rattle.fixpoint.specs.Closing.{EachFits}
-use Rattle.std.specs.Prelude.{IsBitSet, slice_index}
-use Rattle.picture.specs.Rows.{row_at, cell_at}
 use Rattle.line_settle.specs.Masks.{IsOnly}
-use Rattle.line_settle.specs.FactSets.{Leaves}
 use Rattle.line_settle.specs.GridLaws.{shape_sym, shape_trans}
 use Rattle.fixpoint.specs.Filling.{Fills, only}
-use Rattle.second_search.specs.Near.{OpensIn}
-use Rattle.second_search.specs.Searching.{KeepsOutside}
-use Rattle.second_search.proofs.ChainLemmas.{bit_or_not}
-use Rattle.second_search.proofs.EndLemmas.{filling_found}
 use Rattle.second_search.proofs.LookLemmas.{only_there}
 use Rattle.second_search.proofs.PartLemmas.{solves_itself}
 use Rattle.second_search.proofs.PickLemmas.{off_part, on_cells, rect_like, shape_of_picked}
+use Rattle.picture.specs.BitLaws.{bit_or_not}
 
 -- ---- what an ending says of a part
 
@@ -73,8 +67,7 @@ more_open facts part old cells lines row col h l has is puts both = record {
   among = λ r c m. elim ((puts r c).0 m) [
     | inl before ↦ is.among r c before
     | inr e ↦
-        let P : ℕ → Type 0 = λ x. HasCell part x c in
-        subst P (sym e.0) (subst (λ (y : ℕ). HasCell part row y) (sym e.1) has)
+        rw e.0 (subst (λ (y : ℕ). HasCell part row y) (sym e.1) has)
   ];
   inside = λ r c m. elim ((puts r c).0 m) [
     | inl before ↦ is.inside r c before
@@ -98,18 +91,17 @@ opened_leaves : OnlyIsClosed → (clues : Clues) (givens : List ℕ) (facts pict
 opened_leaves own clues givens facts picture scene cells new opens r c k s =
     let shape = own.same_shape picture in
     let rect = rect_like picture (only picture) shape scene.is_picture.rectangular in
-    let P : ℕ → Type 0 = λ m. IsBitSet m k in
-    let at_home : cell_at new r c ≡ cell_at (only picture) r c → (c < length (row_at picture r)) × (k ≡ cell_at picture r c) = λ e. (own.leaves picture r c k).0 (subst P e s) in
+    let at_home : cell_at new r c ≡ cell_at (only picture) r c → (c < length (row_at picture r)) × (k ≡ cell_at picture r c) = λ e. (own.leaves picture r c k).0 (rw e at s) in
     elim (bit_or_not (slice_index cells r) c) [
       | inl has ↦
-          subst P (sym (on_cells cells facts (only picture) r c rect (shape_trans (shape_sym scene.sound.same_shape) shape) has)) (elim (opens.each r c) [
+          rw (on_cells cells facts (only picture) r c rect (shape_trans (shape_sym scene.sound.same_shape) shape) has) (elim (opens.each r c) [
             | inl e ↦
                 let h = at_home e in
                 subst (λ (j : ℕ). IsBitSet (cell_at facts r c) j) (sym h.1) (scene.sound.leave picture (solves_itself clues givens facts picture scene) r c h.0)
-            | inr o ↦ subst P o.1 s
+            | inr o ↦ rw o.1 at s
           ])
       | inr out ↦
-          subst P (sym (off_part cells facts (only picture) r c rect out)) (elim (opens.each r c) [ inl e ↦ subst P e s | inr o ↦ absurd (out o.0) ])
+          rw (off_part cells facts (only picture) r c rect out) (elim (opens.each r c) [ inl e ↦ rw e at s | inr o ↦ absurd (out o.0) ])
     ]
 
 -- and the picture's colours alone outside of them

@@ -1,9 +1,9 @@
-use Rattle.std.proofs.Common.{◌≡◌, ◌∙◌, [], None, Option, Some, arith, refl, subst}
+use Rattle.std.proofs.Common.{◌≡◌, ◌∙◌, [], None, Option, Some, arith, refl}
 use Rattle.line_settle.specs.GridLaws.{shape_trans}
 use Rattle.split_choice.specs.declared.cell.Cell.{Cell}
 use Rattle.second_search.specs.Branching.{GoesOn, Search}
 use Rattle.second_search.specs.Through.{across}
-use Rattle.second_search.proofs.CountLemmas.{counted_ending, counted_nothing, counting_at, counting_goes, counting_starts, goes_lighter, steps_as}
+use Rattle.second_search.proofs.CountLemmas.{counted_ending, counted_nothing, counting_goes, counting_starts, goes_lighter}
 use Rattle.second_search.proofs.KeepLemmas.{both_named, can_close_like, quiet_at, quiet_goes, ready_at, ready_first}
 use Rattle.second_search.proofs.AloneLemmas.{name_counts}
 use Rattle.second_search.proofs.KnownLaws.{least_is_unique}
@@ -37,7 +37,7 @@ pub returns-in-Some-clause-ends : goal.returns-in-Some-clause-ends
 returns-in-Some-clause-ends g c =
     let s = c.loop-search.search in
     let t = c.look_once.new.self in
-    counted_ending least_is_unique c.args.book.now c.args.known.now c.args.start.facts c.args.start.allowance s.pending t.pending s.budget t.budget c.loop-search.invariant.counting c.in-Some.ending (steps_as _ _ s.pending t.pending _ _ _ _ c.in-Some.is c.in_ok-found.ensures.steps)
+    counted_ending least_is_unique c.args.book.now c.args.known.now c.args.start.facts c.args.start.allowance s.pending t.pending s.budget t.budget c.loop-search.invariant.counting c.in-Some.ending (rw c.in-Some.is at c.in_ok-found.ensures.steps)
 
 nothing_waits : (s t : Search) (cell : Option Cell) → ((x : Cell) → cell ≡ Some x → ⊥) → GoesOn s t cell → s.behind ≡ []
 nothing_waits s t None none on = on
@@ -47,7 +47,7 @@ pub returns-in_default-clause-ends : goal.returns-in_default-clause-ends
 returns-in_default-clause-ends g c =
     let s = c.loop-search.search.pending in
     let t = c.look_once.new.self.pending in
-    let counting = counting_goes least_is_unique _ _ _ _ s t _ _ c.loop-search.invariant.counting (steps_as _ _ s t _ _ _ _ c.in-None.is c.in_ok-found.ensures.steps) in
+    let counting = counting_goes least_is_unique _ _ _ _ s t _ _ c.loop-search.invariant.counting (rw c.in-None.is at c.in_ok-found.ensures.steps) in
     counted_nothing _ _ _ _ _ _ counting (nothing_waits t c.advance.new.self _ c.in_default.not-Some c.in_ok-cell.ensures)
 
 pub loop-search-preserved : goal.loop-search-preserved
@@ -58,17 +58,16 @@ loop-search-preserved g c =
     let cell = c.in-Some-2.cell in
     let book = c.args.book.now in
     let first = c.args.start.facts in
-    let steps = steps_as _ _ s t _ _ _ _ c.in-None.is c.in_ok-found.ensures.steps in
+    let steps = rw c.in-None.is at c.in_ok-found.ensures.steps in
     let counting = counting_goes least_is_unique _ _ _ _ s t _ _ c.loop-search.invariant.counting steps in
     let quiet = quiet_goes book c.args.known.now first c.args.start.lines s t _ _ c.loop-search.invariant.ready.same_shape c.loop-search.invariant.ready.others c.loop-search.invariant.behind steps in
-    let P : Option Cell → Type 0 = GoesOn t u in
-    let on : GoesOn t u (Some cell) = subst P c.in-Some-2.is c.in_ok-cell.ensures in
+    let on : GoesOn t u (Some cell) = rw c.in-Some-2.is at c.in_ok-cell.ensures in
     let next = quiet_at book c.args.known.now c.args.start.lines first t u cell quiet on in
     let at = next.0.1 in
     let lines = c.lines.result in
     let is = c.height-2.ensures.facts in
     record {
-      counting = counting_at _ _ _ _ _ u _ counting on.0;
+      counting = rw on.0 at counting;
       ready = ready_at book c.args.known.now c.args.start.lines first u.at_hand cell lines is next.0.0 at c.lines.ensures;
       rows = refl;
       some = name_counts lines (across cell.row) (both_named first u.at_hand cell lines is next.0.0 at.in_rows at.in_columns c.lines.ensures).0;
@@ -82,6 +81,5 @@ loop-search-smaller g c =
     let s = c.loop-search.search.pending in
     let t = c.look_once.new.self.pending in
     let u = c.advance.new.self in
-    let P : Option Cell → Type 0 = GoesOn t u in
-    let on : GoesOn t u (Some c.in-Some-2.cell) = subst P c.in-Some-2.is c.in_ok-cell.ensures in
-    goes_lighter c.args.book.now c.args.known.now s t u _ _ (steps_as _ _ s t _ _ _ _ c.in-None.is c.in_ok-found.ensures.steps) on.0
+    let on : GoesOn t u (Some c.in-Some-2.cell) = rw c.in-Some-2.is at c.in_ok-cell.ensures in
+    goes_lighter c.args.book.now c.args.known.now s t u _ _ (rw c.in-None.is at c.in_ok-found.ensures.steps) on.0

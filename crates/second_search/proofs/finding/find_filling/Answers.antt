@@ -1,6 +1,3 @@
-use Rattle.std.proofs.Common.{false, subst}
-use Rattle.second_search.specs.declared.ladder.Decided.{Decided}
-use Rattle.second_search.specs.Trees.{Decides}
 use Rattle.second_search.proofs.TreeLemmas.{none_fills}
 use Rattle.second_search.proofs.KnownLaws.{closing_keeps_fillings, only_is_closed}
 use Rattle.second_search.proofs.finding.find_filling.Goals as goal
@@ -8,5 +5,4 @@ use Rattle.second_search.proofs.finding.find_filling.Goals as goal
 pub returns-in-Tree-clause-finds : goal.returns-in-Tree-clause-finds
 returns-in-Tree-clause-finds g c =
     let s = c.args.scene.now in
-    let P : Decided → Type 0 = λ d. Decides s.clues.now s.picture.now s.facts.now false d in
-    none_fills only_is_closed closing_keeps_fillings s.clues.now s.picture.now s.facts.now c.in-Tree.field-0 c.requires.same_shape (subst P c.in-Tree.is c.in_ok-decided.ensures.decides).0
+    none_fills only_is_closed closing_keeps_fillings s.clues.now s.picture.now s.facts.now c.in-Tree.field-0 c.requires.same_shape (rw c.in-Tree.is at c.in_ok-decided.ensures.decides).0

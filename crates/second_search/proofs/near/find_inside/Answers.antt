@@ -1,7 +1,5 @@
-use Rattle.std.proofs.Common.{List, ℕ, Some, subst, sym, arith}
-use Rattle.line_settle.specs.FactSets.{SameShape}
+use Rattle.std.proofs.Common.{Some, arith}
 use Rattle.line_settle.specs.GridLaws.{shape_sym, shape_trans}
-use Rattle.second_search.specs.Near.{OpensIn}
 use Rattle.second_search.proofs.AloneLemmas.{closable_alone, lines_alone}
 use Rattle.second_search.proofs.KeepLemmas.{quiet_outside, show_others}
 use Rattle.second_search.proofs.WithinLemmas.{found_inside, opened_outside}
@@ -11,16 +9,14 @@ use Rattle.second_search.proofs.near.find_inside.Goals as goal
 pub open_in-requires : goal.open_in-requires
 open_in-requires g c =
     let s = c.args.scene.now in
-    let P : List (List ℕ) → Type 0 = λ x. SameShape x s.facts.now in
-    subst P (sym c.requires.home) (shape_trans (shape_sym (only_is_closed.same_shape s.picture.now)) c.requires.can.is_scene.sound.same_shape)
+    rw c.requires.home (shape_trans (shape_sym (only_is_closed.same_shape s.picture.now)) c.requires.can.is_scene.sound.same_shape)
 
 pub search_counted-requires : goal.search_counted-requires
 search_counted-requires g c =
     let s = c.args.scene.now in
     let facts = c.in_ok-open_in.field-0 in
     let window = c.args.window.now in
-    let P : List (List ℕ) → Type 0 = λ x. OpensIn window.cells s.facts.now x facts in
-    let keeps = opened_outside only_is_closed window.cells s.picture.now s.facts.now facts (subst P c.requires.home c.in_ok-open_in.ensures) in
+    let keeps = opened_outside only_is_closed window.cells s.picture.now s.facts.now facts (rw c.requires.home at c.in_ok-open_in.ensures) in
     record {
       closable = closable_alone clues_are_of_lines s.clues.now window.cells s.picture.now facts _ c.requires.can.is_scene.has_clues keeps c.requires.can.tall c.requires.can.wide;
       lines = lines_alone window.cells s.picture.now s.facts.now facts window.lines c.requires.can.is_scene.sound.same_shape keeps c.requires.window.lines;
@@ -35,5 +31,4 @@ returns-in-Found-clause-other g c =
     let s = c.args.scene.now in
     let facts = c.in_ok-open_in.field-0 in
     let window = c.args.window.now in
-    let P : List (List ℕ) → Type 0 = λ x. OpensIn window.cells s.facts.now x facts in
-    found_inside clues_are_of_lines books_are_their_clues closing_keeps_fillings only_is_closed fillings_are_of_facts s.clues.now s.givens.now s.facts.now s.picture.now c.requires.can.is_scene window.cells facts (subst P c.requires.home c.in_ok-open_in.ensures) (Some window.splits) _ _ c.in-Found.picture c.in-Found.is c.args.cells.now c.requires.window.among c.in_ok-searched.ensures.ends
+    found_inside clues_are_of_lines books_are_their_clues closing_keeps_fillings only_is_closed fillings_are_of_facts s.clues.now s.givens.now s.facts.now s.picture.now c.requires.can.is_scene window.cells facts (rw c.requires.home at c.in_ok-open_in.ensures) (Some window.splits) _ _ c.in-Found.picture c.in-Found.is c.args.cells.now c.requires.window.among c.in_ok-searched.ensures.ends

@@ -1,5 +1,4 @@
-use Rattle.std.proofs.Common.{◌∙◌, Bool, List, ℕ, Option, refl, subst, arith}
-use Rattle.second_search.specs.Trees.{Advances, Turns}
+use Rattle.std.proofs.Common.{◌∙◌, refl, arith}
 use Rattle.second_search.proofs.KeepLemmas.{can_close_like}
 use Rattle.second_search.proofs.TreeLemmas.{ends_said, found_said, goes_said, said_lighter, shape_said, starts_said, tree_decides}
 use Rattle.second_search.proofs.KnownLaws.{closing_keeps_fillings, only_is_closed}
@@ -15,25 +14,20 @@ pub returns-in-Some-clause-decides : goal.returns-in-Some-clause-decides
 returns-in-Some-clause-decides g c =
     let s = c.args.scene.now in
     let i = c.loop-growing.invariant in
-    let P : Option (List (List ℕ)) → Type 0 = λ t. Turns s.clues.now s.picture.now c.loop-growing.growing c.turn.new.self t in
-    found_said only_is_closed closing_keeps_fillings s.clues.now s.picture.now s.facts.now c.in-Some.picture i.said.0 c.loop-growing.growing i.said.1.1 (subst P c.in-Some.is c.in_ok-found.ensures.turns)
+    found_said only_is_closed closing_keeps_fillings s.clues.now s.picture.now s.facts.now c.in-Some.picture i.said.0 c.loop-growing.growing i.said.1.1 (rw c.in-Some.is at c.in_ok-found.ensures.turns)
 
 pub returns-then-not-goes-clause-decides : goal.returns-then-not-goes-clause-decides
 returns-then-not-goes-clause-decides g c =
     let s = c.args.scene.now in
     let i = c.loop-growing.invariant in
-    let P : Option (List (List ℕ)) → Type 0 = λ t. Turns s.clues.now s.picture.now c.loop-growing.growing c.turn.new.self t in
-    let Q : Bool → Type 0 = λ b. Advances c.turn.new.self c.advance.new.self b in
-    tree_decides s.clues.now s.picture.now s.facts.now c.args.keeps i.said.0 c.advance.new.self.lines i.said.1.0 (ends_said s.clues.now s.picture.now s.facts.now i.said.0 c.advance.new.self.lines c.loop-growing.growing c.turn.new.self c.advance.new.self i.said.1.1 (subst P c.in-None.is c.in_ok-found.ensures.turns) (subst Q c.if-not-goes.true c.in_ok-goes.ensures) refl)
+    tree_decides s.clues.now s.picture.now s.facts.now c.args.keeps i.said.0 c.advance.new.self.lines i.said.1.0 (ends_said s.clues.now s.picture.now s.facts.now i.said.0 c.advance.new.self.lines c.loop-growing.growing c.turn.new.self c.advance.new.self i.said.1.1 (rw c.in-None.is at c.in_ok-found.ensures.turns) (rw c.if-not-goes.true at c.in_ok-goes.ensures) refl)
 
 pub loop-growing-preserved : goal.loop-growing-preserved
 loop-growing-preserved g c =
     let s = c.args.scene.now in
     let i = c.loop-growing.invariant in
-    let P : Option (List (List ℕ)) → Type 0 = λ t. Turns s.clues.now s.picture.now c.loop-growing.growing c.turn.new.self t in
-    let Q : Bool → Type 0 = λ b. Advances c.turn.new.self c.advance.new.self b in
     record {
-      said = (i.said.0, (i.said.1.0, goes_said s.clues.now s.picture.now s.facts.now i.said.0 c.loop-growing.growing c.turn.new.self c.advance.new.self i.said.1.1 (subst P c.in-None.is c.in_ok-found.ensures.turns) (subst Q c.if-not-goes.false c.in_ok-goes.ensures)));
+      said = (i.said.0, (i.said.1.0, goes_said s.clues.now s.picture.now s.facts.now i.said.0 c.loop-growing.growing c.turn.new.self c.advance.new.self i.said.1.1 (rw c.in-None.is at c.in_ok-found.ensures.turns) (rw c.if-not-goes.false at c.in_ok-goes.ensures)));
       calls = omega arith;
       same_longest = c.turn.ensures.same_longest ∙ i.same_longest;
     }
@@ -41,9 +35,7 @@ loop-growing-preserved g c =
 pub loop-growing-smaller : goal.loop-growing-smaller
 loop-growing-smaller g c =
     let s = c.args.scene.now in
-    let P : Option (List (List ℕ)) → Type 0 = λ t. Turns s.clues.now s.picture.now c.loop-growing.growing c.turn.new.self t in
-    let Q : Bool → Type 0 = λ b. Advances c.turn.new.self c.advance.new.self b in
-    said_lighter s.clues.now s.picture.now c.loop-growing.growing c.turn.new.self c.advance.new.self (subst P c.in-None.is c.in_ok-found.ensures.turns) (subst Q c.if-not-goes.false c.in_ok-goes.ensures)
+    said_lighter s.clues.now s.picture.now c.loop-growing.growing c.turn.new.self c.advance.new.self (rw c.in-None.is at c.in_ok-found.ensures.turns) (rw c.if-not-goes.false at c.in_ok-goes.ensures)
 
 pub loop-growing-init : goal.loop-growing-init
 loop-growing-init g c =

@@ -17,8 +17,7 @@ loop-init g c = record {
 pub returns-in-Dead-clause-settles : goal.returns-in-Dead-clause-settles
 returns-in-Dead-clause-settles g c =
     let clues = c.args.clues.now in
-    let P : Outcome → Type 0 = λ o. Settles clues c.loop.facts c.take_line.new.facts c.loop.lines c.take_line.new.lines o in
-    settles_on clues c.args.facts.now c.loop.facts c.take_line.new.facts c.args.lines.now c.loop.lines c.take_line.new.lines Dead c.loop.invariant.settles (subst P c.in-Dead.is c.in_ok-forced.ensures.settles)
+    settles_on clues c.args.facts.now c.loop.facts c.take_line.new.facts c.args.lines.now c.loop.lines c.take_line.new.lines Dead c.loop.invariant.settles (rw c.in-Dead.is at c.in_ok-forced.ensures.settles)
 
 pub loop-preserved : goal.loop-preserved
 loop-preserved g c =

@@ -1,9 +1,5 @@
-use Rattle.std.proofs.Common.{Option, refl, subst}
+use Rattle.std.proofs.Common.{refl}
 use Rattle.std.proofs.lemmas.Bool.{false≢true}
-use Rattle.std.specs.Prelude.{MatchOption}
-use Rattle.picture.specs.declared.line_id.LineId.{LineId}
-use Rattle.fixpoint.specs.Closing.{EachFits}
-use Rattle.second_search.specs.Trees.{IsDeadLine}
 use Rattle.second_search.specs.Through.{across}
 use Rattle.second_search.proofs.TreeLemmas.{compare_continues, dead_continues, none_dead}
 use Rattle.second_search.proofs.KnownLaws.{books_are_their_clues, clues_are_of_lines}
@@ -20,11 +16,9 @@ returns-then-has_clues-clause-continues g c =
 pub returns-clause-continues : goal.returns-clause-continues
 returns-clause-continues g c =
     let s = c.args.scene.now in
-    let P : Option LineId → Type 0 = λ o. MatchOption o (EachFits s.clues.now c.args.facts.now) (IsDeadLine s.clues.now c.args.facts.now) in
-    dead_continues s.clues.now s.picture.now c.args.facts.now c.in-Some-dead.line c.line_number.result (subst P c.in-Some-dead.is c.in_ok-dead.ensures.dead) c.line_number.ensures.axis c.line_number.ensures.number
+    dead_continues s.clues.now s.picture.now c.args.facts.now c.in-Some-dead.line c.line_number.result (rw c.in-Some-dead.is at c.in_ok-dead.ensures.dead) c.line_number.ensures.axis c.line_number.ensures.number
 
 pub unreachable-requires : goal.unreachable-requires
 unreachable-requires g c =
     let s = c.args.scene.now in
-    let P : Option LineId → Type 0 = λ o. MatchOption o (EachFits s.clues.now c.args.facts.now) (IsDeadLine s.clues.now c.args.facts.now) in
-    false≢true (c.if-has_clues.ensures.1 (none_dead clues_are_of_lines books_are_their_clues s.clues.now (g.E.LineEngine.longest c.args.engine.now) c.args.facts.now c.in_ok-shown.shown c.height.ensures.facts c.requires (subst P c.in-None.is c.in_ok-dead.ensures.dead) c.in_ok-shown.ensures))
+    false≢true (c.if-has_clues.ensures.1 (none_dead clues_are_of_lines books_are_their_clues s.clues.now (g.E.LineEngine.longest c.args.engine.now) c.args.facts.now c.in_ok-shown.shown c.height.ensures.facts c.requires (rw c.in-None.is at c.in_ok-dead.ensures.dead) c.in_ok-shown.ensures))

@@ -1,20 +1,14 @@
-use Rattle.std.proofs.Common.{List, ℕ, subst, sym}
-use Rattle.line_settle.specs.FactSets.{SameShape}
-use Rattle.second_search.specs.Looking.{AreRowsSettled, ShowOthers}
 use Rattle.second_search.proofs.CountLemmas.{compared, split_others, split_same}
 use Rattle.second_search.proofs.counting.Counted.look_once.Goals as goal
 
 pub come_to-requires-clause-above : goal.come_to-requires-clause-above
-come_to-requires-clause-above g c =
-    subst (λ (x : List (List ℕ)). AreRowsSettled x c.args.self.now.due.top) (sym c.at_hand.ensures) c.requires.above
+come_to-requires-clause-above g c = rw c.at_hand.ensures c.requires.above
 
 pub come_to-requires-clause-same_shape : goal.come_to-requires-clause-same_shape
-come_to-requires-clause-same_shape g c =
-    subst (λ (x : List (List ℕ)). SameShape c.args.known.now x) (sym c.at_hand.ensures) c.requires.same_shape
+come_to-requires-clause-same_shape g c = rw c.at_hand.ensures c.requires.same_shape
 
 pub come_to-requires-clause-others : goal.come_to-requires-clause-others
-come_to-requires-clause-others g c =
-    subst (λ (x : List (List ℕ)). ShowOthers c.args.known.now c.args.self.now.due.rows x) (sym c.at_hand.ensures) c.requires.others
+come_to-requires-clause-others g c = rw c.at_hand.ensures c.requires.others
 
 pub narrow-requires-clause-others : goal.narrow-requires-clause-others
 narrow-requires-clause-others g c = split_others c.args.book.now c.args.known.now c.args.self.now.pending.at_hand c.at_hand.result.now c.in-Splits.settled c.in_ok-coming.coming c.in-Splits.cell c.args.self.now.due.rows c.at_hand.ensures c.in-Splits.is c.in_ok-coming.ensures.comes c.requires.others

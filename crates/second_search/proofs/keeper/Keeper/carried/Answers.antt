@@ -4,13 +4,15 @@ use Rattle.std.proofs.lemmas.Bool.{false≢true}
 use Rattle.second_search.specs.declared.keeper.Answer.{Answer}
 use Rattle.second_search.specs.Carrying.{IsCarried, carried}
 use Rattle.second_search.specs.Judging.{IsTrueOf, answer_at, cells_at}
-use Rattle.second_search.proofs.CarryLemmas.{answer_carried, carried_true, holds_known, named_keeps, nothing_carried, part_before, part_in_facts}
+use Rattle.second_search.proofs.CarryLemmas.{answer_carried, carried_true, holds_known, named_keeps, nothing_carried, part_before}
 use Rattle.second_search.proofs.VerdictLemmas.{answer_is}
 use Rattle.second_search.proofs.KnownLaws.{fillings_stay}
 use Rattle.second_search.proofs.keeper.Keeper.carried.Goals as goal
+use Rattle.second_search.proofs.AloneLemmas.{part_inside}
 
 pub are_named-requires : goal.are_named-requires
-are_named-requires c = part_in_facts c.args.after.now.facts.now c.args.cells.now c.height.ensures.facts c.requires.part
+are_named-requires c = λ row col h.
+    part_inside c.args.after.now.facts.now c.args.cells.now row col c.height.ensures.facts c.requires.part h
 
 pub returns-then-not-are_named-clause-carried : goal.returns-then-not-are_named-clause-carried
 returns-then-not-are_named-clause-carried c =
@@ -34,8 +36,7 @@ answer_for-requires c =
     let keeps = named_keeps b.clues.now b.facts.now b.picture.now a.clues.now a.givens.now a.facts.now a.picture.now c.args.same.now c.args.cells.now c.requires.after c.requires.part c.requires.same (c.if-not-are_named.ensures.0 refl) in
     let part = part_before b.clues.now b.facts.now b.picture.now a.clues.now a.givens.now a.facts.now a.picture.now fillings_stay c.args.cells.now c.requires.part keeps in
     let same = answer_is c.self.inside.kept.items kept at c.index.result.now c.self.view_is c.place_of-at.ensures.place c.index.ensures in
-    let P : Answer → Type 0 = λ x. IsTrueOf b.clues.now b.givens.now b.picture.now (cells_at kept at) x in
-    holds_known b.clues.now b.givens.now b.facts.now b.picture.now c.args.cells.now (cells_at kept at) c.index.result.now.answer c.requires.before part c.place_of-at.ensures.cells (subst P same (c.requires.true_answers at c.place_of-at.ensures.place))
+    holds_known b.clues.now b.givens.now b.facts.now b.picture.now c.args.cells.now (cells_at kept at) c.index.result.now.answer c.requires.before part c.place_of-at.ensures.cells (rw same at (c.requires.true_answers at c.place_of-at.ensures.place))
 
 pub returns : goal.returns
 returns c =

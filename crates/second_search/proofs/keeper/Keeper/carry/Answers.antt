@@ -1,4 +1,4 @@
-use Rattle.std.proofs.Common.{◌∙◌, List, ℕ, ap, arith, length, refl, subst, sym}
+use Rattle.std.proofs.Common.{◌∙◌, List, ℕ, ap, arith, length, refl, sym}
 use Rattle.std.proofs.lemmas.Result.{IfOk-weaker}
 use Rattle.second_search.specs.Parts.{AreParts, part_at}
 use Rattle.second_search.specs.Carrying.{Carries}
@@ -17,9 +17,8 @@ loop-i-preserved c =
 
 pub returns-clause-parts : goal.returns-clause-parts
 returns-clause-parts c =
-    let P : List (List ℕ) → Type 0 = λ parts. AreParts c.args.after.now.facts.now parts in
     let count = ap length c.parts.view_is in
-    all_carried c.args.after.now.facts.now c.parts.inside.parts.items c.loop-i.kept.items c.loop-i.i (subst P (sym c.parts.view_is) c.in_ok-parts.ensures) c.loop-i.invariant.count_is c.loop-i.invariant.cells (omega (arith, count, c.loop-i-test.false, c.loop-i.auto.i-end, c.len-i-end.ensures))
+    all_carried c.args.after.now.facts.now c.parts.inside.parts.items c.loop-i.kept.items c.loop-i.i (rw c.parts.view_is c.in_ok-parts.ensures) c.loop-i.invariant.count_is c.loop-i.invariant.cells (omega (arith, count, c.loop-i-test.false, c.loop-i.auto.i-end, c.len-i-end.ensures))
 
 pub returns-then-knows_nothing-clause-parts : goal.returns-then-knows_nothing-clause-parts
 returns-then-knows_nothing-clause-parts c =

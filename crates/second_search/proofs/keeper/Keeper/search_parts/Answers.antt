@@ -1,7 +1,6 @@
-use Rattle.std.proofs.Common.{ℕ, ◌+◌, ◌<◌, ◌∙◌, ◌≡◌, ap, arith, length, subst, suc, sym}
-use Rattle.second_search.specs.declared.counting.Ending.{Ending}
+use Rattle.std.proofs.Common.{◌+◌, ◌<◌, ◌∙◌, ◌≡◌, ap, arith, length, subst, suc, sym}
 use Rattle.second_search.specs.declared.counting.Ending.TheVariants as ending
-use Rattle.second_search.specs.Judging.{DoneBy, EndsPart, Passes, Stops, kept_at}
+use Rattle.second_search.specs.Judging.{EndsPart, Passes, Stops, kept_at}
 use Rattle.second_search.specs.Scene.{CanSearch}
 use Rattle.second_search.proofs.VerdictLemmas.{done_then, passes_more, stops_found, stops_here}
 use Rattle.second_search.proofs.keeper.Keeper.search_parts.Goals as goal
@@ -26,11 +25,9 @@ loop-i-preserved g c =
     let n = c.loop-i.i in
     let before = Passes s.clues.now s.facts.now s.picture.now c.args.allowance kept n in
     let here = EndsPart s.clues.now s.facts.now s.picture.now c.args.allowance (kept_at kept n) in
-    let P : Ending → Type 0 = λ x. DoneBy c.in_ok-ending.here (g.E.LineEngine.calls c.loop-i.engine) (g.E.LineEngine.calls c.search_one.new.engine) (here x) in
-    let Q : ℕ → Type 0 = λ k. DoneBy c.plus-spent.result (g.E.LineEngine.calls c.args.engine.now) (g.E.LineEngine.calls c.search_one.new.engine) (Passes s.clues.now s.facts.now s.picture.now c.args.allowance kept k) in
     let next : suc n ≡ n + 1 = omega arith in
     record {
-      done = subst Q next (done_then _ _ _ _ _ _ before (here ending.Nothing) (Passes s.clues.now s.facts.now s.picture.now c.args.allowance kept (suc n)) c.loop-i.invariant.done (subst P c.in-Nothing.is c.in_ok-ending.ensures.ends) c.plus-spent.ensures (λ m k x y. passes_more s.clues.now s.facts.now s.picture.now c.args.allowance kept n m k x y));
+      done = rw next at (done_then _ _ _ _ _ _ before (here ending.Nothing) (Passes s.clues.now s.facts.now s.picture.now c.args.allowance kept (suc n)) c.loop-i.invariant.done (rw c.in-Nothing.is at c.in_ok-ending.ensures.ends) c.plus-spent.ensures (λ m k x y. passes_more s.clues.now s.facts.now s.picture.now c.args.allowance kept n m k x y));
       calls = omega arith;
       same_longest = c.search_one.ensures.same_longest ∙ c.loop-i.invariant.same_longest;
     }

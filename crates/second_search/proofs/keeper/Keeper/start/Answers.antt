@@ -1,5 +1,5 @@
-use Rattle.std.proofs.Common.{◌∙◌, List, ℕ, ap, arith, length, refl, subst, sym}
-use Rattle.second_search.specs.Parts.{AreParts, part_at}
+use Rattle.std.proofs.Common.{◌∙◌, List, ℕ, ap, arith, length, refl, sym}
+use Rattle.second_search.specs.Parts.{part_at}
 use Rattle.second_search.proofs.VerdictLemmas.{all_started, starts_more, starts_none}
 use Rattle.second_search.proofs.keeper.Keeper.start.Goals as goal
 
@@ -13,6 +13,5 @@ loop-i-preserved c =
 
 pub returns : goal.returns
 returns c =
-    let P : List (List ℕ) → Type 0 = λ parts. AreParts c.args.facts.now parts in
     let count = ap length c.parts.view_is in
-    all_started c.args.facts.now c.parts.inside.parts.items c.loop-i.kept.items c.loop-i.i (subst P (sym c.parts.view_is) c.in_ok-parts.ensures) c.loop-i.invariant (omega (arith, count, c.loop-i-test.false, c.loop-i.auto.i-end, c.len-i-end.ensures))
+    all_started c.args.facts.now c.parts.inside.parts.items c.loop-i.kept.items c.loop-i.i (rw c.parts.view_is c.in_ok-parts.ensures) c.loop-i.invariant (omega (arith, count, c.loop-i-test.false, c.loop-i.auto.i-end, c.len-i-end.ensures))

@@ -4,9 +4,8 @@ use Rattle.line_settle.specs.FactSets.{IsFacts}
 use Rattle.fixpoint.specs.Closing.{AreClosable}
 use Rattle.second_search.specs.declared.tree.Growing.{Growing}
 use Rattle.second_search.specs.declared.tree_step.TreeStep.{TreeStep}
-use Rattle.second_search.specs.declared.tree_step.TreeStep.TheVariants.{Ends as ends, Splits as splits}
 use Rattle.second_search.specs.Branching.{Search}
-use Rattle.second_search.specs.Trees.{Continues, IsOtherIn, Settles}
+use Rattle.second_search.specs.Trees.{Continues, Settles}
 use Rattle.second_search.proofs.KeepLemmas.{can_close_like}
 use Rattle.second_search.proofs.TreeLemmas.{dead_turn, ends_turn, splits_turn, turn_on}
 use Rattle.second_search.specs.Through.{across}
@@ -18,8 +17,7 @@ narrow-requires-clause-others g c = λ row col h out. absurd (out ((c.all_lines.
 pub returns-in-Dead-clause-turns : goal.returns-in-Dead-clause-turns
 returns-in-Dead-clause-turns g c =
     let s = c.args.scene.now in
-    let P : Outcome → Type 0 = λ o. Settles s.clues.now c.in_ok-facts.facts c.close_written.new.facts c.args.self.now.lines c.close_written.new.lines o in
-    dead_turn s.clues.now s.picture.now c.in_ok-facts.facts c.close_written.new.facts c.args.self.now _ (c.in_ok-facts.ensures ∙ c.at_hand.ensures) refl (subst P c.in-Dead.is c.in_ok-outcome.ensures.settles)
+    dead_turn s.clues.now s.picture.now c.in_ok-facts.facts c.close_written.new.facts c.args.self.now _ (c.in_ok-facts.ensures ∙ c.at_hand.ensures) refl (rw c.in-Dead.is at c.in_ok-outcome.ensures.settles)
 
 pub next_step-requires : goal.next_step-requires
 next_step-requires g c =
@@ -32,29 +30,23 @@ pub returns-in-Other-clause-turns : goal.returns-in-Other-clause-turns
 returns-in-Other-clause-turns g c =
     let s = c.args.scene.now in
     let settled = c.close_written.new.facts in
-    let P : Outcome → Type 0 = λ o. Settles s.clues.now c.in_ok-facts.facts settled c.args.self.now.lines c.close_written.new.lines o in
     let mid : Growing = record { pending = c.narrow.new.self; lines = c.close_written.new.lines; due = c.args.self.now.due } in
-    let R : List (List ℕ) → Type 0 = λ x. IsOtherIn s.clues.now s.picture.now x c.in-Other.picture in
-    let other = subst R (sym (ap (λ (x : Search). x.at_hand) c.in_ok-narrow.ensures)) (subst (λ (x : TreeStep). Continues s.clues.now s.picture.now settled x) c.in-Other.is c.in_ok-step.ensures.continues) in
-    turn_on s.clues.now s.picture.now c.in_ok-facts.facts settled c.args.self.now mid mid (c.in_ok-facts.ensures ∙ c.at_hand.ensures) (subst P c.in-Narrowed.is c.in_ok-outcome.ensures.settles) c.in_ok-narrow.ensures (Some c.in-Other.picture) other
+    let other = rw (← ap (λ (x : Search). x.at_hand) c.in_ok-narrow.ensures) at (subst (λ (x : TreeStep). Continues s.clues.now s.picture.now settled x) c.in-Other.is c.in_ok-step.ensures.continues) in
+    turn_on s.clues.now s.picture.now c.in_ok-facts.facts settled c.args.self.now mid mid (c.in_ok-facts.ensures ∙ c.at_hand.ensures) (rw c.in-Narrowed.is at c.in_ok-outcome.ensures.settles) c.in_ok-narrow.ensures (Some c.in-Other.picture) other
 
 pub returns-in-Ends-clause-turns : goal.returns-in-Ends-clause-turns
 returns-in-Ends-clause-turns g c =
     let s = c.args.scene.now in
     let settled = c.close_written.new.facts in
-    let P : Outcome → Type 0 = λ o. Settles s.clues.now c.in_ok-facts.facts settled c.args.self.now.lines c.close_written.new.lines o in
     let mid : Growing = record { pending = c.narrow.new.self; lines = c.close_written.new.lines; due = c.args.self.now.due } in
-    let R : List (List ℕ) → Type 0 = λ x. Continues s.clues.now s.picture.now x (ends c.in-Ends.line) in
-    let stands = subst R (sym (ap (λ (x : Search). x.at_hand) c.in_ok-narrow.ensures)) (subst (λ (x : TreeStep). Continues s.clues.now s.picture.now settled x) c.in-Ends.is c.in_ok-step.ensures.continues) in
-    turn_on s.clues.now s.picture.now c.in_ok-facts.facts settled c.args.self.now mid _ (c.in_ok-facts.ensures ∙ c.at_hand.ensures) (subst P c.in-Narrowed.is c.in_ok-outcome.ensures.settles) c.in_ok-narrow.ensures None (ends_turn s.clues.now s.picture.now mid _ c.in-Ends.line stands refl c.in_ok-add-in-Ends.ensures)
+    let stands = rw (← ap (λ (x : Search). x.at_hand) c.in_ok-narrow.ensures) at (subst (λ (x : TreeStep). Continues s.clues.now s.picture.now settled x) c.in-Ends.is c.in_ok-step.ensures.continues) in
+    turn_on s.clues.now s.picture.now c.in_ok-facts.facts settled c.args.self.now mid _ (c.in_ok-facts.ensures ∙ c.at_hand.ensures) (rw c.in-Narrowed.is at c.in_ok-outcome.ensures.settles) c.in_ok-narrow.ensures None (ends_turn s.clues.now s.picture.now mid _ c.in-Ends.line stands refl c.in_ok-add-in-Ends.ensures)
 
 pub returns-clause-turns : goal.returns-clause-turns
 returns-clause-turns g c =
     let s = c.args.scene.now in
     let settled = c.close_written.new.facts in
-    let P : Outcome → Type 0 = λ o. Settles s.clues.now c.in_ok-facts.facts settled c.args.self.now.lines c.close_written.new.lines o in
     let mid : Growing = record { pending = c.narrow.new.self; lines = c.close_written.new.lines; due = c.args.self.now.due } in
     let hand = sym (ap (λ (x : Search). x.at_hand) c.in_ok-narrow.ensures) in
-    let R : List (List ℕ) → Type 0 = λ x. Continues s.clues.now s.picture.now x (splits c.in-Splits.cell) in
-    let at = subst R hand (subst (λ (x : TreeStep). Continues s.clues.now s.picture.now settled x) c.in-Splits.is c.in_ok-step.ensures.continues) in
-    turn_on s.clues.now s.picture.now c.in_ok-facts.facts settled c.args.self.now mid _ (c.in_ok-facts.ensures ∙ c.at_hand.ensures) (subst P c.in-Narrowed.is c.in_ok-outcome.ensures.settles) c.in_ok-narrow.ensures None (splits_turn s.clues.now s.picture.now mid _ c.in-Splits.cell c.cell_number.result (subst IsFacts hand c.height.ensures.facts) at c.cell_number.ensures.row c.cell_number.ensures.col c.in_ok-split-in-Splits.ensures c.in_ok-add-in-Splits.ensures)
+    let at = rw hand at (subst (λ (x : TreeStep). Continues s.clues.now s.picture.now settled x) c.in-Splits.is c.in_ok-step.ensures.continues) in
+    turn_on s.clues.now s.picture.now c.in_ok-facts.facts settled c.args.self.now mid _ (c.in_ok-facts.ensures ∙ c.at_hand.ensures) (rw c.in-Narrowed.is at c.in_ok-outcome.ensures.settles) c.in_ok-narrow.ensures None (splits_turn s.clues.now s.picture.now mid _ c.in-Splits.cell c.cell_number.result (subst IsFacts hand c.height.ensures.facts) at c.cell_number.ensures.row c.cell_number.ensures.col c.in_ok-split-in-Splits.ensures c.in_ok-add-in-Splits.ensures)

@@ -1,7 +1,6 @@
-use Rattle.std.proofs.Common.{◌+◌, arith, refl, sym, subst, ◌∙◌}
+use Rattle.std.proofs.Common.{arith, refl, sym, ◌∙◌}
 use Rattle.std.proofs.lemmas.Bool.{false≢true}
-use Rattle.second_search.specs.declared.parts.growth.Growth.{Growth}
-use Rattle.second_search.proofs.GrowLemmas.{Gathering, gathered_open, gathered_shut, whole_line}
+use Rattle.second_search.proofs.GrowLemmas.{gathered_open, gathered_shut, whole_line}
 use Rattle.second_search.proofs.parts.growth.Growth.gather.Goals as goal
 use Rattle.second_search.proofs.parts.growth.Growth.gather.Goals.{then-is_open, else-is_open}
 
@@ -13,10 +12,9 @@ loop-i-preserved c =
     let facts = c.args.facts.now in
     let line = c.args.line in
     let cell = c.on-cell.result in
-    let P : Growth → Type 0 = λ growth. Gathering facts line c.args.self.now growth (c.loop-i.i + 1) in
     elim c.if-is_open.branch [
-      | then-is_open w ↦ subst P (sym w.self-is) (gathered_open facts line c.args.self.now c.loop-i.self w.take_in.new.self c.loop-i.i cell.row cell.col c.on-cell.ensures.row c.on-cell.ensures.col (c.is_open.ensures.0 w.if-is_open.true) w.take_in.ensures c.loop-i.invariant)
-      | else-is_open w ↦ subst P (sym w.self-is) (gathered_shut facts line c.args.self.now c.loop-i.self c.loop-i.i cell.row cell.col c.on-cell.ensures.row c.on-cell.ensures.col (λ o. false≢true (sym w.if-is_open.false ∙ c.is_open.ensures.1 o)) c.loop-i.invariant)
+      | then-is_open w ↦ rw w.self-is (gathered_open facts line c.args.self.now c.loop-i.self w.take_in.new.self c.loop-i.i cell.row cell.col c.on-cell.ensures.row c.on-cell.ensures.col (c.is_open.ensures.0 w.if-is_open.true) w.take_in.ensures c.loop-i.invariant)
+      | else-is_open w ↦ rw w.self-is (gathered_shut facts line c.args.self.now c.loop-i.self c.loop-i.i cell.row cell.col c.on-cell.ensures.row c.on-cell.ensures.col (λ o. false≢true (sym w.if-is_open.false ∙ c.is_open.ensures.1 o)) c.loop-i.invariant)
     ]
 
 pub returns-clause-open_cells : goal.returns-clause-open_cells
