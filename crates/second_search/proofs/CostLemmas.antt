@@ -37,11 +37,6 @@ use Rattle.second_search.specs.Parts.{IsScene}
 use Rattle.second_search.proofs.AloneLemmas.{own_power}
 use Rattle.second_search.proofs.KnownLaws.{costs_are_unique, only_is_closed}
 
--- ---- equal or not
-
-same_grid : (a b : List (List ℕ)) → (a ≡ b) ⊎ (a ≡ b → ⊥)
-same_grid = same_list (same_list cases_eq)
-
 -- ---- settled cells
 
 settled_or_not : (mask : ℕ) → mask < 2 ^ 16 → ((k : ℕ) × IsOnly mask k) ⊎ ((k : ℕ) → IsOnly mask k → ⊥)
@@ -207,7 +202,7 @@ goes_on : (clues : Clues) (known facts : List (List ℕ)) (others : List (List (
 goes_on clues known facts others on a Dies c =
     let r = on others (ended_lighter facts others) a in
     (r.0, (r.1.0, is_dead facts others r.0 r.1.0 c r.1.1))
-goes_on clues known facts others on a (Ends picture) c = elim (same_grid picture known) [
+goes_on clues known facts others on a (Ends picture) c = elim (same_list (same_list cases_eq) picture known) [
   | inr d ↦ (Some picture, (0, is_other facts others picture c d))
   | inl e ↦
       let r = on others (ended_lighter facts others) a in

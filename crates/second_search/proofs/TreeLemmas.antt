@@ -47,7 +47,7 @@ use Rattle.second_search.specs.Looking.{FindsFilling, Shows}
 use Rattle.second_search.specs.Trees.{Adds, Advances, AreNone, AreTree, Continues, Decides, EachFitsAlong, ForcesMore, HasCellNumber, HasLineNumber, IsComparedTo, IsDeadLine, IsOtherIn, IsUnsettledAt, Says, Settles, ShowsOnly, Stands, Turns, TurnsOn, Walks, line_id, split_at}
 use Rattle.second_search.proofs.FindLemmas.{Among, AreAlike, alike_both, among_kept, each_colour, held_alike, held_some, some_behind, some_both, some_front, some_held}
 use Rattle.second_search.proofs.EndLemmas.{shown_clues}
-use Rattle.second_search.proofs.LeastLemmas.{within_refl, within_trans}
+use Rattle.fixpoint.specs.ClosingLaws.{within_refl, within_trans}
 use Rattle.second_search.proofs.LookLemmas.{shown_fills}
 use Rattle.second_search.proofs.WeightLemmas.{branches_lighter, load, load_append, load_more, weight, weight_within}
 use Rattle.second_search.proofs.GridLemmas.{same_grid}
