@@ -1,7 +1,7 @@
 -- What is known of parts, carried from one scene to another.
-use Rattle.std.proofs.Common.{◌≡◌, ℕ, ◌+◌, ◌<◌, ◌≤◌, List, [], ◌∷◌, ◌++◌, length, get_or, refl, sym, ap, subst, ◌∙◌, arith, inl, inr}
+use Rattle.std.proofs.Common.{◌≡◌, ℕ, ◌+◌, ◌<◌, ◌≤◌, List, [], ◌∷◌, ◌++◌, length, get_or, refl, sym, subst, ◌∙◌, arith, inl, inr}
 use Rattle.std.specs.Prelude.{slice_index}
-use Rattle.std.proofs.lemmas.List.{get_or_past, length-map, length_push}
+use Rattle.std.proofs.lemmas.List.{length-map, length_push}
 use Rattle.std.proofs.lemmas.Bool.{cases_lt}
 use Rattle.picture.specs.declared.line_id.Axis.{Axis}
 use Rattle.picture.specs.declared.line_id.Axis.TheVariants.{Across, Down}
@@ -27,7 +27,7 @@ use Rattle.second_search.proofs.RowLemmas.{has_first, same_part}
 use Rattle.second_search.proofs.PartLemmas.{open_in_picture, part_open}
 use Rattle.second_search.proofs.PickLemmas.{off_part, on_part, outside_is_0, shape_of_picked}
 use Rattle.second_search.proofs.VerdictLemmas.{each_is_part, each_more, part_of_kept, same_parts}
-use Rattle.second_search.proofs.GridLemmas.{same_grid}
+use Rattle.second_search.proofs.GridLemmas.{same_grid, row_there}
 use Rattle.line_settle.specs.GridLaws.{shape_sym, shape_trans}
 use Rattle.picture.specs.BitLaws.{bit_or_not}
 
@@ -45,10 +45,10 @@ is_picked cells other old new rows is full p =
       | inr n ↦ p.kept row col n ∙ sym (off_part cells other old row col rect n)
       | inl h ↦ elim (cases_lt col (length (row_at old row))) [
         | inr q ↦ outside row col q
-        | inl m ↦ elim (cases_lt row (length old)) [
-          | inl l ↦ (let w = rect row l in p.put row col (omega arith) (omega arith) h ∙ sym (on_part cells other old row col l (omega arith) h))
-          | inr q ↦ absurd (let none = ap length (get_or_past old row [] q) in omega arith)
-        ]
+        | inl m ↦
+            let l = row_there old row col m in
+            let w = rect row l in
+            p.put row col (omega arith) (omega arith) h ∙ sym (on_part cells other old row col l (omega arith) h)
       ]
     ])
 

@@ -36,11 +36,7 @@ use Rattle.second_search.specs.Judging.{EndsBy, Passes, answer_at, cells_at}
 use Rattle.second_search.specs.Parts.{IsScene}
 use Rattle.second_search.proofs.AloneLemmas.{own_power}
 use Rattle.second_search.proofs.KnownLaws.{costs_are_unique, only_is_closed}
-
--- ---- equal or not
-
-same_grid : (a b : List (List ℕ)) → (a ≡ b) ⊎ (a ≡ b → ⊥)
-same_grid = same_list (same_list cases_eq)
+use Rattle.second_search.specs.Branching.{place}
 
 -- ---- settled cells
 
@@ -65,11 +61,8 @@ HasUnsettled facts row = Below (IsUnsettledAt facts row) (width_of facts)
 row_or_not : (facts : List (List ℕ)) (row : ℕ) → IsFacts facts → OrNot (HasUnsettled facts row)
 row_or_not facts row is = some_below (IsUnsettledAt facts row) (λ col. unsettled_or_not facts row col is) (width_of facts)
 
-abbrev cell_named : ℕ → ℕ → Cell
-cell_named row col = record { row = row; col = col }
-
 first_unsettled : (facts : List (List ℕ)) (row col : ℕ) → IsFacts facts → row < length facts → col < width_of facts → IsUnsettledAt facts row col
-    → ((r : ℕ) → r < row → HasUnsettled facts r → ⊥) → ((c : ℕ) → c < col → IsUnsettledAt facts row c → ⊥) → IsFirstUnsettled facts (cell_named row col)
+    → ((r : ℕ) → r < row → HasUnsettled facts r → ⊥) → ((c : ℕ) → c < col → IsUnsettledAt facts row c → ⊥) → IsFirstUnsettled facts (place row col)
 first_unsettled facts row col is h w un above left = record {
   is = record { in_rows = h; in_columns = w; unsettled = un };
   before = λ r c l b. elim (settled_or_not (cell_at facts r c) (is.masks r c)) [
@@ -91,7 +84,7 @@ unsettled_or_all facts is = elim (first_below (HasUnsettled facts) (λ row. row_
   | inl found ↦
       let row = found.0 in
       elim (first_below (IsUnsettledAt facts row) (λ col. unsettled_or_not facts row col is) (width_of facts)) [
-        | inl at ↦ inl (cell_named row at.0, first_unsettled facts row at.0 is found.1.0 at.1.0 at.1.1.0 found.1.1.1 at.1.1.1)
+        | inl at ↦ inl (place row at.0, first_unsettled facts row at.0 is found.1.0 at.1.0 at.1.1.0 found.1.1.1 at.1.1.1)
         | inr none ↦ let some = found.1.1.0 in absurd (none some.0 some.1.0 some.1.1)
       ]
 ]
@@ -207,7 +200,7 @@ goes_on : (clues : Clues) (known facts : List (List ℕ)) (others : List (List (
 goes_on clues known facts others on a Dies c =
     let r = on others (ended_lighter facts others) a in
     (r.0, (r.1.0, is_dead facts others r.0 r.1.0 c r.1.1))
-goes_on clues known facts others on a (Ends picture) c = elim (same_grid picture known) [
+goes_on clues known facts others on a (Ends picture) c = elim (same_list (same_list cases_eq) picture known) [
   | inr d ↦ (Some picture, (0, is_other facts others picture c d))
   | inl e ↦
       let r = on others (ended_lighter facts others) a in

@@ -81,14 +81,10 @@ allowed : (allowance left : Option ℕ) (n : ℕ) → IsLeft allowance n left �
 allowed None left n h = tt
 allowed (Some most) left n h = let b = h.1.1 in omega arith
 
-abbrev some_left : Option ℕ → ℕ
-some_left None = 0
-some_left (Some n) = n
-
 used : (allowance left : Option ℕ) (n : ℕ) → IsLeft allowance n left → left ≡ Some 0 → allowance ≡ Some n
 used None left n h e = absurd (let x : None ≡ Some 0 = sym h ∙ e in absurd cc)
 used (Some most) left n h e =
-    let z : h.0 ≡ 0 = ap some_left (sym h.1.0 ∙ e) in
+    let z : h.0 ≡ 0 = (let s = sym h.1.0 ∙ e in cc) in
     ap Some (let s : most ≡ n = omega arith in s)
 
 pub ends_with_nothing : (clues : Clues) (known first : List (List ℕ)) (waiting : List (List (List ℕ))) (n : ℕ) (allowance left : Option ℕ) → Going clues known first waiting n → waiting ≡ [] → IsLeft allowance n left → EndsAs clues known first allowance ending.Nothing n
@@ -113,11 +109,6 @@ ends_broken_off unique clues known first facts settled cell others n allowance l
         omega arith),
   ),
 )
-
--- ---- the count
-
-raised_again : (before after n : ℕ) → before ≡ raised 0 n → after ≡ raised before 1 → after ≡ raised 0 (suc n)
-raised_again before after n a b = omega arith
 
 -- ---- while facts wait
 
@@ -152,7 +143,7 @@ counting_goes unique clues known first allowance s t before after c (inr h) =
       made = suc c.made;
       going = rw e at (going_splits unique clues known first s.at_hand h.0.settled h.0.cell s.behind c.made c.going h.0.comes);
       is_left = one_less allowance before.left after.left c.made c.is_left h.1.0;
-      counted = raised_again before.splits after.splits c.made c.counted h.1.1;
+      counted = (let a = c.counted in let b = h.1.1 in omega arith);
     }
 
 -- ---- how it ends, counted

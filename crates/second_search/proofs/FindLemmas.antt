@@ -23,7 +23,7 @@ use Rattle.picture.specs.BitLaws.{bit_below, bit_is_set, power_has, set_bit, no_
 use Rattle.clues.specs.Solution.{Solves}
 use Rattle.line_settle.specs.SolutionLaws.{solved_shape}
 use Rattle.line_settle.specs.Branches.{branches, colours_of, held}
-use Rattle.second_search.proofs.GridLemmas.{set_each}
+use Rattle.second_search.proofs.GridLemmas.{set_each, row_there}
 use Rattle.fixpoint.specs.Laws.{ClosingKeepsFillings}
 use Rattle.second_search.specs.Laws.{SoundFacts}
 use Rattle.clues.specs.SolutionLaws.{solves_fewer}
@@ -192,10 +192,10 @@ all_fills clues picture facts height width sizes h tall wide shape left =
       is_picture = h.is_picture;
       same_shape = shape_trans (blank_like picture height width h.is_picture (omega arith) (omega arith)) shape;
       has_clues = h.has_clues;
-      leaves = λ row col l. elim (cases_lt row (length picture)) [
-        | inl m ↦ let rect = h.is_picture.rectangular row m in left row col (cell_at picture row col) (omega arith) (omega arith) (h.is_picture.colours row col)
-        | inr p ↦ absurd (let none : length (row_at picture row) ≡ 0 = ap length (get_or_past picture row [] p) in omega arith)
-      ];
+      leaves = λ row col l.
+          let m = row_there picture row col l in
+          let rect = h.is_picture.rectangular row m in
+          left row col (cell_at picture row col) (omega arith) (omega arith) (h.is_picture.colours row col);
     }
   where
     blank_like : (p : List (List ℕ)) (h w : ℕ) → IsPicture p → h ≡ length p → w ≡ width_of p → SameShape p (replicate h (replicate {A = ℕ} w 65535))
@@ -216,15 +216,14 @@ finds_first clues facts blank height width (Some picture) sizes tall wide e left
 
 -- a cell of a row of a picture lies in the picture
 row_inside : (picture : List (List ℕ)) (row col : ℕ) → IsPicture picture → col < length (row_at picture row) → (row < length picture) × (col < width_of picture)
-row_inside picture row col is l = elim (cases_lt row (length picture)) [
-  | inl h ↦ (h, (let r = is.rectangular row h in omega arith))
-  | inr p ↦ absurd (let none : length (row_at picture row) ≡ 0 = ap length (get_or_past picture row [] p) in omega arith)
-]
+row_inside picture row col is l =
+    let h = row_there picture row col l in
+    (h, (let r = is.rectangular row h in omega arith))
 
 -- a cell where a colour is left lies in the facts
-left_inside : (facts : List (List ℕ)) (row col k : ℕ) → Leaves facts row col k → col < length (row_at facts row)
-left_inside facts row col k s = elim (cases_lt col (length (row_at facts row))) [
-  | inl l ↦ l
+pub left_there : (facts : List (List ℕ)) (row col k : ℕ) → Leaves facts row col k → (row < length facts) × (col < length (row_at facts row))
+left_there facts row col k s = elim (cases_lt col (length (row_at facts row))) [
+  | inl l ↦ (row_there facts row col l, l)
   | inr p ↦ absurd (no_bit k (let P : ℕ → Type 0 = λ m. IsBitSet m k in subst P (get_or_past (row_at facts row) col 0 p) s))
 ]
 
@@ -241,7 +240,7 @@ base_sound : (clues : Clues) (givens : List ℕ) (picture base : List (List ℕ)
 base_sound clues givens picture base is b = record {
   same_shape = b.same_shape;
   hold_givens = λ row col k g s.
-      let l = left_inside base row col k s in
+      let l = (left_there base row col k s).1 in
       let i = row_inside picture row col is (omega arith) in
       ((b.left row col k i.0 i.1).0 s).1 g;
   leave = λ other h row col l.

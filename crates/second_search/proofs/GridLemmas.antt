@@ -10,6 +10,13 @@ use Rattle.line_settle.specs.GridLaws.{shape_sym, shape_trans, at_with_cell, off
 pub same_grid : (a b : List (List ℕ)) → SameShape a b → ((r c : ℕ) → cell_at a r c ≡ cell_at b r c) → a ≡ b
 same_grid a b s h = ext_get_or [] a b s.rows (λ r _. ext_get_or 0 (row_at a r) (row_at b r) (s.each r) (λ c _. h r c))
 
+-- a cell of a row lies in a row that is there
+pub row_there : (a : List (List ℕ)) (row col : ℕ) → col < length (row_at a row) → row < length a
+row_there a row col l = elim (cases_lt row (length a)) [
+  | inl h ↦ h
+  | inr p ↦ absurd (let none = ap length (get_or_past a row [] p) in omega arith)
+]
+
 -- cells that lie outside are 0
 pub cell_outside : (a : List (List ℕ)) (width : ℕ) → ((i : ℕ) → i < length a → length (row_at a i) ≡ width) → (r c : ℕ) → (r < length a → c < width → ⊥) → cell_at a r c ≡ 0
 cell_outside a width h r c n = elim (cases_lt r (length a)) [

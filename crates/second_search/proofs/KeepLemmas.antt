@@ -18,13 +18,13 @@ use Rattle.line_settle.specs.FactSets.{IsClosed, IsFacts, SameShape, col_on, row
 use Rattle.line_settle.specs.Fitting.{Fits}
 use Rattle.line_settle.specs.GridLaws.{same_has_line, same_line_length, same_list, shape_refl, shape_sym, shape_trans, cell_on, off_with_cell, shape_with_cell}
 use Rattle.picture.specs.BitLaws.{no_bit}
-use Rattle.line_settle.specs.Branches.{branches, colours_of, held}
+use Rattle.line_settle.specs.Branches.{colours_of, held}
 use Rattle.fixpoint.specs.Closing.{AreClosable, EachFits, IsQuietLine, QuietOutside}
 use Rattle.fixpoint.specs.LineNames.{AreLinesOf}
 use Rattle.split_choice.specs.declared.cell.Cell.{Cell}
 use Rattle.second_search.specs.declared.counting.Budget.{Budget}
-use Rattle.second_search.specs.Branching.{GoesOn, Search, place, places, search_of}
-use Rattle.second_search.specs.Looking.{AreRowsSettled, IsFirstUnsettled, ShowOthers}
+use Rattle.second_search.specs.Branching.{GoesOn, Search, place, search_of}
+use Rattle.second_search.specs.Looking.{AreRowsSettled, ShowOthers}
 use Rattle.second_search.specs.Searching.{KeepsOutside, NamesLinesOf}
 use Rattle.second_search.specs.Stepping.{Steps}
 use Rattle.split_choice.specs.Through.{CanLie, NamesLinesAt, across, down}
@@ -153,13 +153,6 @@ each_held clues known rows first settled row col others cells s c f h l a b u o 
   each_held clues known rows first settled row col others cells s c f h l a b u o ks,
 )
 
--- the branches of a cell of closed facts
-pub each_branch : (clues : Clues) (known : List (List ℕ)) (rows : Lines) (first settled : List (List ℕ)) (row col mask : ℕ) (others : List (List (List ℕ))) (cells : List Cell) → SameShape first settled → IsClosed clues settled → EachFits clues settled → row < length settled → col < width_of settled → AreRowsSettled settled row → ShowOthers known rows settled → ((k : ℕ) → IsOnly (cell_at settled row col) k → ⊥) → EachQuiet clues known rows first others cells → EachQuiet clues known rows first (branches settled row col mask ++ others) (places row col mask ++ cells)
-each_branch clues known rows first settled row col mask others cells s c f h l a b u o = each_held clues known rows first settled row col others cells s c f h l a b u o (colours_of mask)
-
-pub above_first : (facts : List (List ℕ)) (cell : Cell) → IsFirstUnsettled facts cell → AreRowsSettled facts cell.row
-above_first facts cell f = λ r c l w. f.before r c w (inl l)
-
 -- ---- on to the next facts
 
 -- the lines of a set are those of the facts, which have the first ones' shape, each other line is quiet, and each row above one
@@ -206,4 +199,5 @@ quiet_goes clues known first rows s t before after shape others q (inr h) =
     let to = h.0.comes.0 in
     let at = h.0.comes.1.is in
     let cell = h.0.cell in
-    rw h.0.new_is (each_branch clues known rows first h.0.settled cell.row cell.col (cell_at h.0.settled cell.row cell.col) s.behind s.cells (shape_trans shape to.least.holds.same_shape) to.least.closed to.fits at.in_rows at.in_columns (above_first h.0.settled cell h.0.comes.1) (others_settled clues known s.at_hand h.0.settled rows to.least.holds to.fits others) at.unsettled q)
+    let quiet = others_settled clues known s.at_hand h.0.settled rows to.least.holds to.fits others in
+    rw h.0.new_is (each_held clues known rows first h.0.settled cell.row cell.col s.behind s.cells (shape_trans shape to.least.holds.same_shape) to.least.closed to.fits at.in_rows at.in_columns (λ r c l w. h.0.comes.1.before r c w (inl l)) quiet at.unsettled q (colours_of (cell_at h.0.settled cell.row cell.col)))

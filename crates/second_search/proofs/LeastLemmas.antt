@@ -15,9 +15,10 @@ use Rattle.clues.specs.ClueBook.{Clues, clue_at}
 use Rattle.line_settle.specs.Fitting.{CanFit, Forces, CanHave}
 use Rattle.line_settle.specs.FactSets.{IsClosed, IsClosedLine, IsFacts, IsLeast, IsWithin, Leaves, SameShape, col_on, row_on}
 use Rattle.line_settle.specs.FitLaws.{tighter_can_fit, tighter_have, within_tighter}
-use Rattle.line_settle.specs.GridLaws.{cell_on, same_has_line, shape_refl, shape_sym, shape_trans, shape_with_cell}
+use Rattle.line_settle.specs.GridLaws.{cell_on, same_has_line, shape_sym, shape_trans, shape_with_cell}
 use Rattle.line_settle.specs.MaskLaws.{without_bit}
 use Rattle.fixpoint.specs.Closing.{EachFits, HasDeadLine}
+use Rattle.fixpoint.specs.ClosingLaws.{within_refl, within_trans}
 use Rattle.second_search.proofs.GridLemmas.{both_or_not, set_each}
 use Rattle.second_search.proofs.GrowLemmas.{line_named}
 use Rattle.second_search.proofs.PickLemmas.{find_below, same_list, Below, OrNot, some_below}
@@ -35,9 +36,6 @@ same_block a b = elim (cases_eq a.len b.len) [
     | inl f ↦ inl (let p : block a.len a.colour ≡ block b.len a.colour = ap (λ n. block n a.colour) e in p ∙ ap (block b.len) f)
   ]
 ]
-
-same_blocks : (a b : List Block) → (a ≡ b) ⊎ (a ≡ b → ⊥)
-same_blocks = same_list same_block
 
 -- ---- the lists of colours that are left
 
@@ -90,7 +88,7 @@ some_list (m ∷ ms) P by small =
 -- ---- lists that fit
 
 pub fit_or_not : (clue : List Block) (left : List ℕ) → AreSmall left → CanFit clue left ⊎ (CanFit clue left → ⊥)
-fit_or_not clue left small = elim (some_list left (λ line. clue_of line ≡ clue) (λ line. same_blocks (clue_of line) clue) small) [
+fit_or_not clue left small = elim (some_list left (λ line. clue_of line ≡ clue) (λ line. same_list same_block (clue_of line) clue) small) [
   | inl found ↦ inl (found.0, record { same_length = found.1.0.same_length; has_clue = found.1.1; keeps = found.1.0.keeps })
   | inr none ↦ inr (λ fit. none fit.0 (record { same_length = fit.1.same_length; keeps = fit.1.keeps }) fit.1.has_clue)
 ]
@@ -98,7 +96,7 @@ fit_or_not clue left small = elim (some_list left (λ line. clue_of line ≡ clu
 pub have_or_not : (clue : List Block) (left : List ℕ) (i k : ℕ) → AreSmall left → CanHave clue left i k ⊎ (CanHave clue left i k → ⊥)
 have_or_not clue left i k small = elim (cases_lt i (length left)) [
   | inr p ↦ inr (λ h. let w = h.within in absurd (omega arith))
-  | inl l ↦ elim (some_list left (λ line. (clue_of line ≡ clue) × (get_or line i 0 ≡ k)) (λ line. both_or_not (same_blocks (clue_of line) clue) (cases_eq (get_or line i 0) k)) small) [
+  | inl l ↦ elim (some_list left (λ line. (clue_of line ≡ clue) × (get_or line i 0 ≡ k)) (λ line. both_or_not (same_list same_block (clue_of line) clue) (cases_eq (get_or line i 0) k)) small) [
     | inl found ↦ inl (record {
       line = found.0;
       fits = record { same_length = found.1.0.same_length; has_clue = found.1.1.0; keeps = found.1.0.keeps };
@@ -172,21 +170,12 @@ closed_line clue left small none i k s = elim (have_or_not clue left i k small) 
 
 -- ---- one colour less
 
-pub within_refl : (a : List (List ℕ)) → IsWithin a a
-within_refl a = record { same_shape = shape_refl a; leaves = λ row col k l. l }
-
-pub within_trans : (a b c : List (List ℕ)) → IsWithin a b → IsWithin b c → IsWithin a c
-within_trans a b c x y = record { same_shape = shape_trans x.same_shape y.same_shape; leaves = λ r d k s. x.leaves r d k (y.leaves r d k s) }
-
 abbrev less : ℕ → ℕ → ℕ
 less mask k = bit_and mask (bit_not w16 (2 ^ k))
 
-two_below : (k : ℕ) → k < 16 → 2 ^ k < 2 ^ 16
-two_below k l = let most = pow_mono {i = k} {j = 15} (omega arith) in omega arith
-
 has_less : (mask k : ℕ) → mask < 2 ^ 16 → k < 16 → (j : ℕ) → IsBitSet (less mask k) j ↔ (IsBitSet mask j × (j ≡ k → ⊥))
 has_less mask k m l j =
-    let both = without_bit mask (2 ^ k) j m (two_below k l) in (
+    let both = without_bit mask (2 ^ k) j m (let most = pow_mono {i = k} {j = 15} (omega arith) in omega arith) in (
       (λ s. let p = both.0 s in (p.0, (λ e. p.1 ((power_has k j).1 e)))),
       (λ p. both.1 (p.0, (λ s. p.1 ((power_has k j).0 s)))),
     )

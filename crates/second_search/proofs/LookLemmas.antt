@@ -1,5 +1,5 @@
 -- Settled facts and the picture that they show.
-use Rattle.std.proofs.Common.{◌≡◌, ℕ, ◌+◌, ◌<◌, List, [], length, get_or, refl, sym, ap, subst, ◌∙◌, arith, inl, inr}
+use Rattle.std.proofs.Common.{◌≡◌, ℕ, ◌+◌, ◌<◌, List, length, get_or, refl, sym, subst, ◌∙◌, arith, inl, inr}
 use Rattle.std.specs.Prelude.{IsBitSet}
 use Rattle.std.proofs.lemmas.Bool.{cases_eq, cases_lt}
 use Rattle.std.proofs.lemmas.List.{get_or_past}
@@ -18,7 +18,7 @@ use Rattle.second_search.specs.Looking.{AreRowsSettled, ShowOthers, Shows}
 use Rattle.second_search.specs.Through.{across}
 use Rattle.line_settle.specs.GridLaws.{shape_sym, shape_trans, at_with_cell, off_with_cell, shape_with_cell}
 use Rattle.picture.specs.BitLaws.{bit_below, fewer_le, no_bit}
-use Rattle.second_search.proofs.GridLemmas.{cell_outside, same_inside}
+use Rattle.second_search.proofs.GridLemmas.{cell_outside, same_inside, row_there}
 
 pub only_small : (facts : List (List ℕ)) (row col k : ℕ) → IsFacts facts → IsOnly (cell_at facts row col) k → k < 16
 only_small facts row col k is h = bit_below (cell_at facts row col) 16 k (is.masks row col) ((h k).1 refl)
@@ -58,13 +58,10 @@ shown_fills clues facts picture is s e = record {
   is_picture = s.is_picture;
   same_shape = s.same_shape;
   has_clues = e;
-  leaves = λ row col l. elim (cases_lt row (length facts)) [
-    | inl h ↦
-        (s.only row col h (omega arith) (cell_at picture row col)).1 refl
-    | inr p ↦ absurd (
-        let none : length (row_at picture row) ≡ 0 = ap length (get_or_past picture row [] (omega arith)) in
-        omega arith)
-  ];
+  leaves = λ row col l.
+      let there = row_there picture row col l in
+      let h : row < length facts = omega arith in
+      (s.only row col h (omega arith) (cell_at picture row col)).1 refl;
 }
 
 -- ---- before closing
@@ -74,14 +71,11 @@ stays_only : (clues : Clues) (facts settled : List (List ℕ)) (row col k : ℕ)
 stays_only clues facts settled row col k w fits only = elim (cases_lt col (length (row_at settled row))) [
   | inr p ↦ absurd (
       no_bit k (subst (λ (x : ℕ). IsBitSet x k) (get_or_past (row_at facts row) col 0 (omega arith)) ((only k).1 refl)))
-  | inl l ↦ elim (cases_lt row (length settled)) [
-    | inr p ↦ absurd (let none : length (row_at settled row) ≡ 0 = ap length (get_or_past settled row [] p) in omega arith)
-    | inl h ↦
-        let list = fits (across row) h in
-        let there = list.1.keeps col l in
-        let e = (only (get_or list.0 col 0)).0 (w.leaves row col (get_or list.0 col 0) there) in
-        λ j. ((λ s. (only j).0 (w.leaves row col j s)), (λ f. subst (λ (x : ℕ). IsBitSet (cell_at settled row col) x) (e ∙ sym f) there))
-  ]
+  | inl l ↦
+      let list = fits (across row) (row_there settled row col l) in
+      let there = list.1.keeps col l in
+      let e = (only (get_or list.0 col 0)).0 (w.leaves row col (get_or list.0 col 0) there) in
+      λ j. ((λ s. (only j).0 (w.leaves row col j s)), (λ f. subst (λ (x : ℕ). IsBitSet (cell_at settled row col) x) (e ∙ sym f) there))
 ]
 
 -- rows that show a picture's colours alone do so where facts exclude more and some list fits each row

@@ -1,8 +1,7 @@
 -- Parts, and pictures that differ on one of them alone.
-use Rattle.std.proofs.Common.{◌≡◌, ℕ, ◌<◌, ◌⊎◌, ◌↔◌, List, [], length, refl, sym, ap, subst, ◌∙◌, arith, inl, inr}
+use Rattle.std.proofs.Common.{◌≡◌, ℕ, ◌<◌, ◌⊎◌, ◌↔◌, List, length, refl, sym, ap, subst, ◌∙◌, arith, inl, inr}
 use Rattle.std.specs.Prelude.{IsBitSet, slice_index}
 use Rattle.std.proofs.lemmas.Bool.{cases_eq, cases_lt}
-use Rattle.std.proofs.lemmas.List.{get_or_past}
 use Rattle.picture.specs.declared.line_id.Axis.{Axis}
 use Rattle.picture.specs.declared.line_id.Axis.TheVariants.{Across, Down}
 use Rattle.picture.specs.declared.line_id.LineId.{LineId}
@@ -27,6 +26,7 @@ use Rattle.second_search.proofs.GrowLemmas.{on_one_line}
 use Rattle.second_search.proofs.PickLemmas.{clue_known, differing_cell, find_below, off_part, on_cells, outside_is_0, rect_like, same_along, same_clues, same_count, shape_of_picked}
 use Rattle.line_settle.specs.GridLaws.{shape_sym, shape_trans, same_line_length}
 use Rattle.picture.specs.BitLaws.{bit_or_not}
+use Rattle.second_search.proofs.GridLemmas.{row_there}
 
 -- ---- parts
 
@@ -128,10 +128,8 @@ open_in_picture clues givens facts picture row col s o =
       | inl l ↦ omega arith
       | inr p ↦ absurd (none_has_two (cell_at facts row col) (outside_is_0 facts row col p) o)
     ] in
-    elim (cases_lt row (length picture)) [
-      | inl l ↦ (l, (let w = s.is_picture.rectangular row l in omega arith))
-      | inr p ↦ absurd (let none = ap length (get_or_past picture row [] p) in omega arith)
-    ]
+    let l = row_there picture row col near in
+    (l, (let w = s.is_picture.rectangular row l in omega arith))
 
 -- a cell of the picture that is not open has its colour alone left
 pub settled_there : (clues : Clues) (givens : List ℕ) (facts picture : List (List ℕ)) (row col : ℕ) → IsScene clues givens facts picture → row < length picture → col < width_of picture → (IsOpenCell facts row col → ⊥) → IsOnly (cell_at facts row col) (cell_at picture row col)

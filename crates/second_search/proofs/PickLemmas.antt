@@ -15,7 +15,7 @@ use Rattle.clues.specs.ClueBook.{Clues, clue_at, clues_of}
 use Rattle.clues.specs.Laws.{BooksAreTheirClues, CluesAreOfLines, IsAtPlace}
 use Rattle.line_settle.specs.FactSets.{SameShape}
 use Rattle.second_search.specs.Parts.{picked, picked_cell, picked_row}
-use Rattle.second_search.proofs.GridLemmas.{same_grid}
+use Rattle.second_search.proofs.GridLemmas.{same_grid, row_there}
 
 -- ---- equal or not
 
@@ -114,10 +114,9 @@ off_part cells one other row col rect h =
     let shape = shape_of_picked cells one other rect in
     elim (cases_lt col (length (row_at other row))) [
       | inr p ↦ outside_is_0 (picked cells one other) row col (omega arith) ∙ sym (outside_is_0 other row col p)
-      | inl m ↦ elim (cases_lt row (length other)) [
-        | inl l ↦ cell_of_picked cells one other row col l (let w = rect row l in omega arith) ∙ picked_off cells one other row col h
-        | inr p ↦ absurd (let none = ap length (get_or_past other row [] p) in omega arith)
-      ]
+      | inl m ↦
+          let l = row_there other row col m in
+          cell_of_picked cells one other row col l (let w = rect row l in omega arith) ∙ picked_off cells one other row col h
     ]
 
 -- the same where both grids have one shape
@@ -126,10 +125,7 @@ on_cells cells one other row col rect s h =
     let shape = shape_of_picked cells one other rect in
     elim (cases_lt col (length (row_at other row))) [
       | inr p ↦ outside_is_0 (picked cells one other) row col (omega arith) ∙ sym (outside_is_0 one row col (omega arith))
-      | inl m ↦ elim (cases_lt row (length other)) [
-        | inl l ↦ on_part cells one other row col l (let w = rect row l in omega arith) h
-        | inr p ↦ absurd (let none = ap length (get_or_past other row [] p) in omega arith)
-      ]
+      | inl m ↦ let l = row_there other row col m in on_part cells one other row col l (let w = rect row l in omega arith) h
     ]
 
 -- a place at which two grids of one shape differ

@@ -1,7 +1,6 @@
 -- A part whose lines are the same in two scenes.
 use Rattle.std.proofs.Common.{◌≡◌, ℕ, ◌<◌, List, length, refl, sym, ap, subst, ◌∙◌, arith, inl, inr}
 use Rattle.std.specs.Prelude.{slice_index}
-use Rattle.picture.specs.declared.line_id.Axis.TheVariants.{Across, Down}
 use Rattle.picture.specs.declared.line_id.LineId.{LineId}
 use Rattle.picture.specs.CellSet.{HasCell}
 use Rattle.picture.specs.Laws.{CellsAreMembers}
@@ -17,18 +16,12 @@ use Rattle.second_search.proofs.PickLemmas.{cells_along, clue_known, off_part, o
 use Rattle.second_search.proofs.GridLemmas.{same_grid}
 use Rattle.picture.specs.BitLaws.{bit_or_not}
 use Rattle.line_settle.specs.GridLaws.{same_line_length}
+use Rattle.split_choice.specs.Through.{across, down}
 
--- the row and the column of a cell
-abbrev row_through : ℕ → LineId
-row_through row = record { axis = Across; at = row }
-
-abbrev column_through : ℕ → LineId
-column_through col = record { axis = Down; at = col }
-
-in_row : (cells : List ℕ) (row col : ℕ) → HasCell cells row col → GoesThrough (row_through row) cells
+in_row : (cells : List ℕ) (row col : ℕ) → HasCell cells row col → GoesThrough (across row) cells
 in_row cells row col h = record { row = row; col = col; has = h; on_line = refl }
 
-in_column : (cells : List ℕ) (row col : ℕ) → HasCell cells row col → GoesThrough (column_through col) cells
+in_column : (cells : List ℕ) (row col : ℕ) → HasCell cells row col → GoesThrough (down col) cells
 in_column cells row col h = record { row = row; col = col; has = h; on_line = refl }
 
 -- ---- the part
@@ -41,11 +34,11 @@ module _ (clues clues_after : Clues) (facts picture facts_after picture_after : 
   shown_same k line row col t on = cells_along picture picture_after line.axis line.at row col (k line t).shown on
 
   open_after : KeepsLines clues facts picture clues_after facts_after picture_after cells → (row col : ℕ) → HasCell cells row col → IsOpenCell facts row col → IsOpenCell facts_after row col
-  open_after k row col h o = subst HasTwoColours (left_same k (row_through row) row col (in_row cells row col h) refl) o
+  open_after k row col h o = subst HasTwoColours (left_same k (across row) row col (in_row cells row col h) refl) o
 
   open_before : KeepsLines clues facts picture clues_after facts_after picture_after cells → (r c s d : ℕ) → HasCell cells r c → ShareLine r c s d → IsOpenCell facts_after s d → IsOpenCell facts s d
-  open_before k r c s d h (inl e) o = subst HasTwoColours (sym (left_same k (row_through r) s d (in_row cells r c h) (sym e))) o
-  open_before k r c s d h (inr e) o = subst HasTwoColours (sym (left_same k (column_through c) s d (in_column cells r c h) (sym e))) o
+  open_before k r c s d h (inl e) o = subst HasTwoColours (sym (left_same k (across r) s d (in_row cells r c h) (sym e))) o
+  open_before k r c s d h (inr e) o = subst HasTwoColours (sym (left_same k (down c) s d (in_column cells r c h) (sym e))) o
 
   chain_after : KeepsLines clues facts picture clues_after facts_after picture_after cells → (row col : ℕ) → ((r c : ℕ) → IsChained facts row col r c → HasCell cells r c) → (r c : ℕ) → IsChained facts row col r c → IsChained facts_after row col r c
   chain_after k row col all _ _ (begins o) = begins (open_after k row col (all row col (begins o)) o)
@@ -85,7 +78,7 @@ module _ (of_lines : CluesAreOfLines) (books : BooksAreTheirClues) (members : Ce
       let rect = t.is_picture.rectangular in
       let shape = shape_of_picked cells other picture_after rect in
       let like = solved_shape f.is_other.solves in
-      let inside : (r c : ℕ) → HasCell cells r c → (r < length picture_after) × (c < width_of picture_after) = λ r c h. ((k (row_through r) (in_row cells r c h)).after, (k (column_through c) (in_column cells r c h)).after) in
+      let inside : (r c : ℕ) → HasCell cells r c → (r < length picture_after) × (c < width_of picture_after) = λ r c h. ((k (across r) (in_row cells r c h)).after, (k (down c) (in_column cells r c h)).after) in
       let on : (r c : ℕ) → HasCell cells r c → cell_at new r c ≡ cell_at other r c = λ r c h. on_part cells other picture_after r c (inside r c h).0 (inside r c h).1 h in
       let off : (r c : ℕ) → (HasCell cells r c → ⊥) → cell_at new r c ≡ cell_at picture_after r c = λ r c n. off_part cells other picture_after r c rect n in
       let shown : (line : LineId) (r c : ℕ) → GoesThrough line cells → IsOnLine line r c → cell_at picture r c ≡ cell_at picture_after r c = shown_same clues clues_after facts picture facts_after picture_after cells k in
@@ -117,7 +110,7 @@ module _ (of_lines : CluesAreOfLines) (books : BooksAreTheirClues) (members : Ce
             ];
           };
           differs = λ e. f.is_other.differs (same_grid other picture like (λ r c. elim (bit_or_not (slice_index cells r) c) [
-            | inl h ↦ sym (on r c h) ∙ (ap (λ x. cell_at x r c) e ∙ sym (shown (row_through r) r c (in_row cells r c h) refl))
+            | inl h ↦ sym (on r c h) ∙ (ap (λ x. cell_at x r c) e ∙ sym (shown (across r) r c (in_row cells r c h) refl))
             | inr n ↦ f.elsewhere r c n
           ]));
         };

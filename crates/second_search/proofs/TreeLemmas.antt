@@ -1,6 +1,5 @@
 -- Trees written line by line: where lines lead, what fills the branches that wait, and what they weigh.
 use Rattle.std.proofs.Common.{◌≡◌, ℕ, ◌+◌, ◌-◌, ◌*◌, ◌^◌, ◌<◌, ◌≤◌, ◌==◌, ◌↔◌, eq-eqb, Bool, true, false, Option, None, Some, List, [], ◌∷◌, ◌++◌, length, append_assoc, get_or, refl, sym, ap, subst, ◌∙◌, arith, inl, inr}
-use Rattle.std.specs.Prelude.{IsBitSet}
 use Rattle.std.specs.Int.{bit_at}
 use Rattle.std.proofs.lemmas.Bool.{cases_eq, cases_lt, false≢true}
 use Rattle.std.proofs.lemmas.List.{append-nil, get_or_past}
@@ -45,9 +44,9 @@ use Rattle.second_search.specs.Branching.{FillsSome, Search, places, search_of}
 use Rattle.line_settle.specs.Branches.{branches, colours_of, held}
 use Rattle.second_search.specs.Looking.{FindsFilling, Shows}
 use Rattle.second_search.specs.Trees.{Adds, Advances, AreNone, AreTree, Continues, Decides, EachFitsAlong, ForcesMore, HasCellNumber, HasLineNumber, IsComparedTo, IsDeadLine, IsOtherIn, IsUnsettledAt, Says, Settles, ShowsOnly, Stands, Turns, TurnsOn, Walks, line_id, split_at}
-use Rattle.second_search.proofs.FindLemmas.{Among, AreAlike, alike_both, among_kept, each_colour, held_alike, held_some, some_behind, some_both, some_front, some_held}
+use Rattle.second_search.proofs.FindLemmas.{Among, AreAlike, alike_both, among_kept, each_colour, held_alike, held_some, some_behind, some_both, some_front, some_held, left_there}
 use Rattle.second_search.proofs.EndLemmas.{shown_clues}
-use Rattle.second_search.proofs.LeastLemmas.{within_refl, within_trans}
+use Rattle.fixpoint.specs.ClosingLaws.{within_refl, within_trans}
 use Rattle.second_search.proofs.LookLemmas.{shown_fills}
 use Rattle.second_search.proofs.WeightLemmas.{branches_lighter, load, load_append, load_more, weight, weight_within}
 use Rattle.second_search.proofs.GridLemmas.{same_grid}
@@ -182,15 +181,6 @@ inside_row facts picture cell is s h =
     let rect = is.rectangular (cell.row - 1) here in
     let each = s.each (cell.row - 1) in
     ((let p : cell.row - 1 < length facts = omega arith in p), (let p : cell.col - 1 < length (row_at facts (cell.row - 1)) = omega arith in p))
-
-left_there : (facts : List (List ℕ)) (row col k : ℕ) → Leaves facts row col k → (row < length facts) × (col < length (row_at facts row))
-left_there facts row col k l = elim (cases_lt col (length (row_at facts row))) [
-  | inr p ↦ let P : ℕ → Type 0 = λ m. IsBitSet m k in absurd (no_bit k (subst P (get_or_past (row_at facts row) col 0 p) l))
-  | inl w ↦ elim (cases_lt row (length facts)) [
-    | inl h ↦ (h, w)
-    | inr p ↦ let e : length (row_at facts row) ≡ 0 = ap length (get_or_past facts row [] p) in absurd (omega arith)
-  ]
-]
 
 forced_fills : OnlyIsClosed → (clues : Clues) (facts gained picture : List (List ℕ)) (line : LineId) → HasLine facts line → ForcesMore clues facts line gained → Fills clues facts picture → Fills clues gained picture
 forced_fills own clues facts gained picture line has f fills =

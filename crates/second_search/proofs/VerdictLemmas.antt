@@ -110,17 +110,12 @@ same_kept clues facts picture allowance old new Other m n (inl j) = ap parts_of 
 same_kept clues facts picture allowance old new Other m n (inr j) = kept_cells old new j.noted.count j.noted.cells
 same_kept clues facts picture allowance old new Undecided m n j = kept_cells old new j.noted.count j.noted.cells
 
-abbrev IsNotOther : Verdict → Type 0
-IsNotOther Unique = Unit {0}
-IsNotOther Other = ⊥
-IsNotOther Undecided = Unit {0}
-
 pub is_shown : (clues : Clues) (facts picture : List (List ℕ)) (allowance : Option ℕ) (old new : List KeptPart) (verdict : Verdict) (m n : ℕ) → Judges clues facts picture allowance old new verdict m n → IsShown new verdict
-is_shown clues facts picture allowance old new Unique m n j = λ e. absurd (subst IsNotOther e tt)
+is_shown clues facts picture allowance old new Unique m n j = λ e. absurd cc
 is_shown clues facts picture allowance old new Other m n (inl j) = λ e.
     subst (λ (kept : List KeptPart). (i : ℕ) × HasFilling kept i) (sym j.same) (j.at, j.is)
 is_shown clues facts picture allowance old new Other m n (inr j) = λ e. (j.at, answered new j.at j.other (let l = j.stops.place in let c = j.noted.count in omega arith) j.noted.here)
-is_shown clues facts picture allowance old new Undecided m n j = λ e. absurd (subst IsNotOther e tt)
+is_shown clues facts picture allowance old new Undecided m n j = λ e. absurd cc
 
 -- ---- going along the parts, with the counts of what is done
 
@@ -215,10 +210,6 @@ known_before clues facts picture allowance kept i part e d = rw e at (by part.an
     by Nothing d = (refl, (refl, refl))
     by (Filling other) d = (refl, (refl, refl))
 
--- The calls of one search as evaluations, one at least. Where the count of calls stays at its largest number, any number fits.
-once_counted : (p q e : ℕ) → p ≤ q → IsCalled p q → q < 2 ^ 64 → e ≡ max (q - p) 1 → q ≡ counted p e
-once_counted p q e l called fits is = omega arith
-
 -- a part of which nothing was known was searched, which took an evaluation at least
 pub searched_once : (clues : Clues) (facts picture : List (List ℕ)) (allowance : Option ℕ) (kept : List KeptPart) (i : ℕ) (part : KeptPart) (found : Ending) (splits p q e : ℕ) → part ≡ kept_at kept i → part.answer ≡ Unknown → (n : ℕ) × ((splits ≡ raised 0 n) × EndsWithin clues picture (alone part.cells facts picture) allowance found n) → p ≤ q → IsCalled p q → q < 2 ^ 64 → e ≡ max (q - p) 1 → DoneBy (record { searched = 1; splits = splits; evaluations = e }) p q (EndsPart clues facts picture allowance (kept_at kept i) found)
 searched_once clues facts picture allowance kept i part found splits p q e here unknown ends l called fits is =
@@ -233,7 +224,7 @@ searched_once clues facts picture allowance kept i part found splits p q e here 
       counts = record {
         evaluations = omega arith;
         trials = omega arith;
-        calls = (let c = once_counted p q e l called fits is in omega arith);
+        calls = omega arith;
       };
       none = λ z. absurd (omega arith);
       at_least = omega arith;

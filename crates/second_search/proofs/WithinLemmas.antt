@@ -71,18 +71,12 @@ more_open facts part old cells lines row col h l has is puts both = record {
   ];
   inside = λ r c m. elim ((puts r c).0 m) [
     | inl before ↦ is.inside r c before
-    | inr e ↦ (
-      (let P : ℕ → Type 0 = λ x. x < length facts in subst P (sym e.0) h),
-      (let P : ℕ → Type 0 = λ x. x < width_of facts in subst P (sym e.1) l),
-    )
+    | inr e ↦ (rw e.0 h, rw e.1 l)
   ];
   lines = lines_more facts old.lines lines row col h l is.lines both;
   through = λ r c m. elim ((puts r c).0 m) [
     | inl before ↦ let n = is.through r c before in ((both (across r)).1 (inl n.0), (both (down c)).1 (inl n.1))
-    | inr e ↦ (
-      (both (across r)).1 (inr (inl (ap across e.0))),
-      (both (down c)).1 (inr (inr (ap down e.1))),
-    )
+    | inr e ↦ ((both (across r)).1 (inr (inl (ap across e.0))), (both (down c)).1 (inr (inr (ap down e.1))))
   ];
 }
 

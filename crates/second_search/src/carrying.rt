@@ -34,6 +34,7 @@ pub(crate) fn answer_for(
     }
 }
 
+#[tactic(auto, using(crate::proofs::CarryLemmas::is_picked))]
 // Puts the colours of a picture on some cells of another.
 fn put_on(cells: &CellSet, other: &Picture, picture: &mut Picture)
     requires { LieInside cells.now other.now }

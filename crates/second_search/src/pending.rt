@@ -119,6 +119,7 @@ impl Pending {
         self.push_branch(CellMask { row, col, mask })
     }
 
+    #[tactic(auto, using(crate::proofs::NoteLemmas::no_branches))]
     // Puts the branches of a cell for the colours of a mask before the facts that wait.
     fn push_branch(&mut self, cell: CellMask) -> Result<(), AllocError>
         requires in_rows { cell.row < length self.old.at_hand }

@@ -34,6 +34,7 @@ pub(crate) fn is_open(facts: &Facts, cell: Cell) -> bool
     has_two_colours(facts.left(cell.row, cell.col))
 }
 
+#[tactic(auto, using(crate::proofs::ChainLemmas::tests_two))]
 // Whether a mask has more than one colour.
 fn has_two_colours(mask: u16) -> bool
     ensures { IsTrue result ↔ HasTwoColours mask }

@@ -1,12 +1,11 @@
-use Rattle.std.proofs.Common.{List, ℕ, refl, subst}
-use Rattle.line_settle.specs.FactSets.{SameShape}
+use Rattle.std.proofs.Common.{refl}
 use Rattle.line_settle.specs.GridLaws.{shape_trans}
 use Rattle.second_search.proofs.ComingLemmas.{called_once, comes_closed, counted_some}
 use Rattle.second_search.proofs.LookLemmas.{others_stay, rows_stay}
 use Rattle.second_search.proofs.coming.come_to.Goals as goal
 
 pub split_or_end-requires-clause-same_shape : goal.split_or_end-requires-clause-same_shape
-split_or_end-requires-clause-same_shape g c = shape_trans c.requires.same_shape (subst (λ (x : List (List ℕ)). SameShape x c.close_facts.new.facts) c.in_ok-settled.ensures c.in-Narrowed.ensures.closes.holds.same_shape)
+split_or_end-requires-clause-same_shape g c = shape_trans c.requires.same_shape (rw c.in_ok-settled.ensures at c.in-Narrowed.ensures.closes.holds.same_shape)
 
 pub split_or_end-requires-clause-others : goal.split_or_end-requires-clause-others
 split_or_end-requires-clause-others g c = others_stay c.args.book.now c.args.known.now c.args.facts.now c.in_ok-settled.settled c.close_facts.new.facts _ c.args.due.now.rows c.in_ok-settled.ensures c.in-Narrowed.ensures.closes refl c.requires.others

@@ -1,11 +1,10 @@
-use Rattle.std.proofs.Common.{◌∙◌, subst, sym}
-use Rattle.second_search.specs.Scene.{CanSearch}
+use Rattle.std.proofs.Common.{◌∙◌}
 use Rattle.second_search.proofs.AloneLemmas.{alone_none}
 use Rattle.second_search.proofs.KnownLaws.{only_is_closed}
 use Rattle.second_search.proofs.near.find_near.Goals as goal
 
 pub find_inside-requires-clause-can : goal.find_inside-requires-clause-can
-find_inside-requires-clause-can g c = subst (CanSearch c.args.scene.now) (sym c.loop-i.invariant.same_longest) c.requires
+find_inside-requires-clause-can g c = rw c.loop-i.invariant.same_longest c.requires
 
 pub find_inside-requires-clause-home : goal.find_inside-requires-clause-home
 find_inside-requires-clause-home g c =

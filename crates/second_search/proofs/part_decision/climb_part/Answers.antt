@@ -1,5 +1,4 @@
-use Rattle.std.proofs.Common.{◌∙◌, Some, subst, sym}
-use Rattle.second_search.specs.Scene.{CanSearch}
+use Rattle.std.proofs.Common.{◌∙◌, Some}
 use Rattle.second_search.proofs.AloneLemmas.{closable_alone}
 use Rattle.second_search.proofs.WithinLemmas.{fixed_true, near_true}
 use Rattle.second_search.proofs.KnownLaws.{books_are_their_clues, closing_keeps_fillings, clues_are_of_lines, fillings_are_of_facts, only_is_closed}
@@ -11,7 +10,7 @@ returns-in-Some-clause-ends g c =
     near_true fillings_are_of_facts s.clues.now s.givens.now s.facts.now s.picture.now c.requires.can.is_scene c.args.cells.now _ c.in-Some.picture c.in-Some.is c.in_ok-picture.ensures.other
 
 pub search_part-requires-clause-can : goal.search_part-requires-clause-can
-search_part-requires-clause-can g c = subst (CanSearch c.args.scene.now) (sym c.find_near.ensures.same_longest) c.requires.can
+search_part-requires-clause-can g c = rw c.find_near.ensures.same_longest c.requires.can
 
 pub returns-in_default-ending-clause-ends : goal.returns-in_default-ending-clause-ends
 returns-in_default-ending-clause-ends g c =
@@ -20,7 +19,7 @@ returns-in_default-ending-clause-ends g c =
     fixed_true clues_are_of_lines books_are_their_clues closing_keeps_fillings only_is_closed fillings_are_of_facts s.clues.now s.givens.now s.facts.now s.picture.now c.requires.can.is_scene c.args.cells.now (Some c.args.bounds.again_splits) _ e.0 c.in_default-ending.not-BrokenOff e.1.1
 
 pub find_near-requires-2 : goal.find_near-requires-2
-find_near-requires-2 g c = subst (CanSearch c.args.scene.now) (sym (c.search_part.ensures.same_longest ∙ c.find_near.ensures.same_longest)) c.requires.can
+find_near-requires-2 g c = rw (c.search_part.ensures.same_longest ∙ c.find_near.ensures.same_longest) c.requires.can
 
 pub returns-in-Some-2-clause-ends : goal.returns-in-Some-2-clause-ends
 returns-in-Some-2-clause-ends g c =
@@ -30,7 +29,7 @@ returns-in-Some-2-clause-ends g c =
 pub find_filling-requires-clause-closable : goal.find_filling-requires-clause-closable
 find_filling-requires-clause-closable g c =
     let s = c.args.scene.now in
-    let can = subst (CanSearch s) (sym (c.find_near-2.ensures.same_longest ∙ (c.search_part.ensures.same_longest ∙ c.find_near.ensures.same_longest))) c.requires.can in
+    let can = rw (← (c.find_near-2.ensures.same_longest ∙ (c.search_part.ensures.same_longest ∙ c.find_near.ensures.same_longest))) at c.requires.can in
     closable_alone clues_are_of_lines s.clues.now c.args.cells.now s.picture.now c.in_ok-facts.facts _ c.requires.can.is_scene.has_clues c.in_ok-facts.ensures.outside can.tall can.wide
 
 pub returns-in-None-clause-ends : goal.returns-in-None-clause-ends

@@ -1,7 +1,5 @@
-use Rattle.std.proofs.Common.{◌∙◌, refl, subst, arith}
-use Rattle.line_settle.specs.declared.line_engine.Outcome.{Outcome}
+use Rattle.std.proofs.Common.{◌∙◌, refl, arith}
 use Rattle.line_settle.specs.declared.line_engine.Outcome.TheVariants.{Narrowed, Dead}
-use Rattle.second_search.specs.Trees.{Settles}
 use Rattle.second_search.proofs.KeepLemmas.{can_close_like}
 use Rattle.second_search.proofs.TreeLemmas.{settles_none, settles_on}
 use Rattle.second_search.proofs.tree_closing.close_written.Goals as goal
@@ -22,7 +20,7 @@ returns-in-Dead-clause-settles g c =
 pub loop-preserved : goal.loop-preserved
 loop-preserved g c =
     let clues = c.args.clues.now in
-    let here = subst (λ (o : Outcome). Settles clues c.loop.facts c.take_line.new.facts c.loop.lines c.take_line.new.lines o) c.in-Narrowed.is c.in_ok-forced.ensures.settles in
+    let here = rw c.in-Narrowed.is at c.in_ok-forced.ensures.settles in
     record {
       settles = settles_on clues c.args.facts.now c.loop.facts c.take_line.new.facts c.args.lines.now c.loop.lines c.take_line.new.lines Narrowed c.loop.invariant.settles here;
       closable = can_close_like clues (g.E.LineEngine.longest c.loop.engine) (g.E.LineEngine.longest c.take_line.new.engine) c.loop.facts c.take_line.new.facts here.0.same_shape c.take_line.ensures.same_longest c.loop.invariant.closable;

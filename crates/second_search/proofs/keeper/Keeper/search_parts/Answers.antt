@@ -1,7 +1,6 @@
-use Rattle.std.proofs.Common.{◌+◌, ◌<◌, ◌∙◌, ◌≡◌, ap, arith, length, subst, suc, sym}
+use Rattle.std.proofs.Common.{◌+◌, ◌<◌, ◌∙◌, ◌≡◌, ap, arith, length, suc}
 use Rattle.second_search.specs.declared.counting.Ending.TheVariants as ending
 use Rattle.second_search.specs.Judging.{EndsPart, Passes, Stops, kept_at}
-use Rattle.second_search.specs.Scene.{CanSearch}
 use Rattle.second_search.proofs.VerdictLemmas.{done_then, passes_more, stops_found, stops_here}
 use Rattle.second_search.proofs.keeper.Keeper.search_parts.Goals as goal
 
@@ -33,4 +32,4 @@ loop-i-preserved g c =
     }
 
 pub search_one-requires-clause-can : goal.search_one-requires-clause-can
-search_one-requires-clause-can g c = subst (CanSearch c.args.scene.now) (sym c.loop-i.invariant.same_longest) c.requires.can
+search_one-requires-clause-can g c = rw c.loop-i.invariant.same_longest c.requires.can

@@ -1,5 +1,3 @@
-use Rattle.std.proofs.Common.{subst, sym}
-use Rattle.picture.specs.LineSet.{HasName, Lines}
 use Rattle.second_search.proofs.GrowLemmas.{grown_left, grown_whole}
 use Rattle.second_search.proofs.parts.growth.part_of.Goals as goal
 
@@ -15,7 +13,7 @@ gather-requires-clause-has c =
 pub leave-requires-clause-unvisited : goal.leave-requires-clause-unvisited
 leave-requires-clause-unvisited c =
     let line = c.in-Some.line in
-    subst (λ (names : Lines). HasName names line) (sym c.gather.ensures.unvisited) (c.loop-line.invariant.reached line c.in-Some.ensures.1).0
+    rw c.gather.ensures.unvisited (c.loop-line.invariant.reached line c.in-Some.ensures.1).0
 
 pub loop-line-preserved : goal.loop-line-preserved
 loop-line-preserved c =
