@@ -99,7 +99,7 @@ module _ (d : Design) (past future : Buffer Entry) (x : Entry) (last : last_item
       record { lawful = at.0; kept = tt; gives = sym (ap (λ (h : History). h.document) at.1) }
 
   first_put : future_after Undo past future ≡ buffer (x ∷ future.items) future.capacity
-  first_put  = grind (arith, buffer, length, slice_get_within, take_all, with_first)
+  first_put = grind (arith, buffer, length, slice_get_within, take_all, with_first)
 
   pub undo_rings : AreRings (reverted d (note_of x)) (past_after Undo past future) (future_after Undo past future)
   undo_rings =
@@ -132,7 +132,7 @@ module _ (d : Design) (past future : Buffer Entry) (x : Entry) (first : slice_ge
       record { lawful = at.0; kept = tt; gives = sym (ap (λ (h : History). h.document) at.1) }
 
   last_put : past_after Redo past future ≡ buffer (past.items ++ x ∷ []) past.capacity
-  last_put  = grind (arith, buffer, drop, length, length-append, slice_get_within, with_last)
+  last_put = grind (arith, buffer, drop, length, length-append, slice_get_within, with_last)
 
   pub redo_rings : AreRings (edited d x.edit) (past_after Redo past future) (future_after Redo past future)
   redo_rings =

@@ -97,7 +97,7 @@ module _ (height width : ℕ) (cells : List ℕ) (now : List (List ℕ)) (reads 
     }
 
     pub rows_renumbered : rows_of height width numbers ≡ renumbered_rows new.triples triples now
-    rows_renumbered  = grind (arith, map, number_among, renumbered_rows, rows_of, rows_of-renumbered, triples_of)
+    rows_renumbered = grind (arith, map, number_among, renumbered_rows, rows_of, rows_of-renumbered, triples_of)
 
     pub numbers_coloured : (result : List (List ℕ)) → result ≡ rows_of height width numbers → (i j : ℕ) → cell_at result i j < length new.triples
     numbers_coloured result is_result i j = rw is_result (cell_at_below height width (length new.triples) numbers palette.has_background below i j)

@@ -30,7 +30,7 @@ pub same : (t : Rgb) → rgb_eq t t ≡ true
 same t = rw (eq-eqb t.r t.r refl, eq-eqb t.g t.g refl, eq-eqb t.b t.b refl) refl
 
 pub rgb_equiv : IsEquivalence rgb_eq
-rgb_equiv  = grind (arith, rgb_eq, rgb_eq-sym, same, same_rgb)
+rgb_equiv = grind (arith, rgb_eq, rgb_eq-sym, same, same_rgb)
 
 -- ---- what holds of each colour
 
