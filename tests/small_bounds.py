@@ -27,7 +27,7 @@ SAMPLES = ((3, 3, 2, 1), (2, 4, 2, 1), (3, 3, 3, 41))  # height, width, colours,
 # Splits of the fixed order, and when it is begun anew, splits in a window, evaluations of a tree at first. Those of the program;
 # windows first; trees alone, with a bound that each keeps; one that grows; one that cannot grow, so that the last tree is written
 # without a bound.
-PROGRAMS, WINDOWS, TREES = (25, 500, 64, 10000), (0, 0, 64, 10000), (0, 0, 0, 10000)
+PROGRAMS, WINDOWS, TREES = (100, 500, 64, 10000), (0, 0, 64, 10000), (0, 0, 0, 10000)
 GROWING, LAST = (0, 0, 0, 1), (0, 0, 0, 0)
 BOUNDS = (PROGRAMS, WINDOWS, TREES, GROWING, LAST, (1, 5, 1, 7))
 TOLD = re.compile(r'(unique|ambiguous), (\d+) searched, (\d+) splits, (\d+) evaluations(?:: (\S+))?')

@@ -99,8 +99,8 @@ fn with_version(givens: Vec<CellNumber>, lines: Vec<CertLine>) -> Cert
     Cert::new(version, givens, lines)
 }
 
-// Whether a scene that was not judged has another picture that differs in one window alone, where windows may split at all. There may
-// be others where it has not.
+// Whether a scene that was not judged has another picture that differs in one window alone, where windows may split at all. There
+// may be others where it has not.
 fn has_near_other<E: LineEngine>(
     alloc: Global,
     engine: &mut E,
@@ -146,9 +146,9 @@ pub fn make_cert<E: LineEngine>(
 }
 
 #[tactic(auto, using(crate::proofs::MadeLemmas::making))]
-/// Makes a certificate as `make_cert` does, within other bounds than the program's; those of the fixed order are not looked at. Where
-/// the picture was judged before by so many evaluations, no near one is looked for, and trees that were broken off are not begun
-/// again. What is promised is the same whatever these are.
+/// Makes a certificate as `make_cert` does, within other bounds than the program's; those of the fixed order are not looked at.
+/// Where the picture was judged before by so many evaluations, no near one is looked for, and trees that were broken off are not
+/// begun again. What is promised is the same whatever these are.
 pub fn make_cert_within<E: LineEngine>(
     alloc: Global,
     engine: &mut E,

@@ -88,7 +88,7 @@ EndsTrue clues known facts BrokenOff = ⊥
 
 -- how many splits of the fixed order a part is given, where no allowance is set, before it is decided in other ways
 abbrev pub fixed_splits : ℕ
-fixed_splits = 25
+fixed_splits = 100
 
 -- How the search of a part ends that may go past so many splits of the fixed order: as in that order where it ends within them,
 -- and else with what is true.

@@ -8,8 +8,8 @@ ghost use Rattle.fixpoint.specs.LineNames.{AreLinesOf};
 ghost use Rattle.second_search.specs.Looking.{AreRowsSettled, ShowOthers, Shows};
 ghost use Rattle.second_search.specs.Searching.{Comes, ComesClosed, IsCalled};
 
+use crate::bounds::NOTHING_DONE;
 use crate::looking::{first_unsettled, shown_on};
-use crate::near::NOTHING_DONE;
 use clues::ClueBook;
 use fixpoint::close_facts;
 use line_settle::{Facts, LineEngine, Outcome};

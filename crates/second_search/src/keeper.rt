@@ -42,7 +42,8 @@ use split_choice::Cell;
 use std::alloc::{AllocError, Global};
 use std::marker::Model;
 
-/// What is known of the other fillings of a part: nothing yet, or that there is none, or one of them.
+/// What is known of the other fillings of a part: nothing yet, or that there is none, or one of them. A filling is answered
+/// without a search, a part with none is passed over, and an unknown one is searched.
 #[derive(Drop)]
 pub enum Answer {
     Unknown,
@@ -253,11 +254,10 @@ impl Keeper {
     /// is kept, nothing is searched. Else the parts of which nothing is known are searched in order, up to the first that has
     /// another filling or costs more splits than are allowed. What the searches that ended found is kept; of one that was
     /// broken off, nothing is. Adds to `searched` how many parts were searched, the last of them too if it was broken off, and
-    /// to `splits` how often they split in the fixed order, without an allowance at most 25 times each; both stay at the
-    /// largest number. Each part that is searched takes an evaluation at
-    /// least, and where nothing is searched, no line is evaluated. Want of memory leaves what is kept as it was, and neither
-    /// count falls by it. The parts kept are those of the scene's facts, and what is known of them is true; no line is longer
-    /// than the engine's `longest`.
+    /// to `splits` how often they split in the fixed order, without an allowance at most 100 times each; both stay at the
+    /// largest number. Each part that is searched takes an evaluation at least, and where nothing is searched, no line is
+    /// evaluated. Want of memory leaves what is kept as it was, and neither count falls by it. The parts kept are those of the
+    /// scene's facts, and what is known of them is true; no line is longer than the engine's `longest`.
     #[tactic(auto, using(crate::proofs::TruthLemmas::answer_true))]
     pub fn judge<E: LineEngine>(
         &mut self,

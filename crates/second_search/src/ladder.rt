@@ -4,7 +4,7 @@ ghost use Rattle.std.specs.Prelude.{◌≡◌, ◌≤◌, IfOk};
 ghost use Rattle.fixpoint.specs.Closing.{AreClosable};
 ghost use Rattle.second_search.specs.Trees.{Decides};
 
-use crate::part_decision::LONGER;
+use crate::bounds::LONGER;
 use crate::scene::Scene;
 use crate::tree::write_tree;
 use crate::tree_lines::Lines;
@@ -35,7 +35,8 @@ pub struct Ladder {
 }
 
 /// Writes a tree from a scene's facts, or finds another picture than the scene's, which need not have the clues: by looking ahead
-/// and by the first open cell in turn, each under a bound that grows fourfold, and once it can grow no more, without one.
+/// and by the first open cell in turn, each under a bound that grows fourfold, and once it can grow no more, without one. Trees whose bounds
+/// the judgement has spent are passed over.
 pub fn climb<E: LineEngine>(
     alloc: Global,
     engine: &mut E,
@@ -51,6 +52,8 @@ pub fn climb<E: LineEngine>(
     let _ = engine.calls();
     let mut bound = ladder.first_bound;
     let mut spent = ladder.judging;
+    // Judging climbs from the bound of a part. Where it took more than two small rounds, the climb begins there too, and passes over
+    // the trees that it paid for.
     if spent > bound.saturating_mul(4) {
         bound = bound.saturating_mul(LONGER);
     } else {

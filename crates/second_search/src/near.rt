@@ -9,21 +9,16 @@ ghost use Rattle.second_search.specs.Near.{IsWindow, OpensIn};
 ghost use Rattle.second_search.specs.Parts.{IsOtherFilling, IsScene};
 ghost use Rattle.second_search.specs.Scene.{CanSearch};
 
+use crate::bounds::NOTHING_DONE;
 use crate::counting::{Ending, Searched, Start, search_counted};
 use crate::part_search::{facts_on, lines_through, put_both};
 use crate::parts::Parts;
 use crate::scene::Scene;
 use fixpoint::{CloseFault, settle_afresh};
-use line_settle::{Facts, LineEngine, Meter};
+use line_settle::{Facts, LineEngine};
 use picture::{Axis, CellSet, LineId, LineSet, MAX_SIDE, Picture};
 use std::alloc::{AllocError, Global};
 use worklist::InOrder;
-
-// A meter for a search of which nobody asks what it evaluates: the engine counts its calls.
-pub(crate) const NOTHING_DONE: Meter = Meter {
-    evaluations: 0,
-    trials: 0,
-};
 
 /// How many of a part's rows and columns a window has, one size after the other.
 pub(crate) const SIZES: [u8; 5] = [4, 7, 11, 16, 24];
@@ -135,7 +130,8 @@ pub(crate) fn find_near<E: LineEngine>(
     Ok(None)
 }
 
-// Looks for another picture that differs in the cells of a window alone, by so many splits at most as it may make.
+// Looks for another picture that differs in the cells of a window alone, by so many splits at most as it may make. At home the
+// picture's colours alone are left.
 fn find_inside<E: LineEngine>(
     alloc: Global,
     engine: &mut E,
@@ -169,7 +165,7 @@ fn find_inside<E: LineEngine>(
     }
 }
 
-// Other facts with the masks of these in a window's cells.
+// The facts at home, with the colours that other facts leave in a window's cells.
 fn open_in(facts: &Facts, home: &Facts, window: &Window) -> Result<Facts, AllocError>
     requires { SameShape home.now facts.now }
     ensures { IfOk result (OpensIn window.now.cells facts.now home.now) }

@@ -6,7 +6,7 @@ ghost use Rattle.second_search.specs.Parts.{IsPart, IsScene};
 ghost use Rattle.second_search.specs.Searching.{EndsPast, EndsTrue, EndsWithin, IsCalled, alone, raised};
 ghost use Rattle.second_search.specs.Scene.{CanSearch};
 
-use crate::bounds::{BOUNDS, Bounds};
+use crate::bounds::{BOUNDS, Bounds, LONGER};
 use crate::counting::{Ending, Searched};
 use crate::finding::find_filling;
 use crate::near::{SIZES, SMALL, find_near};
@@ -15,10 +15,6 @@ use crate::scene::Scene;
 use line_settle::LineEngine;
 use picture::CellSet;
 use std::alloc::{AllocError, Global};
-
-// How many times as many lines a tree of a part may evaluate at first: where the fixed order has gone so far, few small trees
-// close.
-pub(crate) const LONGER: u64 = 16;
 
 // Decides a part under an allowance; or, where none is set, within the bounds of the program.
 pub(crate) fn decide_part<E: LineEngine>(

@@ -107,7 +107,8 @@ pub fn leaves(facts: &Facts, picture: &Picture) -> bool
     true
 }
 
-// The colour that a cell shows with these colours left, or, where it is open, the held one. Where that is not left, no colour: 16.
+// The colour that a cell shows with these colours left, or, where it is open, the held one. Where no such colour is left, 16, which is
+// none.
 fn colour_of(left: u16, held: u8) -> u8 {
     let open = left & left.wrapping_sub(1) != 0;
     let shown = if open {

@@ -12,7 +12,7 @@ use picture::{LineSet, MAX_COLOURS};
 use std::alloc::AllocError;
 use worklist::{Agenda, InOrder};
 
-// More lines are not evaluated in one trial: each colour of each cell is excluded once at the most.
+// More lines are not evaluated in one trial: each colour of each cell is excluded once at the most. No set has so many names.
 const MOST_LINES: u32 = 10_000_000;
 
 /// What holding each colour of a cell came to; or facts that the held picture's colours fill.
