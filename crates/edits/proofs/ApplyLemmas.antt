@@ -9,7 +9,6 @@ use Rattle.picture.specs.declared.rgb.Rgb.{Rgb}
 use Rattle.picture.specs.Palette.{Colours}
 use Rattle.picture.specs.Document.{AreColoured}
 use Rattle.picture.specs.Rows.{cell_at, width_of, lines_along, line_inserted, line_deleted, lines_swapped}
-use Rattle.clues.specs.declared.places.Places.TheVariants.{Inserted, Deleted, Swapped}
 use Rattle.edits.specs.declared.edit.Edit.{Edit}
 use Rattle.edits.specs.declared.edit.Edit.TheVariants.{Paint, Fill, Recolour, InsertLine, DeleteLine, SwapLines}
 use Rattle.edits.specs.Design.{Design, design, IsDesign}

@@ -1,6 +1,6 @@
 -- The marks of a set of givens.
-use Rattle.std.proofs.Common.{◌≡◌, ℕ, ◌^◌, ◌<◌, ◌↔◌, inl, inr, Bool, true, false, cond, eqb, List, length, get_or, refl, sym, ap, ◌∙◌, arith, bit_and}
-use Rattle.std.proofs.lemmas.Bool.{cases_lt, cases_eq, eq-eqb, ne_eqb}
+use Rattle.std.proofs.Common.{◌≡◌, ℕ, ◌^◌, ◌<◌, ◌↔◌, inl, inr, Bool, true, false, cond, eqb, List, length, get_or, refl, sym, ◌∙◌, arith, bit_and}
+use Rattle.std.proofs.lemmas.Bool.{cases_lt, eq-eqb, ne_eqb}
 use Rattle.picture.specs.CellSet.{HasCell, PutsCell, TakesOutCell}
 use Rattle.picture.specs.Palette.{IsPalette, Colours}
 use Rattle.picture.specs.Picture.{IsPicture}

@@ -1,6 +1,5 @@
 -- Givens that move with their lines: one cell more, and the marks that they come to.
-use Rattle.std.proofs.Common.{◌≡◌, ◌≢◌, ℕ, ◌+◌, ◌<◌, ◌≤◌, inl, inr, List, refl, arith}
-use Rattle.std.proofs.lemmas.Bool.{cases_eq}
+use Rattle.std.proofs.Common.{◌≡◌, ◌≢◌, ℕ, ◌+◌, ◌<◌, ◌≤◌, List, arith}
 use Rattle.picture.specs.CellSet.{HasCell, PutsCell}
 use Rattle.clues.specs.Change.{Moves}
 use Rattle.edits.specs.Moving.{AreMoved, AreMovedTo, mark_before}

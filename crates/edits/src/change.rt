@@ -103,9 +103,9 @@ fn touch_cell(change: &mut Change, row: u8, col: u8)
         → IsTouched change.new line ↔ (IsTouched change.old line ⊎ IsOnLine line row col) }
 {
     let axis = Axis::Across;
-    change.touch(LineId { axis, at: row });
-    let axis = Axis::Down;
-    change.touch(LineId { axis, at: col });
+    let line = LineId { axis, at: row };
+    change.touch(line);
+    change.touch(line.crossing(col));
 }
 
 // The change between a picture and the one with two lines exchanged.
@@ -122,8 +122,8 @@ fn of_swap(old: &Picture, new: &Picture, axis: Axis, first: u8, second: u8) -> C
     let mut change = Change::swap(old.height(), old.width(), axis, first, second);
     for at in 0..line_length(old, axis) {
         if !is_same_at(old, axis, first, second, at) {
-            let axis = axis.crossing();
-            change.touch(LineId { axis, at });
+            let crossing = axis.crossing();
+            change.touch(LineId { axis: crossing, at });
         }
     }
     change

@@ -33,10 +33,8 @@ fn was_given(givens: &CellSet, back: &Change, row: u8, col: u8) -> bool
     ensures { IsTrue result ↔ (mark_before givens.now back.now.moves row col ≡ 1) }
 {
     let axis = Axis::Across;
-    let row = back.image(LineId { axis, at: row });
-    let axis = Axis::Down;
-    let column = back.image(LineId { axis, at: col });
-    match (row, column) {
+    let line = LineId { axis, at: row };
+    match (back.image(line), back.image(line.crossing(col))) {
         (Some(row), Some(column)) => givens.has(row.at, column.at),
         _ => false,
     }

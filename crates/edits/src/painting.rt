@@ -11,6 +11,15 @@ use crate::edit::Edit;
 use picture::Picture;
 use std::alloc::{AllocError, Global};
 
+// The rows from `top` to before `below`, and the columns from `left` to before `beyond`.
+#[derive(Clone, Copy)]
+struct Area {
+    top: u8,
+    below: u8,
+    left: u8,
+    beyond: u8,
+}
+
 impl Edit {
     /// The colour that a cell has afterwards where the edit moves no line.
     pub(crate) fn colour_after(&self, row: u8, col: u8, old: u8) -> u8
@@ -34,15 +43,14 @@ impl Edit {
         }
     }
 
-    // The rows from a first one to before a second, and the columns from a third to before a fourth: outside of these the
-    // edit changes no colour.
+    // Outside this area the edit changes no colour.
     #[tactic(auto, using(crate::proofs::PaintLemmas::areas))]
-    fn area(&self, picture: &Picture) -> (u8, u8, u8, u8)
+    fn area(&self, picture: &Picture) -> Area
         requires { is_outside picture.now self.now ≡ false }
-        ensures { IsArea self.now picture.now result.0 result.1 result.2 result.3 }
+        ensures { IsArea self.now picture.now result.top result.below result.left result.beyond }
     {
         let (height, width) = (picture.height(), picture.width());
-        match *self {
+        let (top, below, left, beyond) = match *self {
             Edit::Paint { row, col, .. } => (row, row + 1, col, col + 1),
             Edit::Fill {
                 top,
@@ -52,6 +60,12 @@ impl Edit {
                 ..
             } => (top, bottom + 1, left, right + 1),
             _ => (0, height, 0, width),
+        };
+        Area {
+            top,
+            below,
+            left,
+            beyond,
         }
     }
 }
@@ -62,10 +76,10 @@ pub fn changed_cells(alloc: Global, picture: &Picture, edit: &Edit) -> Result<Ve
     requires { is_outside picture.now edit.now ≡ false }
     ensures { IfOk result (λ cells. cells.items ≡ changed_cells edit.now picture.now) }
 {
-    let (top, below, left, beyond) = edit.area(picture);
+    let area = edit.area(picture);
     let mut cells = Vec::new(alloc);
-    for row in top..below {
-        for col in left..beyond {
+    for row in area.top..area.below {
+        for col in area.left..area.beyond {
             let old = picture.cell(row, col);
             if edit.colour_after(row, col, old) != old {
                 cells.push((row, col, old))?;
@@ -82,9 +96,9 @@ pub(crate) fn changes_cells(picture: &Picture, edit: &Edit) -> bool
     ensures { MatchBool result (changed_cells edit.now picture.now ≢ [])
         (changed_cells edit.now picture.now ≡ []) }
 {
-    let (top, below, left, beyond) = edit.area(picture);
-    for row in top..below {
-        for col in left..beyond {
+    let area = edit.area(picture);
+    for row in area.top..area.below {
+        for col in area.left..area.beyond {
             let old = picture.cell(row, col);
             if edit.colour_after(row, col, old) != old {
                 return true;
