@@ -126,7 +126,7 @@ def divided(path):
     parts["closing"] = closing - parts["evaluating"] - parts["trimming"]
     parts["clues"] = taken(whole, "clues::clue_book::ClueBook::refreshed")
     parts["base"] = taken(whole, "kept_audit::audit::base_of")
-    parts["parts"] = taken(whole, "live_audit::making::answers_next")
+    parts["parts"] = taken(whole, "live_audit::judging::answers_next")
     parts["keeping"] = advance - closing - parts["clues"] - parts["base"] - parts["parts"]
     return advance, parts
 

@@ -3,7 +3,7 @@
 ghost use Rattle.std.specs.Prelude.{◌≡◌, ℕ, ◌+◌, ◌*◌, ◌/◌, ◌<◌, ◌≤◌, ◌&&◌, ◌||◌, ◌==◌, Bool, length, map, slice_index};
 ghost use Rattle.line_settle.specs.Crossing.{differs};
 ghost use Rattle.line_settle.specs.Spelling.{allows};
-ghost use Rattle.line_settle.specs.Positions.{has, is_given, AreSpans, IsCellsWith, IsColoured};
+ghost use Rattle.line_settle.specs.Positions.{has, is_laid, AreSpans, IsCellsWith, IsColoured};
 
 use crate::pattern::allows;
 use crate::word::Word;
@@ -226,7 +226,7 @@ pub fn colour_line<W: Word>(set: W, bare: W, colour: u8, keep: bool, out: &mut [
     ensures { (i k : ℕ) → i < length out.old
         → allows (slice_index out.new i) k
         ≡ ((keep && allows (slice_index out.old i) k)
-        || is_given (has (W.bits bare) i) (has (W.bits set) i) colour k) }
+        || is_laid (has (W.bits bare) i) (has (W.bits set) i) colour k) }
 {
     let cells = out.len();
     if cells < 8 {

@@ -14,7 +14,7 @@ ghost use Rattle.live_audit.specs.Stroke.{Edits, Redoes, Undoes};
 ghost use Rattle.live_audit.specs.Verdict.{Tells, Decides, IsRulingOn, IsVerdictOn, AnswersAs, judged_as};
 
 use crate::certifying::certify_ordered;
-use crate::making::{answers_next, rule};
+use crate::judging::{answers_next, rule};
 use crate::verdict::{Ruling, Verdict};
 use crate::why::Why;
 use crate::work::{NO_WORK, Work};

@@ -3,8 +3,8 @@
 
 mod bench;
 mod certifying;
+mod judging;
 pub mod laws;
-mod making;
 mod verdict;
 mod why;
 mod work;

@@ -21,7 +21,7 @@ use Rattle.justify.specs.Premises.{premise_at, ArePremises, Mentions, Says}
 use Rattle.justify.specs.Steps.{step_at, IsTrimmed}
 use Rattle.justify.specs.Book.{Account, Adds, GainDrawn, IsAccount, IsDerivation}
 use Rattle.justify.specs.Making.{DrawsNothing, IsNewStep, Makes}
-use Rattle.propagate.specs.Turns.{CrossesDrawn, IsMade, Turn}
+use Rattle.propagate.specs.Turns.{CrossesDrawn, GivesNext, Turn}
 use Rattle.line_settle.specs.GridLaws.{shape_refl, cell_on}
 use Rattle.line_settle.specs.FitLaws.{have_left}
 use Rattle.picture.specs.BitLaws.{same_bits}
@@ -162,11 +162,11 @@ turn_for_step clues line old new step lines is d has n a are names few = record 
   few = omega arith;
 }
 
-pub made_over : (clues : Clues) (line : LineId) (book : Account) (made : Result (Option Step) StepFault) (clue : List Block) → clue ≡ clue_at clues line → IsDerivation clues book → Makes clue line (line_of book.facts line) made → IsMade clues line book made
+pub made_over : (clues : Clues) (line : LineId) (book : Account) (made : Result (Option Step) StepFault) (clue : List Block) → clue ≡ clue_at clues line → IsDerivation clues book → Makes clue line (line_of book.facts line) made → GivesNext clues line book made
 made_over clues line book made clue e derivation makes =
     record { derivation = derivation; makes = subst (λ (blocks : List Block). Makes blocks line (line_of book.facts line) made) e makes }
 
 -- a line that gave no step because no list fits it
-pub dead_made : (clues : Clues) (line : LineId) (book : Account) (made : Result (Option Step) StepFault) → IsMade clues line book made → made ≡ Err step_fault.Dead → ¬ CanFit (clue_at clues line) (line_of book.facts line)
+pub dead_made : (clues : Clues) (line : LineId) (book : Account) (made : Result (Option Step) StepFault) → GivesNext clues line book made → made ≡ Err step_fault.Dead → ¬ CanFit (clue_at clues line) (line_of book.facts line)
 dead_made clues line book made is e =
     subst (λ (r : Result (Option Step) StepFault). Makes (clue_at clues line) line (line_of book.facts line) r) e is.makes

@@ -16,7 +16,7 @@ use Rattle.justify.specs.Book.{Account, Adds, IsDerivation}
 use Rattle.justify.specs.Making.{DrawsNothing, IsNewStep, Makes}
 
 -- what a line gives next over a book that is a derivation
-pub record IsMade (clues : Clues) (line : LineId) (book : Account) (made : Result (Option Step) StepFault) : Type 0 where
+pub record GivesNext (clues : Clues) (line : LineId) (book : Account) (made : Result (Option Step) StepFault) : Type 0 where
   pub derivation : IsDerivation clues book
   pub makes : Makes (clue_at clues line) line (line_of book.facts line) made
 

@@ -10,7 +10,7 @@ ghost use Rattle.justify.specs.declared.fault.StepFault.TheVariants as step;
 ghost use Rattle.justify.specs.Book.{IsAccount};
 ghost use Rattle.justify.specs.Making.{Makes};
 ghost use Rattle.justify.specs.Premises.{ArePremises, Mentions};
-ghost use Rattle.propagate.specs.Turns.{CrossesDrawn, IsMade, TakesTurn, Turn};
+ghost use Rattle.propagate.specs.Turns.{CrossesDrawn, GivesNext, TakesTurn, Turn};
 ghost use Rattle.fixpoint.specs.declared.fault.CloseFault.TheVariants as fault;
 
 use fixpoint::CloseFault;
@@ -25,9 +25,9 @@ pub(crate) fn take_turn(
 ) -> Result<LineSet, CloseFault>
     requires line { HasLine book.old.facts line }
     requires made { (clue : List Block) × Makes clue line (line_of book.old.facts line) made }
-    ensures turn { (clues : Clues) → IsMade clues line book.old made
+    ensures turn { (clues : Clues) → GivesNext clues line book.old made
         → IfOk result (λ _. TakesTurn clues line book.old book.new) }
-    ensures comes_to { (clues : Clues) → IsMade clues line book.old made
+    ensures comes_to { (clues : Clues) → GivesNext clues line book.old made
         → IfOk result (Turn clues line book.old book.new) }
     ensures dead { result ≡ Err fault.Dead → made ≡ Err step.Dead }
     ensures account { IsAccount book.old }

@@ -3,7 +3,7 @@ use Rattle.second_search.specs.Parts.{IsScene}
 use Rattle.live_audit.proofs.VerdictLemmas.{scene_is}
 use Rattle.edits.proofs.DesignLemmas.{all_marked as marks_are_givens}
 use Rattle.second_search.proofs.KnownLaws.{sound_facts}
-use Rattle.live_audit.proofs.making.scene_of.Goals as goal
+use Rattle.live_audit.proofs.judging.scene_of.Goals as goal
 
 pub returns-clause-scene : goal.returns-clause-scene
 returns-clause-scene c =

@@ -1,6 +1,6 @@
 use Rattle.live_audit.proofs.VerdictLemmas.{heard}
 use Rattle.second_search.proofs.KnownLaws.{allowances_break_off, same_cells_are_equal}
-use Rattle.live_audit.proofs.making.rule.Goals as goal
+use Rattle.live_audit.proofs.judging.rule.Goals as goal
 
 pub returns-clause-judges : goal.returns-clause-judges
 returns-clause-judges g c =

@@ -1,6 +1,6 @@
 use Rattle.live_audit.proofs.CarryLemmas.{answers_there}
 use Rattle.second_search.proofs.KnownLaws.{same_cells_are_equal}
-use Rattle.live_audit.proofs.making.answers_next.Goals as goal
+use Rattle.live_audit.proofs.judging.answers_next.Goals as goal
 
 pub returns-clause-answers : goal.returns-clause-answers
 returns-clause-answers c =
