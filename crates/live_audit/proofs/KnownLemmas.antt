@@ -11,8 +11,8 @@ use Rattle.second_search.specs.declared.counting.Ending.TheVariants as ending
 use Rattle.second_search.specs.declared.keeper.Answer.{Answer}
 use Rattle.second_search.specs.declared.keeper.Answer.TheVariants.{Nothing}
 use Rattle.second_search.specs.declared.keeper.KeptPart.{KeptPart}
-use Rattle.second_search.specs.declared.keeper.Verdict.{Verdict as Judgement}
-use Rattle.second_search.specs.declared.keeper.Verdict.TheVariants as judgement
+use Rattle.second_search.specs.Verdict.{Verdict as Judgement}
+use Rattle.second_search.specs.Verdict as judgement
 use Rattle.second_search.specs.Judging.{Done, EndsBy, EndsPart, HasFilling, IsFilling, Judges, Passes, answer_at, cells_at, kept_at}
 use Rattle.second_search.specs.Laws.{AllowancesBreakOff}
 use Rattle.live_audit.specs.declared.verdict.Ruling.{Ruling}

@@ -15,7 +15,7 @@ use Rattle.justify.specs.Book.{Account}
 use Rattle.second_search.specs.declared.keeper.Judged.{Judged}
 use Rattle.second_search.specs.declared.keeper.Judged.TheVariants as judged
 use Rattle.second_search.specs.declared.keeper.KeptPart.{KeptPart}
-use Rattle.second_search.specs.declared.keeper.Verdict.{Verdict as Judgement}
+use Rattle.second_search.specs.Verdict.{Verdict as Judgement}
 use Rattle.second_search.specs.Answering.{IsAnswer}
 use Rattle.second_search.specs.Judging.{AreTrue, Done, Judges, Starts, parts_of}
 use Rattle.second_search.specs.Judging as judging

@@ -3,7 +3,7 @@ use Rattle.std.specs.Prelude.{◌≡◌, ◌⊎◌, ◌≤◌, ℕ, List, [], �
 use Rattle.cert_text.specs.Cert.{Certificate}
 use Rattle.clues.specs.Change.{Moves}
 use Rattle.kept_audit.specs.Audit.{GoesOn}
-use Rattle.second_search.specs.declared.keeper.Verdict.{Verdict as Judgement}
+use Rattle.second_search.specs.Verdict.{Verdict as Judgement}
 use Rattle.second_search.specs.Carrying.{Carries}
 use Rattle.second_search.specs.Judging.{HasFilling, Judges}
 use Rattle.edits.specs.declared.fault.EditFault.{EditFault}

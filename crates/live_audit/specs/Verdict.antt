@@ -6,8 +6,8 @@ use Rattle.line_settle.specs.Counting.{counted}
 use Rattle.second_search.specs.declared.keeper.Judged.{Judged}
 use Rattle.second_search.specs.declared.keeper.Judged.TheVariants as judged
 use Rattle.second_search.specs.declared.keeper.KeptPart.{KeptPart}
-use Rattle.second_search.specs.declared.keeper.Verdict.{Verdict as Judgement}
-use Rattle.second_search.specs.declared.keeper.Verdict.TheVariants as judgement
+use Rattle.second_search.specs.Verdict.{Verdict as Judgement}
+use Rattle.second_search.specs.Verdict as judgement
 use Rattle.second_search.specs.Judging.{Done, FirstFilling, Judges}
 use Rattle.edits.specs.Design.{Design}
 use Rattle.live_audit.specs.declared.verdict.Ruling.{Ruling}

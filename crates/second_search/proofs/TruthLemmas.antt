@@ -9,8 +9,7 @@ use Rattle.second_search.specs.declared.counting.Ending.TheVariants as ending
 use Rattle.second_search.specs.declared.keeper.Answer.{Answer}
 use Rattle.second_search.specs.declared.keeper.Answer.TheVariants.{Filling, Nothing, Unknown}
 use Rattle.second_search.specs.declared.keeper.KeptPart.{KeptPart}
-use Rattle.second_search.specs.declared.keeper.Verdict.{Verdict}
-use Rattle.second_search.specs.declared.keeper.Verdict.TheVariants.{Other, Undecided, Unique}
+use Rattle.second_search.specs.Verdict.{Verdict, Other, Undecided, Unique}
 use Rattle.second_search.specs.Laws.{FillingsAreOfFacts, PartsDecide}
 use Rattle.second_search.specs.Parts.{AreParts, IsOtherFilling, IsScene}
 use Rattle.second_search.specs.Judging.{AreTrue, Changes, EndsBy, EndsPart, Finds, HasNoFilling, IsFilling, IsTrueOf, IsVerdict, Judges, Passes, answer_at, cells_at, kept_at, parts_of, AnswersAs}

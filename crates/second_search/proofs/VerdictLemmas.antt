@@ -1,5 +1,5 @@
 -- What is kept of the parts: from the start, after a search, and what it makes of the picture; and going along them, with counts.
-use Rattle.std.proofs.Common.{◌≡◌, ℕ, zero, suc, ◌+◌, ◌-◌, ◌<◌, ◌≤◌, max, Option, List, [], ◌∷◌, ◌++◌, length, refl, sym, ap, subst, ◌∙◌, arith, inl, inr, ◌^◌, None, Some, get_or}
+use Rattle.std.proofs.Common.{◌≡◌, ℕ, zero, suc, ◌+◌, ◌-◌, ◌<◌, ◌≤◌, max, Bool, Option, List, [], ◌∷◌, ◌++◌, length, refl, sym, ap, subst, ◌∙◌, arith, inl, inr, ◌^◌, None, Some, get_or}
 use Rattle.std.proofs.lemmas.Bool.{cases_lt}
 use Rattle.std.proofs.lemmas.List.{get_or_append_left, get_or_past, get_or_push, length-map, length_push, get_or_default}
 use Rattle.clues.specs.ClueBook.{Clues}
@@ -8,10 +8,9 @@ use Rattle.second_search.specs.declared.keeper.Answer.TheVariants.{Filling, Unkn
 use Rattle.second_search.specs.declared.keeper.KeptPart.{KeptPart}
 use Rattle.second_search.specs.declared.counting.Ending.{Ending}
 use Rattle.second_search.specs.declared.counting.Ending.TheVariants as ending
-use Rattle.second_search.specs.declared.keeper.Verdict.{Verdict}
-use Rattle.second_search.specs.declared.keeper.Verdict.TheVariants.{Other, Undecided, Unique}
+use Rattle.second_search.specs.Verdict.{Verdict, Other, Undecided, Unique}
 use Rattle.second_search.specs.Parts.{AreParts, IsPart, part_at}
-use Rattle.second_search.specs.Judging.{Changes, FirstFilling, HasFilling, HasNoFilling, IsFilling, IsPlace, IsShown, IsTrueOf, Judges, Notes, Starts, StartsWith, Stops, answer_at, cells_at, kept_at, parts_of, AddsUp, Done, DoneBy, EndsBy, EndsPart, Passes, StopsAt}
+use Rattle.second_search.specs.Judging.{Changes, FirstFilling, HasFilling, HasNoFilling, IsFilling, IsPlace, IsToldBy, IsTrueOf, Judges, Notes, Starts, StartsWith, Stops, answer_at, cells_at, kept_at, parts_of, AddsUp, Done, DoneBy, EndsBy, EndsPart, Passes, StopsAt}
 use Rattle.second_search.proofs.LookLemmas.{below_next}
 use Rattle.line_settle.specs.declared.meter.Meter.{Meter}
 use Rattle.line_settle.specs.Counting.{counted}
@@ -86,19 +85,43 @@ all_started facts parts kept count are s e =
 answered : (kept : List KeptPart) (i : ℕ) (other : List (List ℕ)) → i < length kept → answer_at kept i ≡ Filling other → HasFilling kept i
 answered kept i other l e = record { place = l; is = subst IsFilling (sym e) tt }
 
+-- the verdict where going along the parts ended so
+abbrev pub verdict_of : Ending → Verdict
+verdict_of ending.Nothing = Unique
+verdict_of (ending.Found other) = Other
+verdict_of ending.BrokenOff = Undecided
+
+none_after : (old new : List KeptPart) (end : ℕ) → HasNoFilling old (length old) → Changes old new end → HasNoFilling new (length new)
+none_after old new end none c i l f = elim (cases_lt i end) [
+  | inl m ↦ subst IsFilling (c.before i m) f
+  | inr p ↦
+      let count = c.count in
+      none i (omega arith) (subst (λ (part : KeptPart). IsFilling part.answer) (c.behind i p) f)
+]
+
+pub told_by : (old new : List KeptPart) (i : ℕ) (found : Ending) (is_decided : Bool) → HasNoFilling old (length old) → IsPlace old i found → Notes old new i found is_decided → IsToldBy is_decided new (verdict_of found)
+told_by old new i ending.Nothing is_decided none l noted = (noted.0, none_after old new i none noted.1)
+told_by old new i (ending.Found other) is_decided none l noted =
+    let count = noted.1.count in
+    (noted.0, (i, answered new i other (omega arith) noted.1.here))
+told_by old new i ending.BrokenOff is_decided none l noted = (noted.0, none_after old new i none noted.1)
+
+pub one_kept : (kept : List KeptPart) (other : List (List ℕ)) → FirstFilling kept other → (i : ℕ) × HasFilling kept i
+one_kept kept other f = (f.at, answered kept f.at other f.place f.is)
+
 module _ (clues : Clues) (facts picture : List (List ℕ)) (allowance : Option ℕ) where
   pub stops_place : (kept : List KeptPart) (i : ℕ) (found : Ending) (m n : ℕ) → Stops clues facts picture allowance kept i found m n → IsPlace kept i found
   stops_place kept i ending.Nothing m n s = let e = s.0 in omega arith
   stops_place kept i (ending.Found other) m n s = s.place
   stops_place kept i ending.BrokenOff m n s = let l = s.place in omega arith
 
-  pub judges_as : (old new : List KeptPart) (i : ℕ) (found : Ending) (verdict : Verdict) (m n : ℕ) → HasNoFilling old (length old) → Stops clues facts picture allowance old i found m n → Notes old new i found verdict → Judges clues facts picture allowance old new verdict m n
-  judges_as old new i ending.Nothing verdict m n none s noted =
-      subst (λ (x : Verdict). Judges clues facts picture allowance old new x m n) (sym noted.0) (record { none_kept = none; passes = s.1; noted = subst (Changes old new) s.0 noted.1 })
-  judges_as old new i (ending.Found other) verdict m n none s noted =
-      subst (λ (x : Verdict). Judges clues facts picture allowance old new x m n) (sym noted.0) (inr (record { none_kept = none; at = i; other = other; stops = s; noted = noted.1 }))
-  judges_as old new i ending.BrokenOff verdict m n none s noted =
-      subst (λ (x : Verdict). Judges clues facts picture allowance old new x m n) (sym noted.0) (record { none_kept = none; at = i; stops = s; noted = noted.1 })
+  pub judges_as : (old new : List KeptPart) (i : ℕ) (found : Ending) (is_decided : Bool) (m n : ℕ) → HasNoFilling old (length old) → Stops clues facts picture allowance old i found m n → Notes old new i found is_decided → Judges clues facts picture allowance old new (verdict_of found) m n
+  judges_as old new i ending.Nothing is_decided m n none s noted =
+      record { none_kept = none; passes = s.1; noted = subst (Changes old new) s.0 noted.1 }
+  judges_as old new i (ending.Found other) is_decided m n none s noted =
+      inr (record { none_kept = none; at = i; other = other; stops = s; noted = noted.1 })
+  judges_as old new i ending.BrokenOff is_decided m n none s noted =
+      record { none_kept = none; at = i; stops = s; noted = noted.1 }
 
   -- what is kept already
   pub keeps_other : (kept : List KeptPart) (other : List (List ℕ)) → FirstFilling kept other → Judges clues facts picture allowance kept kept Other 0 0
@@ -109,13 +132,6 @@ same_kept clues facts picture allowance old new Unique m n j = kept_cells old ne
 same_kept clues facts picture allowance old new Other m n (inl j) = ap parts_of j.same
 same_kept clues facts picture allowance old new Other m n (inr j) = kept_cells old new j.noted.count j.noted.cells
 same_kept clues facts picture allowance old new Undecided m n j = kept_cells old new j.noted.count j.noted.cells
-
-pub is_shown : (clues : Clues) (facts picture : List (List ℕ)) (allowance : Option ℕ) (old new : List KeptPart) (verdict : Verdict) (m n : ℕ) → Judges clues facts picture allowance old new verdict m n → IsShown new verdict
-is_shown clues facts picture allowance old new Unique m n j = λ e. absurd cc
-is_shown clues facts picture allowance old new Other m n (inl j) = λ e.
-    subst (λ (kept : List KeptPart). (i : ℕ) × HasFilling kept i) (sym j.same) (j.at, j.is)
-is_shown clues facts picture allowance old new Other m n (inr j) = λ e. (j.at, answered new j.at j.other (let l = j.stops.place in let c = j.noted.count in omega arith) j.noted.here)
-is_shown clues facts picture allowance old new Undecided m n j = λ e. absurd cc
 
 -- ---- going along the parts, with the counts of what is done
 

@@ -5,10 +5,10 @@ use Rattle.line_settle.specs.FactSets.{IsFacts}
 use Rattle.second_search.specs.declared.counting.Ending.TheVariants as ending
 use Rattle.second_search.specs.declared.keeper.Answer.TheVariants.{Unknown}
 use Rattle.second_search.specs.declared.keeper.KeptPart.{KeptPart}
-use Rattle.second_search.specs.declared.keeper.Verdict.TheVariants.{Unique}
 use Rattle.second_search.specs.Judging.{BreaksOff, FindsOne, Judges, answer_at, cells_at}
 use Rattle.second_search.specs.Parts.{IsScene}
 use Rattle.second_search.specs.Searching.{EndsAs, HasCost, alone}
+use Rattle.second_search.specs.Verdict.{Unique}
 
 -- The search of the fixed order ends, so facts have a cost, and so has each part of a scene.
 pub record CostsAreThere : Type 0 where

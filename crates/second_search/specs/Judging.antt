@@ -1,5 +1,5 @@
 -- A picture judged by its parts, with what is known of each.
-use Rattle.std.specs.Prelude.{◌≡◌, ℕ, zero, suc, ◌+◌, ◌<◌, ◌≤◌, ◌⊎◌, Option, List, [], length, map, slice_index_or}
+use Rattle.std.specs.Prelude.{◌≡◌, ℕ, zero, suc, ◌+◌, ◌<◌, ◌≤◌, ◌⊎◌, Bool, IsTrue, Option, List, [], length, map, slice_index_or}
 use Rattle.picture.specs.CellSet.{HasCell}
 use Rattle.clues.specs.ClueBook.{Clues}
 use Rattle.clues.specs.Solution.{IsOther}
@@ -9,14 +9,13 @@ use Rattle.second_search.specs.declared.counting.Ending.{Ending}
 use Rattle.second_search.specs.declared.counting.Ending.TheVariants as ending
 use Rattle.second_search.specs.declared.keeper.Answer.{Answer}
 use Rattle.second_search.specs.declared.keeper.Answer.TheVariants.{Unknown, Nothing, Filling}
-use Rattle.second_search.specs.declared.keeper.Verdict.{Verdict}
-use Rattle.second_search.specs.declared.keeper.Verdict.TheVariants.{Unique, Other, Undecided}
 use Rattle.second_search.specs.declared.keeper.Judged.{Judged}
 use Rattle.second_search.specs.declared.keeper.Judged.TheVariants as judged
 use Rattle.second_search.specs.declared.keeper.KeptPart.{KeptPart}
 use Rattle.second_search.specs.declared.keeper.Spent.{Spent}
 use Rattle.second_search.specs.Parts.{AreParts, IsOtherFilling}
 use Rattle.second_search.specs.Searching.{EndsWithin, alone, raised}
+use Rattle.second_search.specs.Verdict.{Verdict, Unique, Other, Undecided}
 
 -- the part at a place, its cells and what is known of it
 abbrev pub kept_at : List KeptPart → ℕ → KeptPart
@@ -156,11 +155,11 @@ IsPlace kept i ending.Nothing = i ≤ length kept
 IsPlace kept i (ending.Found other) = i < length kept
 IsPlace kept i ending.BrokenOff = i ≤ length kept
 
--- what is known then is noted, and the verdict is as it says
-abbrev pub Notes : List KeptPart → List KeptPart → ℕ → Ending → Verdict → Type 0
-Notes old new i ending.Nothing verdict = (verdict ≡ Unique) × Changes old new i
-Notes old new i (ending.Found other) verdict = (verdict ≡ Other) × Finds old new i other
-Notes old new i ending.BrokenOff verdict = (verdict ≡ Undecided) × Changes old new i
+-- what is known then is noted; nothing is decided where a search was broken off
+abbrev pub Notes : List KeptPart → List KeptPart → ℕ → Ending → Bool → Type 0
+Notes old new i ending.Nothing is_decided = IsTrue is_decided × Changes old new i
+Notes old new i (ending.Found other) is_decided = IsTrue is_decided × Finds old new i other
+Notes old new i ending.BrokenOff is_decided = (IsTrue is_decided → ⊥) × Changes old new i
 
 -- ---- a picture judged
 
@@ -224,9 +223,11 @@ pub record Starts (facts : List (List ℕ)) (kept : List KeptPart) : Type 0 wher
 
 -- ---- what is answered
 
--- where the verdict is another picture, one is kept
-abbrev pub IsShown : List KeptPart → Verdict → Type 0
-IsShown kept verdict = verdict ≡ Other → (i : ℕ) × HasFilling kept i
+-- the verdict by whether it is decided and what is kept
+abbrev pub IsToldBy : Bool → List KeptPart → Verdict → Type 0
+IsToldBy is_decided kept Unique = IsTrue is_decided × HasNoFilling kept (length kept)
+IsToldBy is_decided kept Other = IsTrue is_decided × ((i : ℕ) × HasFilling kept i)
+IsToldBy is_decided kept Undecided = (IsTrue is_decided → ⊥) × HasNoFilling kept (length kept)
 
 -- the verdict that an answer stands for; another picture is the first filling that is kept
 abbrev pub AnswersAs : List KeptPart → Judged → Verdict → Type 0

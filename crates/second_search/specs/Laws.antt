@@ -15,12 +15,12 @@ use Rattle.second_search.specs.declared.counting.Ending.TheVariants.{BrokenOff, 
 use Rattle.second_search.specs.declared.ladder.Decided.TheVariants.{Tree}
 use Rattle.second_search.specs.declared.tree_lines.Lines.{Lines as TreeLines}
 use Rattle.second_search.specs.declared.keeper.KeptPart.{KeptPart}
-use Rattle.second_search.specs.declared.keeper.Verdict.TheVariants.{Undecided}
 use Rattle.second_search.specs.Judging.{Judges}
 use Rattle.second_search.specs.Other.{AreSound}
 use Rattle.second_search.specs.Searching.{EndsPast, alone}
 use Rattle.second_search.specs.Trees.{Decides}
 use Rattle.second_search.specs.Parts.{AreParts, GoesThrough, IsOpenCell, IsOtherFilling, IsPart, IsScene, KeepsLines, part_at, picked}
+use Rattle.second_search.specs.Verdict.{Undecided}
 
 -- Facts that exclude nothing are sound where there is no given, and so is the base of any givens. They stay sound with a given
 -- more, when its cell is left the picture's colour alone, and when they are closed for the clues.

@@ -11,6 +11,7 @@ pub mod Laws
 pub mod Searching
 pub mod Stepping
 pub mod Through
+pub mod Verdict
 pub mod Judging
 pub mod Answering
 pub mod Carrying

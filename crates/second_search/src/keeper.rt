@@ -18,9 +18,8 @@ ghost use Rattle.second_search.specs.Judging.{
   FirstFilling,
   HasNoFilling,
   IsPlace,
-  IsShown,
+  IsToldBy,
   IsTrueOf,
-  IsVerdict,
   Judges,
   Notes,
   Starts,
@@ -82,14 +81,6 @@ pub enum Judged<'a> {
     Undecided,
 }
 
-/// The same in the words of contracts, where the other picture is the first filling that is kept.
-#[derive(Clone, Copy)]
-pub enum Verdict {
-    Unique,
-    Other,
-    Undecided,
-}
-
 // How many parts were searched, how often they split, and how many lines were evaluated. Each count stays at the largest number.
 #[derive(Clone, Copy)]
 pub(crate) struct Spent {
@@ -122,7 +113,7 @@ impl Keeper {
     ghost use Rattle.std.specs.Prelude.{⊤, MatchResult};
     ghost use Rattle.std.specs.Borrow.{follows_so, sem};
     ghost use Rattle.second_search.specs.contracts.keeper.Keeper.{the_row};
-    ghost use Rattle.second_search.specs.declared.keeper.Verdict.{Verdict};
+    ghost use Rattle.second_search.specs.Verdict.{Verdict};
 
     /// Keeps the parts of facts, of which nothing is known yet.
     pub fn start(alloc: Global, facts: &Facts) -> Result<Keeper, AllocError>
@@ -292,7 +283,7 @@ impl Keeper {
     {
         let _trials = meter.trials;
         let before = engine.calls();
-        let (verdict, spent) = match self.decide(engine, scene, allowance) {
+        let (is_decided, spent) = match self.decide(engine, scene, allowance) {
             Ok(decided) => decided,
             Err(refused) => {
                 let evaluations = engine.calls() - before;
@@ -303,55 +294,51 @@ impl Keeper {
         meter.evaluations = meter.evaluations.saturating_add(spent.evaluations);
         *searched = searched.saturating_add(spent.searched);
         *splits = splits.saturating_add(spent.splits);
-        Ok(self.judged(verdict))
+        Ok(self.judged(is_decided))
     }
 
-    // What a verdict is answered as.
-    fn judged(&self, verdict: Verdict) -> Judged<'_>
-        requires { IsShown self.now verdict }
-        ensures { AnswersAs self.now result verdict }
+    // What is answered: the first other filling that is kept, and where none is, whether that is decided.
+    fn judged(&self, is_decided: bool) -> Judged<'_>
+        ensures { (verdict : Verdict) → IsToldBy is_decided self.now verdict
+            → AnswersAs self.now result verdict }
     {
-        match verdict {
-            Verdict::Unique => Judged::Unique,
-            Verdict::Undecided => Judged::Undecided,
-            Verdict::Other => match self.other() {
-                Some(picture) => Judged::Other(picture),
-                None => unreachable!(),
-            },
+        match self.other() {
+            Some(picture) => Judged::Other(picture),
+            None if is_decided => Judged::Unique,
+            None => Judged::Undecided,
         }
     }
 
-    // Judges a picture by its parts, keeps what the searches that ended found, and tells what they took.
+    // Judges a picture by its parts, keeps what the searches that ended found, and tells what they took, and whether none was
+    // broken off.
     fn decide<E: LineEngine>(
         &mut self,
         engine: &mut E,
         scene: &Scene,
         allowance: Option<u32>,
-    ) -> Result<(Verdict, Spent), AllocError>
+    ) -> Result<(bool, Spent), AllocError>
         requires can { CanSearch scene.now (E.longest engine.old) }
         requires parts { AreParts scene.now.facts.now (parts_of self.old) }
         requires true_answers { AreTrue scene.now.clues.now scene.now.givens.now
             scene.now.picture.now self.old }
-        ensures judges { IfOk result (λ decided. DoneBy decided.1 (E.calls engine.old)
-            (E.calls engine.new) (Judges scene.now.clues.now scene.now.facts.now
-            scene.now.picture.now allowance self.old self.new decided.0)) }
+        ensures judges { IfOk result (λ decided. (verdict : Verdict)
+            × (IsToldBy decided.0 self.new verdict
+            × DoneBy decided.1 (E.calls engine.old) (E.calls engine.new) (Judges scene.now.clues.now
+            scene.now.facts.now scene.now.picture.now allowance self.old self.new verdict))) }
         ensures refused { OnErr result (self.new ≡ self.old) }
         ensures parts { AreParts scene.now.facts.now (parts_of self.new) }
         ensures true_answers { AreTrue scene.now.clues.now scene.now.givens.now
             scene.now.picture.now self.new }
-        ensures shown { IfOk result (λ decided. IsShown self.new decided.0) }
-        ensures verdict { IfOk result (λ decided. IsVerdict scene.now.clues.now
-            scene.now.givens.now scene.now.picture.now decided.0) }
         ensures calls { E.calls engine.old ≤ E.calls engine.new }
         ensures same_longest { E.longest engine.new ≡ E.longest engine.old }
     {
         let _ = engine.calls();
         match self.other() {
-            Some(_) => Ok((Verdict::Other, NOTHING_SPENT)),
+            Some(_) => Ok((true, NOTHING_SPENT)),
             None => {
                 let (at, ending, spent) = self.search_parts(engine, scene, allowance)?;
-                let verdict = self.note(at, ending);
-                Ok((verdict, spent))
+                let is_decided = self.note(at, ending);
+                Ok((is_decided, spent))
             }
         }
     }
@@ -434,19 +421,19 @@ impl Keeper {
         Ok((ending, spent))
     }
 
-    // Notes what going along the parts found, at the part where it stopped.
-    fn note(&mut self, at: usize, ending: Ending) -> Verdict
+    // Notes what going along the parts found, at the part where it stopped, and tells whether no search was broken off.
+    fn note(&mut self, at: usize, ending: Ending) -> bool
         requires { IsPlace self.old at ending }
         ensures { Notes self.old self.new at ending result }
     {
         self.pass_to(at);
         match ending {
-            Ending::Nothing => Verdict::Unique,
+            Ending::Nothing => true,
             Ending::Found(picture) => {
                 self.fill(at, picture);
-                Verdict::Other
+                true
             }
-            Ending::BrokenOff => Verdict::Undecided,
+            Ending::BrokenOff => false,
         }
     }
 

@@ -25,7 +25,7 @@ mod tree_step;
 pub use bounds::{BOUNDS, Bounds};
 pub use counting::{Ending, Searched};
 pub use finding::{find_first, find_other};
-pub use keeper::{Answer, Judged, Keeper, KeptPart, Verdict};
+pub use keeper::{Answer, Judged, Keeper, KeptPart};
 pub use ladder::{Decided, Ladder, climb};
 pub use near::find_near_other;
 pub use part_decision::decide_within;
