@@ -1,7 +1,6 @@
 //! What is judged of a document's audit, and what stays known of its parts.
 
 ghost use Rattle.std.specs.Prelude.{◌≡◌, ◌≤◌, IfOk, OnErr};
-ghost use Rattle.second_search.specs.declared.keeper.Judged.{Judged};
 ghost use Rattle.second_search.specs.declared.keeper.Verdict.{Verdict};
 ghost use Rattle.second_search.specs.Carrying.{Carries};
 ghost use Rattle.second_search.specs.Judging.{Done, Judges};
