@@ -1,5 +1,6 @@
 -- What a judgement by parts comes to for a document.
-use Rattle.std.proofs.Common.{◌≡◌, ℕ, ◌≤◌, List, [], Option, Some, None, unwrap_or, Result, Ok, MatchResult, refl, sym, ap, subst, ◌∙◌, arith}
+use Rattle.std.proofs.Common.{◌≡◌, ℕ, ◌<◌, ◌≤◌, Bool, List, [], length, Option, Some, None, unwrap_or, Result, Ok, MatchResult, refl, sym, ap, subst, ◌∙◌, true≢false, inl, inr, arith}
+use Rattle.std.proofs.lemmas.Bool.{cases_lt}
 use Rattle.picture.specs.declared.document.Document.{Document}
 use Rattle.picture.specs.CellSet.{HasCell}
 use Rattle.picture.specs.Document.{AreInside}
@@ -12,24 +13,25 @@ use Rattle.line_settle.specs.declared.meter.Meter.{Meter}
 use Rattle.line_settle.specs.Counting.{counted}
 use Rattle.line_settle.specs.FactSets.{IsBase}
 use Rattle.justify.specs.Book.{Account}
+use Rattle.second_search.specs.declared.keeper.Answer.TheVariants.{Filling}
 use Rattle.second_search.specs.declared.keeper.Judged.{Judged}
 use Rattle.second_search.specs.declared.keeper.Judged.TheVariants as judged
 use Rattle.second_search.specs.declared.keeper.KeptPart.{KeptPart}
 use Rattle.second_search.specs.Verdict.{Verdict as Judgement}
+use Rattle.second_search.specs.Verdict as judgement
 use Rattle.second_search.specs.Answering.{IsAnswer}
-use Rattle.second_search.specs.Judging.{AreTrue, Done, Judges, Starts, parts_of}
+use Rattle.second_search.specs.Judging.{AreTrue, Changes, Done, HasFilling, HasNoFilling, IsFilling, IsTrueOf, Judges, Starts, cells_at, parts_of}
 use Rattle.second_search.specs.Judging as judging
 use Rattle.second_search.specs.Laws.{AllowancesBreakOff, SoundFacts}
 use Rattle.second_search.specs.Parts.{AreParts, IsScene}
 use Rattle.edits.specs.Design.{Design, design_of}
 use Rattle.edits.specs.History.{History, history}
 use Rattle.edits.specs.Laws.{MarksAreGivens}
-use Rattle.live_audit.specs.declared.verdict.Ruling.{Ruling}
 use Rattle.live_audit.specs.declared.verdict.Verdict.{Verdict}
 use Rattle.live_audit.specs.declared.work.Work.{Work}
 use Rattle.kept_audit.specs.Audit.{IsAuditOf}
 use Rattle.live_audit.specs.Bench.{AreAnswersOf, AreGivenCells, IsAudited, IsGiven, Seen, nothing_done, seen}
-use Rattle.live_audit.specs.Verdict.{Decides, IsOtherFor, IsRuledBy, IsRulingOn, IsVerdictOn, judged_as}
+use Rattle.live_audit.specs.Verdict.{Decides, IsOtherFor, IsToldBy, IsVerdictOn, ShowsOthers, WasDecided}
 
 -- ---- the scene of a document
 
@@ -72,26 +74,67 @@ pub other_was : (d : Design) (clues : Clues) (givens : List ℕ) (other : List (
 other_was d clues givens other g e o =
     subst (λ (c : Clues). IsOther c (HasCell givens) d.rows other) (sym e) (other_fewer (clues_of d.rows) (IsGiven d) (HasCell givens) d.rows other (λ row col h. (g.are row col).0 h) o)
 
--- ---- rulings
+-- ---- what tells a judgement
 
-pub ruled_as : (answer : Judged) (allowance : Option ℕ) (r : Ruling) (kept : List KeptPart) (j : Judgement) → IsRuledBy answer allowance r → judging.AnswersAs kept answer j → j ≡ judged_as r
-ruled_as judged.Unique allowance r kept j by a = a ∙ sym (ap judged_as by)
-ruled_as (judged.Other other) allowance r kept j by a = a.0 ∙ sym (ap judged_as by)
-ruled_as judged.Undecided allowance r kept j by a = a ∙ sym (ap judged_as by)
+-- where no other filling was kept and none was found, none is kept
+none_then : (old new : List KeptPart) (end : ℕ) → HasNoFilling old (length old) → Changes old new end → HasNoFilling new (length new)
+none_then old new end none c i l f = elim (cases_lt i end) [
+  | inl b ↦ subst IsFilling (c.before i b) f
+  | inr b ↦ none i (let n = c.count in omega arith) (subst (λ (k : KeptPart). IsFilling k.answer) (c.behind i b) f)
+]
 
 allowed : (allowance : Option ℕ) (most : ℕ) → allowance ≡ Some most → allowance ≡ Some (unwrap_or allowance 0)
 allowed None most e = cc
 allowed (Some n) most e = refl
 
-pub rules : AllowancesBreakOff → (d : Design) (clues : Clues) (facts : List (List ℕ)) (givens : List ℕ) (allowance : Option ℕ) (old new : List KeptPart) (searched splits : ℕ) (answer : Judged) (j : Judgement) (r : Ruling)
-    → AreGivenCells d givens → clues ≡ clues_of d.rows → IsAnswer clues givens d.rows answer → judging.AnswersAs new answer j → Judges clues facts d.rows allowance old new j searched splits → IsRuledBy answer allowance r → IsRulingOn d allowance new r
-rules law d clues facts givens allowance old new searched splits judged.Unique j r g e t a is by =
-    subst (IsRulingOn d allowance new) (sym by) (λ other o. t other (other_was d clues givens other g e o))
-rules law d clues facts givens allowance old new searched splits (judged.Other other) j r g e t a is by =
-    subst (IsRulingOn d allowance new) (sym by) (other.now, (a.1, other_for d clues givens other.now g e t))
-rules law d clues facts givens allowance old new searched splits judged.Undecided j r g e t a is by =
+-- what is kept then, by the judgement
+abbrev pub Keeps : List KeptPart → Judgement → Type 0
+Keeps kept judgement.Unique = HasNoFilling kept (length kept)
+Keeps kept judgement.Other = (i : ℕ) × HasFilling kept i
+Keeps kept judgement.Undecided = HasNoFilling kept (length kept)
+
+pub keeps_so : (clues : Clues) (facts picture : List (List ℕ)) (allowance : Option ℕ) (old new : List KeptPart) (j : Judgement) (m n : ℕ) → Judges clues facts picture allowance old new j m n → Keeps new j
+keeps_so clues facts picture allowance old new judgement.Unique m n h = none_then old new (length old) h.none_kept h.noted
+keeps_so clues facts picture allowance old new judgement.Other m n h = elim h [
+  | inl k ↦ (k.at, subst (λ (ks : List KeptPart). HasFilling ks k.at) (sym k.same) k.is)
+  | inr o ↦ (o.at, record { place = subst (λ k. o.at < k) (sym o.noted.count) o.stops.place; is = subst IsFilling (sym o.noted.here) tt })
+]
+keeps_so clues facts picture allowance old new judgement.Undecided m n h = none_then old new h.at h.none_kept h.noted
+
+-- the first filling that is kept is another picture, where what is known of the parts is true
+shows_others : (d : Design) (clues : Clues) (givens : List ℕ) (kept : List KeptPart) → AreGivenCells d givens → clues ≡ clues_of d.rows → AreTrue clues givens d.rows kept → ShowsOthers d kept
+shows_others d clues givens kept g e t other f =
+    let there : IsTrueOf clues givens d.rows (cells_at kept f.at) (Filling other) = subst (IsTrueOf clues givens d.rows (cells_at kept f.at)) f.is (t f.at f.place) in
+    other_for d clues givens other g e there.is_other
+
+-- what tells the judgement that an answer stands for
+tells : AllowancesBreakOff → (d : Design) (clues : Clues) (facts : List (List ℕ)) (givens : List ℕ) (allowance : Option ℕ) (old new : List KeptPart) (searched splits : ℕ) (answer : Judged) (j : Judgement) (is_decided : Bool)
+    → AreGivenCells d givens → clues ≡ clues_of d.rows → IsAnswer clues givens d.rows answer → judging.AnswersAs new answer j → Judges clues facts d.rows allowance old new j searched splits → WasDecided answer is_decided → ShowsOthers d new → IsToldBy d allowance new is_decided j
+tells law d clues facts givens allowance old new searched splits judged.Unique j is_decided g e t a is by others =
+    let none : Keeps new judgement.Unique = subst (Keeps new) a (keeps_so clues facts d.rows allowance old new j searched splits is) in
+    record {
+      others = others;
+      other = λ i f. absurd (none i f.place f.is);
+      unique = λ _ _. (a, λ other o. t other (other_was d clues givens other g e o));
+      undecided = λ _ no. absurd (true≢false (sym by ∙ no));
+    }
+tells law d clues facts givens allowance old new searched splits (judged.Other other) j is_decided g e t a is by others =
+    let k : Keeps new judgement.Other = subst (Keeps new) a.0 (keeps_so clues facts d.rows allowance old new j searched splits is) in
+    record {
+      others = others;
+      other = λ i f. a.0;
+      unique = λ none _. absurd (none k.0 k.1.place k.1.is);
+      undecided = λ none _. absurd (none k.0 k.1.place k.1.is);
+    }
+tells law d clues facts givens allowance old new searched splits judged.Undecided j is_decided g e t a is by others =
+    let none : Keeps new judgement.Undecided = subst (Keeps new) a (keeps_so clues facts d.rows allowance old new j searched splits is) in
     let most = law clues facts d.rows allowance old new searched splits (subst (λ (v : Judgement). Judges clues facts d.rows allowance old new v searched splits) a is) in
-    subst (IsRulingOn d allowance new) (sym by) (allowed allowance most.0 most.1)
+    record {
+      others = others;
+      other = λ i f. absurd (none i f.place f.is);
+      unique = λ _ yes. absurd (true≢false (sym yes ∙ by));
+      undecided = λ _ _. (a, allowed allowance most.0 most.1);
+    }
 
 -- ---- a judgement of a scene that is the document's
 
@@ -105,30 +148,29 @@ record Heard (clues : Clues) (facts : List (List ℕ)) (givens : List ℕ) (pict
   told : IsAnswer clues givens picture answer
 
 -- what comes of it for the document
-pub record Comes (d : Design) (clues : Clues) (facts : List (List ℕ)) (allowance : Option ℕ) (old new : List KeptPart) (r : Ruling) (sb sa pb pa : ℕ) (mb ma : Meter) (cb ca : ℕ) : Type 0 where
+pub record Comes (d : Design) (clues : Clues) (facts : List (List ℕ)) (allowance : Option ℕ) (old new : List KeptPart) (is_decided : Bool) (sb sa pb pa : ℕ) (mb ma : Meter) (cb ca : ℕ) : Type 0 where
   pub answers : AreAnswersOf d clues facts new
-  pub done : Done sb sa pb pa mb ma cb ca (Judges clues facts d.rows allowance old new (judged_as r))
-  pub ruling : IsRulingOn d allowance new r
+  pub judges : (j : Judgement) × (IsToldBy d allowance new is_decided j × Done sb sa pb pa mb ma cb ca (Judges clues facts d.rows allowance old new j))
 
-come : SameCellsAreEqual → AllowancesBreakOff → (d : Design) (clues : Clues) (facts : List (List ℕ)) (givens : List ℕ) (allowance : Option ℕ) (old new : List KeptPart) (answer : Judged) (r : Ruling) (sb sa pb pa : ℕ) (mb ma : Meter) (cb ca : ℕ)
-    → AreGivenCells d givens → clues ≡ clues_of d.rows → IsRuledBy answer allowance r → Heard clues facts givens d.rows allowance old new answer sb sa pb pa mb ma cb ca → Comes d clues facts allowance old new r sb sa pb pa mb ma cb ca
-come same law d clues facts givens allowance old new answer r sb sa pb pa mb ma cb ca g e by h =
+come : SameCellsAreEqual → AllowancesBreakOff → (d : Design) (clues : Clues) (facts : List (List ℕ)) (givens : List ℕ) (allowance : Option ℕ) (old new : List KeptPart) (answer : Judged) (is_decided : Bool) (sb sa pb pa : ℕ) (mb ma : Meter) (cb ca : ℕ)
+    → AreGivenCells d givens → clues ≡ clues_of d.rows → WasDecided answer is_decided → Heard clues facts givens d.rows allowance old new answer sb sa pb pa mb ma cb ca → Comes d clues facts allowance old new is_decided sb sa pb pa mb ma cb ca
+come same law d clues facts givens allowance old new answer is_decided sb sa pb pa mb ma cb ca g e by h =
+    let others = shows_others d clues givens new g e h.answers in
     record {
       answers = answers_of same d clues facts givens new g h.parts h.answers;
-      done = subst (λ (j : Judgement). Done sb sa pb pa mb ma cb ca (Judges clues facts d.rows allowance old new j)) (ruled_as answer allowance r new h.j by h.said) h.done;
-      ruling = rules law d clues facts givens allowance old new h.done.searched h.done.splits answer h.j r g e h.told h.said h.done.is by;
+      judges = (h.j, (tells law d clues facts givens allowance old new h.done.searched h.done.splits answer h.j is_decided g e h.told h.said h.done.is by others, h.done));
     }
 
-pub heard : {X : Type 0} → SameCellsAreEqual → AllowancesBreakOff → (d : Document) (clues sc : Clues) (facts sf : List (List ℕ)) (sg : List ℕ) (sp : List (List ℕ)) (allowance : Option ℕ) (old new : List KeptPart) (result : Result Judged X) (answer : Judged) (r : Ruling) (sb sa pb pa : ℕ) (mb ma : Meter) (cb ca : ℕ)
-    → sc ≡ clues → sf ≡ facts → sg ≡ d.givens → sp ≡ d.picture → AreGivenCells (design_of d) d.givens → clues ≡ clues_of d.picture → IsRuledBy answer allowance r
+pub heard : {X : Type 0} → SameCellsAreEqual → AllowancesBreakOff → (d : Document) (clues sc : Clues) (facts sf : List (List ℕ)) (sg : List ℕ) (sp : List (List ℕ)) (allowance : Option ℕ) (old new : List KeptPart) (result : Result Judged X) (answer : Judged) (is_decided : Bool) (sb sa pb pa : ℕ) (mb ma : Meter) (cb ca : ℕ)
+    → sc ≡ clues → sf ≡ facts → sg ≡ d.givens → sp ≡ d.picture → AreGivenCells (design_of d) d.givens → clues ≡ clues_of d.picture → WasDecided answer is_decided
     → result ≡ Ok answer → IsAnswer sc sg sp answer → AreParts sf (parts_of new) → AreTrue sc sg sp new
     → MatchResult result (λ judged. (j : Judgement) × (judging.AnswersAs new judged j × Done sb sa pb pa mb ma cb ca (Judges sc sf sp allowance old new j))) (λ _. new ≡ old)
-    → Comes (design_of d) clues facts allowance old new r sb sa pb pa mb ma cb ca
-heard {X = X} same law d clues sc facts sf sg sp allowance old new result answer r sb sa pb pa mb ma cb ca ec ef eg ep g e by is told parts answers h =
+    → Comes (design_of d) clues facts allowance old new is_decided sb sa pb pa mb ma cb ca
+heard {X = X} same law d clues sc facts sf sg sp allowance old new result answer is_decided sb sa pb pa mb ma cb ca ec ef eg ep g e by is told parts answers h =
     let k = subst (λ (x : Result Judged X). MatchResult x (λ judged. (j : Judgement) × (judging.AnswersAs new judged j × Done sb sa pb pa mb ma cb ca (Judges sc sf sp allowance old new j))) (λ _. new ≡ old)) is h in
     let there : Heard sc sf sg sp allowance old new answer sb sa pb pa mb ma cb ca = record { parts = parts; answers = answers; j = k.0; said = k.1.0; done = k.1.1; told = told } in
     let here : Heard clues facts d.givens d.picture allowance old new answer sb sa pb pa mb ma cb ca = rw (ec, ef, eg, ep) at there in
-    come same law (design_of d) clues facts d.givens allowance old new answer r sb sa pb pa mb ma cb ca g e by here
+    come same law (design_of d) clues facts d.givens allowance old new answer is_decided sb sa pb pa mb ma cb ca g e by here
 
 -- ---- the same of a bench
 
@@ -188,6 +230,6 @@ pub learnt_so : (h : History) (clues : Clues) (book : Account) (kept next : List
     → seen h clues book kept allowance work before ≡ s → seen h clues book next allowance work after ≡ record s { kept = next; calls = after }
 learnt_so h clues book kept next allowance work before after s v = subst (λ (x : Seen). seen h clues book next allowance work after ≡ record x { kept = next; calls = after }) v refl
 
--- a ruling on the document of the bench before
-pub ruled_so : (d now : Design) (kept : List KeptPart) (r : Ruling) → d ≡ now → IsRulingOn d None kept r → IsRulingOn now None kept r
-ruled_so d now kept r e h = subst (λ (x : Design). IsRulingOn x None kept r) e h
+-- the document of the bench before
+pub shown_so : (d now : Design) (kept : List KeptPart) → d ≡ now → ShowsOthers d kept → ShowsOthers now kept
+shown_so d now kept e h = subst (λ (x : Design). ShowsOthers x kept) e h

@@ -8,8 +8,6 @@ use Rattle.second_search.specs.Carrying.{Carries}
 use Rattle.second_search.specs.Judging.{HasFilling, Judges}
 use Rattle.edits.specs.declared.fault.EditFault.{EditFault}
 use Rattle.edits.specs.History.{History, or_memory}
-use Rattle.live_audit.specs.declared.verdict.Ruling.{Ruling}
-use Rattle.live_audit.specs.declared.verdict.Ruling.TheVariants as ruling
 use Rattle.live_audit.specs.declared.verdict.Verdict.{Verdict}
 use Rattle.live_audit.specs.Bench.{Seen, IsAudited, nothing_done}
 use Rattle.live_audit.specs.Certify.{Certifies}
@@ -42,10 +40,6 @@ pub record Learns (old new : Seen) : Type 0 where
 -- Where another filling of a part is kept, nothing changes, the engine's calls neither.
 abbrev pub IsAtOnce : Seen → Seen → Type 0
 IsAtOnce old new = (i : ℕ) → HasFilling old.kept i → new ≡ old
-
--- and another picture is ruled there
-abbrev pub RulesAtOnce : Seen → Seen → Ruling → Type 0
-RulesAtOnce old new r = (i : ℕ) → HasFilling old.kept i → (r ≡ ruling.Ambiguous) × (new ≡ old)
 
 -- A stroke is accepted: no fault refuses it, the history goes on by it, and the book from the one before.
 pub record Accepts (stroke : Stroke) (old new : Seen) : Type 0 where

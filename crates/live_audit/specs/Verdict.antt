@@ -1,5 +1,5 @@
 -- The verdict of a bench: whether another picture has the clues and the givens.
-use Rattle.std.specs.Prelude.{◌≡◌, ℕ, ◌≤◌, List, Option, Some, unwrap_or}
+use Rattle.std.specs.Prelude.{◌≡◌, ℕ, ◌≤◌, Bool, true, false, List, length, Option, Some, unwrap_or}
 use Rattle.clues.specs.ClueBook.{clues_of}
 use Rattle.clues.specs.Solution.{IsOther}
 use Rattle.line_settle.specs.Counting.{counted}
@@ -8,10 +8,8 @@ use Rattle.second_search.specs.declared.keeper.Judged.TheVariants as judged
 use Rattle.second_search.specs.declared.keeper.KeptPart.{KeptPart}
 use Rattle.second_search.specs.Verdict.{Verdict as Judgement}
 use Rattle.second_search.specs.Verdict as judgement
-use Rattle.second_search.specs.Judging.{Done, FirstFilling, Judges}
+use Rattle.second_search.specs.Judging.{Done, FirstFilling, HasFilling, HasNoFilling, Judges}
 use Rattle.edits.specs.Design.{Design}
-use Rattle.live_audit.specs.declared.verdict.Ruling.{Ruling}
-use Rattle.live_audit.specs.declared.verdict.Ruling.TheVariants as ruling
 use Rattle.live_audit.specs.declared.verdict.Verdict.{Verdict}
 use Rattle.live_audit.specs.declared.verdict.Verdict.TheVariants.{Unique, Ambiguous, Undecided}
 use Rattle.live_audit.specs.Bench.{IsGiven, Seen, nothing_done}
@@ -50,20 +48,22 @@ AnswersAs s (Undecided splits) j = (j ≡ judgement.Undecided) × (s.allowance �
 abbrev pub Tells : Seen → Seen → Verdict → Type 0
 Tells old new verdict = (j : Judgement) × (AnswersAs new verdict j × Decides old new j)
 
--- ---- the same where the other picture is not shown yet
+-- ---- the same by what is kept
 
-abbrev pub IsRulingOn : Design → Option ℕ → List KeptPart → Ruling → Type 0
-IsRulingOn d allowance kept ruling.Unique = (other : List (List ℕ)) → IsOtherFor d other → ⊥
-IsRulingOn d allowance kept ruling.Ambiguous = (other : List (List ℕ)) × (FirstFilling kept other × IsOtherFor d other)
-IsRulingOn d allowance kept (ruling.Undecided splits) = allowance ≡ Some splits
+-- the first filling that is kept is another picture for a document
+abbrev pub ShowsOthers : Design → List KeptPart → Type 0
+ShowsOthers d kept = (other : List (List ℕ)) → FirstFilling kept other → IsOtherFor d other
 
-abbrev pub judged_as : Ruling → Judgement
-judged_as ruling.Unique = judgement.Unique
-judged_as ruling.Ambiguous = judgement.Other
-judged_as (ruling.Undecided splits) = judgement.Undecided
+-- What is kept, and whether the judgement was decided, tell what a document was judged to be: where a filling is kept, another
+-- picture; where none is, there is no other if it was decided, and else an allowance is set.
+pub record IsToldBy (d : Design) (allowance : Option ℕ) (kept : List KeptPart) (is_decided : Bool) (j : Judgement) : Type 0 where
+  pub others : ShowsOthers d kept
+  pub other : (i : ℕ) → HasFilling kept i → j ≡ judgement.Other
+  pub unique : HasNoFilling kept (length kept) → is_decided ≡ true → (j ≡ judgement.Unique) × ((other : List (List ℕ)) → IsOtherFor d other → ⊥)
+  pub undecided : HasNoFilling kept (length kept) → is_decided ≡ false → (j ≡ judgement.Undecided) × (allowance ≡ Some (unwrap_or allowance 0))
 
--- how a judgement rules
-abbrev pub IsRuledBy : Judged → Option ℕ → Ruling → Type 0
-IsRuledBy judged.Unique allowance r = r ≡ ruling.Unique
-IsRuledBy (judged.Other other) allowance r = r ≡ ruling.Ambiguous
-IsRuledBy judged.Undecided allowance r = r ≡ ruling.Undecided (unwrap_or allowance 0)
+-- whether an answer is decided: only one that was broken off is not
+abbrev pub WasDecided : Judged → Bool → Type 0
+WasDecided judged.Unique r = r ≡ true
+WasDecided (judged.Other other) r = r ≡ true
+WasDecided judged.Undecided r = r ≡ false

@@ -7,15 +7,15 @@ ghost use Rattle.edits.specs.declared.fault.EditFault.TheVariants.{Memory};
 ghost use Rattle.edits.specs.Design.{design_of};
 ghost use Rattle.edits.specs.History.{IsPlanFor, advanced};
 ghost use Rattle.live_audit.specs.Bench.{Begins, FitsDepth, IsAudited};
-ghost use Rattle.live_audit.specs.Calls.{Accepts, CarriesOn, IsAsBefore, IsAtOnce, IsSearched, Learns, Refuses, RulesAtOnce};
+ghost use Rattle.live_audit.specs.Calls.{Accepts, CarriesOn, IsAsBefore, IsAtOnce, IsSearched, Learns, Refuses};
 ghost use Rattle.live_audit.specs.Certify.{Certifies};
 ghost use Rattle.live_audit.specs.Reason.{Explains};
 ghost use Rattle.live_audit.specs.Stroke.{Edits, Redoes, Undoes};
-ghost use Rattle.live_audit.specs.Verdict.{Tells, Decides, IsRulingOn, IsVerdictOn, AnswersAs, judged_as};
+ghost use Rattle.live_audit.specs.Verdict.{Tells, Decides, IsToldBy, IsVerdictOn, AnswersAs, ShowsOthers};
 
 use crate::certifying::certify_ordered;
 use crate::judging::{answers_next, rule};
-use crate::verdict::{Ruling, Verdict};
+use crate::verdict::Verdict;
 use crate::why::Why;
 use crate::work::{NO_WORK, Work};
 use certificate::Cert;
@@ -64,6 +64,7 @@ impl<E: LineEngine + Drop, A: Agenda + Drop> Bench<E, A> {
     ghost use mathlib.Core.Option.{none};
     ghost use Rattle.std.specs.Prelude.{⊤, MatchResult};
     ghost use Rattle.std.specs.Borrow.{follows_so, sem};
+    ghost use Rattle.second_search.specs.Verdict.{Verdict as Judgement};
     ghost use Rattle.live_audit.specs.contracts.bench.Bench.{the_row};
 
     /// A bench with a document and no history. It can undo as many edits as its depth, 1 to `MAX_DEPTH`, and its engine takes
@@ -185,20 +186,20 @@ impl<E: LineEngine + Drop, A: Agenda + Drop> Bench<E, A> {
             × MatchResult result (Tells self.old last) (λ _. IsAsBefore self.old last)))) }
         ensures headline { IfOk result (IsVerdictOn self.old.history.document self.old.allowance) }
     {
-        let ruling = self.decide()?;
-        Ok(self.shown(ruling))
+        let is_decided = self.decide()?;
+        Ok(self.shown(is_decided))
     }
 
-    // Judges the present picture by its parts, and notes what that took.
-    fn decide(&mut self) -> Result<Ruling, AllocError>
-        ensures decides { IfOk result (λ ruling. Decides self.old self.new (judged_as ruling)) }
-        ensures ruling { IfOk result
-            (IsRulingOn self.new.history.document self.new.allowance self.new.kept) }
+    // Judges the present picture by its parts, notes what that took, and tells whether it decides the verdict.
+    fn decide(&mut self) -> Result<bool, AllocError>
+        ensures decides { IfOk result (λ is_decided. (j : Judgement)
+            × (IsToldBy self.new.history.document self.new.allowance self.new.kept is_decided j
+            × Decides self.old self.new j)) }
         ensures as_before { OnErr result (IsAsBefore self.old self.new) }
         ensures calls { self.old.calls ≤ self.new.calls }
         ensures audited { IsAudited self.new }
     {
-        let (ruling, work) = rule(
+        let (is_decided, work) = rule(
             &mut self.keeper,
             &mut self.engine,
             self.studio.document(),
@@ -209,21 +210,21 @@ impl<E: LineEngine + Drop, A: Agenda + Drop> Bench<E, A> {
             edit: self.work.edit,
             ..work
         };
-        Ok(ruling)
+        Ok(is_decided)
     }
 
-    // What a ruling is answered as.
-    fn shown(&self, ruling: Ruling) -> Verdict<'_>
-        requires { IsRulingOn self.now.history.document self.now.allowance self.now.kept ruling }
-        ensures value { AnswersAs self.now result (judged_as ruling) }
-        ensures headline { IsVerdictOn self.now.history.document self.now.allowance result }
+    // The verdict after a judgement that was decided or not, with the other picture that is kept.
+    fn shown(&self, is_decided: bool) -> Verdict<'_>
+        ensures { (j : Judgement)
+            → IsToldBy self.now.history.document self.now.allowance self.now.kept is_decided j
+            → AnswersAs self.now result j
+            × IsVerdictOn self.now.history.document self.now.allowance result }
     {
-        match ruling {
-            Ruling::Unique => Verdict::Unique,
-            Ruling::Undecided { splits } => Verdict::Undecided { splits },
-            Ruling::Ambiguous => match self.keeper.other() {
-                Some(picture) => Verdict::Ambiguous(picture),
-                None => unreachable!(),
+        match self.keeper.other() {
+            Some(picture) => Verdict::Ambiguous(picture),
+            None if is_decided => Verdict::Unique,
+            None => Verdict::Undecided {
+                splits: self.allowance.unwrap_or(0),
             },
         }
     }
@@ -253,32 +254,32 @@ impl<E: LineEngine + Drop, A: Agenda + Drop> Bench<E, A> {
         ensures audited { IsAudited self.new }
     {
         let before = self.engine.calls();
-        let ruling = self.learn()?;
+        self.learn()?;
         let judging = self.engine.calls().saturating_sub(before);
-        match ruling {
-            Ruling::Ambiguous => Ok(None),
-            _ => self.prove(judging),
+        match self.keeper.other() {
+            Some(_) => Ok(None),
+            None => self.prove(judging),
         }
     }
 
     // Judges the present picture by its parts without an allowance, and keeps what that finds; the work is not noted.
-    fn learn(&mut self) -> Result<Ruling, AllocError>
+    fn learn(&mut self) -> Result<(), AllocError>
         ensures judges { OnOk result (IsSearched self.old self.new) }
         ensures learns { Learns self.old self.new }
-        ensures at_once { IfOk result (RulesAtOnce self.old self.new) }
-        ensures ruling { IfOk result (IsRulingOn self.old.history.document None self.new.kept) }
+        ensures at_once { OnOk result (IsAtOnce self.old self.new) }
+        ensures others { OnOk result (ShowsOthers self.old.history.document self.new.kept) }
         ensures calls { self.old.calls ≤ self.new.calls }
         ensures audited { IsAudited self.new }
     {
         let _ = self.engine.calls();
-        let (ruling, _) = rule(
+        rule(
             &mut self.keeper,
             &mut self.engine,
             self.studio.document(),
             &self.audit,
             None,
         )?;
-        Ok(ruling)
+        Ok(())
     }
 
     // Makes the certificate of the present document, after judging it evaluated so many lines.

@@ -1,20 +1,20 @@
 //! What is judged of a document's audit, and what stays known of its parts.
 
 ghost use Rattle.std.specs.Prelude.{◌≡◌, ◌≤◌, IfOk, OnErr};
+ghost use Rattle.second_search.specs.Verdict.{Verdict};
 ghost use Rattle.second_search.specs.Carrying.{Carries};
 ghost use Rattle.second_search.specs.Judging.{Done, Judges};
 ghost use Rattle.second_search.specs.Parts.{IsScene};
 ghost use Rattle.kept_audit.specs.Audit.{IsAuditOf};
 ghost use Rattle.edits.specs.Design.{design_of};
 ghost use Rattle.live_audit.specs.Bench.{AreAnswersOf, AreGivenCells, nothing_done};
-ghost use Rattle.live_audit.specs.Verdict.{IsRulingOn, judged_as};
+ghost use Rattle.live_audit.specs.Verdict.{IsToldBy, WasDecided};
 
-use crate::verdict::{Ruling, ruling_of};
 use crate::work::{NO_WORK, Work};
 use kept_audit::Audit;
 use line_settle::LineEngine;
 use picture::{Document, MAX_SIDE};
-use second_search::{Keeper, Scene};
+use second_search::{Judged, Keeper, Scene};
 use std::alloc::AllocError;
 
 /// What another picture for a document is looked for in, by its audit.
@@ -63,23 +63,23 @@ pub(crate) fn answers_next(
 }
 
 #[tactic(auto, using(clues::proofs::LawLemmas::of_lines))]
-/// Judges a document by the parts of its map, keeps what the searches that ended found, and tells what they took.
+/// Judges a document by the parts of its map, keeps what the searches that ended found, and tells whether that decides it and
+/// what they took.
 pub(crate) fn rule<E: LineEngine>(
     keeper: &mut Keeper,
     engine: &mut E,
     document: &Document,
     audit: &Audit,
     allowance: Option<u32>,
-) -> Result<(Ruling, Work), AllocError>
+) -> Result<(bool, Work), AllocError>
     requires audited { IsAuditOf (design_of document.now) audit.now.clues audit.now.book }
     requires answers { AreAnswersOf (design_of document.now) audit.now.clues audit.now.book.facts
         keeper.old }
     requires long { MAX_SIDE ≤ E.longest engine.old }
-    ensures judges { IfOk result (λ (ruling, work). Done 0 work.parts 0 work.splits
-        nothing_done work.search (E.calls engine.old) (E.calls engine.new)
-        (Judges audit.now.clues audit.now.book.facts document.now.picture allowance keeper.old keeper.new (judged_as ruling))) }
-    ensures ruling { IfOk result
-        (λ (ruling, _). IsRulingOn (design_of document.now) allowance keeper.new ruling) }
+    ensures judges { IfOk result (λ (is_decided, work). (j : Verdict)
+        × (IsToldBy (design_of document.now) allowance keeper.new is_decided j
+        × Done 0 work.parts 0 work.splits nothing_done work.search (E.calls engine.old) (E.calls engine.new)
+        (Judges audit.now.clues audit.now.book.facts document.now.picture allowance keeper.old keeper.new j))) }
     ensures answers { AreAnswersOf (design_of document.now) audit.now.clues audit.now.book.facts
         keeper.new }
     ensures refused { OnErr result (keeper.new ≡ keeper.old) }
@@ -97,5 +97,12 @@ pub(crate) fn rule<E: LineEngine>(
         &mut work.parts,
         &mut work.splits,
     )?;
-    Ok((ruling_of(&judged, allowance), work))
+    Ok((was_decided(&judged), work))
+}
+
+// Whether a judgement was not broken off.
+fn was_decided(judged: &Judged<'_>) -> bool
+    ensures { WasDecided judged.now result }
+{
+    !matches!(judged, Judged::Undecided)
 }
