@@ -1,4 +1,4 @@
--- What is kept after a picture is judged is true, and so are the verdict and what is answered.
+-- What is kept after a picture is judged is true, and so is what is answered.
 use Rattle.std.proofs.Common.{ℕ, zero, suc, ◌<◌, Option, List, length, sym, subst, arith, inl, inr}
 use Rattle.std.proofs.lemmas.Bool.{cases_eq, cases_lt}
 use Rattle.std.proofs.lemmas.List.{length-map}
@@ -12,7 +12,7 @@ use Rattle.second_search.specs.declared.keeper.KeptPart.{KeptPart}
 use Rattle.second_search.specs.Verdict.{Verdict, Other, Undecided, Unique}
 use Rattle.second_search.specs.Laws.{FillingsAreOfFacts, PartsDecide}
 use Rattle.second_search.specs.Parts.{AreParts, IsOtherFilling, IsScene}
-use Rattle.second_search.specs.Judging.{AreTrue, Changes, EndsBy, EndsPart, Finds, HasNoFilling, IsFilling, IsTrueOf, IsVerdict, Judges, Passes, answer_at, cells_at, kept_at, parts_of, AnswersAs}
+use Rattle.second_search.specs.Judging.{AreTrue, Changes, EndsBy, EndsPart, Finds, HasNoFilling, IsFilling, IsTrueOf, Judges, Passes, answer_at, cells_at, kept_at, parts_of, AnswersAs}
 use Rattle.second_search.proofs.WithinLemmas.{within_none, within_one}
 use Rattle.second_search.proofs.VerdictLemmas.{part_of_kept}
 use Rattle.second_search.specs.declared.keeper.Judged.{Judged}
@@ -22,11 +22,6 @@ use Rattle.second_search.specs.Answering.{IsAnswer}
 module _ (clues : Clues) (givens : List ℕ) (picture : List (List ℕ)) where
   abbrev HasNone : List ℕ → Type 0
   HasNone cells = (other : List (List ℕ)) → IsOtherFilling clues givens picture cells other → ⊥
-
-  kept_filling_is : (cells : List ℕ) (answer : Answer) → IsFilling answer → IsTrueOf clues givens picture cells answer → (other : List (List ℕ)) × IsOtherFilling clues givens picture cells other
-  kept_filling_is cells Unknown f t = absurd f
-  kept_filling_is cells Nothing f t = absurd f
-  kept_filling_is cells (Filling other) f t = (other, t)
 
   changes_true : (old new : List KeptPart) (end : ℕ) → Changes old new end → ((i : ℕ) → i < end → i < length old → HasNone (cells_at old i)) → AreTrue clues givens picture old → AreTrue clues givens picture new
   changes_true old new end c none t i l =
@@ -84,27 +79,19 @@ module _ (law : CluesAreOfLines) (books : BooksAreTheirClues) (closing : Closing
       let s = j.stops in
       changes_true clues givens picture old new j.at j.noted (all_passed old j.at s.searched_before s.splits_before j.none_kept t s.before) t
 
-  pub verdict_true : (old new : List KeptPart) (verdict : Verdict) (m n : ℕ) → AreParts facts (parts_of old) → AreTrue clues givens picture old → Judges clues facts picture allowance old new verdict m n → IsVerdict clues givens picture verdict
-  verdict_true old new Unique m n are t j = λ other is.
+  none_other : (old new : List KeptPart) (m n : ℕ) → AreParts facts (parts_of old) → AreTrue clues givens picture old → Judges clues facts picture allowance old new Unique m n → IsAnswer clues givens picture judged.Unique
+  none_other old new m n are t j = λ other is.
       let count = length-map old (λ (part : KeptPart). part.cells) in
       let some = (decide.some_part clues givens facts picture (parts_of old) scene are).0 (other, is) in
       let i = some.0 in
       all_passed old (length old) m n j.none_kept t j.passes i (omega arith) (omega arith) some.1.1.0 (subst (λ (cells : List ℕ). IsOtherFilling clues givens picture cells some.1.1.0) (part_of_kept old i) some.1.1.1)
-  verdict_true old new Other m n are t (inl j) =
-      let f = kept_filling_is clues givens picture (cells_at old j.at) (answer_at old j.at) j.is.is (t j.at j.is.place) in
-      (f.0, f.1.is_other)
-  verdict_true old new Other m n are t (inr j) =
-      let s = j.stops in
-      (j.other, (part_found (cells_at old j.at) (answer_at old j.at) j.other s.searched_here s.splits_here s.here).is_other)
-  verdict_true old new Undecided m n are t j = tt
 
--- ---- what is answered
-
--- what is answered is true where the verdict is, and what is kept
-pub answer_true : (clues : Clues) (givens : List ℕ) (picture : List (List ℕ)) (kept : List KeptPart) (answer : Judged) (verdict : Verdict) → AreTrue clues givens picture kept → IsVerdict clues givens picture verdict → AnswersAs kept answer verdict → IsAnswer clues givens picture answer
-answer_true clues givens picture kept judged.Unique verdict t v a = subst (IsVerdict clues givens picture) a v
-answer_true clues givens picture kept (judged.Other other) verdict t v a =
-    let f = a.1 in
-    let filling : IsOtherFilling clues givens picture (cells_at kept f.at) other.now = subst (λ (x : Answer). IsTrueOf clues givens picture (cells_at kept f.at) x) f.is (t f.at f.place) in
-    filling.is_other
-answer_true clues givens picture kept judged.Undecided verdict t v a = tt
+  -- what is answered of a picture judged is true
+  pub answer_true : (old new : List KeptPart) (answer : Judged) (verdict : Verdict) (m n : ℕ) → AreParts facts (parts_of old) → AreTrue clues givens picture old → Judges clues facts picture allowance old new verdict m n → AnswersAs new answer verdict → IsAnswer clues givens picture answer
+  answer_true old new judged.Unique verdict m n are t j a =
+      none_other old new m n are t (subst (λ (v : Verdict). Judges clues facts picture allowance old new v m n) a j)
+  answer_true old new (judged.Other other) verdict m n are t j a =
+      let f = a.1 in
+      let filling : IsOtherFilling clues givens picture (cells_at new f.at) other.now = subst (λ (x : Answer). IsTrueOf clues givens picture (cells_at new f.at) x) f.is (judged_true old new verdict m n t j f.at f.place) in
+      filling.is_other
+  answer_true old new judged.Undecided verdict m n are t j a = tt

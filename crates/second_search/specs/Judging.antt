@@ -1,8 +1,6 @@
 -- A picture judged by its parts, with what is known of each.
 use Rattle.std.specs.Prelude.{◌≡◌, ℕ, zero, suc, ◌+◌, ◌<◌, ◌≤◌, ◌⊎◌, Bool, IsTrue, Option, List, [], length, map, slice_index_or}
-use Rattle.picture.specs.CellSet.{HasCell}
 use Rattle.clues.specs.ClueBook.{Clues}
-use Rattle.clues.specs.Solution.{IsOther}
 use Rattle.line_settle.specs.declared.meter.Meter.{Meter}
 use Rattle.line_settle.specs.Counting.{Counts, counted}
 use Rattle.second_search.specs.declared.counting.Ending.{Ending}
@@ -208,12 +206,6 @@ IsTrueOf clues givens picture cells (Filling other) = IsOtherFilling clues given
 
 abbrev pub AreTrue : Clues → List ℕ → List (List ℕ) → List KeptPart → Type 0
 AreTrue clues givens picture kept = (i : ℕ) → i < length kept → IsTrueOf clues givens picture (cells_at kept i) (answer_at kept i)
-
--- what a picture is judged to be is true: no other picture has the clues and the givens, or one does
-abbrev pub IsVerdict : Clues → List ℕ → List (List ℕ) → Verdict → Type 0
-IsVerdict clues givens picture Unique = (other : List (List ℕ)) → IsOther clues (HasCell givens) picture other → ⊥
-IsVerdict clues givens picture Other = (other : List (List ℕ)) × IsOther clues (HasCell givens) picture other
-IsVerdict clues givens picture Undecided = Unit {0}
 
 -- all parts of facts are kept, and nothing is known of them yet, so that all that is known is true
 pub record Starts (facts : List (List ℕ)) (kept : List KeptPart) : Type 0 where

@@ -249,7 +249,6 @@ impl Keeper {
     /// largest number. Each part that is searched takes an evaluation at least, and where nothing is searched, no line is
     /// evaluated. Want of memory leaves what is kept as it was, and neither count falls by it. The parts kept are those of the
     /// scene's facts, and what is known of them is true; no line is longer than the engine's `longest`.
-    #[tactic(auto, using(crate::proofs::TruthLemmas::answer_true))]
     pub fn judge<E: LineEngine>(
         &mut self,
         engine: &mut E,
