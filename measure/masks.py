@@ -20,13 +20,17 @@ from drawing import blobs, noise  # noqa: E402
 SOURCE = Path(__file__).resolve().parent.parent / 'crates/line_settle/src'
 FILES = ('word', 'positions', 'pattern', 'block_steps', 'position_tables', 'mask_line', 'shown_line')
 MADE = ('few_with', 'eight_with', 'sixteen_with', 'eights_with', 'near_with', 'cells_with', 'mark_colour', 'mark_allowed')
-WRITTEN = ('with_colour', 'colour_cells', 'colour_line', 'write_colours')
+WRITTEN = ('with_colour', 'colour_cells', 'add_colour', 'colour_bit', 'set_cells', 'set_colour', 'write_colours')
 UNCHECKED = (
     ('u16x8::from_slice(&left[first..])', 'unsafe { left.as_ptr().add(first).cast::<u16x8>().read_unaligned() }'),
     ('u16x16::from_slice(&left[first..])', 'unsafe { left.as_ptr().add(first).cast::<u16x16>().read_unaligned() }'),
-    ('    for j in 0..cells.end - cells.start {\n        let i = cells.start + j;\n',
-     '    let out = unsafe { std::slice::from_raw_parts_mut(out.as_mut_ptr().add(cells.start), cells.end - cells.start) };\n'
-     '    for j in 0..cells.end - cells.start {\n        let i = j;\n'),
+    ('let cells = out.len();', 'let cells = out.len(); let all = out.as_mut_ptr();'),
+    ('    for j in 0..count {\n        out[first + j] = with_colour(out[first + j],',
+     '    let at = unsafe { std::slice::from_raw_parts_mut(out.as_mut_ptr().add(first), count) };\n'
+     '    for j in 0..count {\n        at[j] = with_colour(at[j],'),
+    ('    for j in 0..count {\n        out[first + j] = colour_bit(',
+     '    let at = unsafe { std::slice::from_raw_parts_mut(out.as_mut_ptr().add(first), count) };\n'
+     '    for j in 0..count {\n        at[j] = colour_bit('),
 )
 HEAD = '''#![feature(portable_simd)]
 #![allow(warnings)]
@@ -38,6 +42,7 @@ pub mod clues {
         if run.colour == 0 { Some(owed) } else { owed.split_first().filter(|s| *s.0 == run).map(|s| s.1) }
     }
 }
+pub mod tables { pub fn colour_bit(set: bool, colour: u8) -> u16 { if set { 1 << colour } else { 0 } } }
 pub mod line_engine { #[derive(Clone, Copy)] pub enum Outcome { Narrowed, Dead } }
 pub mod facts { pub fn only_colour(mask: u16) -> Option<u8> { (mask.count_ones() == 1).then(|| mask.trailing_zeros() as u8) } }
 #[inline(never)]

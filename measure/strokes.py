@@ -121,7 +121,7 @@ def divided(path):
     advance = taken(whole, "live_audit::bench::Bench::advance")
     closing = taken(whole, "propagate::closing_book::close")
     parts = Counter()
-    parts["evaluating"] = taken(whole, "line_settle::mask_line::narrow_by_sets")
+    parts["evaluating"] = taken(whole, "line_settle::mask_line::narrow_sets", "line_settle::shown_line::")
     parts["trimming"] = taken(whole, "justify::needs::needed_for")
     parts["closing"] = closing - parts["evaluating"] - parts["trimming"]
     parts["clues"] = taken(whole, "clues::clue_book::ClueBook::refreshed")

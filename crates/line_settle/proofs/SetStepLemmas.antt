@@ -6,7 +6,7 @@ use Rattle.std.proofs.Math.ListN.{set}
 use Rattle.std.proofs.lemmas.Bool.{cases_eq, cases_lt, le-ltb, or_cases, or_left, or_right, false≢true}
 use Rattle.std.proofs.lemmas.List.{get_or_past, get_or-set_same, get_or-set_other}
 use Rattle.line_settle.specs.Spelling.{allows}
-use Rattle.line_settle.specs.Positions.{has, is_laid, IsCellsWith, HasMade}
+use Rattle.line_settle.specs.Positions.{has, IsCellsWith, HasMade}
 use Rattle.line_settle.proofs.BitLemmas.{allows_none, allows_or, allows_shifted}
 use Rattle.line_settle.proofs.PositionLemmas.{has_or, has_none}
 
@@ -44,12 +44,6 @@ seen_at seen colour n places i k e h = elim (cases_eq k colour) [
 ]
 
 -- one colour more is written, or none where its set is empty
-pub given_first : (sets : List ℕ) (last i j : ℕ) → is_laid (has (get_or sets 0 0) i) (has (get_or sets last 0) i) last j ≡ ((nat_lt j 1 && has (get_or sets j 0) i) || (has (get_or sets last 0) i && last == j))
-given_first sets last i j = grind (arith, nat_tests)
-
-pub given_alone : (none i colour j : ℕ) (b : Bool) → none ≡ 0 → is_laid (has none i) b colour j ≡ (b && colour == j)
-given_alone none i colour j b e = rw (e, has_none i) refl
-
 pub written_more : (sets : List ℕ) (k places i j : ℕ) (y : Bool) → places ≡ get_or sets k 0 → (((nat_lt j k && has (get_or sets j 0) i) || y) || (has places i && k == j)) ≡ ((nat_lt j (k + 1) && has (get_or sets j 0) i) || y)
 written_more sets k places i j y e = grind (arith, nat_tests)
 
@@ -57,15 +51,6 @@ pub written_none : (sets : List ℕ) (k places i j : ℕ) (y : Bool) → places 
 written_none sets k places i j y e none =
     let nothing : has (get_or sets k 0) i ≡ false = rw (← e, none) (has_none i) in
     grind (arith, nat_tests)
-
--- with only one set, it is written twice
-pub one_written : (sets : List ℕ) (i k : ℕ) → length sets ≡ 1 → ((nat_lt k 1 && has (get_or sets k 0) i) || (has (get_or sets 0 0) i && 0 == k)) ≡ has (get_or sets k 0) i
-one_written sets i k l = elim (cases_lt k (length sets)) [
-  | inl b ↦ grind (arith, nat_tests)
-  | inr b ↦
-      let nothing : has (get_or sets k 0) i ≡ false = rw (get_or_past sets k 0 b) (has_none i) in
-      rw nothing (rw (le-ltb k 1 (omega arith), ne_eqb 0 k (λ e. absurd (omega arith)), and-false) refl)
-]
 
 -- what lies behind the last colour was never seen
 pub all_written : (sets : List ℕ) (last i k : ℕ) → last + 1 ≡ length sets → ((nat_lt k last && has (get_or sets k 0) i) || (has (get_or sets last 0) i && last == k)) ≡ has (get_or sets k 0) i

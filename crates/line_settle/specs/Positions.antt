@@ -15,15 +15,10 @@ IsCellsWith left k set = (i : ℕ) → i ≤ length left → has set i ≡ allow
 abbrev pub HasMade : List ℕ → ℕ → List ℕ → Type 0
 HasMade left made allowed = (k : ℕ) → allows made k ≡ true → IsCellsWith left k (slice_index allowed k)
 
--- whether colour k is one of those that a cell gets: background, another colour, or both
-abbrev pub is_laid : Bool → Bool → ℕ → ℕ → Bool
-is_laid bare coloured colour k = (bare && 0 == k) || (coloured && colour == k)
-
--- The cells from `first` up to `end` have got a colour behind the positions of a set that is counted from `first`, and
--- background behind those of another, with the colours that they had, where these are kept; and the other cells are as they
--- were.
-pub record IsColoured (set bare colour : ℕ) (keep : Bool) (first end : ℕ) (old new : List ℕ) : Type 0 where
-  pub inside : (i j k : ℕ) → i ≡ first + j → i < end → allows (slice_index new i) k ≡ ((keep && allows (slice_index old i) k) || is_laid (has bare j) (has set j) colour k)
+-- The cells from `first` up to `end` have got a colour behind the positions of a set that is counted from `first`, with those
+-- that they had, where these are kept; and the other cells are as they were.
+pub record IsColoured (set colour : ℕ) (keep : Bool) (first end : ℕ) (old new : List ℕ) : Type 0 where
+  pub inside : (i j k : ℕ) → i ≡ first + j → i < end → allows (slice_index new i) k ≡ ((keep && allows (slice_index old i) k) || (has set j && colour == k))
   pub before : (i : ℕ) → i < first → slice_index new i ≡ slice_index old i
   pub behind : (i : ℕ) → end ≤ i → slice_index new i ≡ slice_index old i
 

@@ -30,8 +30,8 @@ pub fn has_room(blocks: &[Block], cells: usize) -> bool
     true
 }
 
-// Narrows a line by the sets of positions for each block. In the caller's body it takes fewer instructions.
-#[inline(always)]
+// Narrows a line by the sets of positions for each block. It is kept out of the caller's body, where it is slower.
+#[inline(never)]
 fn narrow_sets<W: Word>(
     blocks: &[Block],
     left: &[u16],

@@ -152,11 +152,11 @@ pub fn write_colours<W: Word>(seen: &[W], out: &mut [u16])
         → allows (slice_index out.new i) k ≡ has (slice_index (map W.bits seen.now) k) i }
 {
     let last = seen.len() - 1;
-    colour_line(seen[last], seen[0], last as u8, false, out);
-    for k in 1..last {
+    colour_line(seen[last], last as u8, false, out);
+    for k in 0..last {
         let set = seen[k];
         if !set.is_none() {
-            colour_line(set, W::low(0), k as u8, true, out);
+            colour_line(set, k as u8, true, out);
         }
     }
 }

@@ -3,11 +3,10 @@
 ghost use Rattle.std.specs.Prelude.{◌≡◌, ℕ, ◌+◌, ◌*◌, ◌/◌, ◌<◌, ◌≤◌, ◌&&◌, ◌||◌, ◌==◌, Bool, length, map, slice_index};
 ghost use Rattle.line_settle.specs.Crossing.{differs};
 ghost use Rattle.line_settle.specs.Spelling.{allows};
-ghost use Rattle.line_settle.specs.Positions.{has, is_laid, AreSpans, IsCellsWith, IsColoured};
+ghost use Rattle.line_settle.specs.Positions.{has, AreSpans, IsCellsWith, IsColoured};
 
 use crate::pattern::allows;
 use crate::word::Word;
-use std::ops::Range;
 use std::simd::prelude::*;
 
 /// The positions that can be reached from a set, cell by cell upwards, over the cells of `run`.
@@ -201,71 +200,43 @@ pub fn with_colour(mask: u16, keep: bool, more: bool, colour: u8) -> u16
 
 #[inline]
 #[tactic(auto, using(crate::proofs::ColouringLemmas::colouring))]
-// Leaves a colour in some cells, behind the positions of a set that is counted from the first of them, and background behind
-// those of another. The sets are as wide as a cell, so that where the count is known both are lanes of one vector.
-fn colour_cells(set: u16, bare: u16, colour: u8, keep: bool, cells: Range<usize>, out: &mut [u16])
+// Leaves a colour in so many cells from `first` on, behind the positions of a set that is counted from there. The set is
+// as wide as a cell, so that where the count is known both are lanes of one vector.
+fn colour_cells(set: u16, colour: u8, keep: bool, first: usize, count: usize, out: &mut [u16])
     requires colour { colour < 16 }
-    requires in_order { cells.start ≤ cells.end }
-    requires few { cells.end ≤ cells.start + 8 }
-    requires room { cells.end ≤ length out.old }
-    ensures { IsColoured set bare colour keep cells.start cells.end out.old out.new }
+    requires few { count ≤ 8 }
+    requires room { first + count ≤ length out.old }
+    ensures { IsColoured set colour keep first (first + count) out.old out.new }
 {
-    for j in 0..cells.end - cells.start {
-        let i = cells.start + j;
-        let laid = with_colour(out[i], keep, (bare >> j) & 1 == 1, 0);
-        out[i] = with_colour(laid, true, (set >> j) & 1 == 1, colour);
+    for j in 0..count {
+        out[first + j] = with_colour(out[first + j], keep, (set >> j) & 1 == 1, colour);
     }
 }
 
-/// Leaves a colour in the cells behind the positions of a set, background behind those of another, and in all cells the
-/// colours that they had, where `keep` says so.
+/// Leaves a colour in the cells behind the positions of a set, and in all cells the colours that they had, where `keep`
+/// says so.
 #[inline(always)]
-pub fn colour_line<W: Word>(set: W, bare: W, colour: u8, keep: bool, out: &mut [u16])
+pub fn colour_line<W: Word>(set: W, colour: u8, keep: bool, out: &mut [u16])
     requires colour { colour < 16 }
     requires short { length out.old < W.width }
     ensures { (i k : ℕ) → i < length out.old
         → allows (slice_index out.new i) k
-        ≡ ((keep && allows (slice_index out.old i) k)
-        || is_laid (has (W.bits bare) i) (has (W.bits set) i) colour k) }
+        ≡ ((keep && allows (slice_index out.old i) k) || (has (W.bits set) i && colour == k)) }
 {
     let cells = out.len();
     if cells < 8 {
-        colour_cells(
-            set.low_eight(),
-            bare.low_eight(),
-            colour,
-            keep,
-            0..cells,
-            out,
-        );
-        return;
-    }
-    // The last eight cells: some of them once more than the others, which changes nothing.
-    let last = cells - 8;
-    let set_end = set.down(last).low_eight();
-    let bare_end = bare.down(last).low_eight();
-    if cells < 16 {
-        colour_cells(set.low_eight(), bare.low_eight(), colour, keep, 0..8, out);
-        colour_cells(set_end, bare_end, colour, keep, last..cells, out);
+        colour_cells(set.low_eight(), colour, keep, 0, cells, out);
         return;
     }
     let mut rest = set;
-    let mut rest_bare = bare;
     for chunk in 0..cells / 8 {
         // Always eight cells, so that they are coloured together.
-        let first = 8 * chunk;
-        colour_cells(
-            rest.low_eight(),
-            rest_bare.low_eight(),
-            colour,
-            keep,
-            first..first + 8,
-            out,
-        );
+        colour_cells(rest.low_eight(), colour, keep, 8 * chunk, 8, out);
         rest = rest.down(8);
-        rest_bare = rest_bare.down(8);
     }
     if cells % 8 != 0 {
-        colour_cells(set_end, bare_end, colour, keep, last..cells, out);
+        // The last eight cells: some of them once more, which changes nothing.
+        let last = cells - 8;
+        colour_cells(set.down(last).low_eight(), colour, keep, last, 8, out);
     }
 }
