@@ -1,11 +1,9 @@
 pub mod BaseLemmas
-pub mod ColourLemmas
 pub mod Exactness
 pub mod GivenLemmas
 pub mod MadeLemmas
 pub mod MakeLemmas
 pub mod NumberLemmas
-pub mod PendingLemmas
 pub mod ShowingLemmas
 pub mod Soundness
 pub mod WalkLemmas

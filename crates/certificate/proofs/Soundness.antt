@@ -17,7 +17,7 @@ use Rattle.line_settle.specs.Branches.{colours_of}
 use Rattle.fixpoint.specs.ClosingLaws.{stays_inside}
 use Rattle.fixpoint.specs.Filling.{Fills, only}
 use Rattle.fixpoint.proofs.PictureLemmas.{closing_keeps_fillings, only_is_closed}
-use Rattle.second_search.specs.Branching.{FillsSome}
+use Rattle.second_search.specs.Looking.{FillsSome}
 use Rattle.second_search.proofs.FindLemmas.{Among, among_kept, some_held}
 use Rattle.cert_text.specs.declared.tree_line.LineNumber.{LineNumber}
 use Rattle.cert_text.specs.declared.tree_line.CellNumber.{CellNumber}

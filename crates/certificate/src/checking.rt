@@ -70,5 +70,5 @@ pub fn check_cert<E: LineEngine>(
     let mut facts = Facts::none(alloc, picture.height(), picture.width())?;
     set_givens(picture, &mut facts, cert.givens())?;
     let first = FIRST_LINES + cert.givens_len();
-    walk(alloc, engine, &claim, &mut facts, cert.lines(), first)
+    walk(alloc, engine, &claim, facts, cert.lines(), first)
 }

@@ -1,19 +1,18 @@
-//! Line solving on the facts of a branch: each change is noted, so that it can be taken back.
+//! Line solving on the facts at hand of a trail, which notes each change.
 
-ghost use Rattle.std.specs.Prelude.{◌≡◌, ◌<◌, ◌≤◌, ◌↔◌, length, reverse, slice_index, IfErr, OnOk, IsTrue};
-ghost use Rattle.picture.specs.Rows.{HasLine, line_of, width_of, with_cell};
+ghost use Rattle.std.specs.Prelude.{◌≡◌, ◌<◌, ◌≤◌, ◌↔◌, length, slice_index, OnOk, IsTrue};
+ghost use Rattle.picture.specs.Rows.{HasLine, line_of, with_cell};
 ghost use Rattle.line_settle.specs.declared.line_engine.Outcome.{Outcome};
 ghost use Rattle.line_settle.specs.FactSets.{Gains, HoldsLine, IsFacts, col_on, row_on};
 ghost use Rattle.line_settle.specs.Fitting.{CanFit};
 ghost use Rattle.line_settle.specs.Narrowing.{Narrows};
-ghost use Rattle.certificate.specs.Walk.{AreInside, pending};
 
-use crate::notes::{Note, hold};
-use cert_text::CertFault;
 use clues::Clue;
 use line_settle::{Facts, LineEngine, Outcome};
 use picture::{LineId, MAX_SIDE};
 use split_choice::Cell;
+use std::alloc::AllocError;
+use trail::Trail;
 
 // No line has more cells.
 const MOST_CELLS: usize = MAX_SIDE as usize;
@@ -61,57 +60,42 @@ pub(crate) fn is_dead<E: LineEngine>(
 }
 
 #[tactic(auto, using(line_settle::specs::AlongLaws::places))]
-// Gives the cells of a line other colours, with notes.
-fn hold_line(
-    facts: &mut Facts,
-    notes: &mut Vec<Note>,
-    line: LineId,
-    masks: &[u16],
-) -> Result<(), CertFault>
-    requires line { HasLine facts.old line }
-    requires whole { length masks.now ≡ length (line_of facts.old line) }
+// Gives the cells of a line of the facts at hand other colours.
+fn hold_line(trail: &mut Trail, line: LineId, masks: &[u16]) -> Result<(), AllocError>
+    requires line { HasLine trail.old.at_hand line }
+    requires whole { length masks.now ≡ length (line_of trail.old.at_hand line) }
     requires fits { length masks.now ≤ MAX_SIDE }
-    requires inside { AreInside (length facts.old) (width_of facts.old) (reverse notes.old.items) }
-    ensures holds { OnOk result (HoldsLine line facts.old facts.new masks.now) }
-    ensures pending { OnOk result (pending facts.new (reverse notes.new.items)
-        ≡ pending facts.old (reverse notes.old.items)) }
-    ensures inside { OnOk result
-        (AreInside (length facts.old) (width_of facts.old) (reverse notes.new.items)) }
-    ensures err { IfErr result (λ e. e ≡ CertFault.Memory) }
+    ensures holds { OnOk result
+        (HoldsLine line trail.old.at_hand trail.new.at_hand masks.now) }
+    ensures behind { OnOk result (trail.new.behind ≡ trail.old.behind) }
 {
-    let _ = facts.height();
+    let _ = trail.at_hand().height();
     for i in 0..masks.len() {
         let cell = Cell::on(line, i as u8);
-        hold(facts, notes, cell.row, cell.col, masks[i])?;
+        trail.hold(cell.row, cell.col, masks[i])?;
     }
     Ok(())
 }
 
-// Adds to the facts all that a line forces by its clue, with notes.
+// Adds to the facts at hand all that a line forces by its clue.
 pub(crate) fn force<E: LineEngine>(
     engine: &mut E,
-    facts: &mut Facts,
-    notes: &mut Vec<Note>,
+    trail: &mut Trail,
     clue: &Clue,
     line: LineId,
-) -> Result<(), CertFault>
-    requires line { HasLine facts.old line }
-    requires short { length (line_of facts.old line) ≤ E.longest engine.old }
-    requires inside { AreInside (length facts.old) (width_of facts.old) (reverse notes.old.items) }
+) -> Result<(), AllocError>
+    requires line { HasLine trail.old.at_hand line }
+    requires short { length (line_of trail.old.at_hand line) ≤ E.longest engine.old }
     ensures gains { OnOk result
-        ((outcome : Outcome) × Gains clue.now line facts.old facts.new outcome) }
-    ensures pending { OnOk result (pending facts.new (reverse notes.new.items)
-        ≡ pending facts.old (reverse notes.old.items)) }
-    ensures inside { OnOk result
-        (AreInside (length facts.old) (width_of facts.old) (reverse notes.new.items)) }
-    ensures err { IfErr result (λ e. e ≡ CertFault.Memory) }
+        ((outcome : Outcome) × Gains clue.now line trail.old.at_hand trail.new.at_hand outcome) }
+    ensures behind { OnOk result (trail.new.behind ≡ trail.old.behind) }
     ensures same_longest { E.longest engine.new ≡ E.longest engine.old }
     ensures calls { E.calls engine.old ≤ E.calls engine.new }
 {
     let mut masks = [0; MOST_CELLS];
+    let facts = trail.at_hand();
     let cells = usize::from(facts.line_len(line));
     let out = &mut masks[..cells];
     let _outcome = narrow_line(engine, facts, clue, line, out);
-    hold_line(facts, notes, line, out)?;
-    Ok(())
+    hold_line(trail, line, out)
 }

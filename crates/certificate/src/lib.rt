@@ -5,7 +5,6 @@ mod checking;
 mod forcing;
 pub mod laws;
 mod making;
-mod notes;
 mod places;
 mod showing;
 mod walk;

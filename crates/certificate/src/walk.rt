@@ -1,18 +1,20 @@
 //! One step of the checker: what a line of the certificate does to the branch at hand.
 
-ghost use Rattle.std.specs.Prelude.{◌≡◌, ℕ, ◌+◌, ◌<◌, ◌≤◌, ◌^◌, ◌∷◌, [], length, reverse, Option};
+ghost use Rattle.std.specs.Prelude.{◌≡◌, ℕ, ◌+◌, ◌<◌, ◌≤◌, ◌^◌, ◌∷◌, [], length, Option};
 ghost use Rattle.certificate.specs.FirstFault.{AnswersFirst, FirstFault};
-ghost use Rattle.certificate.specs.Walk.{CanCheck, IsWalk, Takes};
+ghost use Rattle.line_settle.specs.FactSets.{SameShape};
+ghost use Rattle.certificate.specs.Walk.{CanCheck, Takes};
 
 use crate::forcing::{force, is_dead};
-use crate::notes::{Note, end_branch, split};
 use crate::places::{cell_in, line_at};
 use crate::showing::shows_only;
 use cert_text::{CertFault, CertLine};
 use clues::ClueBook;
 use line_settle::{Facts, LineEngine};
 use picture::Picture;
+use split_choice::Cell;
 use std::alloc::Global;
+use trail::Trail;
 
 // What a certificate is checked against: a picture, and its clues.
 #[derive(Clone, Copy, Drop)]
@@ -25,15 +27,13 @@ pub(crate) struct Claim<'a> {
 pub(crate) fn take_line<E: LineEngine>(
     engine: &mut E,
     claim: &Claim,
-    facts: &mut Facts,
-    notes: &mut Vec<Note>,
+    trail: &mut Trail,
     line: CertLine,
     number: usize,
 ) -> Result<bool, CertFault>
     requires can { CanCheck claim.now.picture.now claim.now.clues.now (E.longest engine.old) }
-    requires walk { IsWalk claim.now.picture.now facts.old (reverse notes.old.items) }
-    ensures takes { Takes claim.now.picture.now facts.old (reverse notes.old.items) line number
-        result facts.new (reverse notes.new.items) }
+    requires same_shape { SameShape claim.now.picture.now trail.old.at_hand }
+    ensures takes { Takes claim.now.picture.now trail.old trail.new line number result }
     ensures same_longest { E.longest engine.new ≡ E.longest engine.old }
     ensures calls { E.calls engine.old ≤ E.calls engine.new }
 {
@@ -44,7 +44,7 @@ pub(crate) fn take_line<E: LineEngine>(
             let Some(line) = line_at(picture, at) else {
                 return Err(CertFault::Place(number));
             };
-            force(engine, facts, notes, claim.clues.clue(line), line)?;
+            force(engine, trail, claim.clues.clue(line), line)?;
             Ok(true)
         }
         // The branch of the cell's lowest colour begins.
@@ -52,23 +52,24 @@ pub(crate) fn take_line<E: LineEngine>(
             let Some((row, col)) = cell_in(picture, cell) else {
                 return Err(CertFault::Place(number));
             };
-            split(facts, notes, row, col)
+            trail.split(Cell { row, col })?;
+            Ok(trail.advance()?.is_some())
         }
         // The branch ends.
         CertLine::Dead(at) => {
             let Some(line) = line_at(picture, at) else {
                 return Err(CertFault::Place(number));
             };
-            if !is_dead(engine, facts, claim.clues.clue(line), line) {
+            if !is_dead(engine, trail.at_hand(), claim.clues.clue(line), line) {
                 return Err(CertFault::NotDead(number));
             }
-            end_branch(facts, notes)
+            Ok(trail.advance()?.is_some())
         }
         CertLine::Done => {
-            if !shows_only(facts, picture) {
+            if !shows_only(trail.at_hand(), picture) {
                 return Err(CertFault::NotDone(number));
             }
-            end_branch(facts, notes)
+            Ok(trail.advance()?.is_some())
         }
     }
 }
@@ -78,24 +79,24 @@ pub(crate) fn walk<E: LineEngine>(
     alloc: Global,
     engine: &mut E,
     claim: &Claim,
-    facts: &mut Facts,
+    facts: Facts,
     lines: &[CertLine],
     first: usize,
 ) -> Result<(), CertFault>
     requires can { CanCheck claim.now.picture.now claim.now.clues.now (E.longest engine.old) }
-    requires walk { IsWalk claim.now.picture.now facts.old [] }
+    requires same_shape { SameShape claim.now.picture.now facts }
     requires few { first + length lines.now < 2 ^ 64 }
     ensures first { AnswersFirst
-        (FirstFault claim.now.picture.now (facts.old ∷ []) first lines.now) result }
+        (FirstFault claim.now.picture.now (facts ∷ []) first lines.now) result }
     ensures same_longest { E.longest engine.new ≡ E.longest engine.old }
 {
-    let mut notes = Vec::new(alloc);
+    let mut trail = Trail::start(alloc, facts);
     let mut going = true;
     for (i, line) in lines.iter().enumerate() {
         if !going {
             return Err(CertFault::Trailing(first + i));
         }
-        going = take_line(engine, claim, facts, &mut notes, *line, first + i)?;
+        going = take_line(engine, claim, &mut trail, *line, first + i)?;
     }
     if going {
         return Err(CertFault::Ended(first + lines.len()));

@@ -25,7 +25,7 @@ use Rattle.second_search.specs.Searching.{KeepsOutside, NamesLinesOf, alone}
 use Rattle.second_search.specs.Through.{LeavesAlone, LeavesRowAlone, NamesBoth, PutsBoth, PutsRow, PutsThrough, across, down}
 use Rattle.second_search.proofs.FindLemmas.{can_close}
 use Rattle.second_search.proofs.ChainLemmas.{chain_end, open_inside}
-use Rattle.second_search.proofs.GridLemmas.{same_inside, same_grid}
+use Rattle.trail.proofs.GridLemmas.{same_inside, same_grid}
 use Rattle.second_search.proofs.LookLemmas.{below_next, only_there}
 use Rattle.second_search.proofs.PickLemmas.{off_part, on_cells, rect_like, shape_of_picked}
 

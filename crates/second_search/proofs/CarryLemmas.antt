@@ -27,7 +27,7 @@ use Rattle.second_search.proofs.RowLemmas.{has_first, same_part}
 use Rattle.second_search.proofs.PartLemmas.{open_in_picture, part_open}
 use Rattle.second_search.proofs.PickLemmas.{off_part, on_part, outside_is_0, shape_of_picked}
 use Rattle.second_search.proofs.VerdictLemmas.{each_is_part, each_more, part_of_kept, same_parts}
-use Rattle.second_search.proofs.GridLemmas.{same_grid, row_there}
+use Rattle.trail.proofs.GridLemmas.{same_grid, row_there}
 use Rattle.line_settle.specs.GridLaws.{shape_sym, shape_trans}
 use Rattle.picture.specs.BitLaws.{bit_or_not}
 

@@ -19,7 +19,7 @@ use Rattle.second_search.specs.declared.coming.Coming.TheVariants.{Dies, Ends, S
 use Rattle.second_search.specs.Looking.{IsFirstUnsettled, Shows}
 use Rattle.second_search.specs.Parts.{IsBefore}
 use Rattle.second_search.specs.Searching.{Comes, ComesClosed, CostsAreUnique, IsCalled, Searches, SettlesTo, none_waits, is_dead, is_known, is_other, is_split}
-use Rattle.second_search.proofs.GridLemmas.{same_inside}
+use Rattle.trail.proofs.GridLemmas.{same_inside}
 
 -- ---- what facts come to is one
 

@@ -10,7 +10,7 @@ use Rattle.second_search.specs.declared.counting.Budget.{Budget}
 use Rattle.second_search.specs.declared.counting.Ending.TheVariants as ending
 use Rattle.second_search.specs.declared.counting.Ending.{Ending}
 use Rattle.picture.specs.LineSet.{Lines}
-use Rattle.second_search.specs.Branching.{AreOthersSame, AreSameAbove, Search, search_of}
+use Rattle.trail.specs.Branching.{AreOthersSame, AreSameAbove, Search, search_of}
 use Rattle.second_search.specs.Looking.{AreRowsSettled, ShowOthers}
 use Rattle.second_search.specs.Searching.{Allows, Comes, EndsAs, Searches, SplitsPast, none_waits, is_dead, is_known, is_other, is_split, once_more, past_dead, past_known, past_split, raised}
 use Rattle.second_search.specs.Stepping.{Compares, IsOneLess, Steps}

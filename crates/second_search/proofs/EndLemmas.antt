@@ -16,7 +16,7 @@ use Rattle.line_settle.specs.Branches.{branches, colours_of, held}
 use Rattle.fixpoint.specs.Closing.{EachFits}
 use Rattle.fixpoint.specs.Filling.{Fills, only}
 use Rattle.fixpoint.specs.Laws.{ClosingKeepsFillings, OnlyIsClosed}
-use Rattle.second_search.specs.Branching.{FillsSome}
+use Rattle.second_search.specs.Looking.{FillsSome}
 use Rattle.second_search.specs.Looking.{Shows}
 use Rattle.second_search.specs.Searching.{Searches, alone, none_waits, is_dead, is_known, is_other, is_split}
 use Rattle.second_search.specs.Laws.{FillingsAreOfFacts}

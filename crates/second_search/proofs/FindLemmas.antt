@@ -15,7 +15,7 @@ use Rattle.line_settle.specs.FactSets.{IsFacts, IsWithin, Leaves, SameShape, IsB
 use Rattle.fixpoint.specs.Closing.{AreClosable}
 use Rattle.fixpoint.specs.FillingLaws.{fills_fewer}
 use Rattle.fixpoint.specs.Filling.{Fills}
-use Rattle.second_search.specs.Branching.{FillsSome}
+use Rattle.second_search.specs.Looking.{FillsSome}
 use Rattle.second_search.specs.Looking.{FindsFilling}
 use Rattle.second_search.specs.Other.{AreSound, FindsFirst, FindsOther, HasClues}
 use Rattle.line_settle.specs.GridLaws.{shape_refl, shape_sym, shape_trans, shape_with_cell, full_shape, all_left}
@@ -23,7 +23,7 @@ use Rattle.picture.specs.BitLaws.{bit_below, bit_is_set, power_has, set_bit, no_
 use Rattle.clues.specs.Solution.{Solves}
 use Rattle.line_settle.specs.SolutionLaws.{solved_shape}
 use Rattle.line_settle.specs.Branches.{branches, colours_of, held}
-use Rattle.second_search.proofs.GridLemmas.{set_each, row_there}
+use Rattle.trail.proofs.GridLemmas.{set_each, row_there}
 use Rattle.fixpoint.specs.Laws.{ClosingKeepsFillings}
 use Rattle.second_search.specs.Laws.{SoundFacts}
 use Rattle.clues.specs.SolutionLaws.{solves_fewer}

@@ -23,7 +23,7 @@ use Rattle.fixpoint.specs.Closing.{AreClosable, EachFits, IsQuietLine, QuietOuts
 use Rattle.fixpoint.specs.LineNames.{AreLinesOf}
 use Rattle.split_choice.specs.declared.cell.Cell.{Cell}
 use Rattle.second_search.specs.declared.counting.Budget.{Budget}
-use Rattle.second_search.specs.Branching.{GoesOn, Search, place, search_of}
+use Rattle.trail.specs.Branching.{GoesOn, Search, place, search_of}
 use Rattle.second_search.specs.Looking.{AreRowsSettled, ShowOthers}
 use Rattle.second_search.specs.Searching.{KeepsOutside, NamesLinesOf}
 use Rattle.second_search.specs.Stepping.{Steps}

@@ -19,7 +19,7 @@ use Rattle.line_settle.specs.GridLaws.{cell_on, same_has_line, shape_sym, shape_
 use Rattle.line_settle.specs.MaskLaws.{without_bit}
 use Rattle.fixpoint.specs.Closing.{EachFits, HasDeadLine}
 use Rattle.fixpoint.specs.ClosingLaws.{within_refl, within_trans}
-use Rattle.second_search.proofs.GridLemmas.{both_or_not, set_each}
+use Rattle.trail.proofs.GridLemmas.{both_or_not, set_each}
 use Rattle.second_search.proofs.GrowLemmas.{line_named}
 use Rattle.second_search.proofs.PickLemmas.{find_below, same_list, Below, OrNot, some_below}
 use Rattle.second_search.proofs.WeightLemmas.{weight, weight_with_cell}

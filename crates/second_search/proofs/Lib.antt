@@ -1,5 +1,3 @@
-pub mod GridLemmas
-pub mod NoteLemmas
 pub mod LookLemmas
 pub mod WeightLemmas
 pub mod TreeLemmas

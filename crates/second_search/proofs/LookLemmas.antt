@@ -13,12 +13,12 @@ use Rattle.line_settle.specs.declared.line_engine.Outcome.TheVariants.{Narrowed}
 use Rattle.fixpoint.specs.Closing.{Closes, EachFits}
 use Rattle.fixpoint.specs.Filling.{Fills, only}
 use Rattle.fixpoint.specs.Laws.{OnlyIsClosed}
-use Rattle.second_search.specs.Branching.{AreOthersSame, AreSameAbove}
+use Rattle.trail.specs.Branching.{AreOthersSame, AreSameAbove}
 use Rattle.second_search.specs.Looking.{AreRowsSettled, ShowOthers, Shows}
 use Rattle.second_search.specs.Through.{across}
 use Rattle.line_settle.specs.GridLaws.{shape_sym, shape_trans, at_with_cell, off_with_cell, shape_with_cell}
 use Rattle.picture.specs.BitLaws.{bit_below, fewer_le, no_bit}
-use Rattle.second_search.proofs.GridLemmas.{cell_outside, same_inside, row_there}
+use Rattle.trail.proofs.GridLemmas.{cell_outside, same_inside, row_there}
 
 pub only_small : (facts : List (List ℕ)) (row col k : ℕ) → IsFacts facts → IsOnly (cell_at facts row col) k → k < 16
 only_small facts row col k is h = bit_below (cell_at facts row col) 16 k (is.masks row col) ((h k).1 refl)

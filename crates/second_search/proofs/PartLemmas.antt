@@ -26,7 +26,7 @@ use Rattle.second_search.proofs.GrowLemmas.{on_one_line}
 use Rattle.second_search.proofs.PickLemmas.{clue_known, differing_cell, find_below, off_part, on_cells, outside_is_0, rect_like, same_along, same_clues, same_count, shape_of_picked}
 use Rattle.line_settle.specs.GridLaws.{shape_sym, shape_trans, same_line_length}
 use Rattle.picture.specs.BitLaws.{bit_or_not}
-use Rattle.second_search.proofs.GridLemmas.{row_there}
+use Rattle.trail.proofs.GridLemmas.{row_there}
 
 -- ---- parts
 

@@ -15,7 +15,7 @@ use Rattle.clues.specs.ClueBook.{Clues, clue_at, clues_of}
 use Rattle.clues.specs.Laws.{BooksAreTheirClues, CluesAreOfLines, IsAtPlace}
 use Rattle.line_settle.specs.FactSets.{SameShape}
 use Rattle.second_search.specs.Parts.{picked, picked_cell, picked_row}
-use Rattle.second_search.proofs.GridLemmas.{same_grid, row_there}
+use Rattle.trail.proofs.GridLemmas.{same_grid, row_there}
 
 -- ---- equal or not
 

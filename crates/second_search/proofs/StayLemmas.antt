@@ -13,7 +13,7 @@ use Rattle.second_search.specs.Laws.{FillingsStay}
 use Rattle.second_search.specs.Parts.{GoesThrough, HasTwoColours, IsChained, IsOpenCell, IsOtherFilling, IsPart, IsScene, KeepsLines, ShareLine, begins, goes_on, picked}
 use Rattle.second_search.proofs.PartLemmas.{part_open, picked_picture, through_or_not}
 use Rattle.second_search.proofs.PickLemmas.{cells_along, clue_known, off_part, on_part, same_along, same_clues, same_count, shape_of_picked}
-use Rattle.second_search.proofs.GridLemmas.{same_grid}
+use Rattle.trail.proofs.GridLemmas.{same_grid}
 use Rattle.picture.specs.BitLaws.{bit_or_not}
 use Rattle.line_settle.specs.GridLaws.{same_line_length}
 use Rattle.split_choice.specs.Through.{across, down}

@@ -40,7 +40,8 @@ use Rattle.second_search.specs.declared.tree.Growing.{Growing}
 use Rattle.second_search.specs.declared.tree_step.TreeStep.{TreeStep}
 use Rattle.second_search.specs.declared.tree_step.TreeStep.TheVariants.{Ends, Splits, Other}
 use Rattle.second_search.specs.declared.ladder.Decided.TheVariants.{Tree}
-use Rattle.second_search.specs.Branching.{FillsSome, Search, places, search_of}
+use Rattle.second_search.specs.Looking.{FillsSome}
+use Rattle.trail.specs.Branching.{Search, places, search_of}
 use Rattle.line_settle.specs.Branches.{branches, colours_of, held}
 use Rattle.second_search.specs.Looking.{FindsFilling, Shows}
 use Rattle.second_search.specs.Trees.{Adds, Advances, AreNone, AreTree, Continues, Decides, EachFitsAlong, ForcesMore, HasCellNumber, HasLineNumber, IsComparedTo, IsDeadLine, IsOtherIn, IsUnsettledAt, Says, Settles, ShowsOnly, Stands, Turns, TurnsOn, Walks, line_id, split_at}
@@ -49,7 +50,7 @@ use Rattle.second_search.proofs.EndLemmas.{shown_clues}
 use Rattle.fixpoint.specs.ClosingLaws.{within_refl, within_trans}
 use Rattle.second_search.proofs.LookLemmas.{shown_fills}
 use Rattle.second_search.proofs.WeightLemmas.{branches_lighter, load, load_append, load_more, weight, weight_within}
-use Rattle.second_search.proofs.GridLemmas.{same_grid}
+use Rattle.trail.proofs.GridLemmas.{same_grid}
 
 -- ---- lines behind lines
 
@@ -344,10 +345,10 @@ none_dead law books clues longest facts picture is can fits s = shown_clues law 
 
 -- ---- a turn
 
-pub ends_turn : (clues : Clues) (known : List (List ℕ)) (old new : Growing) (line : CertLine) → Stands clues known old.pending.at_hand line [] → new.pending ≡ old.pending → Adds old.lines new.lines (line ∷ []) → TurnsOn clues known old new
+pub ends_turn : (clues : Clues) (known : List (List ℕ)) (old new : Growing) (line : CertLine) → Stands clues known old.trail.at_hand line [] → new.trail ≡ old.trail → Adds old.lines new.lines (line ∷ []) → TurnsOn clues known old new
 ends_turn clues known old new line s e adds =
-    let same : new.pending.behind ≡ old.pending.behind = ap (λ (x : Search). x.behind) e in
-    let light = ended_lighter old.pending.at_hand old.pending.behind in
+    let same : new.trail.behind ≡ old.trail.behind = ap (λ (x : Search). x.behind) e in
+    let light = ended_lighter old.trail.at_hand old.trail.behind in
     record {
       lines = line ∷ [];
       adds = adds;
@@ -355,11 +356,11 @@ ends_turn clues known old new line s e adds =
       lighter = rw same light;
     }
 
-pub splits_turn : (clues : Clues) (known : List (List ℕ)) (old new : Growing) (cell : Cell) (number : CellNumber) → IsFacts old.pending.at_hand → IsUnsettled old.pending.at_hand cell → number.row ≡ cell.row + 1 → number.col ≡ cell.col + 1 → new.pending ≡ search_of old.pending.at_hand (branches old.pending.at_hand cell.row cell.col (cell_at old.pending.at_hand cell.row cell.col) ++ old.pending.behind) (places cell.row cell.col (cell_at old.pending.at_hand cell.row cell.col) ++ old.pending.cells) → Adds old.lines new.lines (Split number ∷ []) → TurnsOn clues known old new
+pub splits_turn : (clues : Clues) (known : List (List ℕ)) (old new : Growing) (cell : Cell) (number : CellNumber) → IsFacts old.trail.at_hand → IsUnsettled old.trail.at_hand cell → number.row ≡ cell.row + 1 → number.col ≡ cell.col + 1 → new.trail ≡ search_of old.trail.at_hand (branches old.trail.at_hand cell.row cell.col (cell_at old.trail.at_hand cell.row cell.col) ++ old.trail.behind) (places cell.row cell.col (cell_at old.trail.at_hand cell.row cell.col) ++ old.trail.cells) → Adds old.lines new.lines (Split number ∷ []) → TurnsOn clues known old new
 splits_turn clues known old new cell number is at er ec e adds =
-    let facts = old.pending.at_hand in
+    let facts = old.trail.at_hand in
     let front = branches facts cell.row cell.col (cell_at facts cell.row cell.col) in
-    let same : new.pending.behind ≡ front ++ old.pending.behind = ap (λ (x : Search). x.behind) e in
+    let same : new.trail.behind ≡ front ++ old.trail.behind = ap (λ (x : Search). x.behind) e in
     let r : cell.row ≡ number.row - 1 = omega (arith, er) in
     let c : cell.col ≡ number.col - 1 = omega (arith, ec) in
     let split : front ≡ split_at facts number = ap (λ (x : ℕ). branches facts x cell.col (cell_at facts x cell.col)) r ∙ ap (λ (y : ℕ). branches facts (number.row - 1) y (cell_at facts (number.row - 1) y)) c in
@@ -368,66 +369,66 @@ splits_turn clues known old new cell number is at er ec e adds =
       lines = Split number ∷ [];
       adds = adds;
       walks = (front, ((((let a : 0 < number.row = omega arith in a), (let a : number.row ≤ length facts = omega arith in a), (let a : 0 < number.col = omega arith in a), (let a : number.col ≤ width_of facts = omega arith in a)), (split, open_there)), sym same));
-      lighter = rw same (split_lighter facts old.pending.behind cell is at);
+      lighter = rw same (split_lighter facts old.trail.behind cell is at);
     }
 
 -- a dead line was met while a branch was closed
-pub dead_turn : (clues : Clues) (known first settled : List (List ℕ)) (old new : Growing) → first ≡ old.pending.at_hand → new.pending ≡ old.pending → Settles clues first settled old.lines new.lines NoneFits → TurnsOn clues known old new
+pub dead_turn : (clues : Clues) (known first settled : List (List ℕ)) (old new : Growing) → first ≡ old.trail.at_hand → new.trail ≡ old.trail → Settles clues first settled old.lines new.lines NoneFits → TurnsOn clues known old new
 dead_turn clues known first settled old new f e h =
     let says = h known in
-    let same : new.pending.behind ≡ old.pending.behind = ap (λ (x : Search). x.behind) e in
+    let same : new.trail.behind ≡ old.trail.behind = ap (λ (x : Search). x.behind) e in
     record {
       lines = says.lines;
       adds = says.adds;
-      walks = rw same (rw f at (says.walks old.pending.behind));
-      lighter = rw same (ended_lighter old.pending.at_hand old.pending.behind);
+      walks = rw same (rw f at (says.walks old.trail.behind));
+      lighter = rw same (ended_lighter old.trail.at_hand old.trail.behind);
     }
 
-turns_on : (clues : Clues) (known first settled : List (List ℕ)) (old mid new : Growing) → first ≡ old.pending.at_hand → Settles clues first settled old.lines mid.lines Narrowed → mid.pending ≡ search_of settled old.pending.behind old.pending.cells → TurnsOn clues known mid new → TurnsOn clues known old new
+turns_on : (clues : Clues) (known first settled : List (List ℕ)) (old mid new : Growing) → first ≡ old.trail.at_hand → Settles clues first settled old.lines mid.lines Narrowed → mid.trail ≡ search_of settled old.trail.behind old.trail.cells → TurnsOn clues known mid new → TurnsOn clues known old new
 turns_on clues known first settled old mid new f h e t =
     let says = h.1 known in
-    let behind : mid.pending.behind ≡ old.pending.behind = ap (λ (x : Search). x.behind) e in
-    let hand : mid.pending.at_hand ≡ settled = ap (λ (x : Search). x.at_hand) e in
-    let waits : mid.pending.at_hand ∷ mid.pending.behind ≡ settled ∷ old.pending.behind = ap (λ (x : Search). x.at_hand ∷ x.behind) e in
-    let light = within_lighter old.pending.at_hand settled old.pending.behind (subst (λ (x : List (List ℕ)). IsWithin x settled) f h.0) in
-    let lighter = subst (λ (x : List (List (List ℕ))). load new.pending.behind < load x) waits t.lighter in
+    let behind : mid.trail.behind ≡ old.trail.behind = ap (λ (x : Search). x.behind) e in
+    let hand : mid.trail.at_hand ≡ settled = ap (λ (x : Search). x.at_hand) e in
+    let waits : mid.trail.at_hand ∷ mid.trail.behind ≡ settled ∷ old.trail.behind = ap (λ (x : Search). x.at_hand ∷ x.behind) e in
+    let light = within_lighter old.trail.at_hand settled old.trail.behind (subst (λ (x : List (List ℕ)). IsWithin x settled) f h.0) in
+    let lighter = subst (λ (x : List (List (List ℕ))). load new.trail.behind < load x) waits t.lighter in
     record {
       lines = says.lines ++ t.lines;
       adds = adds_on old.lines mid.lines new.lines says.lines t.lines says.adds t.adds;
-      walks = walks_on clues known says.lines t.lines (old.pending.at_hand ∷ old.pending.behind) (settled ∷ old.pending.behind) new.pending.behind (rw f at (says.walks old.pending.behind)) (rw waits at t.walks);
-      lighter = (let l : load new.pending.behind < load (old.pending.at_hand ∷ old.pending.behind) = omega arith in l);
+      walks = walks_on clues known says.lines t.lines (old.trail.at_hand ∷ old.trail.behind) (settled ∷ old.trail.behind) new.trail.behind (rw f at (says.walks old.trail.behind)) (rw waits at t.walks);
+      lighter = (let l : load new.trail.behind < load (old.trail.at_hand ∷ old.trail.behind) = omega arith in l);
     }
 
-pub turn_on : (clues : Clues) (known first settled : List (List ℕ)) (old mid new : Growing) → first ≡ old.pending.at_hand → Settles clues first settled old.lines mid.lines Narrowed → mid.pending ≡ search_of settled old.pending.behind old.pending.cells → (found : Option (List (List ℕ))) → Turns clues known mid new found → Turns clues known old new found
+pub turn_on : (clues : Clues) (known first settled : List (List ℕ)) (old mid new : Growing) → first ≡ old.trail.at_hand → Settles clues first settled old.lines mid.lines Narrowed → mid.trail ≡ search_of settled old.trail.behind old.trail.cells → (found : Option (List (List ℕ))) → Turns clues known mid new found → Turns clues known old new found
 turn_on clues known first settled old mid new f h e None t = turns_on clues known first settled old mid new f h e t
 turn_on clues known first settled old mid new f h e (Some picture) t =
-    let hand : mid.pending.at_hand ≡ settled = ap (λ (x : Search). x.at_hand) e in
-    (fills_fewer clues old.pending.at_hand settled picture (subst (λ (x : List (List ℕ)). IsWithin x settled) f h.0) (subst (λ (x : List (List ℕ)). Fills clues x picture) hand t.0), t.1)
+    let hand : mid.trail.at_hand ≡ settled = ap (λ (x : Search). x.at_hand) e in
+    (fills_fewer clues old.trail.at_hand settled picture (subst (λ (x : List (List ℕ)). IsWithin x settled) f h.0) (subst (λ (x : List (List ℕ)). Fills clues x picture) hand t.0), t.1)
 
 -- ---- a tree
 
 -- the lines so far lead from the first facts to what waits
 abbrev pub Said : Clues → List (List ℕ) → List (List ℕ) → Lines → Growing → Type 0
-Said clues known facts start g = (lines : List CertLine) × (Adds start g.lines lines × Walks clues known lines (facts ∷ []) (g.pending.at_hand ∷ g.pending.behind))
+Said clues known facts start g = (lines : List CertLine) × (Adds start g.lines lines × Walks clues known lines (facts ∷ []) (g.trail.at_hand ∷ g.trail.behind))
 
 -- lines more lead from the first facts to the end of a tree
 abbrev pub LeadsToEnd : Clues → List (List ℕ) → List (List ℕ) → Lines → Lines → Type 0
 LeadsToEnd clues known facts start end = (lines : List CertLine) × (Adds start end lines × Walks clues known lines (facts ∷ []) [])
 
-pub starts_said : (clues : Clues) (known facts first : List (List ℕ)) (start : Lines) (g : Growing) → first ≡ facts → g.pending ≡ search_of first [] [] → g.lines ≡ start → Said clues known facts start g
+pub starts_said : (clues : Clues) (known facts first : List (List ℕ)) (start : Lines) (g : Growing) → first ≡ facts → g.trail ≡ search_of first [] [] → g.lines ≡ start → Said clues known facts start g
 starts_said clues known facts first start g f e l =
-    let waits : facts ∷ [] ≡ g.pending.at_hand ∷ g.pending.behind = sym (ap (λ (x : Search). x.at_hand ∷ x.behind) e ∙ ap (λ (x : List (List ℕ)). x ∷ []) f) in
+    let waits : facts ∷ [] ≡ g.trail.at_hand ∷ g.trail.behind = sym (ap (λ (x : Search). x.at_hand ∷ x.behind) e ∙ ap (λ (x : List (List ℕ)). x ∷ []) f) in
     ([], (subst (λ (x : Lines). Adds start x []) (sym l) (adds_none start), waits))
 
 -- a turn leads on to what waits behind
 said_on : (clues : Clues) (known facts : List (List ℕ)) (start : Lines) (old mid : Growing) → Said clues known facts start old
     → TurnsOn clues known old mid
-    → (lines : List CertLine) × (Adds start mid.lines lines × Walks clues known lines (facts ∷ []) mid.pending.behind)
+    → (lines : List CertLine) × (Adds start mid.lines lines × Walks clues known lines (facts ∷ []) mid.trail.behind)
 said_on clues known facts start old mid s t = (
   s.0 ++ t.lines,
   (
     adds_on start old.lines mid.lines s.0 t.lines s.1.0 t.adds,
-    walks_on clues known s.0 t.lines (facts ∷ []) (old.pending.at_hand ∷ old.pending.behind) mid.pending.behind s.1.1 t.walks,
+    walks_on clues known s.0 t.lines (facts ∷ []) (old.trail.at_hand ∷ old.trail.behind) mid.trail.behind s.1.1 t.walks,
   ),
 )
 
@@ -442,19 +443,19 @@ ends_said clues known facts start end old mid new s t a e =
     let P : List (List (List ℕ)) → Type 0 = λ x. Walks clues known on.0 (facts ∷ []) x in
     (on.0, (rw (e ∙ a.1) on.1.0, subst P a.0 on.1.1))
 
-pub shape_said : (clues : Clues) (known facts : List (List ℕ)) (start : Lines) (g : Growing) → Said clues known facts start g → SameShape facts g.pending.at_hand
-shape_said clues known facts start g s = (walk_alike clues known facts s.0 (facts ∷ []) (g.pending.at_hand ∷ g.pending.behind) s.1.1 (shape_refl facts, tt)).0
+pub shape_said : (clues : Clues) (known facts : List (List ℕ)) (start : Lines) (g : Growing) → Said clues known facts start g → SameShape facts g.trail.at_hand
+shape_said clues known facts start g s = (walk_alike clues known facts s.0 (facts ∷ []) (g.trail.at_hand ∷ g.trail.behind) s.1.1 (shape_refl facts, tt)).0
 
-pub found_said : OnlyIsClosed → ClosingKeepsFillings → (clues : Clues) (known facts picture : List (List ℕ)) (start : Lines) (g : Growing) → Said clues known facts start g → IsOtherIn clues known g.pending.at_hand picture → IsOtherIn clues known facts picture
+pub found_said : OnlyIsClosed → ClosingKeepsFillings → (clues : Clues) (known facts picture : List (List ℕ)) (start : Lines) (g : Growing) → Said clues known facts start g → IsOtherIn clues known g.trail.at_hand picture → IsOtherIn clues known facts picture
 found_said own closing clues known facts picture start g s h = (
-  elim (walk_back own closing clues known picture s.0 (facts ∷ []) (g.pending.at_hand ∷ g.pending.behind) s.1.1 (inl h.0)) [
+  elim (walk_back own closing clues known picture s.0 (facts ∷ []) (g.trail.at_hand ∷ g.trail.behind) s.1.1 (inl h.0)) [
     | inl f ↦ f
     | inr none ↦ absurd none
   ],
   h.1,
 )
 
-pub said_lighter : (clues : Clues) (known : List (List ℕ)) (old mid new : Growing) → TurnsOn clues known old mid → Advances mid new true → load (new.pending.at_hand ∷ new.pending.behind) < load (old.pending.at_hand ∷ old.pending.behind)
+pub said_lighter : (clues : Clues) (known : List (List ℕ)) (old mid new : Growing) → TurnsOn clues known old mid → Advances mid new true → load (new.trail.at_hand ∷ new.trail.behind) < load (old.trail.at_hand ∷ old.trail.behind)
 said_lighter clues known old mid new t a = rw a.0 at t.lighter
 
 -- what a tree decides

@@ -2,7 +2,6 @@ pub mod Other
 pub mod Parts
 pub mod Scene
 pub mod Growing
-pub mod Branching
 pub mod Weighing
 pub mod Trees
 pub mod Looking

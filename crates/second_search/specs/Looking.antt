@@ -1,5 +1,5 @@
 -- Settled facts, the picture that they show, and the first cell that is not settled.
-use Rattle.std.specs.Prelude.{◌≡◌, ℕ, ◌<◌, List, Option, None, Some, length}
+use Rattle.std.specs.Prelude.{◌≡◌, ℕ, ◌<◌, ◌⊎◌, List, Option, None, Some, [], ◌∷◌, length}
 use Rattle.picture.specs.LineSet.{Lines, HasName}
 use Rattle.picture.specs.Picture.{IsPicture}
 use Rattle.picture.specs.Rows.{width_of, cell_at}
@@ -45,6 +45,11 @@ pub record ShowsRow (facts old new : List (List ℕ)) (row : ℕ) : Type 0 where
   pub same_shape : SameShape new facts
   pub only : (col : ℕ) → col < width_of facts → IsOnly (cell_at facts row col) (cell_at new row col)
   pub elsewhere : (r col : ℕ) → (r ≡ row → ⊥) → cell_at new r col ≡ cell_at old r col
+
+-- a picture fills some of the facts that wait
+abbrev pub FillsSome : Clues → List (List (List ℕ)) → List (List ℕ) → Type 0
+FillsSome clues [] picture = ⊥
+FillsSome clues (facts ∷ others) picture = Fills clues facts picture ⊎ FillsSome clues others picture
 
 -- a picture fills the facts and is not the known one, or none does
 abbrev pub FindsFilling : Clues → List (List ℕ) → List (List ℕ) → Option (List (List ℕ)) → Type 0

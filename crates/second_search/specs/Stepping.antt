@@ -8,7 +8,7 @@ use Rattle.second_search.specs.declared.coming.Coming.TheVariants.{Dies, Ends, S
 use Rattle.second_search.specs.declared.counting.Budget.{Budget}
 use Rattle.second_search.specs.declared.counting.Ending.{Ending}
 use Rattle.second_search.specs.declared.counting.Ending.TheVariants.{Nothing, Found, BrokenOff}
-use Rattle.second_search.specs.Branching.{Search, places, search_of}
+use Rattle.trail.specs.Branching.{Search, places, search_of}
 use Rattle.second_search.specs.Searching.{Comes, raised}
 
 -- what is left of an allowance after one split more

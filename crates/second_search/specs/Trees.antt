@@ -128,17 +128,17 @@ Continues clues known facts (Other picture) = IsOtherIn clues known facts pictur
 pub record TurnsOn (clues : Clues) (known : List (List ℕ)) (old new : Growing) : Type 0 where
   pub lines : List CertLine
   pub adds : Adds old.lines new.lines lines
-  pub walks : Walks clues known lines (old.pending.at_hand ∷ old.pending.behind) new.pending.behind
-  pub lighter : load new.pending.behind < load (old.pending.at_hand ∷ old.pending.behind)
+  pub walks : Walks clues known lines (old.trail.at_hand ∷ old.trail.behind) new.trail.behind
+  pub lighter : load new.trail.behind < load (old.trail.at_hand ∷ old.trail.behind)
 
 abbrev pub Turns : Clues → List (List ℕ) → Growing → Growing → Option (List (List ℕ)) → Type 0
 Turns clues known old new None = TurnsOn clues known old new
-Turns clues known old new (Some picture) = IsOtherIn clues known old.pending.at_hand picture
+Turns clues known old new (Some picture) = IsOtherIn clues known old.trail.at_hand picture
 
 -- the next branch that waits is at hand, or none waits
 abbrev pub Advances : Growing → Growing → Bool → Type 0
-Advances old new true = (old.pending.behind ≡ new.pending.at_hand ∷ new.pending.behind) × (new.lines ≡ old.lines)
-Advances old new false = (old.pending.behind ≡ []) × (new.lines ≡ old.lines)
+Advances old new true = (old.trail.behind ≡ new.trail.at_hand ∷ new.trail.behind) × (new.lines ≡ old.lines)
+Advances old new false = (old.trail.behind ≡ []) × (new.lines ≡ old.lines)
 
 -- ---- what is decided
 

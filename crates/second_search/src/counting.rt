@@ -10,11 +10,11 @@ ghost use Rattle.second_search.specs.Searching.{EndsAs, IsCalled, raised};
 ghost use Rattle.second_search.specs.Stepping.{Compares, Spends, Steps};
 
 use crate::coming::{Coming, Due, come_to};
-use crate::pending::Pending;
 use clues::ClueBook;
 use line_settle::{Facts, LineEngine};
 use picture::{LineSet, Picture};
 use std::alloc::{AllocError, Global};
+use trail::Trail;
 
 /// How the search of a part ended, in the words of contracts: there is no other picture, or there is this one, or it would have
 /// split once more than allowed.
@@ -66,7 +66,7 @@ impl Budget {
 // A search under way: the branches that wait, what is due at the one at hand, and its splits.
 #[derive(Drop)]
 pub(crate) struct Counted {
-    pub pending: Pending,
+    pub trail: Trail,
     pub due: Due,
     pub budget: Budget,
 }
@@ -100,7 +100,7 @@ pub(crate) fn search_counted<E: LineEngine>(
         allowance,
     } = start;
     let mut search = Counted {
-        pending: Pending::start(alloc, facts),
+        trail: Trail::start(alloc, facts),
         due: Due {
             lines,
             rows: lines,
@@ -118,7 +118,7 @@ pub(crate) fn search_counted<E: LineEngine>(
             Some(ending) => return Ok(Searched { ending, splits }),
             None => {}
         }
-        let Some(cell) = search.pending.advance()? else {
+        let Some(cell) = search.trail.advance()? else {
             let ending = Ending::Nothing;
             return Ok(Searched { ending, splits });
         };
@@ -138,20 +138,20 @@ impl Counted {
         book: &ClueBook,
         known: &Picture,
     ) -> Result<Option<Ending>, AllocError>
-        requires closable { AreClosable book.now (E.longest engine.old) self.old.pending.at_hand }
-        requires lines { AreLinesOf self.old.pending.at_hand self.old.due.lines }
-        requires quiet { QuietOutside book.now self.old.pending.at_hand self.old.due.lines }
+        requires closable { AreClosable book.now (E.longest engine.old) self.old.trail.at_hand }
+        requires lines { AreLinesOf self.old.trail.at_hand self.old.due.lines }
+        requires quiet { QuietOutside book.now self.old.trail.at_hand self.old.due.lines }
         requires some { 0 < name_count self.old.due.lines }
-        requires above { AreRowsSettled self.old.pending.at_hand self.old.due.top }
-        requires same_shape { SameShape known.now self.old.pending.at_hand }
-        requires others { ShowOthers known.now self.old.due.rows self.old.pending.at_hand }
-        ensures steps { IfOk result (Steps book.now known.now self.old.pending self.new.pending
+        requires above { AreRowsSettled self.old.trail.at_hand self.old.due.top }
+        requires same_shape { SameShape known.now self.old.trail.at_hand }
+        requires others { ShowOthers known.now self.old.due.rows self.old.trail.at_hand }
+        ensures steps { IfOk result (Steps book.now known.now self.old.trail self.new.trail
             self.old.budget self.new.budget) }
         ensures calls { E.calls engine.old ≤ E.calls engine.new }
         ensures called { OnOk result (IsCalled (E.calls engine.old) (E.calls engine.new)) }
         ensures same_longest { E.longest engine.new ≡ E.longest engine.old }
     {
-        let coming = come_to(engine, book, known, self.pending.at_hand(), &self.due)?;
+        let coming = come_to(engine, book, known, self.trail.at_hand(), &self.due)?;
         match coming {
             Coming::Dies => Ok(None),
             Coming::Ends(picture) => Ok(compare(picture, known)),
@@ -160,8 +160,8 @@ impl Counted {
                     return Ok(Some(Ending::BrokenOff));
                 };
                 self.budget = budget;
-                self.pending.narrow(&settled, &self.due.rows, self.due.top)?;
-                self.pending.split(cell)?;
+                self.trail.narrow(&settled, &self.due.rows, self.due.top)?;
+                self.trail.split(cell)?;
                 Ok(None)
             }
         }

@@ -1,6 +1,6 @@
 //! The first cell of facts that is not settled, and the picture that settled facts show.
 
-ghost use Rattle.std.specs.Prelude.{◌≡◌, ℕ, ◌<◌, ◌↔◌, List, length, IfOk, IsTrue, MatchOption};
+ghost use Rattle.std.specs.Prelude.{◌≡◌, ℕ, ◌<◌, List, length, IfOk, MatchOption};
 ghost use Rattle.picture.specs.LineSet.{HasName};
 ghost use Rattle.picture.specs.Rows.{width_of, cell_at};
 ghost use Rattle.line_settle.specs.Masks.{IsOnly};
@@ -10,9 +10,10 @@ ghost use Rattle.second_search.specs.Looking.{AreOthersSettled, AreRowsSettled, 
 
 use fixpoint::all_lines;
 use line_settle::Facts;
-use picture::{Axis, LineId, LineSet, MAX_SIDE, Picture};
+use picture::{LineSet, Picture};
 use split_choice::Cell;
 use std::alloc::{AllocError, Global};
+use trail::has_row;
 
 // The first cell in row order in which not just one colour is left, where there is none above a row or in a row that is not named.
 pub(crate) fn first_unsettled(facts: &Facts, rows: &LineSet, top: u8) -> Option<Cell>
@@ -49,17 +50,6 @@ fn unsettled_in_row(facts: &Facts, rows: &LineSet, row: u8) -> Option<u8>
         };
     }
     None
-}
-
-// Whether a row is named.
-pub(crate) fn has_row(rows: &LineSet, row: u8) -> bool
-    requires { row < MAX_SIDE }
-    ensures { IsTrue result ↔ HasName rows.now (across row) }
-{
-    rows.has(LineId {
-        axis: Axis::Across,
-        at: row,
-    })
 }
 
 // The picture that settled facts show.

@@ -6,7 +6,6 @@ ghost use Rattle.fixpoint.specs.Closing.{AreClosable};
 ghost use Rattle.second_search.specs.Trees.{Advances, AreNone, Decides, Turns};
 
 use crate::ladder::Decided;
-use crate::pending::Pending;
 use crate::scene::Scene;
 use crate::tree_closing::close_written;
 use crate::tree_lines::{Lines, cell_number};
@@ -16,11 +15,12 @@ use fixpoint::all_lines;
 use line_settle::{LineEngine, Outcome};
 use picture::{LineSet, Picture};
 use std::alloc::{AllocError, Global};
+use trail::Trail;
 
 // A tree that is being written: the branches that wait, the lines so far, and those that are due at the branch at hand.
 #[derive(Drop)]
 pub(crate) struct Growing {
-    pub pending: Pending,
+    pub trail: Trail,
     pub lines: Lines,
     pub due: LineSet,
 }
@@ -43,7 +43,7 @@ pub(crate) fn write_tree<E: LineEngine>(
 {
     let _ = engine.calls();
     let mut growing = Growing {
-        pending: Pending::start(alloc, scene.facts.copy()?),
+        trail: Trail::start(alloc, scene.facts.copy()?),
         lines: no_lines(alloc, keeps),
         due: all_lines(scene.facts),
     };
@@ -91,20 +91,20 @@ impl Growing {
         scene: &Scene,
         way: Way,
     ) -> Result<Option<Picture>, AllocError>
-        requires { AreClosable scene.now.clues.now (E.longest engine.old) self.old.pending.at_hand }
+        requires { AreClosable scene.now.clues.now (E.longest engine.old) self.old.trail.at_hand }
         ensures turns { IfOk result
             (Turns scene.now.clues.now scene.now.picture.now self.old self.new) }
         ensures calls { E.calls engine.old ≤ E.calls engine.new }
         ensures same_longest { E.longest engine.new ≡ E.longest engine.old }
     {
         let _ = engine.calls();
-        let mut facts = self.pending.at_hand().copy()?;
+        let mut facts = self.trail.at_hand().copy()?;
         let outcome = close_written(engine, scene.clues, &mut facts, &self.due, &mut self.lines)?;
         match outcome {
             Outcome::Dead => return Ok(None),
             Outcome::Narrowed => {}
         }
-        self.pending.narrow(&facts, &all_lines(&facts), 0)?;
+        self.trail.narrow(&facts, &all_lines(&facts), 0)?;
         let _ = facts.height();
         let step = next_step(alloc, engine, scene, &facts, way)?;
         match step {
@@ -115,7 +115,7 @@ impl Growing {
             }
             TreeStep::Splits(cell) => {
                 self.lines.add(CertLine::Split(cell_number(cell)))?;
-                self.pending.split(cell)?;
+                self.trail.split(cell)?;
                 Ok(None)
             }
         }
@@ -125,7 +125,7 @@ impl Growing {
     fn advance(&mut self) -> Result<bool, AllocError>
         ensures { IfOk result (Advances self.old self.new) }
     {
-        match self.pending.advance()? {
+        match self.trail.advance()? {
             Some(cell) => {
                 self.due = cell.lines();
                 Ok(true)

@@ -1,7 +1,7 @@
 use Rattle.std.proofs.Common.{◌≡◌, ◌∙◌, [], None, Option, Some, arith, refl}
 use Rattle.line_settle.specs.GridLaws.{shape_trans}
 use Rattle.split_choice.specs.declared.cell.Cell.{Cell}
-use Rattle.second_search.specs.Branching.{GoesOn, Search}
+use Rattle.trail.specs.Branching.{GoesOn, Search}
 use Rattle.second_search.specs.Through.{across}
 use Rattle.second_search.proofs.CountLemmas.{counted_ending, counted_nothing, counting_goes, counting_starts, goes_lighter}
 use Rattle.second_search.proofs.KeepLemmas.{both_named, can_close_like, quiet_at, quiet_goes, ready_at, ready_first}
@@ -25,7 +25,7 @@ loop-search-init g c =
 pub look_once-requires-clause-closable : goal.look_once-requires-clause-closable
 look_once-requires-clause-closable g c =
     let i = c.loop-search.invariant in
-    can_close_like c.args.book.now _ _ c.args.start.facts c.loop-search.search.pending.at_hand i.ready.same_shape i.same_longest c.requires.closable
+    can_close_like c.args.book.now _ _ c.args.start.facts c.loop-search.search.trail.at_hand i.ready.same_shape i.same_longest c.requires.closable
 
 pub look_once-requires-clause-same_shape : goal.look_once-requires-clause-same_shape
 look_once-requires-clause-same_shape g c = shape_trans c.requires.same_shape c.loop-search.invariant.ready.same_shape
@@ -37,7 +37,7 @@ pub returns-in-Some-clause-ends : goal.returns-in-Some-clause-ends
 returns-in-Some-clause-ends g c =
     let s = c.loop-search.search in
     let t = c.look_once.new.self in
-    counted_ending least_is_unique c.args.book.now c.args.known.now c.args.start.facts c.args.start.allowance s.pending t.pending s.budget t.budget c.loop-search.invariant.counting c.in-Some.ending (rw c.in-Some.is at c.in_ok-found.ensures.steps)
+    counted_ending least_is_unique c.args.book.now c.args.known.now c.args.start.facts c.args.start.allowance s.trail t.trail s.budget t.budget c.loop-search.invariant.counting c.in-Some.ending (rw c.in-Some.is at c.in_ok-found.ensures.steps)
 
 nothing_waits : (s t : Search) (cell : Option Cell) → ((x : Cell) → cell ≡ Some x → ⊥) → GoesOn s t cell → s.behind ≡ []
 nothing_waits s t None none on = on
@@ -45,15 +45,15 @@ nothing_waits s t (Some cell) none on = absurd (none cell refl)
 
 pub returns-in_default-clause-ends : goal.returns-in_default-clause-ends
 returns-in_default-clause-ends g c =
-    let s = c.loop-search.search.pending in
-    let t = c.look_once.new.self.pending in
+    let s = c.loop-search.search.trail in
+    let t = c.look_once.new.self.trail in
     let counting = counting_goes least_is_unique _ _ _ _ s t _ _ c.loop-search.invariant.counting (rw c.in-None.is at c.in_ok-found.ensures.steps) in
     counted_nothing _ _ _ _ _ _ counting (nothing_waits t c.advance.new.self _ c.in_default.not-Some c.in_ok-cell.ensures)
 
 pub loop-search-preserved : goal.loop-search-preserved
 loop-search-preserved g c =
-    let s = c.loop-search.search.pending in
-    let t = c.look_once.new.self.pending in
+    let s = c.loop-search.search.trail in
+    let t = c.look_once.new.self.trail in
     let u = c.advance.new.self in
     let cell = c.in-Some-2.cell in
     let book = c.args.book.now in
@@ -78,8 +78,8 @@ loop-search-preserved g c =
 
 pub loop-search-smaller : goal.loop-search-smaller
 loop-search-smaller g c =
-    let s = c.loop-search.search.pending in
-    let t = c.look_once.new.self.pending in
+    let s = c.loop-search.search.trail in
+    let t = c.look_once.new.self.trail in
     let u = c.advance.new.self in
     let on : GoesOn t u (Some c.in-Some-2.cell) = rw c.in-Some-2.is at c.in_ok-cell.ensures in
     goes_lighter c.args.book.now c.args.known.now s t u _ _ (rw c.in-None.is at c.in_ok-found.ensures.steps) on.0

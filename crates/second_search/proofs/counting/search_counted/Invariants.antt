@@ -7,14 +7,14 @@ use Rattle.second_search.proofs.counting.search_counted.Given as goal
 
 abbrev pub invariant-loop-search : goal.invariant-loop-search
 invariant-loop-search g l = record {
-  counting : Counting l.book l.known l.fn.start.facts l.fn.start.allowance (l.search.pending.at_hand ∷ l.search.pending.behind) l.search.budget;
-  ready : IsReady l.book l.known l.fn.start.lines l.fn.start.facts l.search.pending.at_hand l.search.due.lines l.search.due.top;
+  counting : Counting l.book l.known l.fn.start.facts l.fn.start.allowance (l.search.trail.at_hand ∷ l.search.trail.behind) l.search.budget;
+  ready : IsReady l.book l.known l.fn.start.lines l.fn.start.facts l.search.trail.at_hand l.search.due.lines l.search.due.top;
   rows : l.search.due.rows ≡ l.fn.start.lines;
   some : 0 < name_count l.search.due.lines;
-  behind : EachQuiet l.book l.known l.fn.start.lines l.fn.start.facts l.search.pending.behind l.search.pending.cells;
+  behind : EachQuiet l.book l.known l.fn.start.lines l.fn.start.facts l.search.trail.behind l.search.trail.cells;
   calls : g.E.LineEngine.calls l.fn.engine ≤ g.E.LineEngine.calls l.engine;
   same_longest : g.E.LineEngine.longest l.engine ≡ g.E.LineEngine.longest l.fn.engine;
 }
 
 abbrev pub decreases-loop-search : goal.decreases-loop-search
-decreases-loop-search g l = load (l.search.pending.at_hand ∷ l.search.pending.behind)
+decreases-loop-search g l = load (l.search.trail.at_hand ∷ l.search.trail.behind)

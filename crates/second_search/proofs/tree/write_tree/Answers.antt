@@ -8,7 +8,7 @@ pub turn-requires : goal.turn-requires
 turn-requires g c =
     let s = c.args.scene.now in
     let i = c.loop-growing.invariant in
-    can_close_like s.clues.now (g.E.LineEngine.longest c.args.engine.now) (g.E.LineEngine.longest c.loop-growing.engine) s.facts.now c.loop-growing.growing.pending.at_hand (shape_said s.clues.now s.picture.now s.facts.now i.said.0 c.loop-growing.growing i.said.1.1) i.same_longest c.requires
+    can_close_like s.clues.now (g.E.LineEngine.longest c.args.engine.now) (g.E.LineEngine.longest c.loop-growing.engine) s.facts.now c.loop-growing.growing.trail.at_hand (shape_said s.clues.now s.picture.now s.facts.now i.said.0 c.loop-growing.growing i.said.1.1) i.same_longest c.requires
 
 pub returns-in-Some-clause-decides : goal.returns-in-Some-clause-decides
 returns-in-Some-clause-decides g c =
@@ -41,7 +41,7 @@ pub loop-growing-init : goal.loop-growing-init
 loop-growing-init g c =
     let s = c.args.scene.now in
     record {
-      said = (c.no_lines.result, (c.no_lines.ensures, starts_said s.clues.now s.picture.now s.facts.now c.in_ok-copy.field-0 c.no_lines.result (record { pending = c.start.result; lines = c.no_lines.result; due = c.all_lines.result }) c.in_ok-copy.ensures c.start.ensures refl));
+      said = (c.no_lines.result, (c.no_lines.ensures, starts_said s.clues.now s.picture.now s.facts.now c.in_ok-copy.field-0 c.no_lines.result (record { trail = c.start.result; lines = c.no_lines.result; due = c.all_lines.result }) c.in_ok-copy.ensures c.start.ensures refl));
       calls = omega arith;
       same_longest = refl;
     }

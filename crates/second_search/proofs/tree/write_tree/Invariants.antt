@@ -13,4 +13,4 @@ invariant-loop-growing g l = record {
 }
 
 abbrev pub decreases-loop-growing : goal.decreases-loop-growing
-decreases-loop-growing g l = load (l.growing.pending.at_hand ∷ l.growing.pending.behind)
+decreases-loop-growing g l = load (l.growing.trail.at_hand ∷ l.growing.trail.behind)

@@ -1,7 +1,7 @@
 use Rattle.std.proofs.Common.{ap, ◌∙◌, arith}
-use Rattle.second_search.specs.Branching.{search_of}
-use Rattle.second_search.proofs.GridLemmas.{same_inside}
-use Rattle.second_search.proofs.pending.Pending.narrow.Goals as goal
+use Rattle.trail.specs.Branching.{search_of}
+use Rattle.trail.proofs.GridLemmas.{same_inside}
+use Rattle.trail.proofs.trail.Trail.narrow.Goals as goal
 
 pub returns : goal.returns
 returns c =

@@ -1,16 +1,14 @@
--- Facts that wait to be searched, and the notes from which they are told.
-use Rattle.std.specs.Prelude.{◌≡◌, ℕ, ◌^◌, ◌<◌, ◌⊎◌, Option, None, Some, List, [], ◌∷◌, ◌++◌, length, map}
+-- Facts that wait, and the notes from which they are told.
+use Rattle.std.specs.Prelude.{◌≡◌, ℕ, ◌^◌, ◌<◌, Option, None, Some, List, [], ◌∷◌, ◌++◌, length, map}
 use Rattle.picture.specs.LineSet.{Lines, HasName}
 use Rattle.picture.specs.Rows.{cell_at, with_cell}
-use Rattle.clues.specs.ClueBook.{Clues}
 use Rattle.line_settle.specs.FactSets.{SameShape}
 use Rattle.line_settle.specs.Branches.{branches, colours_of}
-use Rattle.fixpoint.specs.Filling.{Fills}
 use Rattle.split_choice.specs.declared.cell.Cell.{Cell}
-use Rattle.second_search.specs.Through.{across}
-use Rattle.second_search.specs.declared.note.CellMask.{CellMask}
-use Rattle.second_search.specs.declared.note.Note.{Note}
-use Rattle.second_search.specs.declared.note.Note.TheVariants.{Restore, Branch}
+use Rattle.split_choice.specs.Through.{across}
+use Rattle.trail.specs.declared.note.CellMask.{CellMask}
+use Rattle.trail.specs.declared.note.Note.{Note}
+use Rattle.trail.specs.declared.note.Note.TheVariants.{Restore, Branch}
 
 abbrev pub place : ℕ → ℕ → Cell
 place row col = record { row = row; col = col }
@@ -73,12 +71,7 @@ AreSameAbove facts settled rows = (row col : ℕ) → row < rows → cell_at fac
 abbrev pub AreOthersSame : List (List ℕ) → List (List ℕ) → Lines → Type 0
 AreOthersSame facts settled rows = (row col : ℕ) → row < length settled → (HasName rows (across row) → ⊥) → cell_at facts row col ≡ cell_at settled row col
 
--- the search goes on to the next facts that wait, in which this cell is held, or none do
+-- the next facts that wait are at hand, in which this cell is held, or none do
 abbrev pub GoesOn : Search → Search → Option Cell → Type 0
 GoesOn old new (Some cell) = (old.behind ≡ new.at_hand ∷ new.behind) × (old.cells ≡ cell ∷ new.cells)
 GoesOn old new None = old.behind ≡ []
-
--- a picture fills some of the facts
-abbrev pub FillsSome : Clues → List (List (List ℕ)) → List (List ℕ) → Type 0
-FillsSome clues [] picture = ⊥
-FillsSome clues (facts ∷ others) picture = Fills clues facts picture ⊎ FillsSome clues others picture

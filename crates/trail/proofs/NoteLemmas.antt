@@ -8,13 +8,13 @@ use Rattle.std.proofs.lemmas.Nat.Bits.{bit_at-zero, bit_at-trailing_zeros, bit_a
 use Rattle.picture.specs.Rows.{width_of, cell_at, with_cell}
 use Rattle.line_settle.specs.FactSets.{IsFacts}
 use Rattle.split_choice.specs.declared.cell.Cell.{Cell}
-use Rattle.second_search.specs.declared.note.CellMask.{CellMask}
-use Rattle.second_search.specs.declared.note.Note.{Note}
-use Rattle.second_search.specs.declared.note.Note.TheVariants.{Restore, Branch}
-use Rattle.second_search.specs.Branching.{AreInside, IsInside, Search, cells_held, place, places, search_of, waiting}
+use Rattle.trail.specs.declared.note.CellMask.{CellMask}
+use Rattle.trail.specs.declared.note.Note.{Note}
+use Rattle.trail.specs.declared.note.Note.TheVariants.{Restore, Branch}
+use Rattle.trail.specs.Branching.{AreInside, IsInside, Search, cells_held, place, places, search_of, waiting}
 use Rattle.line_settle.specs.MaskLaws.{lowest_below, shifted}
 use Rattle.line_settle.specs.Branches.{branches, colours_of, held}
-use Rattle.second_search.proofs.GridLemmas.{cell_back}
+use Rattle.trail.proofs.GridLemmas.{cell_back}
 
 abbrev from : ℕ → ℕ → ℕ → List ℕ
 from mask k n = filter (λ j. bit_at mask j == 1) (range_with_len k n)

@@ -1,6 +1,6 @@
 use Rattle.std.proofs.Common.{refl}
-use Rattle.second_search.proofs.NoteLemmas.{begins, begins_held}
-use Rattle.second_search.proofs.pending.Pending.begin.Goals as goal
+use Rattle.trail.proofs.NoteLemmas.{begins, begins_held}
+use Rattle.trail.proofs.trail.Trail.begin.Goals as goal
 
 pub returns-clause-waits : goal.returns-clause-waits
 returns-clause-waits c =

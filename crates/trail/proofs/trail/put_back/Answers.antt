@@ -1,7 +1,7 @@
 use Rattle.std.proofs.Common.{◌∙◌, ◌++◌, ◌∷◌, [], ap, sym, length}
 use Rattle.picture.specs.Rows.{width_of}
-use Rattle.second_search.proofs.NoteLemmas.{skips}
-use Rattle.second_search.proofs.pending.put_back.Goals as goal
+use Rattle.trail.proofs.NoteLemmas.{skips}
+use Rattle.trail.proofs.trail.put_back.Goals as goal
 
 pub loop-note-preserved : goal.loop-note-preserved
 loop-note-preserved c =

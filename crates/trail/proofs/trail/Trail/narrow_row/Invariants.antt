@@ -1,7 +1,7 @@
 use Rattle.std.proofs.Common.{◌≡◌, ℕ, ◌<◌}
 use Rattle.picture.specs.Rows.{cell_at}
 use Rattle.line_settle.specs.FactSets.{SameShape}
-use Rattle.second_search.proofs.pending.Pending.narrow_row.Given as goal
+use Rattle.trail.proofs.trail.Trail.narrow_row.Given as goal
 
 abbrev pub invariant-loop-col : goal.invariant-loop-col
 invariant-loop-col l = record {

@@ -1,7 +1,7 @@
 use Rattle.std.proofs.Common.{◌≡◌}
 use Rattle.line_settle.specs.FactSets.{SameShape}
-use Rattle.second_search.specs.Branching.{AreOthersSame, AreSameAbove}
-use Rattle.second_search.proofs.pending.Pending.narrow.Given as goal
+use Rattle.trail.specs.Branching.{AreOthersSame, AreSameAbove}
+use Rattle.trail.proofs.trail.Trail.narrow.Given as goal
 
 abbrev pub invariant-loop-row : goal.invariant-loop-row
 invariant-loop-row l = record {

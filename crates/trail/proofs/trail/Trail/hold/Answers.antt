@@ -1,5 +1,5 @@
-use Rattle.second_search.proofs.NoteLemmas.{holds}
-use Rattle.second_search.proofs.pending.Pending.hold.Goals as goal
+use Rattle.trail.proofs.NoteLemmas.{holds}
+use Rattle.trail.proofs.trail.Trail.hold.Goals as goal
 
 pub returns-in_ok-push : goal.returns-in_ok-push
 returns-in_ok-push c =

@@ -1,32 +1,34 @@
-//! The facts that wait to be searched, kept as those at hand and a stack of notes.
+//! The facts that wait, kept as those at hand and a stack of notes.
 
 ghost use Rattle.std.specs.Prelude.{◌≡◌, ℕ, ◌<◌, [], ◌∷◌, ◌++◌, length, reverse, IfOk, OnOk, IfSome};
 ghost use Rattle.picture.specs.Rows.{width_of, cell_at, with_cell};
 ghost use Rattle.line_settle.specs.FactSets.{SameShape};
 ghost use Rattle.line_settle.specs.Branches.{branches};
-ghost use Rattle.second_search.specs.Branching.{place, places, search_of, AreInside, AreOthersSame, AreSameAbove, GoesOn, IsInside, IsRowTaken, PutsBack};
+ghost use Rattle.trail.specs.Branching.{place, places, search_of, AreInside, AreOthersSame, AreSameAbove, GoesOn, IsInside, IsRowTaken, PutsBack};
 
-use crate::looking::has_row;
 use crate::note::{CellMask, Note};
+use crate::rows::has_row;
 use line_settle::Facts;
 use picture::LineSet;
 use split_choice::Cell;
 use std::alloc::{AllocError, Global};
 use std::marker::Model;
 
-// The facts at hand, and the notes that tell which others wait behind them, the newest last. A cell's mask is noted only
-// where it changes, to fewer colours, and there is at most one branch for each such note: so there are never more notes
-// than cells times colours, however deep a search goes.
+/// The trail by which a search or a walk over a tree backtracks: the facts of the branch at hand, and the notes that tell
+/// which others wait behind them, the newest last.
+///
+/// A cell's mask is noted only where it changes, and there is at most one branch for each such note. So where cells are held
+/// to fewer colours alone, the notes are bounded by the cells and the colours, however many branches there are.
 #[derive(Drop)]
-pub(crate) struct Pending {
+pub struct Trail {
     facts: Facts,
     notes: Vec<Note>,
 }
 
-impl Model for Pending {
+impl Model for Trail {
     ghost use Rattle.std.specs.Prelude.{length, reverse};
     ghost use Rattle.picture.specs.Rows.{width_of};
-    ghost use Rattle.second_search.specs.Branching.{AreInside, Search, cells_held, search_of, waiting};
+    ghost use Rattle.trail.specs.Branching.{AreInside, Search, cells_held, search_of, waiting};
 
     ghost Value = { Search };
 
@@ -35,32 +37,27 @@ impl Model for Pending {
     ghost invariant = { λ p. AreInside (length p.facts) (width_of p.facts) (reverse p.notes.items) };
 }
 
-impl Pending {
-    // The facts alone, with none behind them.
-    pub(crate) fn start(alloc: Global, facts: Facts) -> Pending
+impl Trail {
+    /// The facts alone, with none behind them.
+    pub fn start(alloc: Global, facts: Facts) -> Trail
         ensures { result ≡ search_of facts [] [] }
     {
-        Pending {
+        Trail {
             facts,
             notes: Vec::new(alloc),
         }
     }
 
-    // The facts at hand.
-    pub(crate) fn at_hand(&self) -> &Facts
+    /// The facts at hand.
+    pub fn at_hand(&self) -> &Facts
         ensures { result.now ≡ self.now.at_hand }
     {
         &self.facts
     }
 
-    // Narrows the facts at hand to others of their shape, which are the same above a row and in rows that are not named, and notes
-    // each cell that changes.
-    pub(crate) fn narrow(
-        &mut self,
-        settled: &Facts,
-        rows: &LineSet,
-        top: u8,
-    ) -> Result<(), AllocError>
+    /// Narrows the facts at hand to others of their shape, which are the same above a row and in rows that are not named, and notes
+    /// each cell that changes.
+    pub fn narrow(&mut self, settled: &Facts, rows: &LineSet, top: u8) -> Result<(), AllocError>
         requires same_shape { SameShape self.old.at_hand settled.now }
         requires above { AreSameAbove self.old.at_hand settled.now top }
         requires others { AreOthersSame self.old.at_hand settled.now rows.now }
@@ -91,8 +88,8 @@ impl Pending {
         Ok(())
     }
 
-    // Holds a cell of the facts at hand to some colours, and notes the mask that it had where they differ.
-    fn hold(&mut self, row: u8, col: u8, held: u16) -> Result<(), AllocError>
+    /// Holds a cell of the facts at hand to some colours, and notes the mask that it had where they differ.
+    pub fn hold(&mut self, row: u8, col: u8, held: u16) -> Result<(), AllocError>
         requires in_rows { row < length self.old.at_hand }
         requires in_columns { col < width_of self.old.at_hand }
         ensures { OnOk result (self.new
@@ -106,8 +103,8 @@ impl Pending {
         Ok(())
     }
 
-    // Puts the branches of a cell before the facts that wait.
-    pub(crate) fn split(&mut self, cell: Cell) -> Result<(), AllocError>
+    /// Puts the branches of a cell before the facts that wait: one for each colour left in it.
+    pub fn split(&mut self, cell: Cell) -> Result<(), AllocError>
         requires in_rows { cell.row < length self.old.at_hand }
         requires in_columns { cell.col < width_of self.old.at_hand }
         ensures { OnOk result (self.new ≡ search_of self.old.at_hand
@@ -134,10 +131,11 @@ impl Pending {
         Ok(())
     }
 
-    // Leaves the facts at hand, and goes on to the next that wait. Answers the cell that is held in them; there are none
-    // exactly where the answer is None.
-    pub(crate) fn advance(&mut self) -> Result<Option<Cell>, AllocError>
-        ensures { IfOk result (GoesOn self.old self.new) }
+    /// Leaves the facts at hand, and goes on to the next that wait. Answers the cell that is held in them; there are none
+    /// exactly where the answer is None.
+    pub fn advance(&mut self) -> Result<Option<Cell>, AllocError>
+        ensures goes_on { IfOk result (GoesOn self.old self.new) }
+        ensures same_shape { IfOk result (λ _. SameShape self.old.at_hand self.new.at_hand) }
     {
         let Some(cell) = put_back(&mut self.facts, &mut self.notes) else {
             return Ok(None);

@@ -1,7 +1,7 @@
 use Rattle.std.proofs.Common.{◌≡◌, length, reverse, vec_len}
 use Rattle.picture.specs.Rows.{width_of}
-use Rattle.second_search.specs.Branching.{AreInside, cells_held, waiting}
-use Rattle.second_search.proofs.pending.put_back.Given as goal
+use Rattle.trail.specs.Branching.{AreInside, cells_held, waiting}
+use Rattle.trail.proofs.trail.put_back.Given as goal
 
 abbrev pub invariant-loop-note : goal.invariant-loop-note
 invariant-loop-note l = record {

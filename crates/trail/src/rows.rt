@@ -1,0 +1,18 @@
+//! Rows by their names.
+
+ghost use Rattle.std.specs.Prelude.{◌<◌, ◌↔◌, IsTrue};
+ghost use Rattle.picture.specs.LineSet.{HasName};
+ghost use Rattle.split_choice.specs.Through.{across};
+
+use picture::{Axis, LineId, LineSet, MAX_SIDE};
+
+/// Whether a row is named.
+pub fn has_row(rows: &LineSet, row: u8) -> bool
+    requires { row < MAX_SIDE }
+    ensures { IsTrue result ↔ HasName rows.now (across row) }
+{
+    rows.has(LineId {
+        axis: Axis::Across,
+        at: row,
+    })
+}
