@@ -1,24 +1,26 @@
 -- The walk over the lines: what a call needs to know, and what is first from the beginning.
-use Rattle.std.proofs.Common.{◌≡◌, ℕ, ◌+◌, ◌-◌, ◌<◌, ◌↔◌, List, [], ◌∷◌, Bool, true, false, Option, Some, Ok, Err, IsTrue, length, get_or, drop, drop-cons, add-one, refl, sym, ap, subst, ◌∙◌, arith, inl, inr}
+use Rattle.std.proofs.Common.{◌≡◌, ℕ, ◌+◌, ◌-◌, ◌<◌, ◌↔◌, List, [], ◌∷◌, Bool, true, false, Option, None, Some, is_some, ◌++◌, Ok, Err, IsTrue, length, get_or, drop, drop-cons, add-one, refl, sym, ap, subst, ◌∙◌, arith, inl, inr}
 use Rattle.picture.specs.declared.line_id.LineId.{LineId}
-use Rattle.picture.specs.Rows.{width_of, line_of, lines_along, HasLine}
+use Rattle.picture.specs.Rows.{cell_at, line_of, lines_along, HasLine}
 use Rattle.clues.specs.declared.block.Block.{Block}
 use Rattle.clues.specs.BookLaws.{length_along-clues_of}
 use Rattle.clues.specs.ClueBook.{Clues, clue_at, clues_of, HasClue}
 use Rattle.line_settle.specs.declared.line_engine.Outcome.{Outcome}
 use Rattle.line_settle.specs.Fitting.{CanFit}
-use Rattle.line_settle.specs.FactSets.{Gains}
+use Rattle.line_settle.specs.Branches.{branches}
+use Rattle.line_settle.specs.FactSets.{Gains, SameShape}
 use Rattle.line_settle.specs.GridLaws.{shape_trans}
 use Rattle.cert_text.specs.declared.fault.CertFault.{CertFault}
 use Rattle.cert_text.specs.declared.fault.CertFault.TheVariants.{Trailing}
+use Rattle.split_choice.specs.declared.cell.Cell.{Cell}
+use Rattle.trail.specs.Branching.{GoesOn, Search}
+use Rattle.cert_text.specs.declared.tree_line.CellNumber.{CellNumber}
 use Rattle.cert_text.specs.declared.tree_line.LineNumber.{LineNumber}
 use Rattle.cert_text.specs.declared.tree_line.CertLine.{CertLine}
-use Rattle.cert_text.specs.declared.tree_line.CertLine.TheVariants.{Line, Done}
-use Rattle.certificate.specs.declared.notes.Note.{Note}
-use Rattle.certificate.specs.Puzzle.{HasLineNumber, IsDead, line_id}
+use Rattle.cert_text.specs.declared.tree_line.CertLine.TheVariants.{Line, Split, Done}
+use Rattle.certificate.specs.Puzzle.{HasCellNumber, HasLineNumber, IsDead, line_id, split_at}
 use Rattle.certificate.specs.FirstFault.{AnswersFirst, FirstFault}
-use Rattle.certificate.specs.Walk.{AreInside, CanCheck, IsWalk, Takes, pending, waiting}
-use Rattle.certificate.proofs.PendingLemmas.{moved_inside}
+use Rattle.certificate.specs.Walk.{CanCheck, Takes, waiting}
 
 -- ---- a line found
 
@@ -41,12 +43,25 @@ not_dead picture facts clues longest clue number found b can e c is f dead =
     let t : b ≡ true = is.1 (rw (by_found picture clues longest clue number found can e c, e) dead) in
     cc
 
-pub forced_takes : (picture facts gained : List (List ℕ)) (clues : Clues) (longest : ℕ) (old new : List Note) (clue : List Block) (number : LineNumber) (found : LineId) (n : ℕ) → CanCheck picture clues longest → IsWalk picture facts old → HasLineNumber picture number → found ≡ line_id number → clue ≡ clue_at clues found → (outcome : Outcome) × Gains clue found facts gained outcome → pending gained new ≡ pending facts old → AreInside (length facts) (width_of facts) new → Takes picture facts old (Line number) n (Ok true) gained new
-forced_takes picture facts gained clues longest old new clue number found n can walk h e c f waits inside =
+pub forced_takes : (picture : List (List ℕ)) (old new : Search) (clues : Clues) (longest : ℕ) (clue : List Block) (number : LineNumber) (found : LineId) (n : ℕ) → CanCheck picture clues longest → SameShape picture old.at_hand → HasLineNumber picture number → found ≡ line_id number → clue ≡ clue_at clues found → (outcome : Outcome) × Gains clue found old.at_hand new.at_hand outcome → new.behind ≡ old.behind → Takes picture old new (Line number) n (Ok true)
+forced_takes picture old new clues longest clue number found n can shape h e c f behind =
     let gains = rw (by_found picture clues longest clue number found can e c, e) at f.1 in (
-      record { same_shape = shape_trans walk.same_shape f.1.same_shape; inside = moved_inside facts gained new f.1.same_shape inside },
-      (gained ∷ [], ((h, (gained, ((f.0, gains), refl))), ap (λ (fs : List (List (List ℕ))). gained ∷ fs) waits)),
+      shape_trans shape f.1.same_shape,
+      (new.at_hand ∷ [], ((h, (new.at_hand, ((f.0, gains), refl))), ap (λ (fs : List (List (List ℕ))). new.at_hand ∷ fs) behind)),
     )
+
+-- ---- the next branch
+
+-- what waited behind is what waits where a trail goes on
+pub goes_on : (old new : Search) (found : Option Cell) → GoesOn old new found → waiting (is_some found) new ≡ old.behind
+goes_on old new (Some cell) g = sym g.0
+goes_on old new None g = sym g
+
+pub split_takes : (picture : List (List ℕ)) (old mid new : Search) (cell : CellNumber) (row col n : ℕ) (going : Bool) → SameShape picture old.at_hand → HasCellNumber picture cell → row ≡ cell.row - 1 → col ≡ cell.col - 1 → mid.at_hand ≡ old.at_hand → mid.behind ≡ branches old.at_hand row col (cell_at old.at_hand row col) ++ old.behind → waiting going new ≡ mid.behind → SameShape mid.at_hand new.at_hand → Takes picture old new (Split cell) n (Ok going)
+split_takes picture old mid new cell row col n going shape h r c e behind waits same = (
+  shape_trans shape (rw e at same),
+  (split_at old.at_hand cell, ((h, refl), waits ∙ (rw (r, c) at behind))),
+)
 
 -- ---- the first fault
 
@@ -57,25 +72,25 @@ pub record FirstSoFar (picture : List (List ℕ)) (start waits : List (List (Lis
 here : (lines : List CertLine) (i : ℕ) (d : CertLine) → i < length lines → drop i lines ≡ get_or lines i d ∷ drop (i + 1) lines
 here lines i d l = rw (add-one, drop-cons lines i d) refl
 
-pub trailing_first : (picture : List (List ℕ)) (start : List (List (List ℕ))) (facts : List (List ℕ)) (notes : List Note) (going : Bool) (first i : ℕ) (lines : List CertLine) → FirstSoFar picture start (waiting going facts notes) first (first + i) lines (drop i lines) → i < length lines → going ≡ false → FirstFault picture start first lines (Some (Trailing (first + i)))
-trailing_first picture start facts notes going first i lines so_far l e =
+pub trailing_first : (picture : List (List ℕ)) (start : List (List (List ℕ))) (trail : Search) (going : Bool) (first i : ℕ) (lines : List CertLine) → FirstSoFar picture start (waiting going trail) first (first + i) lines (drop i lines) → i < length lines → going ≡ false → FirstFault picture start first lines (Some (Trailing (first + i)))
+trailing_first picture start trail going first i lines so_far l e =
     so_far.goes (Some (Trailing (first + i))) (rw (e, here lines i Done l) refl)
 
 -- from a line that is at hand
-at_line : (picture : List (List ℕ)) (start : List (List (List ℕ))) (facts : List (List ℕ)) (notes : List Note) (going : Bool) (first i : ℕ) (lines : List CertLine) (line d : CertLine) → FirstSoFar picture start (waiting going facts notes) first (first + i) lines (drop i lines) → i < length lines → going ≡ true → line ≡ get_or lines i d → (fault : Option CertFault) → FirstFault picture (facts ∷ pending facts notes) (first + i) (line ∷ drop (i + 1) lines) fault → FirstFault picture start first lines fault
-at_line picture start facts notes going first i lines line d so_far l e is fault f =
+at_line : (picture : List (List ℕ)) (start : List (List (List ℕ))) (trail : Search) (going : Bool) (first i : ℕ) (lines : List CertLine) (line d : CertLine) → FirstSoFar picture start (waiting going trail) first (first + i) lines (drop i lines) → i < length lines → going ≡ true → line ≡ get_or lines i d → (fault : Option CertFault) → FirstFault picture (trail.at_hand ∷ trail.behind) (first + i) (line ∷ drop (i + 1) lines) fault → FirstFault picture start first lines fault
+at_line picture start trail going first i lines line d so_far l e is fault f =
     so_far.goes fault (rw (e, here lines i d l, ← is) f)
 
-pub refused_first : (picture : List (List ℕ)) (start : List (List (List ℕ))) (facts new : List (List ℕ)) (notes left : List Note) (going : Bool) (first i : ℕ) (lines : List CertLine) (line d : CertLine) (e : CertFault) → FirstSoFar picture start (waiting going facts notes) first (first + i) lines (drop i lines) → i < length lines → going ≡ true → line ≡ get_or lines i d → Takes picture facts notes line (first + i) (Err e) new left → AnswersFirst (FirstFault picture start first lines) (Err e)
-refused_first picture start facts new notes left going first i lines line d e so_far l g is (inl m) = inl m
-refused_first picture start facts new notes left going first i lines line d e so_far l g is (inr h) =
-    inr (at_line picture start facts notes going first i lines line d so_far l g is (Some e) (inl (e, (h, refl))))
+pub refused_first : (picture : List (List ℕ)) (start : List (List (List ℕ))) (trail new : Search) (going : Bool) (first i : ℕ) (lines : List CertLine) (line d : CertLine) (e : CertFault) → FirstSoFar picture start (waiting going trail) first (first + i) lines (drop i lines) → i < length lines → going ≡ true → line ≡ get_or lines i d → Takes picture trail new line (first + i) (Err e) → AnswersFirst (FirstFault picture start first lines) (Err e)
+refused_first picture start trail new going first i lines line d e so_far l g is (inl m) = inl m
+refused_first picture start trail new going first i lines line d e so_far l g is (inr h) =
+    inr (at_line picture start trail going first i lines line d so_far l g is (Some e) (inl (e, (h, refl))))
 
-pub taken_first : (picture : List (List ℕ)) (start : List (List (List ℕ))) (facts new : List (List ℕ)) (notes left : List Note) (going goes_on : Bool) (first i : ℕ) (lines : List CertLine) (line d : CertLine) → FirstSoFar picture start (waiting going facts notes) first (first + i) lines (drop i lines) → i < length lines → going ≡ true → line ≡ get_or lines i d → Takes picture facts notes line (first + i) (Ok goes_on) new left → FirstSoFar picture start (waiting goes_on new left) first (first + (i + 1)) lines (drop (i + 1) lines)
-taken_first picture start facts new notes left going goes_on first i lines line d so_far l g is t = record {
+pub taken_first : (picture : List (List ℕ)) (start : List (List (List ℕ))) (trail new : Search) (going more : Bool) (first i : ℕ) (lines : List CertLine) (line d : CertLine) → FirstSoFar picture start (waiting going trail) first (first + i) lines (drop i lines) → i < length lines → going ≡ true → line ≡ get_or lines i d → Takes picture trail new line (first + i) (Ok more) → FirstSoFar picture start (waiting more new) first (first + (i + 1)) lines (drop (i + 1) lines)
+taken_first picture start trail new going more first i lines line d so_far l g is t = record {
   goes = λ fault f.
       let next = t.1.0 in
       let leads = t.1.1.0 in
       let e : first + (i + 1) ≡ first + i + 1 = omega arith in
-      at_line picture start facts notes going first i lines line d so_far l g is fault (inr (next, (leads, rw (t.1.1.1, e) at f)));
+      at_line picture start trail going first i lines line d so_far l g is fault (inr (next, (leads, rw (t.1.1.1, e) at f)));
 }

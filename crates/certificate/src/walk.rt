@@ -1,9 +1,9 @@
 //! One step of the checker: what a line of the certificate does to the branch at hand.
 
-ghost use Rattle.std.specs.Prelude.{◌≡◌, ℕ, ◌+◌, ◌<◌, ◌≤◌, ◌^◌, ◌∷◌, [], length, Option};
+ghost use Rattle.std.specs.Prelude.{◌≡◌, ℕ, ◌+◌, ◌<◌, ◌≤◌, ◌^◌, ◌∷◌, [], length, IfErr, IfOk, Option};
 ghost use Rattle.certificate.specs.FirstFault.{AnswersFirst, FirstFault};
 ghost use Rattle.line_settle.specs.FactSets.{SameShape};
-ghost use Rattle.certificate.specs.Walk.{CanCheck, Takes};
+ghost use Rattle.certificate.specs.Walk.{CanCheck, Takes, waiting};
 
 use crate::forcing::{force, is_dead};
 use crate::places::{cell_in, line_at};
@@ -53,7 +53,7 @@ pub(crate) fn take_line<E: LineEngine>(
                 return Err(CertFault::Place(number));
             };
             trail.split(Cell { row, col })?;
-            Ok(trail.advance()?.is_some())
+            go_on(trail)
         }
         // The branch ends.
         CertLine::Dead(at) => {
@@ -63,15 +63,25 @@ pub(crate) fn take_line<E: LineEngine>(
             if !is_dead(engine, trail.at_hand(), claim.clues.clue(line), line) {
                 return Err(CertFault::NotDead(number));
             }
-            Ok(trail.advance()?.is_some())
+            go_on(trail)
         }
         CertLine::Done => {
             if !shows_only(trail.at_hand(), picture) {
                 return Err(CertFault::NotDone(number));
             }
-            Ok(trail.advance()?.is_some())
+            go_on(trail)
         }
     }
+}
+
+#[tactic(auto, using(crate::proofs::WalkLemmas::goes_on))]
+// Leaves the branch at hand for the next that waits. False where there is none.
+fn go_on(trail: &mut Trail) -> Result<bool, CertFault>
+    ensures waits { IfOk result (λ going. waiting going trail.new ≡ trail.old.behind) }
+    ensures same_shape { IfOk result (λ _. SameShape trail.old.at_hand trail.new.at_hand) }
+    ensures err { IfErr result (λ e. e ≡ CertFault.Memory) }
+{
+    Ok(trail.advance()?.is_some())
 }
 
 // Takes the lines from the root on, of which the first has a number, and answers the first fault.

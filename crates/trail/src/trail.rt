@@ -2,7 +2,7 @@
 
 ghost use Rattle.std.specs.Prelude.{◌≡◌, ℕ, ◌<◌, [], ◌∷◌, ◌++◌, length, reverse, IfOk, OnOk, IfSome};
 ghost use Rattle.picture.specs.Rows.{width_of, cell_at, with_cell};
-ghost use Rattle.line_settle.specs.FactSets.{SameShape};
+ghost use Rattle.line_settle.specs.FactSets.{IsFacts, SameShape};
 ghost use Rattle.line_settle.specs.Branches.{branches};
 ghost use Rattle.trail.specs.Branching.{place, places, search_of, AreInside, AreOthersSame, AreSameAbove, GoesOn, IsInside, IsRowTaken, PutsBack};
 
@@ -92,8 +92,9 @@ impl Trail {
     pub fn hold(&mut self, row: u8, col: u8, held: u16) -> Result<(), AllocError>
         requires in_rows { row < length self.old.at_hand }
         requires in_columns { col < width_of self.old.at_hand }
-        ensures { OnOk result (self.new
+        ensures holds { OnOk result (self.new
             ≡ search_of (with_cell self.old.at_hand row col held) self.old.behind self.old.cells) }
+        ensures facts { IsFacts self.old.at_hand }
     {
         let mask = self.facts.left(row, col);
         if mask != held {
@@ -153,6 +154,7 @@ impl Trail {
             ++ self.old.behind ≡ self.new.at_hand ∷ self.new.behind) }
         ensures held { OnOk result (places cell.row cell.col cell.mask ++ self.old.cells
             ≡ place cell.row cell.col ∷ self.new.cells) }
+        ensures same_shape { OnOk result (SameShape self.old.at_hand self.new.at_hand) }
     {
         let lowest = 1 << cell.mask.trailing_zeros();
         let mask = cell.mask & !lowest;
@@ -168,6 +170,7 @@ fn put_back(facts: &mut Facts, notes: &mut Vec<Note>) -> Option<CellMask>
     ensures puts_back { PutsBack facts.old (reverse notes.old.items) facts.new
         (reverse notes.new.items) result }
     ensures inside { AreInside (length facts.new) (width_of facts.new) (reverse notes.new.items) }
+    ensures same_shape { SameShape facts.old facts.new }
     ensures some { IfSome result
         (λ cell. (0 < cell.mask) × IsInside (length facts.new) (width_of facts.new) cell) }
 {

@@ -10,7 +10,7 @@ returns-clause-gains g c =
       c.narrow_line-outcome.result,
       record {
         same_shape = h.same_shape;
-        narrows = subst (Narrows c.args.clue.now (line_of c.args.facts.now c.args.line) c.narrow_line-outcome.result) (sym h.line_is) n;
+        narrows = subst (Narrows c.args.clue.now (line_of c.args.trail.now.at_hand c.args.line) c.narrow_line-outcome.result) (sym h.line_is) n;
         elsewhere = h.elsewhere;
       },
     )

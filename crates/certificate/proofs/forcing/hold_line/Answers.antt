@@ -1,17 +1,16 @@
-use Rattle.std.proofs.Common.{arith, refl, ◌∙◌}
-use Rattle.line_settle.specs.GridLaws.{shape_sym}
+use Rattle.std.proofs.Common.{arith, ap, refl, ◌∙◌}
 use Rattle.line_settle.specs.AlongLaws.{written_more, written_all}
-use Rattle.certificate.proofs.PendingLemmas.{moved_inside}
+use Rattle.trail.specs.Branching.{Search}
 use Rattle.certificate.proofs.forcing.hold_line.Goals as goal
 
 pub loop-i-preserved : goal.loop-i-preserved
 loop-i-preserved c =
     let kept = c.loop-i.invariant in
+    let held = c.in_ok-hold.ensures.holds in
     record {
-      written = written_more c.args.line c.args.facts.now c.loop-i.facts c.hold.new.facts c.args.masks.now c.loop-i.i _ c.hold.ensures.facts c.requires.line c.requires.whole (omega arith) refl kept.written (rw (c.on-cell.ensures.row, c.on-cell.ensures.col) at c.in_ok-hold.ensures.value);
-      waits = c.in_ok-hold.ensures.pending ∙ kept.waits;
-      inside = moved_inside c.loop-i.facts c.args.facts.now _ (shape_sym kept.written.same_shape) c.in_ok-hold.ensures.inside;
+      written = written_more c.args.line c.args.trail.now.at_hand c.loop-i.trail.at_hand c.hold.new.self.at_hand c.args.masks.now c.loop-i.i _ c.hold.ensures.facts c.requires.line c.requires.whole (omega arith) refl kept.written (rw (c.on-cell.ensures.row, c.on-cell.ensures.col) at ap (λ (s : Search). s.at_hand) held);
+      behind = ap (λ (s : Search). s.behind) held ∙ kept.behind;
     }
 
 pub returns-clause-holds : goal.returns-clause-holds
-returns-clause-holds c = written_all c.args.line c.args.facts.now c.loop-i.facts c.args.masks.now c.loop-i.i c.requires.whole (omega arith) c.loop-i.invariant.written
+returns-clause-holds c = written_all c.args.line c.args.trail.now.at_hand c.loop-i.trail.at_hand c.args.masks.now c.loop-i.i c.requires.whole (omega arith) c.loop-i.invariant.written
