@@ -60,7 +60,3 @@ cell_back facts i j x h l =
     let shape = shape_with_cell facts i j x in
     let again = shape_with_cell one i j (cell_at facts i j) in
     same_grid (with_cell one i j (cell_at facts i j)) facts (shape_sym (shape_trans shape again)) (set_each one i j (cell_at facts i j) (omega arith) (omega arith) (λ r c y. y ≡ cell_at facts r c) refl (off_with_cell facts i j x))
-
--- a cell that is given the mask that it has
-pub same_cell : (facts : List (List ℕ)) (i j : ℕ) → i < length facts → j < length (row_at facts i) → with_cell facts i j (cell_at facts i j) ≡ facts
-same_cell facts i j h l = same_grid (with_cell facts i j (cell_at facts i j)) facts (shape_sym (shape_with_cell facts i j (cell_at facts i j))) (set_each facts i j (cell_at facts i j) h l (λ r c y. y ≡ cell_at facts r c) refl (λ r c d. refl))

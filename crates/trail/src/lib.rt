@@ -1,4 +1,4 @@
-//! The trail of a backtracking search or walk: the branch at hand, and notes that tell which others wait.
+//! The trail by which searches and the checker of certificates backtrack.
 #![tactic(auto)]
 
 mod note;

@@ -17,8 +17,8 @@ use std::marker::Model;
 /// The trail by which a search or a walk over a tree backtracks: the facts of the branch at hand, and the notes that tell
 /// which others wait behind them, the newest last.
 ///
-/// A cell's mask is noted only where it changes, and there is at most one branch for each such note. So where cells are held
-/// to fewer colours alone, the notes are bounded by the cells and the colours, however many branches there are.
+/// A cell's mask is noted only where it changes, and a branch only while it has colours to try. So where `advance` follows each
+/// split, and cells are held to fewer colours alone, the cells and the colours bound the notes, however deep a search goes.
 #[derive(Drop)]
 pub struct Trail {
     facts: Facts,
