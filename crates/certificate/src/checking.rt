@@ -33,10 +33,11 @@ pub(crate) fn set_givens(
     ensures outside { IfErr result (λ _. HasCellNumbers picture.now givens.now → ⊥) }
 {
     for (i, given) in givens.iter().enumerate() {
-        let Some((row, col)) = cell_in(picture, *given) else {
+        let Some(cell) = cell_in(picture, *given) else {
             return Err(CertFault::Place(FIRST_LINES + i));
         };
-        facts.set_left(row, col, 1 << picture.cell(row, col));
+        let colour = picture.cell(cell.row, cell.col);
+        facts.set_left(cell.row, cell.col, 1 << colour);
     }
     Ok(())
 }

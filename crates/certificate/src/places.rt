@@ -6,6 +6,7 @@ ghost use Rattle.certificate.specs.Puzzle.{HasCellNumber, HasLineNumber, line_id
 
 use cert_text::{CellNumber, LineNumber};
 use picture::{LineId, Picture};
+use split_choice::Cell;
 
 // The line that a number names, where the picture has it.
 pub(crate) fn line_at(picture: &Picture, line: LineNumber) -> Option<LineId>
@@ -24,18 +25,21 @@ pub(crate) fn line_at(picture: &Picture, line: LineNumber) -> Option<LineId>
     })
 }
 
-// The row and the column of the cell that two numbers name, where the picture has it.
-pub(crate) fn cell_in(picture: &Picture, cell: CellNumber) -> Option<(u8, u8)>
+// The cell that two numbers name, where the picture has it.
+pub(crate) fn cell_in(picture: &Picture, cell: CellNumber) -> Option<Cell>
     ensures { MatchOption
         result
         (HasCellNumber picture.now cell → ⊥)
-        (λ found. HasCellNumber picture.now cell × (found.0 ≡ cell.row - 1) × (found.1 ≡ cell.col - 1)) }
+        (λ found. HasCellNumber picture.now cell × (found.row ≡ cell.row - 1) × (found.col ≡ cell.col - 1)) }
 {
     let (height, width) = (u16::from(picture.height()), u16::from(picture.width()));
     if cell.row == 0 || cell.row > height || cell.col == 0 || cell.col > width {
         return None;
     }
-    Some(((cell.row - 1) as u8, (cell.col - 1) as u8))
+    Some(Cell {
+        row: (cell.row - 1) as u8,
+        col: (cell.col - 1) as u8,
+    })
 }
 
 // A cell as a certificate names it.

@@ -12,7 +12,6 @@ use cert_text::{CertFault, CertLine};
 use clues::ClueBook;
 use line_settle::{Facts, LineEngine};
 use picture::Picture;
-use split_choice::Cell;
 use std::alloc::Global;
 use trail::Trail;
 
@@ -48,11 +47,11 @@ pub(crate) fn take_line<E: LineEngine>(
             Ok(true)
         }
         // The branch of the cell's lowest colour begins.
-        CertLine::Split(cell) => {
-            let Some((row, col)) = cell_in(picture, cell) else {
+        CertLine::Split(at) => {
+            let Some(cell) = cell_in(picture, at) else {
                 return Err(CertFault::Place(number));
             };
-            trail.split(Cell { row, col })?;
+            trail.split(cell)?;
             go_on(trail)
         }
         // The branch ends.

@@ -48,7 +48,7 @@ returns-in_default-clause-ends g c =
     let s = c.loop-search.search.trail in
     let t = c.look_once.new.self.trail in
     let counting = counting_goes least_is_unique _ _ _ _ s t _ _ c.loop-search.invariant.counting (rw c.in-None.is at c.in_ok-found.ensures.steps) in
-    counted_nothing _ _ _ _ _ _ counting (nothing_waits t c.advance.new.self _ c.in_default.not-Some c.in_ok-cell.ensures)
+    counted_nothing _ _ _ _ _ _ counting (nothing_waits t c.advance.new.self _ c.in_default.not-Some c.in_ok-cell.ensures.goes_on)
 
 pub loop-search-preserved : goal.loop-search-preserved
 loop-search-preserved g c =
@@ -61,7 +61,7 @@ loop-search-preserved g c =
     let steps = rw c.in-None.is at c.in_ok-found.ensures.steps in
     let counting = counting_goes least_is_unique _ _ _ _ s t _ _ c.loop-search.invariant.counting steps in
     let quiet = quiet_goes book c.args.known.now first c.args.start.lines s t _ _ c.loop-search.invariant.ready.same_shape c.loop-search.invariant.ready.others c.loop-search.invariant.behind steps in
-    let on : GoesOn t u (Some cell) = rw c.in-Some-2.is at c.in_ok-cell.ensures in
+    let on : GoesOn t u (Some cell) = rw c.in-Some-2.is at c.in_ok-cell.ensures.goes_on in
     let next = quiet_at book c.args.known.now c.args.start.lines first t u cell quiet on in
     let at = next.0.1 in
     let lines = c.lines.result in
@@ -81,5 +81,5 @@ loop-search-smaller g c =
     let s = c.loop-search.search.trail in
     let t = c.look_once.new.self.trail in
     let u = c.advance.new.self in
-    let on : GoesOn t u (Some c.in-Some-2.cell) = rw c.in-Some-2.is at c.in_ok-cell.ensures in
+    let on : GoesOn t u (Some c.in-Some-2.cell) = rw c.in-Some-2.is at c.in_ok-cell.ensures.goes_on in
     goes_lighter c.args.book.now c.args.known.now s t u _ _ (rw c.in-None.is at c.in_ok-found.ensures.steps) on.0
