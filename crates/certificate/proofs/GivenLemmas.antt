@@ -1,6 +1,7 @@
 -- Givens held one by one.
-use Rattle.std.proofs.Common.{◌≡◌, ℕ, zero, suc, ◌+◌, ◌*◌, ◌<◌, ◌≤◌, List, [], ◌∷◌, Option, length, get_or, drop, drop-cons, add-one, refl, sym, subst, arith}
+use Rattle.std.proofs.Common.{◌≡◌, ℕ, zero, suc, ◌+◌, ◌*◌, ◌<◌, ◌≤◌, List, [], ◌∷◌, Option, Some, length, get_or, drop, drop-cons, add-one, refl, sym, subst, inl, arith}
 use Rattle.cert_text.specs.declared.fault.CertFault.{CertFault}
+use Rattle.cert_text.specs.declared.fault.CertFault.TheVariants.{Place}
 use Rattle.cert_text.specs.declared.tree_line.CellNumber.{CellNumber}
 use Rattle.cert_text.specs.declared.tree_line.CertLine.{CertLine}
 use Rattle.cert_text.specs.Cert.{AreOrdered}
@@ -14,6 +15,10 @@ pub record BaseSoFar (picture start facts : List (List ℕ)) (i : ℕ) (givens :
 
 here : (cells : List CellNumber) (i : ℕ) (d : CellNumber) → i < length cells → drop i cells ≡ get_or cells i d ∷ drop (i + 1) cells
 here cells i d l = rw (add-one, drop-cons cells i d) refl
+
+-- a given that does not lie in the picture is the first fault
+pub missing : (picture start facts : List (List ℕ)) (i : ℕ) (givens : List CellNumber) (cell d : CellNumber) → BaseSoFar picture start facts i givens → i < length givens → cell ≡ get_or givens i d → (HasCellNumber picture cell → ⊥) → (lines : List CertLine) → FirstFaultBehind picture start 2 givens lines (Some (Place (2 + i)))
+missing picture start facts i givens cell d so_far l e outside lines = so_far.goes lines (Some (Place (2 + i))) (rw (here givens i d l, ← e) (inl (outside, refl)))
 
 -- each given lies in the picture where all do
 pub has_each : (picture : List (List ℕ)) (cells : List CellNumber) (i : ℕ) (cell d : CellNumber) → i < length cells → cell ≡ get_or cells i d → HasCellNumbers picture cells → HasCellNumber picture cell

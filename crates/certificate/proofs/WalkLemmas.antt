@@ -1,24 +1,22 @@
 -- The walk over the lines: what a call needs to know, and what is first from the beginning.
-use Rattle.std.proofs.Common.{◌≡◌, ℕ, ◌+◌, ◌-◌, ◌<◌, ◌↔◌, List, [], ◌∷◌, Bool, true, false, Option, None, Some, is_some, ◌++◌, Ok, Err, IsTrue, length, get_or, drop, drop-cons, add-one, refl, sym, ap, subst, ◌∙◌, arith, inl, inr}
+use Rattle.std.proofs.Common.{◌≡◌, ℕ, ◌+◌, ◌-◌, ◌<◌, ◌↔◌, List, [], ◌∷◌, Bool, true, false, Option, None, Some, is_some, Ok, Err, IsTrue, length, get_or, drop, drop-cons, add-one, refl, sym, ap, subst, ◌∙◌, arith, inl, inr}
 use Rattle.picture.specs.declared.line_id.LineId.{LineId}
-use Rattle.picture.specs.Rows.{cell_at, line_of, lines_along, HasLine}
+use Rattle.picture.specs.Rows.{line_of, lines_along, HasLine}
 use Rattle.clues.specs.declared.block.Block.{Block}
 use Rattle.clues.specs.BookLaws.{length_along-clues_of}
 use Rattle.clues.specs.ClueBook.{Clues, clue_at, clues_of, HasClue}
 use Rattle.line_settle.specs.declared.line_engine.Outcome.{Outcome}
 use Rattle.line_settle.specs.Fitting.{CanFit}
-use Rattle.line_settle.specs.Branches.{branches}
 use Rattle.line_settle.specs.FactSets.{Gains, SameShape}
 use Rattle.line_settle.specs.GridLaws.{shape_trans}
 use Rattle.cert_text.specs.declared.fault.CertFault.{CertFault}
 use Rattle.cert_text.specs.declared.fault.CertFault.TheVariants.{Trailing}
 use Rattle.split_choice.specs.declared.cell.Cell.{Cell}
 use Rattle.trail.specs.Branching.{GoesOn, Search}
-use Rattle.cert_text.specs.declared.tree_line.CellNumber.{CellNumber}
 use Rattle.cert_text.specs.declared.tree_line.LineNumber.{LineNumber}
 use Rattle.cert_text.specs.declared.tree_line.CertLine.{CertLine}
-use Rattle.cert_text.specs.declared.tree_line.CertLine.TheVariants.{Line, Split, Done}
-use Rattle.certificate.specs.Puzzle.{HasCellNumber, HasLineNumber, IsDead, line_id, split_at}
+use Rattle.cert_text.specs.declared.tree_line.CertLine.TheVariants.{Line, Done}
+use Rattle.certificate.specs.Puzzle.{HasLineNumber, IsDead, line_id}
 use Rattle.certificate.specs.FirstFault.{AnswersFirst, FirstFault}
 use Rattle.certificate.specs.Walk.{CanCheck, Takes, waiting}
 
@@ -56,12 +54,6 @@ forced_takes picture old new clues longest clue number found n can shape h e c f
 pub goes_on : (old new : Search) (found : Option Cell) → GoesOn old new found → waiting (is_some found) new ≡ old.behind
 goes_on old new (Some cell) g = sym g.0
 goes_on old new None g = sym g
-
-pub split_takes : (picture : List (List ℕ)) (old mid new : Search) (cell : CellNumber) (row col n : ℕ) (going : Bool) → SameShape picture old.at_hand → HasCellNumber picture cell → row ≡ cell.row - 1 → col ≡ cell.col - 1 → mid.at_hand ≡ old.at_hand → mid.behind ≡ branches old.at_hand row col (cell_at old.at_hand row col) ++ old.behind → waiting going new ≡ mid.behind → SameShape mid.at_hand new.at_hand → Takes picture old new (Split cell) n (Ok going)
-split_takes picture old mid new cell row col n going shape h r c e behind waits same = (
-  shape_trans shape (rw e at same),
-  (split_at old.at_hand cell, ((h, refl), waits ∙ (rw (r, c) at behind))),
-)
 
 -- ---- the first fault
 

@@ -16,7 +16,7 @@ returns-in_ok-force-in-Line-clause-takes g c =
 pub returns-then-not-is_dead-clause-takes : goal.returns-then-not-is_dead-clause-takes
 returns-then-not-is_dead-clause-takes g c =
     rw c.in-Dead.is
-    (inr (inr (c.in-Some-line_at.ensures.0, not_dead c.args.claim.now.picture.now c.args.trail.now.at_hand c.args.claim.now.clues.now _ _ c.in-Dead.at c.in-Some-line_at.line c.is_dead.result c.requires.can c.in-Some-line_at.ensures.1 c.clue-in-Dead.ensures.value c.is_dead.ensures.dead c.if-not-is_dead.true, refl)))
+    (inr (inr (c.in-Some-line_at.ensures.0, not_dead c.args.claim.now.picture.now c.args.trail.now.at_hand c.args.claim.now.clues.now _ _ c.in-Dead.at c.in-Some-line_at.line c.is_dead.result c.requires.can c.in-Some-line_at.ensures.1 c.clue-in-Dead.ensures.value (rw c.at_hand.ensures at c.is_dead.ensures.dead) c.if-not-is_dead.true, refl)))
 
 pub returns-else-not-is_dead-clause-takes : goal.returns-else-not-is_dead-clause-takes
 returns-else-not-is_dead-clause-takes g c = rw c.in-Dead.is (search rules)
