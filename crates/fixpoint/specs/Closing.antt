@@ -47,6 +47,10 @@ pub record Closes (clues : Clues) (base facts : List (List ℕ)) (outcome : Outc
 
 -- ---- what changes on a line
 
+-- each line that is not named is as it was
+abbrev pub KeepsOtherLines : List (List ℕ) → List (List ℕ) → Lines → Type 0
+KeepsOtherLines old new lines = (line : LineId) → (HasName lines line → ⊥) → line_of new line ≡ line_of old line
+
 abbrev pub change : ℕ → ℕ → ℕ
 change before after = cond (before == after) 0 1
 

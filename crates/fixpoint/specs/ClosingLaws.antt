@@ -1,11 +1,11 @@
 -- One line after another evaluated: what stays true, and what it comes to.
-use Rattle.std.proofs.Common.{◌≡◌, ◌≢◌, ℕ, ◌<◌, List, length, get_or, refl, sym, ap, subst, ◌∙◌, arith, ◌⊎◌, inl, inr}
+use Rattle.std.proofs.Common.{◌≡◌, ◌≢◌, ℕ, ◌<◌, ◌↔◌, List, length, get_or, refl, sym, ap, subst, ◌∙◌, arith, ◌⊎◌, inl, inr}
 use Rattle.std.proofs.lemmas.Bool.{cases_eq, cases_lt}
 use Rattle.std.proofs.lemmas.List.{get_or_past}
 use Rattle.picture.specs.declared.line_id.Axis.{Axis}
 use Rattle.picture.specs.declared.line_id.Axis.TheVariants.{Across, Down}
 use Rattle.picture.specs.declared.line_id.LineId.{LineId}
-use Rattle.picture.specs.LineSet.{Lines, HasName, TakesOutName, no_names}
+use Rattle.picture.specs.LineSet.{Lines, HasName, PutsNames, TakesOutName, no_names}
 use Rattle.picture.specs.Rows.{width_of, cell_at, line_of, lines_along, HasLine}
 use Rattle.clues.specs.ClueBook.{Clues, clue_at}
 use Rattle.line_settle.specs.declared.line_engine.Outcome.{Outcome}
@@ -14,7 +14,7 @@ use Rattle.line_settle.specs.Fitting.{CanFit}
 use Rattle.line_settle.specs.FactSets.{IsFacts, IsClosed, IsWithin, SameShape, Gains, row_on, col_on}
 use Rattle.line_settle.specs.Crossing.{CrossesChange}
 use Rattle.picture.specs.Crossing.{crossing, crossing_at}
-use Rattle.fixpoint.specs.Closing.{AreClosable, IsQuietLine, QuietOutside, Closes, PutsCrossing}
+use Rattle.fixpoint.specs.Closing.{AreClosable, IsQuietLine, QuietOutside, Closes, KeepsOtherLines, PutsCrossing}
 use Rattle.fixpoint.specs.LineNames.{AreLinesOf}
 use Rattle.picture.specs.LineSetLaws.{same_name, cases_name, members}
 use Rattle.line_settle.specs.GridLaws.{cell_on, same_line_length, same_has_line, shape_refl, shape_trans, shape_sym, same_list}
@@ -164,3 +164,24 @@ closing_ends clues longest base facts agenda outcome c none e =
       fits = λ _ line has. (all line has).fits;
       dead = λ d. (let x : Narrowed ≡ Dead = sym e ∙ d in absurd cc);
     }
+
+-- ---- what stays
+
+-- each line that waits is named, and each that is not named is as it was
+pub record Keeping (base facts : List (List ℕ)) (agenda named : Lines) : Type 0 where
+  pub waits : (line : LineId) → HasName agenda line → HasName named line
+  pub kept : KeepsOtherLines base facts named
+
+pub keeping_starts : (base : List (List ℕ)) (agenda named : Lines) → agenda ≡ named → Keeping base base agenda named
+keeping_starts base agenda named same = record {
+  waits = λ line h. let P : Lines → Type 0 = λ x. HasName x line in subst P same h;
+  kept = λ line n. refl;
+}
+
+pub keeping_goes_on : (clues : Clues) (base old new : List (List ℕ)) (agenda rest next named after changed : Lines) (line : LineId) (outcome : Outcome) → Keeping base old agenda named → HasName agenda line → TakesOutName agenda rest line → HasLine old line → Gains (clue_at clues line) line old new outcome → ((other : LineId) → HasName changed other ↔ CrossesChange line (line_of old line) (line_of new line) other) → PutsNames rest next changed → PutsNames named after changed → Keeping base new next after
+keeping_goes_on clues base old new agenda rest next named after changed line outcome k h t has g crosses put puts = record {
+  waits = λ other s. (puts other).1 (elim ((put other).0 s) [ inl r ↦ inl (k.waits other ((t other).0 r).0) | inr c ↦ inr c ]);
+  kept = λ other n.
+      let stays = unchanged_line clues line old new outcome has g other (λ e. n ((puts other).1 (inl (k.waits other (rw e h))))) (λ x. n ((puts other).1 (inr ((crosses other).1 x)))) in
+      stays ∙ k.kept other (λ s. n ((puts other).1 (inl s)));
+}

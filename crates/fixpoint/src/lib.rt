@@ -7,7 +7,7 @@ pub mod laws;
 mod line_names;
 mod settling;
 
-pub use closing::close_facts;
+pub use closing::{Closed, close_facts, close_naming};
 pub use fault::CloseFault;
 pub use line_names::all_lines;
 pub use settling::settle_afresh;

@@ -2,9 +2,9 @@ use Rattle.std.proofs.Common.{ℕ, refl, ◌∙◌, arith}
 use Rattle.picture.specs.LineSet.{Lines}
 use Rattle.line_settle.specs.ForceLaws.{gains_grows}
 use Rattle.worklist.specs.NameLaws.{filled}
-use Rattle.fixpoint.specs.ClosingLaws.{Closing, closing_dies, closing_ends, closing_goes_on, closing_starts}
+use Rattle.fixpoint.specs.ClosingLaws.{Closing, closing_dies, closing_ends, closing_goes_on, closing_starts, keeping_goes_on, keeping_starts}
 use Rattle.fixpoint.specs.WorkLaws.{crossing_put, one_counted, working_dies, working_goes_on, working_starts, less_to_do}
-use Rattle.fixpoint.proofs.closing.close_facts.Goals as goal
+use Rattle.fixpoint.proofs.closing.close_naming.Goals as goal
 
 pub returns-in-Dead-clause-closes : goal.returns-in-Dead-clause-closes
 returns-in-Dead-clause-closes g c =
@@ -42,6 +42,7 @@ loop-line-preserved g c =
     record {
       closing = rw e.same_longest (closing_goes_on _ _ _ _ _ _ _ _ _ _ i.closing s.0 s.1 c.height.ensures.facts gains refl puts);
       working = working_goes_on _ _ _ _ _ _ _ _ _ _ _ _ _ _ _ _ i.working s.0 s.1 has gains puts counts;
+      keeping = keeping_goes_on _ _ _ _ _ _ _ _ _ _ _ _ i.keeping s.0 s.1 has gains e.changed c.put_all-in-Some.ensures c.put_all-in-Some-2.ensures.members;
       same_longest = e.same_longest ∙ i.same_longest;
     }
 
@@ -55,5 +56,17 @@ loop-line-init g c =
     record {
       closing = rw all (closing_starts _ _ _ _ c.requires.closable c.requires.lines c.requires.quiet);
       working = working_starts _ _ _ _ _ _ all (omega arith) (omega arith) (omega arith);
+      keeping = keeping_starts _ _ _ all;
       same_longest = refl;
     }
+
+pub returns-in-Dead-clause-kept : goal.returns-in-Dead-clause-kept
+returns-in-Dead-clause-kept g c =
+    let i = c.loop-line.invariant in
+    let s = c.in-Some.ensures in
+    let e = c.force_crossing-forced.ensures in
+    let gains = rw c.clue.ensures.value at e.gains in
+    (keeping_goes_on _ _ _ _ _ _ _ _ _ _ _ _ i.keeping s.0 s.1 (i.closing.lines c.in-Some.line s.0) gains e.changed c.put_all-in-Some.ensures c.put_all-in-Some-2.ensures.members).kept
+
+pub returns-clause-kept : goal.returns-clause-kept
+returns-clause-kept g c = c.loop-line.invariant.keeping.kept
