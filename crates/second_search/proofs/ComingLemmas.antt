@@ -3,6 +3,7 @@ use Rattle.std.proofs.Common.{◌≡◌, ℕ, suc, ◌+◌, ◌<◌, ◌⊎◌, 
 use Rattle.std.specs.Prelude.{IfOk, OnOk}
 use Rattle.std.specs.declared.alloc.AllocError.{AllocError}
 use Rattle.std.proofs.lemmas.Bool.{cases_lt}
+use Rattle.picture.specs.LineSet.{Lines}
 use Rattle.picture.specs.Rows.{width_of, cell_at}
 use Rattle.clues.specs.ClueBook.{Clues}
 use Rattle.line_settle.specs.Counting.{counted}
@@ -12,13 +13,13 @@ use Rattle.line_settle.specs.GridLaws.{same_has_line, shape_sym, shape_trans}
 use Rattle.line_settle.specs.declared.line_engine.Outcome.{Outcome}
 use Rattle.line_settle.specs.declared.line_engine.Outcome.TheVariants.{Narrowed}
 use Rattle.line_settle.specs.Branches.{branches}
-use Rattle.fixpoint.specs.Closing.{Closes, HasDeadLine}
+use Rattle.fixpoint.specs.Closing.{Closes, HasDeadLine, KeepsOtherLines}
 use Rattle.split_choice.specs.declared.cell.Cell.{Cell}
 use Rattle.second_search.specs.declared.coming.Coming.{Coming}
 use Rattle.second_search.specs.declared.coming.Coming.TheVariants.{Dies, Ends, Splits}
 use Rattle.second_search.specs.Looking.{IsFirstUnsettled, Shows}
 use Rattle.second_search.specs.Parts.{IsBefore}
-use Rattle.second_search.specs.Searching.{Comes, ComesClosed, CostsAreUnique, IsCalled, Searches, SettlesTo, none_waits, is_dead, is_known, is_other, is_split}
+use Rattle.second_search.specs.Searching.{Comes, ComesClosed, CostsAreUnique, IsCalled, Searches, SettlesTo, SplitsBut, none_waits, is_dead, is_known, is_other, is_split}
 use Rattle.trail.proofs.GridLemmas.{same_inside}
 
 -- ---- what facts come to is one
@@ -136,6 +137,12 @@ pub comes_closed : (clues : Clues) (facts first settled : List (List ℕ)) (outc
 comes_closed clues facts first settled outcome (Ok coming) same c e h =
     comes_of clues facts settled outcome (subst (λ (x : List (List ℕ)). Closes clues x settled outcome) same c) e coming h
 comes_closed clues facts first settled outcome (Err fault) same c e h = h
+
+-- facts that are split are as they were but in the lines that closing named
+pub splits_but : (facts first settled : List (List ℕ)) (coming : Coming) (lines : Lines) → first ≡ facts → KeepsOtherLines first settled lines → ComesClosed settled coming → SplitsBut facts coming lines
+splits_but facts first settled Dies lines e kept h = tt
+splits_but facts first settled (Ends picture) lines e kept h = tt
+splits_but facts first settled (Splits more cell) lines e kept h = rw (← e, h.0) kept
 
 pub called_once : (evaluations before after : ℕ) → 0 < evaluations → after ≡ counted before (evaluations + 0) → IsCalled before after
 called_once evaluations before after some is = omega arith

@@ -10,12 +10,12 @@ use Rattle.second_search.specs.declared.counting.Budget.{Budget}
 use Rattle.second_search.specs.declared.counting.Ending.TheVariants as ending
 use Rattle.second_search.specs.declared.counting.Ending.{Ending}
 use Rattle.picture.specs.LineSet.{Lines}
-use Rattle.trail.specs.Branching.{AreOthersSame, AreSameAbove, Search, search_of}
-use Rattle.second_search.specs.Looking.{AreRowsSettled, ShowOthers}
-use Rattle.second_search.specs.Searching.{Allows, Comes, EndsAs, Searches, SplitsPast, none_waits, is_dead, is_known, is_other, is_split, once_more, past_dead, past_known, past_split, raised}
+use Rattle.trail.specs.Branching.{AreOthersSame, Search, search_of}
+use Rattle.fixpoint.specs.Closing.{KeepsOtherLines}
+use Rattle.second_search.specs.Searching.{Allows, Comes, EndsAs, Searches, SplitsBut, SplitsPast, none_waits, is_dead, is_known, is_other, is_split, once_more, past_dead, past_known, past_split, raised}
 use Rattle.second_search.specs.Stepping.{Compares, IsOneLess, Steps}
 use Rattle.second_search.proofs.ComingLemmas.{leads}
-use Rattle.second_search.proofs.LookLemmas.{others_same, rows_same}
+use Rattle.second_search.proofs.LookLemmas.{others_same}
 use Rattle.second_search.proofs.TreeLemmas.{ended_lighter, split_lighter, within_lighter}
 use Rattle.second_search.proofs.WeightLemmas.{load}
 use Rattle.line_settle.specs.Branches.{branches}
@@ -160,16 +160,11 @@ counted_ending unique clues known first allowance s t before after c ending.Brok
 
 -- ---- what a split leaves
 
--- the rows that were settled are the same in the facts that are split
-pub split_same : (clues : Clues) (facts first settled : List (List ℕ)) (coming : Coming) (cell : Cell) (rows : ℕ) → first ≡ facts → coming ≡ Splits settled cell → Comes clues first coming → AreRowsSettled facts rows → AreSameAbove facts settled rows
-split_same clues facts first settled coming cell rows e f c above =
-    let h : Comes clues facts (Splits settled cell) = subst (λ (x : Coming). Comes clues facts x) f (subst (λ (x : List (List ℕ)). Comes clues x coming) e c) in
-    rows_same clues facts settled rows h.0.are_facts h.0.least.holds h.0.fits above
-
-pub split_others : (clues : Clues) (picture facts first settled : List (List ℕ)) (coming : Coming) (cell : Cell) (rows : Lines) → first ≡ facts → coming ≡ Splits settled cell → Comes clues first coming → ShowOthers picture rows facts → AreOthersSame facts settled rows
-split_others clues picture facts first settled coming cell rows e f c others =
-    let h : Comes clues facts (Splits settled cell) = subst (λ (x : Coming). Comes clues facts x) f (subst (λ (x : List (List ℕ)). Comes clues x coming) e c) in
-    others_same clues picture facts settled rows h.0.are_facts h.0.least.holds h.0.fits others
+-- the rows that are not named are the same in the facts that are split
+pub split_others : (facts first settled : List (List ℕ)) (coming : Coming) (cell : Cell) (lines : Lines) → first ≡ facts → coming ≡ Splits settled cell → SplitsBut first coming lines → AreOthersSame facts settled lines
+split_others facts first settled coming cell lines e f kept =
+    let h : KeepsOtherLines facts settled lines = subst (λ (x : Coming). SplitsBut facts x lines) f (subst (λ (x : List (List ℕ)). SplitsBut x coming lines) e kept) in
+    others_same facts settled lines h
 
 -- ---- what waits weighs less
 

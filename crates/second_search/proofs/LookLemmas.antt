@@ -1,5 +1,5 @@
 -- Settled facts and the picture that they show.
-use Rattle.std.proofs.Common.{◌≡◌, ℕ, ◌+◌, ◌<◌, List, length, get_or, refl, sym, subst, ◌∙◌, arith, inl, inr}
+use Rattle.std.proofs.Common.{◌≡◌, ℕ, ◌+◌, ◌<◌, List, length, get_or, refl, sym, ap, subst, ◌∙◌, arith, inl, inr}
 use Rattle.std.specs.Prelude.{IsBitSet}
 use Rattle.std.proofs.lemmas.Bool.{cases_eq, cases_lt}
 use Rattle.std.proofs.lemmas.List.{get_or_past}
@@ -10,10 +10,10 @@ use Rattle.line_settle.specs.Masks.{IsOnly}
 use Rattle.line_settle.specs.FactSets.{IsFacts, IsWithin, SameShape}
 use Rattle.line_settle.specs.declared.line_engine.Outcome.{Outcome}
 use Rattle.line_settle.specs.declared.line_engine.Outcome.TheVariants.{Narrowed}
-use Rattle.fixpoint.specs.Closing.{Closes, EachFits}
+use Rattle.fixpoint.specs.Closing.{Closes, EachFits, KeepsOtherLines}
 use Rattle.fixpoint.specs.Filling.{Fills, only}
 use Rattle.fixpoint.specs.Laws.{OnlyIsClosed}
-use Rattle.trail.specs.Branching.{AreOthersSame, AreSameAbove}
+use Rattle.trail.specs.Branching.{AreOthersSame}
 use Rattle.second_search.specs.Looking.{AreRowsSettled, ShowOthers, Shows}
 use Rattle.second_search.specs.Through.{across}
 use Rattle.line_settle.specs.GridLaws.{shape_sym, shape_trans, at_with_cell, off_with_cell, shape_with_cell}
@@ -101,25 +101,9 @@ pub others_stay : (clues : Clues) (picture facts first settled : List (List ℕ)
 others_stay clues picture facts first settled outcome rows same c e h =
     others_settled clues picture facts settled rows (subst (λ (x : List (List ℕ)). IsWithin x settled) same c.holds) (c.fits e) h
 
--- a row that is settled is the same
-row_same : (clues : Clues) (facts settled : List (List ℕ)) (r : ℕ) → IsFacts settled → IsWithin facts settled → EachFits clues settled → ((col : ℕ) → col < width_of facts → (k : ℕ) × IsOnly (cell_at facts r col) k) → (col : ℕ) → cell_at facts r col ≡ cell_at settled r col
-row_same clues facts settled r is w fits h col =
-    elim (cases_lt col (width_of facts)) [
-      | inl m ↦ let at = h col m in same_only (cell_at facts r col) (cell_at settled r col) at.0 at.1 (stays_only clues facts settled r col at.0 w fits at.1)
-      | inr p ↦
-          let rect : (i : ℕ) → i < length facts → length (row_at facts i) ≡ width_of facts = λ i m.
-          omega arith in
-          cell_outside facts (width_of facts) rect r col (λ _ m. absurd (omega arith))
-          ∙ sym (cell_outside settled (width_of settled) is.rectangular r col (λ _ m. absurd (omega arith)))
-    ]
-
-pub others_same : (clues : Clues) (picture facts settled : List (List ℕ)) (rows : Lines) → IsFacts settled → IsWithin facts settled → EachFits clues settled → ShowOthers picture rows facts → AreOthersSame facts settled rows
-others_same clues picture facts settled rows is w fits h r col l out =
-    row_same clues facts settled r is w fits (λ c m. (cell_at picture r c, h r c out (omega arith) m)) col
-
--- the first rows are the same
-pub rows_same : (clues : Clues) (facts settled : List (List ℕ)) (rows : ℕ) → IsFacts settled → IsWithin facts settled → EachFits clues settled → AreRowsSettled facts rows → AreSameAbove facts settled rows
-rows_same clues facts settled rows is w fits h r col l = row_same clues facts settled r is w fits (λ c m. h r c l m) col
+-- rows of lines that are the same
+pub others_same : (facts settled : List (List ℕ)) (lines : Lines) → KeepsOtherLines facts settled lines → AreOthersSame facts settled lines
+others_same facts settled lines kept r col l out = ap (λ (row : List ℕ). get_or row col 0) (sym (kept (across r) out))
 
 -- a cell of the facts that leave a picture's colours alone
 pub only_there : OnlyIsClosed → (picture : List (List ℕ)) (row col : ℕ) → col < length (row_at picture row) → IsOnly (cell_at (only picture) row col) (cell_at picture row col)

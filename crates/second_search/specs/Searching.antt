@@ -9,7 +9,7 @@ use Rattle.line_settle.specs.Counting.{counted}
 use Rattle.line_settle.specs.Masks.{IsOnly}
 use Rattle.line_settle.specs.FactSets.{IsFacts, IsLeast, SameShape}
 use Rattle.line_settle.specs.Branches.{branches}
-use Rattle.fixpoint.specs.Closing.{EachFits, HasDeadLine}
+use Rattle.fixpoint.specs.Closing.{EachFits, HasDeadLine, KeepsOtherLines}
 use Rattle.fixpoint.specs.Filling.{only}
 use Rattle.split_choice.specs.declared.cell.Cell.{Cell}
 use Rattle.second_search.specs.declared.coming.Coming.{Coming}
@@ -37,6 +37,12 @@ abbrev pub ComesClosed : List (List ℕ) → Coming → Type 0
 ComesClosed settled Dies = ⊥
 ComesClosed settled (Ends picture) = IsFacts settled × Shows settled picture
 ComesClosed settled (Splits facts cell) = (facts ≡ settled) × (IsFacts settled × IsFirstUnsettled settled cell)
+
+-- facts that are split are as others were but in the lines that are named
+abbrev pub SplitsBut : List (List ℕ) → Coming → Lines → Type 0
+SplitsBut facts Dies changed = Unit {0}
+SplitsBut facts (Ends picture) changed = Unit {0}
+SplitsBut facts (Splits settled cell) changed = KeepsOtherLines facts settled changed
 
 -- The search through the facts that wait, the first of them first, for another picture than a known one: what it finds, and
 -- how often it splits. Facts that come to a first open cell are split: those with this cell held to each colour left, in

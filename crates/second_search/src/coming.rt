@@ -6,12 +6,12 @@ ghost use Rattle.line_settle.specs.FactSets.{IsFacts, SameShape};
 ghost use Rattle.fixpoint.specs.Closing.{AreClosable, EachFits, QuietOutside};
 ghost use Rattle.fixpoint.specs.LineNames.{AreLinesOf};
 ghost use Rattle.second_search.specs.Looking.{AreRowsSettled, ShowOthers, Shows};
-ghost use Rattle.second_search.specs.Searching.{Comes, ComesClosed, IsCalled};
+ghost use Rattle.second_search.specs.Searching.{Comes, ComesClosed, IsCalled, SplitsBut};
 
 use crate::bounds::NOTHING_DONE;
 use crate::looking::{first_unsettled, shown_on};
 use clues::ClueBook;
-use fixpoint::close_facts;
+use fixpoint::close_naming;
 use line_settle::{Facts, LineEngine, Outcome};
 use picture::{LineSet, Picture};
 use split_choice::Cell;
@@ -35,14 +35,15 @@ pub(crate) struct Due {
     pub top: u8,
 }
 
-// Closes facts and looks at what they leave. A line is due, and each line that is not has to be quiet.
+// Closes facts and looks at what they leave, and names the lines in which the facts that are split may differ from them. A line is
+// due, and each line that is not has to be quiet.
 pub(crate) fn come_to<E: LineEngine>(
     engine: &mut E,
     book: &ClueBook,
     known: &Picture,
     facts: &Facts,
     due: &Due,
-) -> Result<Coming, AllocError>
+) -> Result<(Coming, LineSet), AllocError>
     requires closable { AreClosable book.now (E.longest engine.old) facts.now }
     requires lines { AreLinesOf facts.now due.now.lines }
     requires quiet { QuietOutside book.now facts.now due.now.lines }
@@ -50,7 +51,8 @@ pub(crate) fn come_to<E: LineEngine>(
     requires above { AreRowsSettled facts.now due.now.top }
     requires same_shape { SameShape known.now facts.now }
     requires others { ShowOthers known.now due.now.rows facts.now }
-    ensures comes { IfOk result (Comes book.now facts.now) }
+    ensures comes { IfOk result (λ (coming, _). Comes book.now facts.now coming) }
+    ensures kept { IfOk result (λ (coming, changed). SplitsBut facts.now coming changed) }
     ensures calls { E.calls engine.old ≤ E.calls engine.new }
     ensures called { OnOk result (IsCalled (E.calls engine.old) (E.calls engine.new)) }
     ensures same_longest { E.longest engine.new ≡ E.longest engine.old }
@@ -59,17 +61,19 @@ pub(crate) fn come_to<E: LineEngine>(
     let mut settled = facts.copy()?;
     let mut agenda = InOrder::make();
     let mut meter = NOTHING_DONE;
-    match close_facts(
+    let closed = close_naming(
         engine,
         &mut agenda,
         &mut settled,
         book,
         &due.lines,
         &mut meter,
-    ) {
-        Outcome::Dead => Ok(Coming::Dies),
-        Outcome::Narrowed => split_or_end(known, settled, due),
-    }
+    );
+    let coming = match closed.outcome {
+        Outcome::Dead => Coming::Dies,
+        Outcome::Narrowed => split_or_end(known, settled, due)?,
+    };
+    Ok((coming, closed.changed))
 }
 
 // The first open cell of closed facts, or the picture that they leave. Each row above one has to be settled.

@@ -151,7 +151,7 @@ impl Counted {
         ensures called { OnOk result (IsCalled (E.calls engine.old) (E.calls engine.new)) }
         ensures same_longest { E.longest engine.new ≡ E.longest engine.old }
     {
-        let coming = come_to(engine, book, known, self.trail.at_hand(), &self.due)?;
+        let (coming, changed) = come_to(engine, book, known, self.trail.at_hand(), &self.due)?;
         match coming {
             Coming::Dies => Ok(None),
             Coming::Ends(picture) => Ok(compare(picture, known)),
@@ -160,7 +160,7 @@ impl Counted {
                     return Ok(Some(Ending::BrokenOff));
                 };
                 self.budget = budget;
-                self.trail.narrow(&settled, &self.due.rows, self.due.top)?;
+                self.trail.narrow(&settled, &changed)?;
                 self.trail.split(cell)?;
                 Ok(None)
             }

@@ -104,7 +104,7 @@ impl Growing {
             Outcome::Dead => return Ok(None),
             Outcome::Narrowed => {}
         }
-        self.trail.narrow(&facts, &all_lines(&facts), 0)?;
+        self.trail.narrow(&facts, &all_lines(&facts))?;
         let _ = facts.height();
         let step = next_step(alloc, engine, scene, &facts, way)?;
         match step {

@@ -4,7 +4,7 @@ ghost use Rattle.std.specs.Prelude.{◌≡◌, ℕ, ◌<◌, [], ◌∷◌, ◌+
 ghost use Rattle.picture.specs.Rows.{width_of, cell_at, with_cell};
 ghost use Rattle.line_settle.specs.FactSets.{IsFacts, SameShape};
 ghost use Rattle.line_settle.specs.Branches.{branches};
-ghost use Rattle.trail.specs.Branching.{place, places, search_of, AreInside, AreOthersSame, AreSameAbove, GoesOn, IsInside, IsRowTaken, PutsBack};
+ghost use Rattle.trail.specs.Branching.{place, places, search_of, AreInside, AreOthersSame, GoesOn, IsInside, IsRowTaken, PutsBack};
 
 use crate::note::{CellMask, Note};
 use crate::rows::has_row;
@@ -55,15 +55,14 @@ impl Trail {
         &self.facts
     }
 
-    /// Narrows the facts at hand to others of their shape, which are the same above a row and in rows that are not named, and notes
-    /// each cell that changes.
-    pub fn narrow(&mut self, settled: &Facts, rows: &LineSet, top: u8) -> Result<(), AllocError>
+    /// Narrows the facts at hand to others of their shape, which are the same in rows that are not named, and notes each cell
+    /// that changes.
+    pub fn narrow(&mut self, settled: &Facts, rows: &LineSet) -> Result<(), AllocError>
         requires same_shape { SameShape self.old.at_hand settled.now }
-        requires above { AreSameAbove self.old.at_hand settled.now top }
         requires others { AreOthersSame self.old.at_hand settled.now rows.now }
         ensures { OnOk result (self.new ≡ search_of settled.now self.old.behind self.old.cells) }
     {
-        for row in top..settled.height() {
+        for row in 0..settled.height() {
             self.narrow_row(settled, rows, row)?;
         }
         Ok(())
