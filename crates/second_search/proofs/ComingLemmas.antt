@@ -133,24 +133,15 @@ comes_of clues facts settled outcome c e (Ends picture) h = (settled, (record { 
 comes_of clues facts settled outcome c e (Splits more cell) h =
     subst (λ (x : List (List ℕ)). SettlesTo clues facts x × IsFirstUnsettled x cell) (sym h.0) (record { are_facts = h.1.0; least = c.least e; fits = c.fits e }, h.1.1)
 
-pub comes_closed : (clues : Clues) (facts first settled : List (List ℕ)) (outcome : Outcome) (coming : Result Coming AllocError) → first ≡ facts → Closes clues first settled outcome → outcome ≡ Narrowed → IfOk coming (ComesClosed settled) → IfOk coming (Comes clues facts)
-comes_closed clues facts first settled outcome (Ok coming) same c e h =
+pub comes_closed : (clues : Clues) (facts first settled : List (List ℕ)) (outcome : Outcome) (coming : Coming) → first ≡ facts → Closes clues first settled outcome → outcome ≡ Narrowed → ComesClosed settled coming → Comes clues facts coming
+comes_closed clues facts first settled outcome coming same c e h =
     comes_of clues facts settled outcome (subst (λ (x : List (List ℕ)). Closes clues x settled outcome) same c) e coming h
-comes_closed clues facts first settled outcome (Err fault) same c e h = h
 
 -- facts that are split are as they were but in the lines that closing named
 pub splits_but : (facts first settled : List (List ℕ)) (coming : Coming) (lines : Lines) → first ≡ facts → KeepsOtherLines first settled lines → ComesClosed settled coming → SplitsBut facts coming lines
 splits_but facts first settled Dies lines e kept h = tt
 splits_but facts first settled (Ends picture) lines e kept h = tt
 splits_but facts first settled (Splits more cell) lines e kept h = rw (← e, h.0) kept
-
-pub called_once : (evaluations before after : ℕ) → 0 < evaluations → after ≡ counted before (evaluations + 0) → IsCalled before after
-called_once evaluations before after some is = omega arith
-
--- what holds whatever facts come to
-pub counted_some : (coming : Result Coming AllocError) (P : Type 0) → P → OnOk coming P
-counted_some (Ok coming) P p = p
-counted_some (Err fault) P p = tt
 
 -- ---- a search ends in one way
 

@@ -69,11 +69,13 @@ pub(crate) fn come_to<E: LineEngine>(
         &due.lines,
         &mut meter,
     );
-    let coming = match closed.outcome {
-        Outcome::Dead => Coming::Dies,
-        Outcome::Narrowed => split_or_end(known, settled, due)?,
-    };
-    Ok((coming, closed.changed))
+    match closed.outcome {
+        Outcome::Dead => Ok((Coming::Dies, closed.changed)),
+        Outcome::Narrowed => {
+            let coming = split_or_end(known, settled, due)?;
+            Ok((coming, closed.changed))
+        }
+    }
 }
 
 // The first open cell of closed facts, or the picture that they leave. Each row above one has to be settled.
