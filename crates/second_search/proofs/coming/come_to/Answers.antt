@@ -1,4 +1,3 @@
-use Rattle.std.proofs.Common.{refl}
 use Rattle.line_settle.specs.GridLaws.{shape_trans}
 use Rattle.second_search.proofs.ComingLemmas.{comes_closed, splits_but}
 use Rattle.second_search.proofs.LookLemmas.{others_stay, rows_stay}
