@@ -35,3 +35,4 @@ pub mod ShownLemmas
 pub mod StateSetLemmas
 pub mod MarkedLemmas
 pub mod SweepLemmas
+pub mod LineApartLemmas

@@ -1,3 +1,4 @@
+pub mod Apart
 pub mod Branches
 pub mod Counting
 pub mod Crossing

@@ -175,27 +175,9 @@ fn is_same_line(before: &Scene, after: &Scene, line: LineId) -> bool
         return false;
     }
     let same_clue = before.clues.clue(line).same(after.clues.clue(line));
-    let same_left = leaves_same(before.facts, after.facts, line);
+    let same_left = before.facts.same_line(line, after.facts, line);
     let same_cells = has_same_cells(before.picture.line(line), after.picture.line(line));
     same_clue && same_left && same_cells
-}
-
-// Whether two facts leave the same colours in the cells of a line.
-fn leaves_same(one: &Facts, other: &Facts, line: LineId) -> bool
-    requires one { HasLine one.now line }
-    requires other { HasLine other.now line }
-    ensures { IsTrue result ↔ (line_of one.now line ≡ line_of other.now line) }
-{
-    let len = one.line_len(line);
-    if len != other.line_len(line) {
-        return false;
-    }
-    for place in 0..len {
-        if one.left_on(line, place) != other.left_on(line, place) {
-            return false;
-        }
-    }
-    true
 }
 
 // Whether two lines have the same cells.
