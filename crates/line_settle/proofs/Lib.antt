@@ -35,4 +35,3 @@ pub mod ShownLemmas
 pub mod StateSetLemmas
 pub mod MarkedLemmas
 pub mod SweepLemmas
-pub mod LineApartLemmas

@@ -1,4 +1,3 @@
-pub mod Apart
 pub mod Branches
 pub mod Counting
 pub mod Crossing

@@ -1,12 +1,11 @@
 //! Facts along one line: its length, and the colours left in its cells.
 
-ghost use Rattle.std.specs.Prelude.{◌≡◌, ◌+◌, ◌<◌, ◌≤◌, ◌↔◌, IsTrue, MatchOption, length, slice_index};
-ghost use Rattle.picture.specs.Rows.{line_of, row_at, HasLine};
-ghost use Rattle.line_settle.specs.Apart.{AreApart, AreApartAbove};
-ghost use Rattle.line_settle.specs.FactSets.{IsFacts, SameShape};
+ghost use Rattle.std.specs.Prelude.{◌≡◌, ◌<◌, ◌≤◌, ◌↔◌, IsTrue, length, slice_index};
+ghost use Rattle.picture.specs.Rows.{line_of, HasLine};
+ghost use Rattle.line_settle.specs.FactSets.{IsFacts};
 
 use crate::facts::Facts;
-use picture::{Axis, LineId, LineSet, MAX_SIDE};
+use picture::{Axis, LineId, MAX_SIDE};
 
 #[tactic(auto, using(crate::proofs::AlongLemmas::places, crate::proofs::AlongLemmas::same_list))]
 impl Facts {
@@ -71,40 +70,5 @@ impl Facts {
             }
         }
         true
-    }
-
-    /// The names of the lines in which other facts leave other colours. None where they have another size.
-    pub fn lines_apart(&self, other: &Facts) -> Option<LineSet>
-        ensures { MatchOption result (SameShape self.now other.now → ⊥) (AreApart self.now other.now) }
-    {
-        if self.height() != other.height() || self.width() != other.width() {
-            return None;
-        }
-        let mut apart = LineSet::empty();
-        for row in 0..self.height() {
-            if !self.same_row(other, row) {
-                self.put_apart(other, row, &mut apart);
-            }
-        }
-        Some(apart)
-    }
-
-    // Puts the name of a row that differs into a set, and the names of the columns in which it does.
-    fn put_apart(&self, other: &Facts, row: u8, apart: &mut LineSet)
-        requires same_shape { SameShape self.now other.now }
-        requires in_rows { row < length self.now }
-        requires differs { row_at self.now row ≡ row_at other.now row → ⊥ }
-        requires above { AreApartAbove self.now other.now apart.old row }
-        ensures { AreApartAbove self.now other.now apart.new (row + 1) }
-    {
-        let width = self.width();
-        let axis = Axis::Across;
-        apart.put(LineId { axis, at: row });
-        for col in 0..width {
-            if self.left(row, col) != other.left(row, col) {
-                let axis = Axis::Down;
-                apart.put(LineId { axis, at: col });
-            }
-        }
     }
 }

@@ -1,12 +1,11 @@
 //! The lines of a new picture that may say something new.
 
-ghost use Rattle.std.specs.Prelude.{◌≡◌, ℕ, ◌<◌, ◌↔◌, length, slice_index, IfSome, IsTrue};
+ghost use Rattle.std.specs.Prelude.{◌≡◌, ℕ, ◌<◌, ◌↔◌, IsTrue};
 ghost use Rattle.picture.specs.declared.line_id.Axis.{Axis};
 ghost use Rattle.picture.specs.declared.line_id.LineId.{LineId};
 ghost use Rattle.picture.specs.LineSet.{HasName};
 ghost use Rattle.picture.specs.Rows.{line_of, lines_along, HasLine};
 ghost use Rattle.clues.specs.Change.{lines_after, lines_before};
-ghost use Rattle.line_settle.specs.Apart.{AreApart};
 ghost use Rattle.retract.specs.Standing.{HaveBooks};
 ghost use Rattle.retract.specs.Dirty.{AreDirty, AreDirtyAlong, HaveFacts, IsClean, IsInPlace, SaysTheSame};
 
@@ -32,16 +31,14 @@ pub(crate) fn dirty_lines(sides: &Sides<'_>) -> LineSet
     ensures { AreDirty sides.now.change.now.moves sides.now.old.now sides.now.new.now
         sides.now.before.now sides.now.after.now result }
 {
-    let apart = sides.before.lines_apart(sides.after);
     let mut dirty = LineSet::empty();
-    put_dirty(&mut dirty, Axis::Across, sides, &apart);
-    put_dirty(&mut dirty, Axis::Down, sides, &apart);
+    put_dirty(&mut dirty, Axis::Across, sides);
+    put_dirty(&mut dirty, Axis::Down, sides);
     dirty
 }
 
 // Puts the dirty lines along an axis.
-fn put_dirty(dirty: &mut LineSet, axis: Axis, sides: &Sides<'_>, apart: &Option<LineSet>)
-    requires apart { IfSome apart.now (AreApart sides.now.before.now sides.now.after.now) }
+fn put_dirty(dirty: &mut LineSet, axis: Axis, sides: &Sides<'_>)
     requires books { HaveBooks sides.now.change.now.moves sides.now.old.now sides.now.new.now }
     requires facts { HaveFacts sides.now.change.now.moves sides.now.before.now sides.now.after.now }
     requires none { (line : LineId) → line.axis ≡ axis → HasName dirty.old line → ⊥ }
@@ -53,15 +50,14 @@ fn put_dirty(dirty: &mut LineSet, axis: Axis, sides: &Sides<'_>, apart: &Option<
     let in_place = is_in_place(sides.old, sides.new, sides.change, axis);
     for at in 0..sides.new.line_count(axis) {
         let line = LineId { axis, at };
-        if !is_clean(in_place, sides, apart, line) {
+        if !is_clean(in_place, sides, line) {
             dirty.put(line);
         }
     }
 }
 
 // Whether a new line is clean, where it is known whether lines of its axis are in place.
-fn is_clean(in_place: bool, sides: &Sides<'_>, apart: &Option<LineSet>, line: LineId) -> bool
-    requires apart { IfSome apart.now (AreApart sides.now.before.now sides.now.after.now) }
+fn is_clean(in_place: bool, sides: &Sides<'_>, line: LineId) -> bool
     requires in_place { IsTrue in_place ↔ IsInPlace sides.now.change.now.moves line.axis }
     requires books { HaveBooks sides.now.change.now.moves sides.now.old.now sides.now.new.now }
     requires facts { HaveFacts sides.now.change.now.moves sides.now.before.now sides.now.after.now }
@@ -69,12 +65,11 @@ fn is_clean(in_place: bool, sides: &Sides<'_>, apart: &Option<LineSet>, line: Li
     ensures { IsTrue result ↔ IsClean sides.now.change.now.moves sides.now.old.now
         sides.now.new.now sides.now.before.now sides.now.after.now line }
 {
-    in_place && says_the_same(sides, apart, line)
+    in_place && says_the_same(sides, line)
 }
 
 // Whether the old line that a new line is has the same clue, and the same is known of its cells.
-fn says_the_same(sides: &Sides<'_>, apart: &Option<LineSet>, line: LineId) -> bool
-    requires apart { IfSome apart.now (AreApart sides.now.before.now sides.now.after.now) }
+fn says_the_same(sides: &Sides<'_>, line: LineId) -> bool
     requires books { HaveBooks sides.now.change.now.moves sides.now.old.now sides.now.new.now }
     requires facts { HaveFacts sides.now.change.now.moves sides.now.before.now sides.now.after.now }
     requires line { HasLine sides.now.after.now line }
@@ -84,20 +79,6 @@ fn says_the_same(sides: &Sides<'_>, apart: &Option<LineSet>, line: LineId) -> bo
     let Some(from) = sides.change.origin(line) else {
         return false;
     };
-    sides.old.clue(from).same(sides.new.clue(line)) && same_cells(sides, apart, from, line)
-}
-
-// Whether the same is known of the cells of an old line and of a new one, where it may be known which lines differ.
-fn same_cells(sides: &Sides<'_>, apart: &Option<LineSet>, from: LineId, line: LineId) -> bool
-    requires from { HasLine sides.now.before.now from }
-    requires line { HasLine sides.now.after.now line }
-    requires apart { IfSome apart.now (AreApart sides.now.before.now sides.now.after.now) }
-    ensures { IsTrue result
-        ↔ (line_of sides.now.before.now from ≡ line_of sides.now.after.now line) }
-{
-    let _ = sides.after.height();
-    match apart {
-        Some(apart) if from == line => !apart.has(line),
-        _ => sides.before.same_line(from, sides.after, line),
-    }
+    sides.old.clue(from).same(sides.new.clue(line))
+        && sides.before.same_line(from, sides.after, line)
 }
