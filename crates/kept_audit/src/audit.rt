@@ -11,7 +11,7 @@ ghost use Rattle.kept_audit.specs.Audit.{GoesOn, IsAnew, IsAuditOf, IsBaseFor, n
 
 use clues::{Change, ClueBook};
 use justify::Book;
-use line_settle::{Facts, LineEngine, Meter};
+use line_settle::{Facts, LineEngine, Meter, NOTHING_DONE};
 use picture::Document;
 use propagate::{Agenda, CloseFault, all_lines, close};
 use retract::{Kept, keep};
@@ -33,12 +33,6 @@ pub struct Revision<'a> {
     pub new: &'a Document,
     pub change: &'a Change,
 }
-
-/// The counts where nothing was evaluated yet.
-pub const NOTHING_DONE: Meter = Meter {
-    evaluations: 0,
-    trials: 0,
-};
 
 /// Audits a document anew: counts its picture's clues, and closes the book without a step over what its givens exclude. It
 /// tells the work too.

@@ -4,4 +4,4 @@
 
 mod audit;
 
-pub use audit::{Audit, NOTHING_DONE, Revision, audit_again, audit_anew};
+pub use audit::{Audit, Revision, audit_again, audit_anew};

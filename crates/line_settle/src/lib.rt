@@ -26,6 +26,6 @@ pub use facts::Facts;
 pub use forcing::{Forced, force, force_crossing};
 pub use line_engine::{LineEngine, Outcome};
 pub use mask_engine::MaskEngine;
-pub use meter::Meter;
+pub use meter::{Meter, NOTHING_DONE};
 pub use plain_engine::PlainEngine;
 pub use sweep::leave_out;

@@ -7,3 +7,9 @@ pub struct Meter {
     pub evaluations: u64,
     pub trials: u64,
 }
+
+/// The counts where nothing was done yet.
+pub const NOTHING_DONE: Meter = Meter {
+    evaluations: 0,
+    trials: 0,
+};

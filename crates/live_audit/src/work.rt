@@ -1,7 +1,6 @@
 //! The work of a bench.
 
-use kept_audit::NOTHING_DONE;
-use line_settle::Meter;
+use line_settle::{Meter, NOTHING_DONE};
 
 /// How much work was done: by the last edit, undo, redo or start that was accepted; by the last verdict, with the number
 /// of parts that it searched and of cells that it split in the fixed order, each count staying at the largest `u32`. What no verdict has

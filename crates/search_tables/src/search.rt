@@ -9,11 +9,10 @@ ghost use Rattle.second_search.specs.Parts.{AreParts, IsScene};
 use anyhow::{Result, ensure};
 use clues::ClueBook;
 use fixpoint::settle_afresh;
-use line_settle::{Facts, LineEngine};
+use line_settle::{Facts, LineEngine, NOTHING_DONE};
 use picture::{Document, Picture};
 use second_search::{Judged, Keeper, Scene, laws};
 use std::alloc::Global;
-use table_words::NOTHING_DONE;
 use worklist::InOrder;
 
 /// What a picture was said to be.

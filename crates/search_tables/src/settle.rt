@@ -5,10 +5,9 @@ ghost use Rattle.std.specs.Prelude.{◌≤◌};
 use anyhow::{Result, bail, ensure};
 use clues::ClueBook;
 use fixpoint::{CloseFault, settle_afresh};
-use line_settle::{Facts, LineEngine, MaskEngine, PlainEngine};
+use line_settle::{Facts, LineEngine, MaskEngine, NOTHING_DONE, PlainEngine};
 use picture::MAX_SIDE;
 use std::alloc::Global;
-use table_words::NOTHING_DONE;
 use worklist::{Agenda, InOrder, NewestFirst};
 
 /// How many evaluations settling took, and what it came to, unless no list fits some line.

@@ -461,11 +461,11 @@ said_lighter clues known old mid new t a = rw a.0 at t.lighter
 -- what a tree decides
 pub tree_decides : (clues : Clues) (known facts : List (List ℕ)) (keeps : Bool) (start end : Lines) → AreNone keeps start → LeadsToEnd clues known facts start end → Decides clues known facts keeps (Tree end)
 tree_decides clues known facts keeps (Kept start) (Kept end) none w =
-    let same : end.items ≡ w.0 = w.1.0 ∙ ap (λ (x : List CertLine). x ++ w.0) none in
-    (subst (λ (x : List CertLine). Walks clues known x (facts ∷ []) []) (sym same) w.1.1, λ e. tt)
+    let same : end.items ≡ w.0 = w.1.0 ∙ ap (λ (x : List CertLine). x ++ w.0) none.1 in
+    (subst (λ (x : List CertLine). Walks clues known x (facts ∷ []) []) (sym same) w.1.1, none.0)
 tree_decides clues known facts keeps (Kept start) Dropped none w = absurd w.1.0
 tree_decides clues known facts keeps Dropped (Kept end) none w = absurd w.1.0
-tree_decides clues known facts keeps Dropped Dropped none w = ((w.0, w.1.1), λ e. absurd (false≢true (sym none ∙ e)))
+tree_decides clues known facts keeps Dropped Dropped none w = ((w.0, w.1.1), none)
 
 pub none_fills : OnlyIsClosed → ClosingKeepsFillings → (clues : Clues) (known facts : List (List ℕ)) (lines : Lines) → SameShape known facts → AreTree clues known facts lines → FindsFilling clues facts known None
 none_fills own closing clues known facts (Kept lines) e t picture f d = tree_is_whole own closing clues known facts picture lines.items e t d f

@@ -144,12 +144,12 @@ Advances old new false = (old.trail.behind ≡ []) × (new.lines ≡ old.lines)
 
 -- no line yet, to be kept where that is said
 abbrev pub AreNone : Bool → Lines → Type 0
-AreNone keeps (Kept lines) = lines.items ≡ []
+AreNone keeps (Kept lines) = (keeps ≡ true) × (lines.items ≡ [])
 AreNone keeps Dropped = keeps ≡ false
 
-abbrev pub AreKept : Lines → Type 0
-AreKept (Kept lines) = Unit {0}
-AreKept Dropped = ⊥
+abbrev pub AreKeptWhere : Bool → Lines → Type 0
+AreKeptWhere keeps (Kept lines) = keeps ≡ true
+AreKeptWhere keeps Dropped = keeps ≡ false
 
 -- the lines of a tree from facts, where they are kept; else there are some
 abbrev pub AreTree : Clues → List (List ℕ) → List (List ℕ) → Lines → Type 0
@@ -158,5 +158,5 @@ AreTree clues known facts Dropped = (lines : List CertLine) × Walks clues known
 
 -- a tree, or another picture than the known one
 abbrev pub Decides : Clues → List (List ℕ) → List (List ℕ) → Bool → Decided → Type 0
-Decides clues known facts keeps (Tree lines) = AreTree clues known facts lines × (keeps ≡ true → AreKept lines)
+Decides clues known facts keeps (Tree lines) = AreTree clues known facts lines × AreKeptWhere keeps lines
 Decides clues known facts keeps (OtherPicture picture) = IsOtherIn clues known facts picture

@@ -1,7 +1,5 @@
 //! How far each way of a search goes before the next one is taken.
 
-use line_settle::Meter;
-
 /// How often a part is split in the fixed order at first, and how often when that is begun anew; how often a search in a window
 /// splits; and how many lines a tree of the whole picture may evaluate at first, sixteen times as many in a part or after a long
 /// judgement. They say which way answers, and never what is true; clauses speak of the first alone.
@@ -23,9 +21,3 @@ pub const BOUNDS: Bounds = Bounds {
 
 // How many times as many lines a tree may evaluate at first in a part, or where judging took long: few small trees close there.
 pub(crate) const LONGER: u64 = 16;
-
-// A meter that nobody reads: the engine counts its calls.
-pub(crate) const NOTHING_DONE: Meter = Meter {
-    evaluations: 0,
-    trials: 0,
-};

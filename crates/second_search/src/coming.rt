@@ -8,11 +8,10 @@ ghost use Rattle.fixpoint.specs.LineNames.{AreLinesOf};
 ghost use Rattle.second_search.specs.Looking.{AreRowsSettled, ShowOthers, Shows};
 ghost use Rattle.second_search.specs.Searching.{Comes, ComesClosed, IsCalled, SplitsBut};
 
-use crate::bounds::NOTHING_DONE;
 use crate::looking::{first_unsettled, shown_on};
 use clues::ClueBook;
 use fixpoint::close_naming;
-use line_settle::{Facts, LineEngine, Outcome};
+use line_settle::{Facts, LineEngine, NOTHING_DONE, Outcome};
 use picture::{LineSet, Picture};
 use split_choice::Cell;
 use std::alloc::AllocError;

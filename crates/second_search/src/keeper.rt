@@ -247,7 +247,7 @@ impl Keeper {
     /// broken off, nothing is. Adds to `searched` how many parts were searched, the last of them too if it was broken off, and
     /// to `splits` how often they split in the fixed order, without an allowance at most 100 times each; both stay at the
     /// largest number. Each part that is searched takes an evaluation at least, and where nothing is searched, no line is
-    /// evaluated. Want of memory leaves what is kept as it was, and neither count falls by it. The parts kept are those of the
+    /// evaluated. Where memory runs out, what is kept and both counts stay as they were. The parts kept are those of the
     /// scene's facts, and what is known of them is true; no line is longer than the engine's `longest`.
     pub fn judge<E: LineEngine>(
         &mut self,
@@ -278,6 +278,8 @@ impl Keeper {
         ensures counts { (evaluations : ℕ)
             × Counts evaluations 0 meter.old meter.new (E.calls engine.old) (E.calls engine.new) }
         ensures rises { (searched.old ≤ searched.new) × (splits.old ≤ splits.new) }
+        ensures as_before { OnErr result
+            ((searched.new ≡ searched.old) × (splits.new ≡ splits.old)) }
         ensures same_longest { E.longest engine.new ≡ E.longest engine.old }
     {
         let _trials = meter.trials;

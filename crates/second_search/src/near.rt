@@ -9,13 +9,12 @@ ghost use Rattle.second_search.specs.Near.{IsWindow, OpensIn};
 ghost use Rattle.second_search.specs.Parts.{IsOtherFilling, IsScene};
 ghost use Rattle.second_search.specs.Scene.{CanSearch};
 
-use crate::bounds::NOTHING_DONE;
 use crate::counting::{Ending, Searched, Start, search_counted};
 use crate::part_search::{facts_on, lines_through, put_both};
 use crate::parts::Parts;
 use crate::scene::Scene;
 use fixpoint::{CloseFault, settle_afresh};
-use line_settle::{Facts, LineEngine};
+use line_settle::{Facts, LineEngine, NOTHING_DONE};
 use picture::{Axis, CellSet, LineId, LineSet, MAX_SIDE, Picture};
 use std::alloc::{AllocError, Global};
 use worklist::InOrder;

@@ -26,7 +26,7 @@ pub use colours::{ALL, letter_of};
 pub use lines::{line_in, push_line};
 pub use masks::{facts_in, masks_in, push_facts, push_masks};
 pub use pictures::{document_in, push_picture, push_rows};
-pub use starting::{MOST, NOTHING_DONE};
+pub use starting::MOST;
 pub use steps::push_steps;
 pub use strokes::edit_in;
 pub use touched::push_touched;

@@ -9,17 +9,12 @@ use super::shown::same_book;
 use super::{Memory, equal, first_of};
 use clues::{Change, ClueBook};
 use justify::Book;
-use line_settle::{Facts, LineEngine, MaskEngine, Meter};
+use line_settle::{Facts, LineEngine, MaskEngine, NOTHING_DONE};
 use picture::{Axis, LineId};
 use propagate::{CloseFault, InOrder, all_lines, close, run_schedule};
 use retract::{Kept, keep};
 use std::alloc::{AllocError, Global};
 use std::process::Abort;
-
-const NOTHING_DONE: Meter = Meter {
-    evaluations: 0,
-    trials: 0,
-};
 
 // The first column, the row and the last column, of which the first two draw a step each.
 const LINES: [LineId; 3] = [

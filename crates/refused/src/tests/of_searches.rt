@@ -11,7 +11,7 @@ use super::made::{DIAGONALS, engine_of};
 use super::shown::cells_of;
 use super::{Memory, equal, first_of, refused};
 use clues::ClueBook;
-use line_settle::{Facts, LineEngine, MaskEngine, Meter};
+use line_settle::{Facts, LineEngine, MaskEngine, NOTHING_DONE};
 use picture::{CellSet, Picture};
 use ppm_text::read_ppm;
 use propagate::{CloseFault, InOrder, settle_afresh};
@@ -27,11 +27,6 @@ const PAINTED: &[u8] =
 const OTHER: [u8; 16] = [0, 1, 0, 0, 1, 0, 0, 0, 0, 0, 2, 0, 0, 0, 0, 2];
 
 const OTHER_PAINTED: [u8; 16] = [0, 1, 0, 0, 1, 0, 0, 0, 0, 0, 2, 0, 0, 0, 2, 2];
-
-const NOTHING_DONE: Meter = Meter {
-    evaluations: 0,
-    trials: 0,
-};
 
 // A picture with its clues and its settled map, and no given.
 #[derive(Drop)]

@@ -5,15 +5,10 @@ use super::shown::{same_book, same_facts};
 use super::{Memory, equal, first_of, refused};
 use clues::ClueBook;
 use justify::{Book, Reason, StepFault, laws};
-use line_settle::{LineEngine, MaskEngine, Meter};
+use line_settle::{LineEngine, MaskEngine, NOTHING_DONE};
 use picture::{Axis, LineId};
 use std::alloc::{AllocError, Global};
 use std::process::Abort;
-
-const NOTHING_DONE: Meter = Meter {
-    evaluations: 0,
-    trials: 0,
-};
 
 const ROW: LineId = LineId {
     axis: Axis::Across,

@@ -19,12 +19,12 @@ use clues::ClueBook;
 use clues::laws::clues_are_of_lines;
 use edits::{Edit, Prepared, Studio};
 use justify::Book;
-use line_settle::{Facts, LineEngine, MaskEngine, Meter, PlainEngine};
+use line_settle::{Facts, LineEngine, MaskEngine, Meter, NOTHING_DONE, PlainEngine};
 use picture::{Axis, Document, LineId, LineSet, MAX_SIDE};
 use propagate::{Agenda, InOrder, NewestFirst, all_lines, close, run_schedule};
 use retract::{Kept, keep};
 use std::alloc::{AllocError, Global};
-use table_words::{NOTHING_DONE, document_in, edit_in, line_in, push_facts, push_line, push_steps};
+use table_words::{document_in, edit_in, line_in, push_facts, push_line, push_steps};
 
 /// A document with its history, the clues of its picture, and a book that follows from them.
 #[derive(Drop)]

@@ -22,6 +22,7 @@ returns g c =
         answer = answer_true clues_are_of_lines books_are_their_clues closing_keeps_fillings only_is_closed fillings_are_of_facts parts_decide s.clues.now s.givens.now s.facts.now s.picture.now c.requires.scene c.args.allowance c.args.self.now new _ v done.searched done.splits c.requires.parts c.requires.true_answers done.is answers;
         counts = (done.evaluations, done.counts);
         rises = rises;
+        as_before = tt;
         same_longest = all.same_longest;
       },
     )
