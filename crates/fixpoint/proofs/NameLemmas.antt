@@ -5,7 +5,6 @@ use Rattle.std.specs.Int.Count.{ones_step}
 use Rattle.std.proofs.lemmas.Nat.{ones_le_self}
 use Rattle.std.proofs.lemmas.Nat.Bits.{bit_at-suc, bit_at_lowest}
 use Rattle.picture.specs.declared.line_id.Axis.TheVariants.{Across, Down}
-use Rattle.picture.specs.declared.line_id.LineId.{LineId}
 use Rattle.picture.specs.LineSet.{Lines, name_count}
 use Rattle.picture.specs.Rows.{width_of}
 use Rattle.picture.specs.BitLaws.{same_bits, bit_is_set, set_bit, no_bit}

@@ -81,6 +81,10 @@ Draws clues old new zero cells = (old ≡ new) × (cells ≡ 0)
 Draws clues old new (suc n) cells =
     (between : List (List ℕ)) × ((before : ℕ) × ((last : ℕ) × (Draws clues old between n before × (Evaluates clues between new last × (cells ≡ before + last)))))
 
+-- a meter of so many evaluations alone
+abbrev pub evaluated : ℕ → Meter
+evaluated count = record { evaluations = count; trials = 0 }
+
 -- The work of closing: at most the lines of the set and the cells drawn on along the way, and at least the lines of the set
 -- where the outcome is Narrowed. Where the set has a line, at least one is evaluated.
 pub record Works (clues : Clues) (dirty : Lines) (base facts : List (List ℕ)) (outcome : Outcome) (old new : Meter) (before after : ℕ) : Type 0 where

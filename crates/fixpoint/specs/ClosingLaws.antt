@@ -1,13 +1,13 @@
 -- One line after another evaluated: what stays true, and what it comes to.
-use Rattle.std.proofs.Common.{◌≡◌, ◌≢◌, ℕ, ◌<◌, ◌↔◌, List, length, get_or, refl, sym, ap, subst, ◌∙◌, arith, ◌⊎◌, inl, inr}
+use Rattle.std.proofs.Common.{◌≡◌, ◌≢◌, ℕ, ◌<◌, ◌≤◌, ◌↔◌, List, length, get_or, refl, sym, ap, subst, ◌∙◌, arith, ◌⊎◌, inl, inr}
 use Rattle.std.proofs.lemmas.Bool.{cases_eq, cases_lt}
-use Rattle.std.proofs.lemmas.List.{get_or_past}
+use Rattle.std.proofs.lemmas.List.{get_or_past, length-map}
 use Rattle.picture.specs.declared.line_id.Axis.{Axis}
 use Rattle.picture.specs.declared.line_id.Axis.TheVariants.{Across, Down}
 use Rattle.picture.specs.declared.line_id.LineId.{LineId}
 use Rattle.picture.specs.LineSet.{Lines, HasName, PutsNames, TakesOutName, no_names}
-use Rattle.picture.specs.Rows.{width_of, cell_at, line_of, lines_along, HasLine}
-use Rattle.clues.specs.ClueBook.{Clues, clue_at}
+use Rattle.picture.specs.Rows.{width_of, cell_at, line_along, line_of, lines_along, HasLine}
+use Rattle.clues.specs.ClueBook.{Clues, clue_at, clues_along}
 use Rattle.line_settle.specs.declared.line_engine.Outcome.{Outcome}
 use Rattle.line_settle.specs.declared.line_engine.Outcome.TheVariants.{Narrowed, Dead}
 use Rattle.line_settle.specs.Fitting.{CanFit}
@@ -39,6 +39,14 @@ within_refl a = record { same_shape = shape_refl a; leaves = λ r c k s. s }
 
 pub within_trans : (a b c : List (List ℕ)) → IsWithin a b → IsWithin b c → IsWithin a c
 within_trans a b c x y = record { same_shape = shape_trans x.same_shape y.same_shape; leaves = λ r d k s. x.leaves r d k (y.leaves r d k s) }
+
+-- a line of the facts has a clue, and is not too long for the engine
+line_fits : (clues : Clues) (longest : ℕ) (facts : List (List ℕ)) (axis : Axis) (at : ℕ) → AreClosable clues longest facts → IsFacts facts → at < lines_along axis facts → (at < length (clues_along axis clues)) × (length (line_along axis at facts) ≤ longest)
+line_fits clues longest facts Across at c is h = (omega (arith, c.rows), omega (arith, is.rectangular at h, c.wide))
+line_fits clues longest facts Down at c is h = (omega (arith, c.columns), omega (arith, length-map facts (λ (row : List ℕ). get_or row at 0), c.tall))
+
+pub has_clue : (clues : Clues) (longest : ℕ) (facts : List (List ℕ)) (line : LineId) → AreClosable clues longest facts → IsFacts facts → HasLine facts line → (line.at < length (clues_along line.axis clues)) × (length (line_of facts line) ≤ longest)
+has_clue clues longest facts line = line_fits clues longest facts line.axis line.at
 
 -- ---- one line evaluated
 

@@ -1,7 +1,7 @@
 //! Propagating facts to the fixpoint of all lines.
 
 ghost use Rattle.std.specs.Prelude.{◌≡◌};
-ghost use Rattle.fixpoint.specs.Closing.{AreClosable, Closes, KeepsOtherLines, QuietOutside, Works};
+ghost use Rattle.fixpoint.specs.Closing.{AreClosable, Closes, KeepsOtherLines, QuietOutside, Works, evaluated};
 ghost use Rattle.fixpoint.specs.LineNames.{AreLinesOf};
 
 use clues::ClueBook;
@@ -9,11 +9,13 @@ use line_settle::{Facts, LineEngine, Meter, Outcome, force_crossing};
 use picture::LineSet;
 use worklist::Agenda;
 
-/// What closing facts came to, and the lines in which it may have changed them.
+/// What closing facts came to, the lines in which it may have changed them, and how many lines were evaluated, a count that stays
+/// at the largest number.
 #[derive(Clone, Copy)]
 pub struct Closed {
     pub outcome: Outcome,
     pub changed: LineSet,
+    pub evaluations: u64,
 }
 
 /// Excludes in the facts what any line forces, until no line forces more. Every line that is not in `dirty` has to be
@@ -36,44 +38,54 @@ pub fn close_facts<E: LineEngine, A: Agenda>(
         (E.calls engine.old) (E.calls engine.new) }
     ensures same_longest { E.longest engine.new ≡ E.longest engine.old }
 {
-    close_naming(engine, agenda, facts, book, dirty, meter).outcome
+    let _trials = meter.trials;
+    let closed = close_naming(engine, agenda, facts, book, dirty);
+    meter.evaluations = meter.evaluations.saturating_add(closed.evaluations);
+    closed.outcome
 }
 
-/// The same, and names the lines that were evaluated and those that cross them where they changed: each other line is as it was.
+/// Closes facts in the same way, and names the lines that were evaluated and those that cross them where they changed: each other
+/// line is as it was.
 pub fn close_naming<E: LineEngine, A: Agenda>(
     engine: &mut E,
     agenda: &mut A,
     facts: &mut Facts,
     book: &ClueBook,
     dirty: &LineSet,
-    meter: &mut Meter,
 ) -> Closed
     requires closable { AreClosable book.now (E.longest engine.old) facts.old }
     requires lines { AreLinesOf facts.old dirty.now }
     requires quiet { QuietOutside book.now facts.old dirty.now }
     ensures closes { Closes book.now facts.old facts.new result.outcome }
-    ensures works { Works book.now dirty.now facts.old facts.new result.outcome meter.old meter.new
-        (E.calls engine.old) (E.calls engine.new) }
+    ensures works { Works book.now dirty.now facts.old facts.new result.outcome
+        (evaluated 0) (evaluated result.evaluations) (E.calls engine.old) (E.calls engine.new) }
     ensures kept { KeepsOtherLines facts.old facts.new result.changed }
     ensures same_longest { E.longest engine.new ≡ E.longest engine.old }
 {
-    let (_calls, _evaluations, _trials) = (engine.calls(), meter.evaluations, meter.trials);
+    let _ = engine.calls();
+    let mut evaluations = 0;
     let mut changed = *dirty;
     agenda.clear();
     agenda.put_all(dirty);
     while let Some(line) = agenda.take() {
         let _ = facts.height();
-        let forced = force_crossing(engine, facts, book.clue(line), line, &mut meter.evaluations);
+        let forced = force_crossing(engine, facts, book.clue(line), line, &mut evaluations);
         agenda.put_all(&forced.changed);
         changed.put_all(&forced.changed);
         match forced.outcome {
-            Outcome::Dead => return Closed {
-                outcome: Outcome::Dead,
-                changed,
-            },
+            Outcome::Dead => {
+                return Closed {
+                    outcome: Outcome::Dead,
+                    changed,
+                    evaluations,
+                };
+            }
             Outcome::Narrowed => {}
         }
     }
-    let outcome = Outcome::Narrowed;
-    Closed { outcome, changed }
+    Closed {
+        outcome: Outcome::Narrowed,
+        changed,
+        evaluations,
+    }
 }

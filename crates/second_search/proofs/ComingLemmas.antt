@@ -1,12 +1,9 @@
 -- What facts come to is one, and from it what a search does next.
-use Rattle.std.proofs.Common.{◌≡◌, ℕ, suc, ◌+◌, ◌<◌, ◌⊎◌, Option, None, Some, List, [], ◌∷◌, ◌++◌, refl, sym, ap, subst, ◌∙◌, arith, inl, inr, Result, Ok, Err}
-use Rattle.std.specs.Prelude.{IfOk, OnOk}
-use Rattle.std.specs.declared.alloc.AllocError.{AllocError}
+use Rattle.std.proofs.Common.{◌≡◌, ℕ, suc, ◌⊎◌, Option, None, Some, List, [], ◌∷◌, ◌++◌, refl, sym, ap, subst, ◌∙◌, arith, inl, inr}
 use Rattle.std.proofs.lemmas.Bool.{cases_lt}
 use Rattle.picture.specs.LineSet.{Lines}
 use Rattle.picture.specs.Rows.{width_of, cell_at}
 use Rattle.clues.specs.ClueBook.{Clues}
-use Rattle.line_settle.specs.Counting.{counted}
 use Rattle.line_settle.specs.Laws.{LeastIsUnique}
 use Rattle.line_settle.specs.FactSets.{IsFacts}
 use Rattle.line_settle.specs.GridLaws.{same_has_line, shape_sym, shape_trans}
@@ -19,7 +16,7 @@ use Rattle.second_search.specs.declared.coming.Coming.{Coming}
 use Rattle.second_search.specs.declared.coming.Coming.TheVariants.{Dies, Ends, Splits}
 use Rattle.second_search.specs.Looking.{IsFirstUnsettled, Shows}
 use Rattle.second_search.specs.Parts.{IsBefore}
-use Rattle.second_search.specs.Searching.{Comes, ComesClosed, CostsAreUnique, IsCalled, Searches, SettlesTo, SplitsBut, none_waits, is_dead, is_known, is_other, is_split}
+use Rattle.second_search.specs.Searching.{Comes, ComesClosed, CostsAreUnique, Searches, SettlesTo, SplitsBut, none_waits, is_dead, is_known, is_other, is_split}
 use Rattle.trail.proofs.GridLemmas.{same_inside}
 
 -- ---- what facts come to is one

@@ -17,8 +17,8 @@ use Rattle.trail.specs.Branching.{AreOthersSame}
 use Rattle.second_search.specs.Looking.{AreRowsSettled, ShowOthers, Shows}
 use Rattle.second_search.specs.Through.{across}
 use Rattle.line_settle.specs.GridLaws.{shape_sym, shape_trans, at_with_cell, off_with_cell, shape_with_cell}
-use Rattle.picture.specs.BitLaws.{bit_below, fewer_le, no_bit}
-use Rattle.trail.proofs.GridLemmas.{cell_outside, same_inside, row_there}
+use Rattle.picture.specs.BitLaws.{bit_below, no_bit}
+use Rattle.trail.proofs.GridLemmas.{same_inside, row_there}
 
 pub only_small : (facts : List (List ℕ)) (row col k : ℕ) → IsFacts facts → IsOnly (cell_at facts row col) k → k < 16
 only_small facts row col k is h = bit_below (cell_at facts row col) 16 k (is.masks row col) ((h k).1 refl)
@@ -89,12 +89,6 @@ rows_stay clues facts first settled outcome rows same c e h r col l w =
     let within : IsWithin facts settled = subst (λ (x : List (List ℕ)). IsWithin x settled) same c.holds in
     let at = h r col l (omega arith) in
     (at.0, stays_only clues facts settled r col at.0 within (c.fits e) at.1)
-
-same_only : (a b k : ℕ) → IsOnly a k → IsOnly b k → a ≡ b
-same_only a b k p q =
-    let l = fewer_le a b (λ j s. (q j).1 ((p j).0 s)) in
-    let m = fewer_le b a (λ j s. (p j).1 ((q j).0 s)) in
-    omega arith
 
 -- and so do rows that show a picture's colours alone
 pub others_stay : (clues : Clues) (picture facts first settled : List (List ℕ)) (outcome : Outcome) (rows : Lines) → first ≡ facts → Closes clues first settled outcome → outcome ≡ Narrowed → ShowOthers picture rows facts → ShowOthers picture rows settled

@@ -1,7 +1,7 @@
 -- Trees written line by line: where lines lead, what fills the branches that wait, and what they weigh.
 use Rattle.std.proofs.Common.{◌≡◌, ℕ, ◌+◌, ◌-◌, ◌*◌, ◌^◌, ◌<◌, ◌≤◌, ◌==◌, ◌↔◌, eq-eqb, Bool, true, false, Option, None, Some, List, [], ◌∷◌, ◌++◌, length, append_assoc, get_or, refl, sym, ap, subst, ◌∙◌, arith, inl, inr}
 use Rattle.std.specs.Int.{bit_at}
-use Rattle.std.proofs.lemmas.Bool.{cases_eq, cases_lt, false≢true}
+use Rattle.std.proofs.lemmas.Bool.{cases_eq, cases_lt}
 use Rattle.std.proofs.lemmas.List.{append-nil, get_or_past}
 use Rattle.std.proofs.Math.Pow.{pow_mono, pow_pos}
 use Rattle.picture.specs.declared.line_id.Axis.{Axis}

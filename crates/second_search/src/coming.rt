@@ -11,7 +11,7 @@ ghost use Rattle.second_search.specs.Searching.{Comes, ComesClosed, IsCalled, Sp
 use crate::looking::{first_unsettled, shown_on};
 use clues::ClueBook;
 use fixpoint::close_naming;
-use line_settle::{Facts, LineEngine, NOTHING_DONE, Outcome};
+use line_settle::{Facts, LineEngine, Outcome};
 use picture::{LineSet, Picture};
 use split_choice::Cell;
 use std::alloc::AllocError;
@@ -59,15 +59,7 @@ pub(crate) fn come_to<E: LineEngine>(
     let _ = engine.calls();
     let mut settled = facts.copy()?;
     let mut agenda = InOrder::make();
-    let mut meter = NOTHING_DONE;
-    let closed = close_naming(
-        engine,
-        &mut agenda,
-        &mut settled,
-        book,
-        &due.lines,
-        &mut meter,
-    );
+    let closed = close_naming(engine, &mut agenda, &mut settled, book, &due.lines);
     match closed.outcome {
         Outcome::Dead => Ok((Coming::Dies, closed.changed)),
         Outcome::Narrowed => {

@@ -1,8 +1,7 @@
-use Rattle.std.proofs.Common.{ℕ, refl, ◌∙◌, arith}
-use Rattle.picture.specs.LineSet.{Lines}
+use Rattle.std.proofs.Common.{refl, ◌∙◌, arith}
 use Rattle.line_settle.specs.ForceLaws.{gains_grows}
 use Rattle.worklist.specs.NameLaws.{filled}
-use Rattle.fixpoint.specs.ClosingLaws.{Closing, closing_dies, closing_ends, closing_goes_on, closing_starts, keeping_goes_on, keeping_starts}
+use Rattle.fixpoint.specs.ClosingLaws.{closing_dies, closing_ends, closing_goes_on, closing_starts, has_clue, keeping_goes_on, keeping_starts}
 use Rattle.fixpoint.specs.WorkLaws.{crossing_put, one_counted, working_dies, working_goes_on, working_starts, less_to_do}
 use Rattle.fixpoint.proofs.closing.close_naming.Goals as goal
 
@@ -70,3 +69,13 @@ returns-in-Dead-clause-kept g c =
 
 pub returns-clause-kept : goal.returns-clause-kept
 returns-clause-kept g c = c.loop-line.invariant.keeping.kept
+
+pub clue-requires : goal.clue-requires
+clue-requires g c =
+    let i = c.loop-line.invariant.closing in
+    (has_clue c.args.book.now _ c.loop-line.facts c.in-Some.line i.closable c.height.ensures.facts (i.lines c.in-Some.line c.in-Some.ensures.0)).0
+
+pub force_crossing-forced-requires-clause-short : goal.force_crossing-forced-requires-clause-short
+force_crossing-forced-requires-clause-short g c =
+    let i = c.loop-line.invariant.closing in
+    (has_clue c.args.book.now _ c.loop-line.facts c.in-Some.line i.closable c.height.ensures.facts (i.lines c.in-Some.line c.in-Some.ensures.0)).1

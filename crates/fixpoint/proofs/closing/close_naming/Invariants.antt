@@ -1,4 +1,5 @@
 use Rattle.std.proofs.Common.{◌≡◌}
+use Rattle.fixpoint.specs.Closing.{evaluated}
 use Rattle.fixpoint.specs.ClosingLaws.{Closing, Keeping}
 use Rattle.fixpoint.specs.WorkLaws.{Working, left_to_do}
 use Rattle.fixpoint.proofs.closing.close_naming.Given as goal
@@ -6,7 +7,7 @@ use Rattle.fixpoint.proofs.closing.close_naming.Given as goal
 abbrev pub invariant-loop-line : goal.invariant-loop-line
 invariant-loop-line g l = record {
   closing : Closing l.book (g.E.LineEngine.longest l.engine) l.fn.facts l.facts (g.A.Agenda.members l.agenda);
-  working : Working l.book l.dirty l.fn.facts l.facts (g.A.Agenda.members l.agenda) l.fn.meter l.meter (g.E.LineEngine.calls l.fn.engine) (g.E.LineEngine.calls l.engine);
+  working : Working l.book l.dirty l.fn.facts l.facts (g.A.Agenda.members l.agenda) (evaluated 0) (evaluated l.evaluations) (g.E.LineEngine.calls l.fn.engine) (g.E.LineEngine.calls l.engine);
   keeping : Keeping l.fn.facts l.facts (g.A.Agenda.members l.agenda) l.changed;
   same_longest : g.E.LineEngine.longest l.engine ≡ g.E.LineEngine.longest l.fn.engine;
 }
