@@ -17,16 +17,6 @@ row_there a row col l = elim (cases_lt row (length a)) [
   | inr p ↦ absurd (let none = ap length (get_or_past a row [] p) in omega arith)
 ]
 
--- cells that lie outside are 0
-pub cell_outside : (a : List (List ℕ)) (width : ℕ) → ((i : ℕ) → i < length a → length (row_at a i) ≡ width) → (r c : ℕ) → (r < length a → c < width → ⊥) → cell_at a r c ≡ 0
-cell_outside a width h r c n = elim (cases_lt r (length a)) [
-  | inl l ↦ elim (cases_lt c width) [
-    | inl m ↦ absurd (n l m)
-    | inr p ↦ get_or_past (row_at a r) c 0 (let e = h r l in omega arith)
-  ]
-  | inr p ↦ ap (λ (row : List ℕ). get_or row c 0) (get_or_past a r [] p)
-]
-
 -- grids of one shape with the same cells inside are one
 pub same_inside : (a b : List (List ℕ)) (width : ℕ) → SameShape a b → ((i : ℕ) → i < length b → length (row_at b i) ≡ width) → ((r c : ℕ) → r < length b → c < width → cell_at a r c ≡ cell_at b r c) → a ≡ b
 same_inside a b width s rect h = same_grid a b s (λ r c. elim (cases_lt r (length b)) [
