@@ -12,7 +12,7 @@ use Rattle.line_settle.specs.GridLaws.{shape_trans}
 use Rattle.cert_text.specs.declared.fault.CertFault.{CertFault}
 use Rattle.cert_text.specs.declared.fault.CertFault.TheVariants.{Trailing}
 use Rattle.split_choice.specs.declared.cell.Cell.{Cell}
-use Rattle.trail.specs.Branching.{GoesOn, Search}
+use Rattle.trail.specs.Trail.{GoesOn, Trailed}
 use Rattle.cert_text.specs.declared.tree_line.LineNumber.{LineNumber}
 use Rattle.cert_text.specs.declared.tree_line.CertLine.{CertLine}
 use Rattle.cert_text.specs.declared.tree_line.CertLine.TheVariants.{Line, Done}
@@ -41,7 +41,7 @@ not_dead picture facts clues longest clue number found b can e c is f dead =
     let t : b ≡ true = is.1 (rw (by_found picture clues longest clue number found can e c, e) dead) in
     cc
 
-pub forced_takes : (picture : List (List ℕ)) (old new : Search) (clues : Clues) (longest : ℕ) (clue : List Block) (number : LineNumber) (found : LineId) (n : ℕ) → CanCheck picture clues longest → SameShape picture old.at_hand → HasLineNumber picture number → found ≡ line_id number → clue ≡ clue_at clues found → (outcome : Outcome) × Gains clue found old.at_hand new.at_hand outcome → new.behind ≡ old.behind → Takes picture old new (Line number) n (Ok true)
+pub forced_takes : (picture : List (List ℕ)) (old new : Trailed) (clues : Clues) (longest : ℕ) (clue : List Block) (number : LineNumber) (found : LineId) (n : ℕ) → CanCheck picture clues longest → SameShape picture old.at_hand → HasLineNumber picture number → found ≡ line_id number → clue ≡ clue_at clues found → (outcome : Outcome) × Gains clue found old.at_hand new.at_hand outcome → new.behind ≡ old.behind → Takes picture old new (Line number) n (Ok true)
 forced_takes picture old new clues longest clue number found n can shape h e c f behind =
     let gains = rw (by_found picture clues longest clue number found can e c, e) at f.1 in (
       shape_trans shape f.1.same_shape,
@@ -51,7 +51,7 @@ forced_takes picture old new clues longest clue number found n can shape h e c f
 -- ---- the next branch
 
 -- what waited behind is what waits where a trail goes on
-pub goes_on : (old new : Search) (found : Option Cell) → GoesOn old new found → waiting (is_some found) new ≡ old.behind
+pub goes_on : (old new : Trailed) (found : Option Cell) → GoesOn old new found → waiting (is_some found) new ≡ old.behind
 goes_on old new (Some cell) g = sym g.0
 goes_on old new None g = sym g
 
@@ -64,21 +64,21 @@ pub record FirstSoFar (picture : List (List ℕ)) (start waits : List (List (Lis
 here : (lines : List CertLine) (i : ℕ) (d : CertLine) → i < length lines → drop i lines ≡ get_or lines i d ∷ drop (i + 1) lines
 here lines i d l = rw (add-one, drop-cons lines i d) refl
 
-pub trailing_first : (picture : List (List ℕ)) (start : List (List (List ℕ))) (trail : Search) (going : Bool) (first i : ℕ) (lines : List CertLine) → FirstSoFar picture start (waiting going trail) first (first + i) lines (drop i lines) → i < length lines → going ≡ false → FirstFault picture start first lines (Some (Trailing (first + i)))
+pub trailing_first : (picture : List (List ℕ)) (start : List (List (List ℕ))) (trail : Trailed) (going : Bool) (first i : ℕ) (lines : List CertLine) → FirstSoFar picture start (waiting going trail) first (first + i) lines (drop i lines) → i < length lines → going ≡ false → FirstFault picture start first lines (Some (Trailing (first + i)))
 trailing_first picture start trail going first i lines so_far l e =
     so_far.goes (Some (Trailing (first + i))) (rw (e, here lines i Done l) refl)
 
 -- from a line that is at hand
-at_line : (picture : List (List ℕ)) (start : List (List (List ℕ))) (trail : Search) (going : Bool) (first i : ℕ) (lines : List CertLine) (line d : CertLine) → FirstSoFar picture start (waiting going trail) first (first + i) lines (drop i lines) → i < length lines → going ≡ true → line ≡ get_or lines i d → (fault : Option CertFault) → FirstFault picture (trail.at_hand ∷ trail.behind) (first + i) (line ∷ drop (i + 1) lines) fault → FirstFault picture start first lines fault
+at_line : (picture : List (List ℕ)) (start : List (List (List ℕ))) (trail : Trailed) (going : Bool) (first i : ℕ) (lines : List CertLine) (line d : CertLine) → FirstSoFar picture start (waiting going trail) first (first + i) lines (drop i lines) → i < length lines → going ≡ true → line ≡ get_or lines i d → (fault : Option CertFault) → FirstFault picture (trail.at_hand ∷ trail.behind) (first + i) (line ∷ drop (i + 1) lines) fault → FirstFault picture start first lines fault
 at_line picture start trail going first i lines line d so_far l e is fault f =
     so_far.goes fault (rw (e, here lines i d l, ← is) f)
 
-pub refused_first : (picture : List (List ℕ)) (start : List (List (List ℕ))) (trail new : Search) (going : Bool) (first i : ℕ) (lines : List CertLine) (line d : CertLine) (e : CertFault) → FirstSoFar picture start (waiting going trail) first (first + i) lines (drop i lines) → i < length lines → going ≡ true → line ≡ get_or lines i d → Takes picture trail new line (first + i) (Err e) → AnswersFirst (FirstFault picture start first lines) (Err e)
+pub refused_first : (picture : List (List ℕ)) (start : List (List (List ℕ))) (trail new : Trailed) (going : Bool) (first i : ℕ) (lines : List CertLine) (line d : CertLine) (e : CertFault) → FirstSoFar picture start (waiting going trail) first (first + i) lines (drop i lines) → i < length lines → going ≡ true → line ≡ get_or lines i d → Takes picture trail new line (first + i) (Err e) → AnswersFirst (FirstFault picture start first lines) (Err e)
 refused_first picture start trail new going first i lines line d e so_far l g is (inl m) = inl m
 refused_first picture start trail new going first i lines line d e so_far l g is (inr h) =
     inr (at_line picture start trail going first i lines line d so_far l g is (Some e) (inl (e, (h, refl))))
 
-pub taken_first : (picture : List (List ℕ)) (start : List (List (List ℕ))) (trail new : Search) (going more : Bool) (first i : ℕ) (lines : List CertLine) (line d : CertLine) → FirstSoFar picture start (waiting going trail) first (first + i) lines (drop i lines) → i < length lines → going ≡ true → line ≡ get_or lines i d → Takes picture trail new line (first + i) (Ok more) → FirstSoFar picture start (waiting more new) first (first + (i + 1)) lines (drop (i + 1) lines)
+pub taken_first : (picture : List (List ℕ)) (start : List (List (List ℕ))) (trail new : Trailed) (going more : Bool) (first i : ℕ) (lines : List CertLine) (line d : CertLine) → FirstSoFar picture start (waiting going trail) first (first + i) lines (drop i lines) → i < length lines → going ≡ true → line ≡ get_or lines i d → Takes picture trail new line (first + i) (Ok more) → FirstSoFar picture start (waiting more new) first (first + (i + 1)) lines (drop (i + 1) lines)
 taken_first picture start trail new going more first i lines line d so_far l g is t = record {
   goes = λ fault f.
       let next = t.1.0 in

@@ -8,11 +8,11 @@ use Rattle.cert_text.specs.declared.fault.CertFault.{CertFault}
 use Rattle.cert_text.specs.declared.fault.CertFault.TheVariants.{Memory}
 use Rattle.cert_text.specs.declared.tree_line.CellNumber.{CellNumber}
 use Rattle.cert_text.specs.declared.tree_line.CertLine.{CertLine}
-use Rattle.trail.specs.Branching.{Search}
+use Rattle.trail.specs.Trail.{Trailed}
 use Rattle.certificate.specs.FirstFault.{FirstFault, FirstFaultBehind, HasFault, Leads}
 
 -- what waits, with the branch at hand first, where one is at hand
-abbrev pub waiting : Bool → Search → List (List (List ℕ))
+abbrev pub waiting : Bool → Trailed → List (List (List ℕ))
 waiting true trail = trail.at_hand ∷ trail.behind
 waiting false trail = []
 
@@ -24,7 +24,7 @@ pub record CanCheck (picture : List (List ℕ)) (clues : Clues) (longest : ℕ) 
   pub tall : length picture ≤ longest
 
 -- A line taken: where it stands, what waits is what it leads to and what waited before; else its fault is answered.
-abbrev pub Takes : List (List ℕ) → Search → Search → CertLine → ℕ → Result Bool CertFault → Type 0
+abbrev pub Takes : List (List ℕ) → Trailed → Trailed → CertLine → ℕ → Result Bool CertFault → Type 0
 Takes picture old new line n (Ok going) =
     SameShape picture new.at_hand × ((next : List (List (List ℕ))) × (Leads picture old.at_hand line next × (waiting going new ≡ next ++ old.behind)))
 Takes picture old new line n (Err e) = (e ≡ Memory) ⊎ HasFault picture old.at_hand line n e

@@ -36,7 +36,7 @@ use Rattle.second_search.specs.Judging.{EndsBy, Passes, answer_at, cells_at}
 use Rattle.second_search.specs.Parts.{IsScene}
 use Rattle.second_search.proofs.AloneLemmas.{own_power}
 use Rattle.second_search.proofs.KnownLaws.{costs_are_unique, only_is_closed}
-use Rattle.trail.specs.Branching.{place}
+use Rattle.trail.specs.Trail.{place}
 
 -- ---- settled cells
 

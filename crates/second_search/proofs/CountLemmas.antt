@@ -10,7 +10,7 @@ use Rattle.second_search.specs.declared.counting.Budget.{Budget}
 use Rattle.second_search.specs.declared.counting.Ending.TheVariants as ending
 use Rattle.second_search.specs.declared.counting.Ending.{Ending}
 use Rattle.picture.specs.LineSet.{Lines}
-use Rattle.trail.specs.Branching.{AreOthersSame, Search, search_of}
+use Rattle.trail.specs.Trail.{AreOthersSame, Trailed, trail_of}
 use Rattle.fixpoint.specs.Closing.{KeepsOtherLines}
 use Rattle.second_search.specs.Searching.{Allows, Comes, EndsAs, Searches, SplitsBut, SplitsPast, none_waits, is_dead, is_known, is_other, is_split, once_more, past_dead, past_known, past_split, raised}
 use Rattle.second_search.specs.Stepping.{Compares, IsOneLess, Steps}
@@ -119,18 +119,18 @@ pub record Counting (clues : Clues) (known first : List (List ℕ)) (allowance :
   pub is_left : IsLeft allowance made budget.left
   pub counted : budget.splits ≡ raised 0 made
 
-pub counting_starts : (clues : Clues) (known first : List (List ℕ)) (allowance : Option ℕ) (s : Search) → s ≡ search_of first [] [] → Counting clues known first allowance (s.at_hand ∷ s.behind) (record { left = allowance; splits = 0 })
+pub counting_starts : (clues : Clues) (known first : List (List ℕ)) (allowance : Option ℕ) (s : Trailed) → s ≡ trail_of first [] [] → Counting clues known first allowance (s.at_hand ∷ s.behind) (record { left = allowance; splits = 0 })
 counting_starts clues known first allowance s e =
-    subst (λ (x : Search). Counting clues known first allowance (x.at_hand ∷ x.behind) (record { left = allowance; splits = 0 })) (sym e) (record {
+    subst (λ (x : Trailed). Counting clues known first allowance (x.at_hand ∷ x.behind) (record { left = allowance; splits = 0 })) (sym e) (record {
       made = 0;
       going = going_starts clues known first;
       is_left = all_left allowance;
       counted = omega arith;
     })
 
-pub counting_goes : LeastIsUnique → (clues : Clues) (known first : List (List ℕ)) (allowance : Option ℕ) (s t : Search) (before after : Budget) → Counting clues known first allowance (s.at_hand ∷ s.behind) before → Steps clues known s t before after None → Counting clues known first allowance t.behind after
+pub counting_goes : LeastIsUnique → (clues : Clues) (known first : List (List ℕ)) (allowance : Option ℕ) (s t : Trailed) (before after : Budget) → Counting clues known first allowance (s.at_hand ∷ s.behind) before → Steps clues known s t before after None → Counting clues known first allowance t.behind after
 counting_goes unique clues known first allowance s t before after c (inl h) =
-    let e = ap (λ (x : Search). x.behind) (sym h.1.0) in
+    let e = ap (λ (x : Trailed). x.behind) (sym h.1.0) in
     record {
       made = c.made;
       going = rw e at (going_passes unique clues known first s.at_hand s.behind c.made c.going h.0);
@@ -138,7 +138,7 @@ counting_goes unique clues known first allowance s t before after c (inl h) =
       counted = ap (λ (x : Budget). x.splits) h.1.1 ∙ c.counted;
     }
 counting_goes unique clues known first allowance s t before after c (inr h) =
-    let e = ap (λ (x : Search). x.behind) (sym h.0.new_is) in
+    let e = ap (λ (x : Trailed). x.behind) (sym h.0.new_is) in
     record {
       made = suc c.made;
       going = rw e at (going_splits unique clues known first s.at_hand h.0.settled h.0.cell s.behind c.made c.going h.0.comes);
@@ -151,7 +151,7 @@ counting_goes unique clues known first allowance s t before after c (inr h) =
 pub counted_nothing : (clues : Clues) (known first : List (List ℕ)) (allowance : Option ℕ) (waiting : List (List (List ℕ))) (budget : Budget) → Counting clues known first allowance waiting budget → waiting ≡ [] → (n : ℕ) × ((budget.splits ≡ raised 0 n) × EndsAs clues known first allowance ending.Nothing n)
 counted_nothing clues known first allowance waiting budget c e = (c.made, (c.counted, ends_with_nothing clues known first waiting c.made allowance budget.left c.going e c.is_left))
 
-pub counted_ending : LeastIsUnique → (clues : Clues) (known first : List (List ℕ)) (allowance : Option ℕ) (s t : Search) (before after : Budget) → Counting clues known first allowance (s.at_hand ∷ s.behind) before → (found : Ending) → Steps clues known s t before after (Some found) → (n : ℕ) × ((after.splits ≡ raised 0 n) × EndsAs clues known first allowance found n)
+pub counted_ending : LeastIsUnique → (clues : Clues) (known first : List (List ℕ)) (allowance : Option ℕ) (s t : Trailed) (before after : Budget) → Counting clues known first allowance (s.at_hand ∷ s.behind) before → (found : Ending) → Steps clues known s t before after (Some found) → (n : ℕ) × ((after.splits ≡ raised 0 n) × EndsAs clues known first allowance found n)
 counted_ending unique clues known first allowance s t before after c ending.Nothing h = absurd h
 counted_ending unique clues known first allowance s t before after c (ending.Found picture) h =
     (c.made, (ap (λ (x : Budget). x.splits) h.1 ∙ c.counted, ends_with_other clues known first s.at_hand picture s.behind c.made allowance before.left c.going h.0.0 h.0.1 c.is_left))
@@ -168,9 +168,9 @@ split_others facts first settled coming cell lines e f kept =
 
 -- ---- what waits weighs less
 
-pub goes_lighter : (clues : Clues) (known : List (List ℕ)) (s t u : Search) (before after : Budget) → Steps clues known s t before after None → t.behind ≡ u.at_hand ∷ u.behind → load (u.at_hand ∷ u.behind) < load (s.at_hand ∷ s.behind)
+pub goes_lighter : (clues : Clues) (known : List (List ℕ)) (s t u : Trailed) (before after : Budget) → Steps clues known s t before after None → t.behind ≡ u.at_hand ∷ u.behind → load (u.at_hand ∷ u.behind) < load (s.at_hand ∷ s.behind)
 goes_lighter clues known s t u before after (inl h) e =
-    let all : load s.behind ≡ load (u.at_hand ∷ u.behind) = ap load (ap (λ (x : Search). x.behind) (sym h.1.0) ∙ e) in
+    let all : load s.behind ≡ load (u.at_hand ∷ u.behind) = ap load (ap (λ (x : Trailed). x.behind) (sym h.1.0) ∙ e) in
     let less = ended_lighter s.at_hand s.behind in
     omega arith
 goes_lighter clues known s t u before after (inr h) e =
@@ -178,7 +178,7 @@ goes_lighter clues known s t u before after (inr h) e =
     let cell = h.0.cell in
     let to = h.0.comes.0 in
     let front = branches settled cell.row cell.col (cell_at settled cell.row cell.col) in
-    let all : load (front ++ s.behind) ≡ load (u.at_hand ∷ u.behind) = ap load (ap (λ (x : Search). x.behind) (sym h.0.new_is) ∙ e) in
+    let all : load (front ++ s.behind) ≡ load (u.at_hand ∷ u.behind) = ap load (ap (λ (x : Trailed). x.behind) (sym h.0.new_is) ∙ e) in
     let less = split_lighter settled s.behind cell to.are_facts h.0.comes.1.is in
     let most = within_lighter s.at_hand settled s.behind to.least.holds in
     omega arith
@@ -186,7 +186,7 @@ goes_lighter clues known s t u before after (inr h) e =
 -- ---- one look
 
 -- a picture compared with the known one
-pub compared : (clues : Clues) (known facts picture : List (List ℕ)) (s : Search) (coming : Coming) (budget : Budget) (found : Option Ending) → facts ≡ s.at_hand → coming ≡ Ends picture → Comes clues facts coming → Compares known picture found → Steps clues known s s budget budget found
+pub compared : (clues : Clues) (known facts picture : List (List ℕ)) (s : Trailed) (coming : Coming) (budget : Budget) (found : Option Ending) → facts ≡ s.at_hand → coming ≡ Ends picture → Comes clues facts coming → Compares known picture found → Steps clues known s s budget budget found
 compared clues known facts picture s coming budget found e f c h =
     by found (subst (λ (x : Coming). Comes clues s.at_hand x) f (subst (λ (x : List (List ℕ)). Comes clues x coming) e c)) h
   where

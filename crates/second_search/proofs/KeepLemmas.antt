@@ -23,7 +23,7 @@ use Rattle.fixpoint.specs.Closing.{AreClosable, EachFits, IsQuietLine, QuietOuts
 use Rattle.fixpoint.specs.LineNames.{AreLinesOf}
 use Rattle.split_choice.specs.declared.cell.Cell.{Cell}
 use Rattle.second_search.specs.declared.counting.Budget.{Budget}
-use Rattle.trail.specs.Branching.{GoesOn, Search, place, search_of}
+use Rattle.trail.specs.Trail.{GoesOn, Trailed, place, trail_of}
 use Rattle.second_search.specs.Looking.{AreRowsSettled, ShowOthers}
 use Rattle.second_search.specs.Searching.{KeepsOutside, NamesLinesOf}
 use Rattle.second_search.specs.Stepping.{Steps}
@@ -164,11 +164,11 @@ pub record IsReady (clues : Clues) (known : List (List ℕ)) (rows : Lines) (fir
   pub above : AreRowsSettled facts top
   pub others : ShowOthers known rows facts
 
-pub ready_first : (clues : Clues) (known : List (List ℕ)) (rows : Lines) (first : List (List ℕ)) (lines : Lines) (s : Search) → s ≡ search_of first [] [] → AreLinesOf first lines → QuietOutside clues first lines → ShowOthers known rows first → IsReady clues known rows first s.at_hand lines 0 × EachQuiet clues known rows first s.behind s.cells
+pub ready_first : (clues : Clues) (known : List (List ℕ)) (rows : Lines) (first : List (List ℕ)) (lines : Lines) (s : Trailed) → s ≡ trail_of first [] [] → AreLinesOf first lines → QuietOutside clues first lines → ShowOthers known rows first → IsReady clues known rows first s.at_hand lines 0 × EachQuiet clues known rows first s.behind s.cells
 ready_first clues known rows first lines s e of quiet others =
     rw e (record { same_shape = shape_refl first; are_lines = of; quiet = quiet; above = λ r c l w. absurd (omega arith); others = others }, tt)
 
-pub quiet_at : (clues : Clues) (known : List (List ℕ)) (rows : Lines) (first : List (List ℕ)) (s t : Search) (cell : Cell) → EachQuiet clues known rows first s.behind s.cells → GoesOn s t (Some cell) → (SameShape first t.at_hand × IsQuietBut clues known rows t.at_hand cell) × EachQuiet clues known rows first t.behind t.cells
+pub quiet_at : (clues : Clues) (known : List (List ℕ)) (rows : Lines) (first : List (List ℕ)) (s t : Trailed) (cell : Cell) → EachQuiet clues known rows first s.behind s.cells → GoesOn s t (Some cell) → (SameShape first t.at_hand × IsQuietBut clues known rows t.at_hand cell) × EachQuiet clues known rows first t.behind t.cells
 quiet_at clues known rows first s t cell q on =
     subst (λ (x : List Cell). EachQuiet clues known rows first (t.at_hand ∷ t.behind) x) on.1 (subst (λ (x : List (List (List ℕ))). EachQuiet clues known rows first x s.cells) on.0 q)
 
@@ -193,7 +193,7 @@ ready_at clues known rows first facts cell lines is s q names = record {
 }
 
 -- where a look goes on, nothing changed, or what waits now are branches of closed facts
-pub quiet_goes : (clues : Clues) (known first : List (List ℕ)) (rows : Lines) (s t : Search) (before after : Budget) → SameShape first s.at_hand → ShowOthers known rows s.at_hand → EachQuiet clues known rows first s.behind s.cells → Steps clues known s t before after None → EachQuiet clues known rows first t.behind t.cells
+pub quiet_goes : (clues : Clues) (known first : List (List ℕ)) (rows : Lines) (s t : Trailed) (before after : Budget) → SameShape first s.at_hand → ShowOthers known rows s.at_hand → EachQuiet clues known rows first s.behind s.cells → Steps clues known s t before after None → EachQuiet clues known rows first t.behind t.cells
 quiet_goes clues known first rows s t before after shape others q (inl h) = rw h.1.0 q
 quiet_goes clues known first rows s t before after shape others q (inr h) =
     let to = h.0.comes.0 in

@@ -13,7 +13,7 @@ use Rattle.line_settle.specs.declared.line_engine.Outcome.TheVariants.{Narrowed}
 use Rattle.fixpoint.specs.Closing.{Closes, EachFits, KeepsOtherLines}
 use Rattle.fixpoint.specs.Filling.{Fills, only}
 use Rattle.fixpoint.specs.Laws.{OnlyIsClosed}
-use Rattle.trail.specs.Branching.{AreOthersSame}
+use Rattle.trail.specs.Trail.{AreOthersSame}
 use Rattle.second_search.specs.Looking.{AreRowsSettled, ShowOthers, Shows}
 use Rattle.second_search.specs.Through.{across}
 use Rattle.line_settle.specs.GridLaws.{shape_sym, shape_trans, at_with_cell, off_with_cell, shape_with_cell}

@@ -41,7 +41,7 @@ use Rattle.second_search.specs.declared.tree_step.TreeStep.{TreeStep}
 use Rattle.second_search.specs.declared.tree_step.TreeStep.TheVariants.{Ends, Splits, Other}
 use Rattle.second_search.specs.declared.ladder.Decided.TheVariants.{Tree}
 use Rattle.second_search.specs.Looking.{FillsSome}
-use Rattle.trail.specs.Branching.{Search, places, search_of}
+use Rattle.trail.specs.Trail.{Trailed, places, trail_of}
 use Rattle.line_settle.specs.Branches.{branches, colours_of, held}
 use Rattle.second_search.specs.Looking.{FindsFilling, Shows}
 use Rattle.second_search.specs.Trees.{Adds, Advances, AreNone, AreTree, Continues, Decides, EachFitsAlong, ForcesMore, HasCellNumber, HasLineNumber, IsComparedTo, IsDeadLine, IsOtherIn, IsUnsettledAt, Says, Settles, ShowsOnly, Stands, Turns, TurnsOn, Walks, line_id, split_at}
@@ -347,7 +347,7 @@ none_dead law books clues longest facts picture is can fits s = shown_clues law 
 
 pub ends_turn : (clues : Clues) (known : List (List ℕ)) (old new : Growing) (line : CertLine) → Stands clues known old.trail.at_hand line [] → new.trail ≡ old.trail → Adds old.lines new.lines (line ∷ []) → TurnsOn clues known old new
 ends_turn clues known old new line s e adds =
-    let same : new.trail.behind ≡ old.trail.behind = ap (λ (x : Search). x.behind) e in
+    let same : new.trail.behind ≡ old.trail.behind = ap (λ (x : Trailed). x.behind) e in
     let light = ended_lighter old.trail.at_hand old.trail.behind in
     record {
       lines = line ∷ [];
@@ -356,11 +356,11 @@ ends_turn clues known old new line s e adds =
       lighter = rw same light;
     }
 
-pub splits_turn : (clues : Clues) (known : List (List ℕ)) (old new : Growing) (cell : Cell) (number : CellNumber) → IsFacts old.trail.at_hand → IsUnsettled old.trail.at_hand cell → number.row ≡ cell.row + 1 → number.col ≡ cell.col + 1 → new.trail ≡ search_of old.trail.at_hand (branches old.trail.at_hand cell.row cell.col (cell_at old.trail.at_hand cell.row cell.col) ++ old.trail.behind) (places cell.row cell.col (cell_at old.trail.at_hand cell.row cell.col) ++ old.trail.cells) → Adds old.lines new.lines (Split number ∷ []) → TurnsOn clues known old new
+pub splits_turn : (clues : Clues) (known : List (List ℕ)) (old new : Growing) (cell : Cell) (number : CellNumber) → IsFacts old.trail.at_hand → IsUnsettled old.trail.at_hand cell → number.row ≡ cell.row + 1 → number.col ≡ cell.col + 1 → new.trail ≡ trail_of old.trail.at_hand (branches old.trail.at_hand cell.row cell.col (cell_at old.trail.at_hand cell.row cell.col) ++ old.trail.behind) (places cell.row cell.col (cell_at old.trail.at_hand cell.row cell.col) ++ old.trail.cells) → Adds old.lines new.lines (Split number ∷ []) → TurnsOn clues known old new
 splits_turn clues known old new cell number is at er ec e adds =
     let facts = old.trail.at_hand in
     let front = branches facts cell.row cell.col (cell_at facts cell.row cell.col) in
-    let same : new.trail.behind ≡ front ++ old.trail.behind = ap (λ (x : Search). x.behind) e in
+    let same : new.trail.behind ≡ front ++ old.trail.behind = ap (λ (x : Trailed). x.behind) e in
     let r : cell.row ≡ number.row - 1 = omega (arith, er) in
     let c : cell.col ≡ number.col - 1 = omega (arith, ec) in
     let split : front ≡ split_at facts number = ap (λ (x : ℕ). branches facts x cell.col (cell_at facts x cell.col)) r ∙ ap (λ (y : ℕ). branches facts (number.row - 1) y (cell_at facts (number.row - 1) y)) c in
@@ -376,7 +376,7 @@ splits_turn clues known old new cell number is at er ec e adds =
 pub dead_turn : (clues : Clues) (known first settled : List (List ℕ)) (old new : Growing) → first ≡ old.trail.at_hand → new.trail ≡ old.trail → Settles clues first settled old.lines new.lines NoneFits → TurnsOn clues known old new
 dead_turn clues known first settled old new f e h =
     let says = h known in
-    let same : new.trail.behind ≡ old.trail.behind = ap (λ (x : Search). x.behind) e in
+    let same : new.trail.behind ≡ old.trail.behind = ap (λ (x : Trailed). x.behind) e in
     record {
       lines = says.lines;
       adds = says.adds;
@@ -384,12 +384,12 @@ dead_turn clues known first settled old new f e h =
       lighter = rw same (ended_lighter old.trail.at_hand old.trail.behind);
     }
 
-turns_on : (clues : Clues) (known first settled : List (List ℕ)) (old mid new : Growing) → first ≡ old.trail.at_hand → Settles clues first settled old.lines mid.lines Narrowed → mid.trail ≡ search_of settled old.trail.behind old.trail.cells → TurnsOn clues known mid new → TurnsOn clues known old new
+turns_on : (clues : Clues) (known first settled : List (List ℕ)) (old mid new : Growing) → first ≡ old.trail.at_hand → Settles clues first settled old.lines mid.lines Narrowed → mid.trail ≡ trail_of settled old.trail.behind old.trail.cells → TurnsOn clues known mid new → TurnsOn clues known old new
 turns_on clues known first settled old mid new f h e t =
     let says = h.1 known in
-    let behind : mid.trail.behind ≡ old.trail.behind = ap (λ (x : Search). x.behind) e in
-    let hand : mid.trail.at_hand ≡ settled = ap (λ (x : Search). x.at_hand) e in
-    let waits : mid.trail.at_hand ∷ mid.trail.behind ≡ settled ∷ old.trail.behind = ap (λ (x : Search). x.at_hand ∷ x.behind) e in
+    let behind : mid.trail.behind ≡ old.trail.behind = ap (λ (x : Trailed). x.behind) e in
+    let hand : mid.trail.at_hand ≡ settled = ap (λ (x : Trailed). x.at_hand) e in
+    let waits : mid.trail.at_hand ∷ mid.trail.behind ≡ settled ∷ old.trail.behind = ap (λ (x : Trailed). x.at_hand ∷ x.behind) e in
     let light = within_lighter old.trail.at_hand settled old.trail.behind (subst (λ (x : List (List ℕ)). IsWithin x settled) f h.0) in
     let lighter = subst (λ (x : List (List (List ℕ))). load new.trail.behind < load x) waits t.lighter in
     record {
@@ -399,10 +399,10 @@ turns_on clues known first settled old mid new f h e t =
       lighter = (let l : load new.trail.behind < load (old.trail.at_hand ∷ old.trail.behind) = omega arith in l);
     }
 
-pub turn_on : (clues : Clues) (known first settled : List (List ℕ)) (old mid new : Growing) → first ≡ old.trail.at_hand → Settles clues first settled old.lines mid.lines Narrowed → mid.trail ≡ search_of settled old.trail.behind old.trail.cells → (found : Option (List (List ℕ))) → Turns clues known mid new found → Turns clues known old new found
+pub turn_on : (clues : Clues) (known first settled : List (List ℕ)) (old mid new : Growing) → first ≡ old.trail.at_hand → Settles clues first settled old.lines mid.lines Narrowed → mid.trail ≡ trail_of settled old.trail.behind old.trail.cells → (found : Option (List (List ℕ))) → Turns clues known mid new found → Turns clues known old new found
 turn_on clues known first settled old mid new f h e None t = turns_on clues known first settled old mid new f h e t
 turn_on clues known first settled old mid new f h e (Some picture) t =
-    let hand : mid.trail.at_hand ≡ settled = ap (λ (x : Search). x.at_hand) e in
+    let hand : mid.trail.at_hand ≡ settled = ap (λ (x : Trailed). x.at_hand) e in
     (fills_fewer clues old.trail.at_hand settled picture (subst (λ (x : List (List ℕ)). IsWithin x settled) f h.0) (subst (λ (x : List (List ℕ)). Fills clues x picture) hand t.0), t.1)
 
 -- ---- a tree
@@ -415,9 +415,9 @@ Said clues known facts start g = (lines : List CertLine) × (Adds start g.lines 
 abbrev pub LeadsToEnd : Clues → List (List ℕ) → List (List ℕ) → Lines → Lines → Type 0
 LeadsToEnd clues known facts start end = (lines : List CertLine) × (Adds start end lines × Walks clues known lines (facts ∷ []) [])
 
-pub starts_said : (clues : Clues) (known facts first : List (List ℕ)) (start : Lines) (g : Growing) → first ≡ facts → g.trail ≡ search_of first [] [] → g.lines ≡ start → Said clues known facts start g
+pub starts_said : (clues : Clues) (known facts first : List (List ℕ)) (start : Lines) (g : Growing) → first ≡ facts → g.trail ≡ trail_of first [] [] → g.lines ≡ start → Said clues known facts start g
 starts_said clues known facts first start g f e l =
-    let waits : facts ∷ [] ≡ g.trail.at_hand ∷ g.trail.behind = sym (ap (λ (x : Search). x.at_hand ∷ x.behind) e ∙ ap (λ (x : List (List ℕ)). x ∷ []) f) in
+    let waits : facts ∷ [] ≡ g.trail.at_hand ∷ g.trail.behind = sym (ap (λ (x : Trailed). x.at_hand ∷ x.behind) e ∙ ap (λ (x : List (List ℕ)). x ∷ []) f) in
     ([], (subst (λ (x : Lines). Adds start x []) (sym l) (adds_none start), waits))
 
 -- a turn leads on to what waits behind

@@ -8,7 +8,7 @@ use Rattle.second_search.specs.declared.coming.Coming.TheVariants.{Dies, Ends, S
 use Rattle.second_search.specs.declared.counting.Budget.{Budget}
 use Rattle.second_search.specs.declared.counting.Ending.{Ending}
 use Rattle.second_search.specs.declared.counting.Ending.TheVariants.{Nothing, Found, BrokenOff}
-use Rattle.trail.specs.Branching.{Search, places, search_of}
+use Rattle.trail.specs.Trail.{Trailed, places, trail_of}
 use Rattle.second_search.specs.Searching.{Comes, raised}
 
 -- what is left of an allowance after one split more
@@ -29,15 +29,15 @@ Compares known picture (Some (Found other)) = (other ≡ picture) × (picture �
 Compares known picture (Some BrokenOff) = ⊥
 
 -- the facts at hand have a first open cell, and are split there
-pub record SplitsAt (clues : Clues) (old new : Search) : Type 0 where
+pub record SplitsAt (clues : Clues) (old new : Trailed) : Type 0 where
   pub settled : List (List ℕ)
   pub cell : Cell
   pub comes : Comes clues old.at_hand (Splits settled cell)
-  pub new_is : new ≡ search_of settled (branches settled cell.row cell.col (cell_at settled cell.row cell.col) ++ old.behind) (places cell.row cell.col (cell_at settled cell.row cell.col) ++ old.cells)
+  pub new_is : new ≡ trail_of settled (branches settled cell.row cell.col (cell_at settled cell.row cell.col) ++ old.behind) (places cell.row cell.col (cell_at settled cell.row cell.col) ++ old.cells)
 
 -- What a look at the facts at hand led to: the search goes on, since they are done with, or others wait in their place where they
 -- were split; or another picture was found; or no split is left.
-abbrev pub Steps : Clues → List (List ℕ) → Search → Search → Budget → Budget → Option Ending → Type 0
+abbrev pub Steps : Clues → List (List ℕ) → Trailed → Trailed → Budget → Budget → Option Ending → Type 0
 Steps clues known old new before after None =
     ((Comes clues old.at_hand Dies ⊎ Comes clues old.at_hand (Ends known)) × ((new ≡ old) × (after ≡ before)))
     ⊎ (SplitsAt clues old new × Spends before (Some after))

@@ -11,7 +11,7 @@ use Rattle.split_choice.specs.declared.cell.Cell.{Cell}
 use Rattle.trail.specs.declared.note.CellMask.{CellMask}
 use Rattle.trail.specs.declared.note.Note.{Note}
 use Rattle.trail.specs.declared.note.Note.TheVariants.{Restore, Branch}
-use Rattle.trail.specs.Branching.{AreInside, IsInside, Search, cells_held, place, places, search_of, waiting}
+use Rattle.trail.specs.Trail.{AreInside, IsInside, Trailed, cells_held, place, places, trail_of, waiting}
 use Rattle.line_settle.specs.MaskLaws.{lowest_below, shifted}
 use Rattle.line_settle.specs.Branches.{branches, colours_of, held}
 use Rattle.trail.proofs.GridLemmas.{cell_back}
@@ -87,42 +87,42 @@ are_inside_same height width high wide (Restore cell ∷ notes) h w i = (inside_
 are_inside_same height width high wide (Branch cell ∷ notes) h w i = (inside_same height width high wide cell h w i.0, are_inside_same height width high wide notes h w i.1)
 
 -- a cell held to a mask, with the old one noted
-pub holds : (s : Search) (facts new : List (List ℕ)) (notes more : List Note) (cell : CellMask) (mask : ℕ) → search_of facts (waiting facts (reverse notes)) (cells_held (reverse notes)) ≡ s → IsFacts facts → cell.row < length s.at_hand → cell.col < width_of s.at_hand → cell.mask ≡ cell_at facts cell.row cell.col → new ≡ with_cell facts cell.row cell.col mask → more ≡ notes ++ Restore cell ∷ [] → search_of new (waiting new (reverse more)) (cells_held (reverse more)) ≡ search_of (with_cell s.at_hand cell.row cell.col mask) s.behind s.cells
+pub holds : (s : Trailed) (facts new : List (List ℕ)) (notes more : List Note) (cell : CellMask) (mask : ℕ) → trail_of facts (waiting facts (reverse notes)) (cells_held (reverse notes)) ≡ s → IsFacts facts → cell.row < length s.at_hand → cell.col < width_of s.at_hand → cell.mask ≡ cell_at facts cell.row cell.col → new ≡ with_cell facts cell.row cell.col mask → more ≡ notes ++ Restore cell ∷ [] → trail_of new (waiting new (reverse more)) (cells_held (reverse more)) ≡ trail_of (with_cell s.at_hand cell.row cell.col mask) s.behind s.cells
 holds s facts new notes more cell mask v is h w m n e =
-    let front = ap (λ (x : Search). x.at_hand) v in
+    let front = ap (λ (x : Trailed). x.at_hand) v in
     let tall = ap length front in
     let wide = ap width_of front in
     let back : with_cell (with_cell facts cell.row cell.col mask) cell.row cell.col cell.mask ≡ facts =
     ap (λ x. with_cell (with_cell facts cell.row cell.col mask) cell.row cell.col x) m ∙ cell_back facts cell.row cell.col mask (omega arith) (omega arith) in
     let held_to = with_cell facts cell.row cell.col mask in
     let behind : waiting held_to (reverse more) ≡ s.behind =
-    ap (waiting held_to) (newest notes more (Restore cell) e) ∙ (ap (λ x. waiting x (reverse notes)) back ∙ ap (λ (x : Search). x.behind) v) in
-    let cells : cells_held (reverse more) ≡ s.cells = ap cells_held (newest notes more (Restore cell) e) ∙ ap (λ (x : Search). x.cells) v in
-    rw n (ap (λ (x : List (List (List ℕ))). search_of held_to x (cells_held (reverse more))) behind
-    ∙ (ap (λ (x : List Cell). search_of held_to s.behind x) cells
-    ∙ ap (λ (x : List (List ℕ)). search_of (with_cell x cell.row cell.col mask) s.behind s.cells) front))
+    ap (waiting held_to) (newest notes more (Restore cell) e) ∙ (ap (λ x. waiting x (reverse notes)) back ∙ ap (λ (x : Trailed). x.behind) v) in
+    let cells : cells_held (reverse more) ≡ s.cells = ap cells_held (newest notes more (Restore cell) e) ∙ ap (λ (x : Trailed). x.cells) v in
+    rw n (ap (λ (x : List (List (List ℕ))). trail_of held_to x (cells_held (reverse more))) behind
+    ∙ (ap (λ (x : List Cell). trail_of held_to s.behind x) cells
+    ∙ ap (λ (x : List (List ℕ)). trail_of (with_cell x cell.row cell.col mask) s.behind s.cells) front))
 
 -- no colours make no branches
-pub no_branches : (s : Search) (row col mask : ℕ) → mask ≡ 0 → s ≡ search_of s.at_hand (branches s.at_hand row col mask ++ s.behind) (places row col mask ++ s.cells)
-no_branches s row col mask e = ap (λ xs. search_of s.at_hand (held s.at_hand row col xs ++ s.behind) (map (λ (k : ℕ). place row col) xs ++ s.cells)) (sym (ap colours_of e ∙ no_colours))
+pub no_branches : (s : Trailed) (row col mask : ℕ) → mask ≡ 0 → s ≡ trail_of s.at_hand (branches s.at_hand row col mask ++ s.behind) (places row col mask ++ s.cells)
+no_branches s row col mask e = ap (λ xs. trail_of s.at_hand (held s.at_hand row col xs ++ s.behind) (map (λ (k : ℕ). place row col) xs ++ s.cells)) (sym (ap colours_of e ∙ no_colours))
 
 -- the first branch begun, and the others put before what waits
-pub begins : (s t u : Search) (row col mask lowest rest : ℕ) → 0 < mask → mask < 2 ^ 16 → lowest ≡ 1 * 2 ^ trailing_zeros w16 mask % 65536 → rest ≡ bit_and mask (bit_not w16 lowest) → t ≡ search_of s.at_hand (branches s.at_hand row col rest ++ s.behind) (places row col rest ++ s.cells) → u ≡ search_of (with_cell t.at_hand row col lowest) t.behind t.cells → branches s.at_hand row col mask ++ s.behind ≡ u.at_hand ∷ u.behind
+pub begins : (s t u : Trailed) (row col mask lowest rest : ℕ) → 0 < mask → mask < 2 ^ 16 → lowest ≡ 1 * 2 ^ trailing_zeros w16 mask % 65536 → rest ≡ bit_and mask (bit_not w16 lowest) → t ≡ trail_of s.at_hand (branches s.at_hand row col rest ++ s.behind) (places row col rest ++ s.cells) → u ≡ trail_of (with_cell t.at_hand row col lowest) t.behind t.cells → branches s.at_hand row col mask ++ s.behind ≡ u.at_hand ∷ u.behind
 begins s t u row col mask lowest rest p q l r et eu =
     let power : 2 ^ trailing_zeros w16 mask ≡ lowest = sym (l ∙ shifted (trailing_zeros w16 mask) (lowest_below mask p q)) in
     let others : bit_and mask (bit_not w16 (1 * 2 ^ trailing_zeros w16 mask % 65536)) ≡ rest = ap (λ n. bit_and mask (bit_not w16 n)) (sym l) ∙ sym r in
-    let front : with_cell s.at_hand row col lowest ≡ u.at_hand = sym (ap (λ (x : Search). x.at_hand) eu ∙ ap (λ (x : Search). with_cell x.at_hand row col lowest) et) in
-    let behind : branches s.at_hand row col rest ++ s.behind ≡ u.behind = sym (ap (λ (x : Search). x.behind) eu ∙ ap (λ (x : Search). x.behind) et) in
+    let front : with_cell s.at_hand row col lowest ≡ u.at_hand = sym (ap (λ (x : Trailed). x.at_hand) eu ∙ ap (λ (x : Trailed). with_cell x.at_hand row col lowest) et) in
+    let behind : branches s.at_hand row col rest ++ s.behind ≡ u.behind = sym (ap (λ (x : Trailed). x.behind) eu ∙ ap (λ (x : Trailed). x.behind) et) in
     ap (λ xs. xs ++ s.behind) (ap (held s.at_hand row col) (lowest_colour mask p q))
     ∙ (ap (λ n. with_cell s.at_hand row col n ∷ (branches s.at_hand row col (bit_and mask (bit_not w16 (1 * 2 ^ trailing_zeros w16 mask % 65536))) ++ s.behind)) power
     ∙ (ap (λ n. with_cell s.at_hand row col lowest ∷ (branches s.at_hand row col n ++ s.behind)) others
     ∙ (ap (λ x. x ∷ (branches s.at_hand row col rest ++ s.behind)) front ∙ ap (λ xs. u.at_hand ∷ xs) behind)))
 
 -- its cell is the one held
-pub begins_held : (s t u : Search) (row col mask lowest rest : ℕ) → 0 < mask → mask < 2 ^ 16 → lowest ≡ 1 * 2 ^ trailing_zeros w16 mask % 65536 → rest ≡ bit_and mask (bit_not w16 lowest) → t ≡ search_of s.at_hand (branches s.at_hand row col rest ++ s.behind) (places row col rest ++ s.cells) → u ≡ search_of (with_cell t.at_hand row col lowest) t.behind t.cells → places row col mask ++ s.cells ≡ place row col ∷ u.cells
+pub begins_held : (s t u : Trailed) (row col mask lowest rest : ℕ) → 0 < mask → mask < 2 ^ 16 → lowest ≡ 1 * 2 ^ trailing_zeros w16 mask % 65536 → rest ≡ bit_and mask (bit_not w16 lowest) → t ≡ trail_of s.at_hand (branches s.at_hand row col rest ++ s.behind) (places row col rest ++ s.cells) → u ≡ trail_of (with_cell t.at_hand row col lowest) t.behind t.cells → places row col mask ++ s.cells ≡ place row col ∷ u.cells
 begins_held s t u row col mask lowest rest p q l r et eu =
     let others : bit_and mask (bit_not w16 (1 * 2 ^ trailing_zeros w16 mask % 65536)) ≡ rest = ap (λ n. bit_and mask (bit_not w16 n)) (sym l) ∙ sym r in
-    let cells : places row col rest ++ s.cells ≡ u.cells = sym (ap (λ (x : Search). x.cells) eu ∙ ap (λ (x : Search). x.cells) et) in
+    let cells : places row col rest ++ s.cells ≡ u.cells = sym (ap (λ (x : Trailed). x.cells) eu ∙ ap (λ (x : Trailed). x.cells) et) in
     ap (λ xs. xs ++ s.cells) (ap (λ (xs : List ℕ). map (λ (k : ℕ). place row col) xs) (lowest_colour mask p q))
     ∙ (ap (λ n. place row col ∷ (places row col n ++ s.cells)) others ∙ ap (λ xs. place row col ∷ xs) cells)
 

@@ -1,1 +1,1 @@
-pub mod Branching
+pub mod Trail

@@ -4,7 +4,7 @@ ghost use Rattle.std.specs.Prelude.{◌≡◌, ℕ, ◌<◌, [], ◌∷◌, ◌+
 ghost use Rattle.picture.specs.Rows.{width_of, cell_at, with_cell};
 ghost use Rattle.line_settle.specs.FactSets.{IsFacts, SameShape};
 ghost use Rattle.line_settle.specs.Branches.{branches};
-ghost use Rattle.trail.specs.Branching.{place, places, search_of, AreInside, AreOthersSame, GoesOn, IsInside, IsRowTaken, PutsBack};
+ghost use Rattle.trail.specs.Trail.{place, places, trail_of, AreInside, AreOthersSame, GoesOn, IsInside, IsRowTaken, PutsBack};
 
 use crate::note::{CellMask, Note};
 use crate::rows::has_row;
@@ -28,11 +28,11 @@ pub struct Trail {
 impl Model for Trail {
     ghost use Rattle.std.specs.Prelude.{length, reverse};
     ghost use Rattle.picture.specs.Rows.{width_of};
-    ghost use Rattle.trail.specs.Branching.{AreInside, Search, cells_held, search_of, waiting};
+    ghost use Rattle.trail.specs.Trail.{AreInside, Trailed, cells_held, trail_of, waiting};
 
-    ghost Value = { Search };
+    ghost Value = { Trailed };
 
-    ghost view = { λ p. search_of p.facts (waiting p.facts (reverse p.notes.items)) (cells_held (reverse p.notes.items)) };
+    ghost view = { λ p. trail_of p.facts (waiting p.facts (reverse p.notes.items)) (cells_held (reverse p.notes.items)) };
 
     ghost invariant = { λ p. AreInside (length p.facts) (width_of p.facts) (reverse p.notes.items) };
 }
@@ -40,7 +40,7 @@ impl Model for Trail {
 impl Trail {
     /// The facts alone, with none behind them.
     pub fn start(alloc: Global, facts: Facts) -> Trail
-        ensures { result ≡ search_of facts [] [] }
+        ensures { result ≡ trail_of facts [] [] }
     {
         Trail {
             facts,
@@ -60,7 +60,7 @@ impl Trail {
     pub fn narrow(&mut self, settled: &Facts, rows: &LineSet) -> Result<(), AllocError>
         requires same_shape { SameShape self.old.at_hand settled.now }
         requires others { AreOthersSame self.old.at_hand settled.now rows.now }
-        ensures { OnOk result (self.new ≡ search_of settled.now self.old.behind self.old.cells) }
+        ensures { OnOk result (self.new ≡ trail_of settled.now self.old.behind self.old.cells) }
     {
         for row in 0..settled.height() {
             self.narrow_row(settled, rows, row)?;
@@ -88,11 +88,12 @@ impl Trail {
     }
 
     /// Holds a cell of the facts at hand to some colours, and notes the mask that it had where they differ.
+    #[inline]
     pub fn hold(&mut self, row: u8, col: u8, held: u16) -> Result<(), AllocError>
         requires in_rows { row < length self.old.at_hand }
         requires in_columns { col < width_of self.old.at_hand }
         ensures holds { OnOk result (self.new
-            ≡ search_of (with_cell self.old.at_hand row col held) self.old.behind self.old.cells) }
+            ≡ trail_of (with_cell self.old.at_hand row col held) self.old.behind self.old.cells) }
         ensures facts { IsFacts self.old.at_hand }
     {
         let mask = self.facts.left(row, col);
@@ -107,7 +108,7 @@ impl Trail {
     pub fn split(&mut self, cell: Cell) -> Result<(), AllocError>
         requires in_rows { cell.row < length self.old.at_hand }
         requires in_columns { cell.col < width_of self.old.at_hand }
-        ensures { OnOk result (self.new ≡ search_of self.old.at_hand
+        ensures { OnOk result (self.new ≡ trail_of self.old.at_hand
             (branches self.old.at_hand cell.row cell.col (cell_at self.old.at_hand cell.row cell.col) ++ self.old.behind)
             (places cell.row cell.col (cell_at self.old.at_hand cell.row cell.col) ++ self.old.cells)) }
     {
@@ -121,7 +122,7 @@ impl Trail {
     fn push_branch(&mut self, cell: CellMask) -> Result<(), AllocError>
         requires in_rows { cell.row < length self.old.at_hand }
         requires in_columns { cell.col < width_of self.old.at_hand }
-        ensures { OnOk result (self.new ≡ search_of self.old.at_hand
+        ensures { OnOk result (self.new ≡ trail_of self.old.at_hand
             (branches self.old.at_hand cell.row cell.col cell.mask ++ self.old.behind)
             (places cell.row cell.col cell.mask ++ self.old.cells)) }
     {

@@ -1,7 +1,7 @@
 use Rattle.std.proofs.Common.{◌≡◌, ◌∙◌, [], None, Option, Some, arith, refl}
 use Rattle.line_settle.specs.GridLaws.{shape_trans}
 use Rattle.split_choice.specs.declared.cell.Cell.{Cell}
-use Rattle.trail.specs.Branching.{GoesOn, Search}
+use Rattle.trail.specs.Trail.{GoesOn, Trailed}
 use Rattle.second_search.specs.Through.{across}
 use Rattle.second_search.proofs.CountLemmas.{counted_ending, counted_nothing, counting_goes, counting_starts, goes_lighter}
 use Rattle.second_search.proofs.KeepLemmas.{both_named, can_close_like, quiet_at, quiet_goes, ready_at, ready_first}
@@ -39,7 +39,7 @@ returns-in-Some-clause-ends g c =
     let t = c.look_once.new.self in
     counted_ending least_is_unique c.args.book.now c.args.known.now c.args.start.facts c.args.start.allowance s.trail t.trail s.budget t.budget c.loop-search.invariant.counting c.in-Some.ending (rw c.in-Some.is at c.in_ok-found.ensures.steps)
 
-nothing_waits : (s t : Search) (cell : Option Cell) → ((x : Cell) → cell ≡ Some x → ⊥) → GoesOn s t cell → s.behind ≡ []
+nothing_waits : (s t : Trailed) (cell : Option Cell) → ((x : Cell) → cell ≡ Some x → ⊥) → GoesOn s t cell → s.behind ≡ []
 nothing_waits s t None none on = on
 nothing_waits s t (Some cell) none on = absurd (none cell refl)
 

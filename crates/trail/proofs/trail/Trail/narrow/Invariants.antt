@@ -1,6 +1,6 @@
 use Rattle.std.proofs.Common.{◌≡◌}
 use Rattle.line_settle.specs.FactSets.{SameShape}
-use Rattle.trail.specs.Branching.{AreOthersSame, AreSameAbove}
+use Rattle.trail.specs.Trail.{AreOthersSame, AreSameAbove}
 use Rattle.trail.proofs.trail.Trail.narrow.Given as goal
 
 abbrev pub invariant-loop-row : goal.invariant-loop-row

@@ -49,13 +49,13 @@ PutsBack old notes new rest (Some cell) = (waiting old notes ≡ branches new ce
     × (cells_held notes ≡ places cell.row cell.col cell.mask ++ cells_held rest)
 
 -- the facts at hand, and those that wait behind them, of each of which a cell was held last
-pub record Search : Type 0 where
+pub record Trailed : Type 0 where
   pub at_hand : List (List ℕ)
   pub behind : List (List (List ℕ))
   pub cells : List Cell
 
-abbrev pub search_of : List (List ℕ) → List (List (List ℕ)) → List Cell → Search
-search_of at_hand behind cells = record { at_hand = at_hand; behind = behind; cells = cells }
+abbrev pub trail_of : List (List ℕ) → List (List (List ℕ)) → List Cell → Trailed
+trail_of at_hand behind cells = record { at_hand = at_hand; behind = behind; cells = cells }
 
 -- one row is that of other facts, and the other rows are as they were
 pub record IsRowTaken (old settled new : List (List ℕ)) (row : ℕ) : Type 0 where
@@ -72,6 +72,6 @@ abbrev pub AreOthersSame : List (List ℕ) → List (List ℕ) → Lines → Typ
 AreOthersSame facts settled rows = (row col : ℕ) → row < length settled → (HasName rows (across row) → ⊥) → cell_at facts row col ≡ cell_at settled row col
 
 -- the next facts that wait are at hand, in which this cell is held, or none do
-abbrev pub GoesOn : Search → Search → Option Cell → Type 0
+abbrev pub GoesOn : Trailed → Trailed → Option Cell → Type 0
 GoesOn old new (Some cell) = (old.behind ≡ new.at_hand ∷ new.behind) × (old.cells ≡ cell ∷ new.cells)
 GoesOn old new None = old.behind ≡ []
