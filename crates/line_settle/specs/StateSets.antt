@@ -66,3 +66,7 @@ pub record ArePatternSets (width : ℕ) (pattern : List ℕ) (sets : StateSets) 
 -- how a cell of a mask moves a line along each pattern with these sets
 abbrev pub AreMovesOf : ℕ → StateSets → ℕ → MoveSets → Type 0
 AreMovesOf width sets mask moves = (pattern : List ℕ) → ArePatternSets width pattern sets → MovesBy width pattern mask moves
+
+-- the moves of a cell, kept for the next one of its mask
+abbrev pub AreKept : {W : Type 0} → (W → ℕ) → ℕ → StateSets → Moves W → Type 0
+AreKept bits width sets kept = AreMovesOf width sets kept.mask (moves_of bits kept)

@@ -60,7 +60,7 @@ pub fn fill_down<W: Word>(set: W, spans: &[W]) -> W
     let mut step = 1;
     for k in 0..W::rounds() {
         let span = spans[k];
-        if k == SHORT && span.is_none() {
+        if k >= SHORT && span.is_none() {
             return all;
         }
         all = all.or(all.down(step).and(span));

@@ -5,7 +5,7 @@ ghost use Rattle.clues.specs.Clue.{IsClue};
 ghost use Rattle.line_settle.specs.Spelling.{allows, pattern_of, finish_step, reach_step};
 ghost use Rattle.line_settle.specs.Laying.{gap_before};
 ghost use Rattle.line_settle.specs.Positions.{has};
-ghost use Rattle.line_settle.specs.StateSets.{AreStates, MovesBy, AreMovesOf, AreNext, ArePatternSets, moves_of, sets_of};
+ghost use Rattle.line_settle.specs.StateSets.{AreStates, MovesBy, AreMovesOf, AreKept, AreNext, ArePatternSets, moves_of, sets_of};
 
 use crate::block_steps::meets;
 use crate::pattern::allows;
@@ -179,19 +179,22 @@ impl<'a, W: Word> PatternSets<'a, W> {
         }
     }
 
-    /// The same. Where it is the mask of the cell before, nothing is looked up.
+    /// The same. Where the moves of the mask are kept, nothing is looked up; else they are kept for the next cell, but for those
+    /// of all colours, which are at hand.
     #[inline]
-    pub fn moves_after(&self, mask: u16, before: Moves<W>) -> Moves<W>
+    pub fn moves_after(&self, mask: u16, kept: &mut Moves<W>) -> Moves<W>
         requires sixteen { length self.now.next.now ≡ 16 }
-        requires before { AreMovesOf W.width (sets_of W.bits self.now) before.mask
-            (moves_of W.bits before) }
-        ensures mask { result.mask ≡ mask }
+        requires kept { AreKept W.bits W.width (sets_of W.bits self.now) kept.old }
+        ensures kept { AreKept W.bits W.width (sets_of W.bits self.now) kept.new }
         ensures moves { AreMovesOf W.width (sets_of W.bits self.now) mask (moves_of W.bits result) }
     {
-        if mask == before.mask {
-            before
-        } else {
-            self.moves_by(mask)
+        if mask == kept.mask {
+            return *kept;
         }
+        let moves = self.moves_by(mask);
+        if mask & self.colours != self.colours {
+            *kept = moves;
+        }
+        moves
     }
 }

@@ -6,7 +6,7 @@ ghost use Rattle.std.specs.Mem.{type_size};
 ghost use Rattle.clues.specs.Clue.{IsClue};
 ghost use Rattle.line_settle.specs.LeavingOut.{ForcesAll, LeavesOut};
 ghost use Rattle.line_settle.specs.Spelling.{pattern_of, finishes, finish_step, reach_step};
-ghost use Rattle.line_settle.specs.StateSets.{AreStates, MovesBy, ArePatternSets, Shares, moves_of, sets_of};
+ghost use Rattle.line_settle.specs.StateSets.{AreStates, MovesBy, AreKept, ArePatternSets, Shares, moves_of, sets_of};
 ghost use Rattle.line_settle.specs.Marking.{finish_marked, finishes_marked, reach_marked, AreReached, AreBehind, SweepsOut, reached_of, unmarked};
 ghost use Rattle.line_settle.specs.Sweeping.{IsUndrawn, SweptTo, SweptMarked, SweptAll};
 ghost use Rattle.line_settle.specs.Masks.{all_sixteen};
@@ -20,6 +20,9 @@ use picture::MAX_SIDE;
 
 // How many cells a line has at the most.
 const MOST: usize = MAX_SIDE as usize;
+
+// Lines of so many cells get small buffers.
+const FEW: usize = 16;
 
 // A clue that needs at most so many cells has its states in 64 bits.
 const NEAR: usize = 63;
@@ -61,9 +64,11 @@ fn meets_marked<W: Word>(on: Reached<W>, plain: W, marked: W) -> bool
 
 impl<'a, W: Word> PatternSets<'a, W> {
     // The states behind a cell of drawn colours; mostly it has none.
-    fn reach_drawn(&self, colours: u16, from: W) -> W
+    fn reach_drawn(&self, colours: u16, from: W, kept: &mut Moves<W>) -> W
         requires sixteen { length self.now.next.now ≡ 16 }
-        ensures { (pattern : List ℕ) (before : ℕ → Bool)
+        requires kept { AreKept W.bits W.width (sets_of W.bits self.now) kept.old }
+        ensures kept { AreKept W.bits W.width (sets_of W.bits self.now) kept.new }
+        ensures states { (pattern : List ℕ) (before : ℕ → Bool)
             → ArePatternSets W.width pattern (sets_of W.bits self.now)
             → AreStates pattern before (W.bits from)
             → AreStates pattern (reach_step pattern colours before) (W.bits result) }
@@ -71,34 +76,38 @@ impl<'a, W: Word> PatternSets<'a, W> {
         if colours == 0 {
             return W::low(0);
         }
-        self.moves_by(colours).forward(from)
+        self.moves_after(colours, kept).forward(from)
     }
 
-    // The states behind a cell, `colours` being those of the mask's colours that are drawn there.
-    fn reach(&self, moves: Moves<W>, colours: u16, from: Reached<W>) -> Reached<W>
+    // The states behind a cell, `drawn` being those of the mask's colours that are drawn there.
+    fn reach(&self, cell: Moves<W>, drawn: u16, from: Reached<W>, kept: &mut Moves<W>) -> Reached<W>
         requires sixteen { length self.now.next.now ≡ 16 }
-        ensures { (pattern : List ℕ) (mask : ℕ) (all marked : ℕ → Bool)
+        requires kept { AreKept W.bits W.width (sets_of W.bits self.now) kept.old }
+        ensures kept { AreKept W.bits W.width (sets_of W.bits self.now) kept.new }
+        ensures states { (pattern : List ℕ) (mask : ℕ) (all marked : ℕ → Bool)
             → ArePatternSets W.width pattern (sets_of W.bits self.now)
-            → MovesBy W.width pattern mask (moves_of W.bits moves)
+            → MovesBy W.width pattern mask (moves_of W.bits cell)
             → AreReached pattern all marked (reached_of W.bits from)
             → AreReached
             pattern
             (reach_step pattern mask all)
-            (reach_marked pattern mask colours all marked)
+            (reach_marked pattern mask drawn all marked)
             (reached_of W.bits result) }
     {
         Reached {
-            all: moves.forward(from.all),
-            marked: moves
+            all: cell.forward(from.all),
+            marked: cell
                 .forward(from.marked)
-                .or(self.reach_drawn(colours, from.all)),
+                .or(self.reach_drawn(drawn, from.all, kept)),
         }
     }
 
     // The states before a cell of drawn colours that it leads to one of a set; mostly it has none.
-    fn back_drawn(&self, colours: u16, later: W) -> W
+    fn back_drawn(&self, colours: u16, later: W, kept: &mut Moves<W>) -> W
         requires sixteen { length self.now.next.now ≡ 16 }
-        ensures { (pattern : List ℕ) (behind : ℕ → Bool)
+        requires kept { AreKept W.bits W.width (sets_of W.bits self.now) kept.old }
+        ensures kept { AreKept W.bits W.width (sets_of W.bits self.now) kept.new }
+        ensures states { (pattern : List ℕ) (behind : ℕ → Bool)
             → ArePatternSets W.width pattern (sets_of W.bits self.now)
             → AreStates pattern behind (W.bits later)
             → AreStates pattern (finish_step pattern colours behind) (W.bits result) }
@@ -106,27 +115,29 @@ impl<'a, W: Word> PatternSets<'a, W> {
         if colours == 0 {
             return W::low(0);
         }
-        self.moves_by(colours).back(later)
+        self.moves_after(colours, kept).back(later)
     }
 
     // The states before a cell from which lines, and marked lines, can go on to the states behind it.
-    fn back(&self, moves: Moves<W>, colours: u16, later: Reached<W>) -> Reached<W>
+    fn back(&self, cell: Moves<W>, drawn: u16, later: Reached<W>, kept: &mut Moves<W>) -> Reached<W>
         requires sixteen { length self.now.next.now ≡ 16 }
-        ensures { (pattern : List ℕ) (mask : ℕ) (all marked : ℕ → Bool)
+        requires kept { AreKept W.bits W.width (sets_of W.bits self.now) kept.old }
+        ensures kept { AreKept W.bits W.width (sets_of W.bits self.now) kept.new }
+        ensures states { (pattern : List ℕ) (mask : ℕ) (all marked : ℕ → Bool)
             → ArePatternSets W.width pattern (sets_of W.bits self.now)
-            → MovesBy W.width pattern mask (moves_of W.bits moves)
+            → MovesBy W.width pattern mask (moves_of W.bits cell)
             → AreReached pattern all marked (reached_of W.bits later)
             → AreReached
             pattern
             (finish_step pattern mask all)
-            (finish_marked pattern mask colours all marked)
+            (finish_marked pattern mask drawn all marked)
             (reached_of W.bits result) }
     {
         Reached {
-            all: moves.back(later.all),
-            marked: moves
+            all: cell.back(later.all),
+            marked: cell
                 .back(later.marked)
-                .or(self.back_drawn(colours, later.all)),
+                .or(self.back_drawn(drawn, later.all, kept)),
         }
     }
 
@@ -163,8 +174,8 @@ impl<'a, W: Word> PatternSets<'a, W> {
             at -= 1;
             plain[at] = states;
             marked[at] = W::low(0);
-            cell = self.moves_after(left[at], cell);
-            states = cell.back(states);
+            let moves = self.moves_after(left[at], &mut cell);
+            states = moves.back(states);
         }
         Edge { at, states }
     }
@@ -195,11 +206,12 @@ impl<'a, W: Word> PatternSets<'a, W> {
             marked: W::low(0),
         };
         let mut cell = self.moves_by(u16::MAX);
+        let mut stroke = cell;
         for i in (0..last.at).rev() {
             plain[i] = later.all;
             marked[i] = later.marked;
-            cell = self.moves_after(left[i], cell);
-            later = self.back(cell, left[i] & drawn[i], later);
+            let moves = self.moves_after(left[i], &mut cell);
+            later = self.back(moves, left[i] & drawn[i], later, &mut stroke);
         }
         last.at
     }
@@ -234,8 +246,8 @@ impl<'a, W: Word> PatternSets<'a, W> {
                 left[at] = u16::MAX;
                 states = on;
             } else {
-                cell = self.moves_after(left[at], cell);
-                states = cell.forward(states);
+                let moves = self.moves_after(left[at], &mut cell);
+                states = moves.forward(states);
             }
             at += 1;
         }
@@ -278,11 +290,12 @@ impl<'a, W: Word> PatternSets<'a, W> {
             all: first.states,
             marked: W::low(0),
         };
+        let mut stroke = cell;
         for i in first.at..behind.end {
-            let on = self.reach(full, u16::MAX & drawn[i], from);
+            let on = self.reach(full, u16::MAX & drawn[i], from, &mut stroke);
             if meets_marked(on, behind.plain[i], behind.marked[i]) {
-                cell = self.moves_after(left[i], cell);
-                from = self.reach(cell, left[i] & drawn[i], from);
+                let moves = self.moves_after(left[i], &mut cell);
+                from = self.reach(moves, left[i] & drawn[i], from, &mut stroke);
             } else {
                 left[i] = u16::MAX;
                 from = on;
@@ -329,33 +342,34 @@ impl<'a, W: Word> PatternSets<'a, W> {
                 left[place] = u16::MAX;
                 marked = on;
             } else {
-                cell = self.moves_after(left[place], cell);
-                marked = cell.forward(marked);
+                let moves = self.moves_after(left[place], &mut cell);
+                marked = moves.forward(marked);
             }
         }
     }
 }
 
-// Leaves out what a line with room for its blocks can do without, by sets of states in words.
-fn leave_out_by<W: Word>(blocks: &[Block], drawn: &[u16], left: &mut [u16])
+// Leaves out what a line with room for its blocks can do without, by sets of states in words, in the buffers that are lent.
+fn leave_out_by<W: Word>(
+    blocks: &[Block],
+    drawn: &[u16],
+    left: &mut [u16],
+    plain: &mut [W],
+    marked: &mut [W],
+)
     requires blocks_of_clue { IsClue blocks.now }
     requires small_word { type_size W.row ≤ 16 }
     requires same_length { length drawn.now ≡ length left.old }
-    requires short { length left.old ≤ MAX_SIDE }
+    requires plain_room { length left.old ≤ length plain.old }
+    requires marked_room { length left.old ≤ length marked.old }
     requires few_states { length (pattern_of blocks.now) ≤ W.width }
     ensures { (finishes_marked (pattern_of blocks.now) left.old drawn.now 0 ≡ true → ⊥)
         → SweepsOut (pattern_of blocks.now) drawn.now left.old left.new (length left.old) }
 {
     let mut next = [W::low(0); 16];
     let sets = PatternSets::of(blocks, &mut next);
-    let mut plain = [W::low(0); MOST];
-    let mut marked = [W::low(0); MOST];
-    let end = sets.note_behind(drawn, left, &mut plain, &mut marked);
-    let behind = Behind {
-        plain: &plain,
-        marked: &marked,
-        end,
-    };
+    let end = sets.note_behind(drawn, left, plain, marked);
+    let behind = Behind { plain, marked, end };
     // Each cell gets all sixteen colours where no line is marked then, from the first cell on.
     let first = sets.sweep_first(drawn, &behind, left);
     let before = sets.sweep_drawn(drawn, &behind, left, first);
@@ -395,9 +409,11 @@ pub fn leave_out(clue: &Clue, drawn: &[u16], left: &mut [u16])
         left.fill(u16::MAX);
         return;
     }
-    if are_near(blocks, left.len()) {
-        leave_out_by::<u64>(blocks, drawn, left);
+    if left.len() <= FEW {
+        leave_out_by::<u64>(blocks, drawn, left, &mut [0; FEW], &mut [0; FEW]);
+    } else if are_near(blocks, left.len()) {
+        leave_out_by::<u64>(blocks, drawn, left, &mut [0; MOST], &mut [0; MOST]);
     } else {
-        leave_out_by::<u128>(blocks, drawn, left);
+        leave_out_by::<u128>(blocks, drawn, left, &mut [0; MOST], &mut [0; MOST]);
     }
 }

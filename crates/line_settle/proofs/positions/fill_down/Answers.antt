@@ -18,7 +18,7 @@ returns-then-is_none g c = λ cells are i.
     let span = c.index-spans-k.result in
     let is = word_at bits c.args.spans.now k span (omega arith) c.index-spans-k.is in
     let l = step_below _ _ _ at.step_is c.loop-k-test.true in
-    filled_short (bits c.args.set) cells (bits c.loop-k.all) (bits span) c.loop-k.step i (eqb-true _ _ (sym c.is_none-then-k-eq-SHORT.ensures.value ∙ c.if-is_none.true)) (rw is (spanned_by _ cells _ _ k at.step_is (omega (arith, c.rounds-k-end.ensures.width)) are)) (at.reaching cells are)
+    filled_short (bits c.args.set) cells (bits c.loop-k.all) (bits span) c.loop-k.step i (eqb-true _ _ (sym c.is_none-then-k-ge-SHORT.ensures.value ∙ c.if-is_none.true)) (rw is (spanned_by _ cells _ _ k at.step_is (omega (arith, c.rounds-k-end.ensures.width)) are)) (at.reaching cells are)
 
 pub loop-k-preserved : goal.loop-k-preserved
 loop-k-preserved g c =
