@@ -206,12 +206,12 @@ impl<'a, W: Word> PatternSets<'a, W> {
             marked: W::low(0),
         };
         let mut cell = self.moves_by(u16::MAX);
-        let mut stroke = cell;
+        let mut drawing = cell;
         for i in (0..last.at).rev() {
             plain[i] = later.all;
             marked[i] = later.marked;
             let moves = self.moves_after(left[i], &mut cell);
-            later = self.back(moves, left[i] & drawn[i], later, &mut stroke);
+            later = self.back(moves, left[i] & drawn[i], later, &mut drawing);
         }
         last.at
     }
@@ -290,12 +290,12 @@ impl<'a, W: Word> PatternSets<'a, W> {
             all: first.states,
             marked: W::low(0),
         };
-        let mut stroke = cell;
+        let mut drawing = cell;
         for i in first.at..behind.end {
-            let on = self.reach(full, u16::MAX & drawn[i], from, &mut stroke);
+            let on = self.reach(full, u16::MAX & drawn[i], from, &mut drawing);
             if meets_marked(on, behind.plain[i], behind.marked[i]) {
                 let moves = self.moves_after(left[i], &mut cell);
-                from = self.reach(moves, left[i] & drawn[i], from, &mut stroke);
+                from = self.reach(moves, left[i] & drawn[i], from, &mut drawing);
             } else {
                 left[i] = u16::MAX;
                 from = on;

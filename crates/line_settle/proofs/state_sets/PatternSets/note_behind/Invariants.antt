@@ -8,6 +8,6 @@ abbrev pub invariant-loop-i : goal.invariant-loop-i
 invariant-loop-i g l = record {
   later_is : (pattern : List ℕ) → ArePatternSets g.W.Word.width pattern (sets_of g.W.Word.bits l.self) → AreReached pattern (finishes pattern (drop l.i l.left)) (finishes_marked pattern (drop l.i l.left) (drop l.i l.drawn)) (reached_of g.W.Word.bits l.later);
   cell_is : AreKept g.W.Word.bits g.W.Word.width (sets_of g.W.Word.bits l.self) l.cell;
-  stroke_is : AreKept g.W.Word.bits g.W.Word.width (sets_of g.W.Word.bits l.self) l.stroke;
+  drawing_is : AreKept g.W.Word.bits g.W.Word.width (sets_of g.W.Word.bits l.self) l.drawing;
   noted : (pattern : List ℕ) → ArePatternSets g.W.Word.width pattern (sets_of g.W.Word.bits l.self) → (j : ℕ) → l.i ≤ j → j < length l.left → AreBehind pattern l.left l.drawn (map g.W.Word.bits l.plain) (map g.W.Word.bits l.marked) j;
 }

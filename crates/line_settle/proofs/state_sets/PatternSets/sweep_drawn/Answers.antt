@@ -9,7 +9,7 @@ use Rattle.line_settle.proofs.state_sets.PatternSets.sweep_drawn.Goals as goal
 use Rattle.line_settle.proofs.state_sets.PatternSets.sweep_drawn.Goals.{then-meets_marked, else-meets_marked}
 
 pub loop-i-init : goal.loop-i-init
-loop-i-init g c = record { swept = λ old start. rw c.low.ensures start; cell_is = rw c.moves_by-full.ensures.mask c.moves_by-full.ensures.moves; stroke_is = rw c.moves_by-full.ensures.mask c.moves_by-full.ensures.moves }
+loop-i-init g c = record { swept = λ old start. rw c.low.ensures start; cell_is = rw c.moves_by-full.ensures.mask c.moves_by-full.ensures.moves; drawing_is = rw c.moves_by-full.ensures.mask c.moves_by-full.ensures.moves }
 
 pub loop-i-preserved : goal.loop-i-preserved
 loop-i-preserved g c =
@@ -40,9 +40,9 @@ loop-i-preserved g c =
         | then-meets_marked x ↦ rw x.cell-is x.moves_after-moves.ensures.kept
         | else-meets_marked x ↦ rw x.cell-is c.loop-i.invariant.cell_is
       ];
-      stroke_is = elim c.if-meets_marked.branch [
-        | then-meets_marked x ↦ rw x.stroke-is x.reach-from.ensures.kept
-        | else-meets_marked x ↦ rw x.stroke-is c.reach-on.ensures.kept
+      drawing_is = elim c.if-meets_marked.branch [
+        | then-meets_marked x ↦ rw x.drawing-is x.reach-from.ensures.kept
+        | else-meets_marked x ↦ rw x.drawing-is c.reach-on.ensures.kept
       ];
     }
 

@@ -8,5 +8,5 @@ abbrev pub invariant-loop-i : goal.invariant-loop-i
 invariant-loop-i g l = record {
   swept : (old : List ℕ) → SweptTo g.W.Word.width (sets_of g.W.Word.bits l.self) l.drawn (map g.W.Word.bits l.behind.plain.now) (map g.W.Word.bits l.behind.marked.now) old l.initial.left (unmarked (g.W.Word.bits l.fn.first.states)) l.fn.first.at → SweptTo g.W.Word.width (sets_of g.W.Word.bits l.self) l.drawn (map g.W.Word.bits l.behind.plain.now) (map g.W.Word.bits l.behind.marked.now) old l.left (reached_of g.W.Word.bits l.from) l.i;
   cell_is : AreKept g.W.Word.bits g.W.Word.width (sets_of g.W.Word.bits l.self) l.cell;
-  stroke_is : AreKept g.W.Word.bits g.W.Word.width (sets_of g.W.Word.bits l.self) l.stroke;
+  drawing_is : AreKept g.W.Word.bits g.W.Word.width (sets_of g.W.Word.bits l.self) l.drawing;
 }
