@@ -44,8 +44,8 @@ pub fn close_facts<E: LineEngine, A: Agenda>(
     closed.outcome
 }
 
-/// Closes facts in the same way, and names the lines that were evaluated and those that cross them where they changed: each other
-/// line is as it was.
+/// Closes facts in the same way, and names the lines of `dirty` and those that cross a line where it changed: each other line is
+/// as it was.
 pub fn close_naming<E: LineEngine, A: Agenda>(
     engine: &mut E,
     agenda: &mut A,
