@@ -1,9 +1,10 @@
 -- The steps of a book that stand after a change.
-use Rattle.std.specs.Prelude.{◌≡◌, ℕ, ◌⊎◌, List, [], ◌∷◌, ◌++◌, length, Some, IsBitSet}
+use Rattle.std.specs.Prelude.{◌≡◌, ℕ, ◌<◌, ◌⊎◌, ◌↔◌, List, [], ◌∷◌, ◌++◌, length, Some, IsBitSet}
 use Rattle.picture.specs.declared.line_id.Axis.{Axis}
 use Rattle.picture.specs.declared.line_id.LineId.{LineId}
 use Rattle.clues.specs.Change.{Moves, Stays, image_of, lines_after, lines_before}
 use Rattle.picture.specs.Crossing.{crossing}
+use Rattle.picture.specs.LineSet.{Lines, HasName}
 use Rattle.clues.specs.ClueBook.{Clues, clue_at, clues_along}
 use Rattle.line_settle.specs.FactSets.{Excludes, row_on, col_on}
 use Rattle.justify.specs.declared.premise.Premise.{Premise}
@@ -42,6 +43,27 @@ pub record Stands (moves : Moves) (old new : Clues) (Known : ℕ → ℕ → ℕ
   pub premises_stay : StayInPlace moves step.line.axis step.premises
   pub drawn_stay : StayInPlace moves step.line.axis step.drawn
   pub premises_known : AreKnown Known to step.premises
+
+-- an old line is a line of the new picture, with the same clue
+pub record KeepsClue (moves : Moves) (old new : Clues) (line : LineId) : Type 0 where
+  pub to : LineId
+  pub image : image_of moves line ≡ Some to
+  pub same_clue : clue_at new to ≡ clue_at old line
+
+-- of the old lines a set has exactly the names of these
+abbrev pub HaveSameClues : Moves → Clues → Clues → Lines → Type 0
+HaveSameClues moves old new same = (line : LineId) → line.at < lines_before line.axis moves → HasName same line ↔ KeepsClue moves old new line
+
+-- one of the first lines along an axis keeps its clue
+pub record KeepsClueAlong (moves : Moves) (old new : Clues) (axis : Axis) (count : ℕ) (line : LineId) : Type 0 where
+  pub along : line.axis ≡ axis
+  pub near : line.at < count
+  pub keeps : KeepsClue moves old new line
+
+-- the names of these lines are put into a set
+abbrev pub PutsSame : Moves → Clues → Clues → Axis → ℕ → Lines → Lines → Type 0
+PutsSame moves old new axis count before after =
+    (line : LineId) → HasName after line ↔ (HasName before line ⊎ KeepsClueAlong moves old new axis count line)
 
 -- the step on another line
 abbrev pub moved : Step → LineId → Step

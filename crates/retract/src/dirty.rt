@@ -6,7 +6,7 @@ ghost use Rattle.picture.specs.declared.line_id.LineId.{LineId};
 ghost use Rattle.picture.specs.LineSet.{HasName};
 ghost use Rattle.picture.specs.Rows.{line_of, lines_along, HasLine};
 ghost use Rattle.clues.specs.Change.{lines_after, lines_before};
-ghost use Rattle.retract.specs.Standing.{HaveBooks};
+ghost use Rattle.retract.specs.Standing.{HaveBooks, HaveSameClues};
 ghost use Rattle.retract.specs.Dirty.{AreDirty, AreDirtyAlong, HaveFacts, IsClean, IsInPlace, SaysTheSame};
 
 use crate::sizes::is_in_place;
@@ -14,12 +14,14 @@ use clues::{Change, ClueBook};
 use line_settle::Facts;
 use picture::{Axis, LineId, LineSet};
 
-// The clues of the old picture and of the new one, the change between them, and what is known of the cells of each.
+// The clues of the old picture and of the new one, the change between them, the names of the old lines that keep their clues,
+// and what is known of the cells of each.
 #[derive(Clone, Copy)]
 pub(crate) struct Sides<'a> {
     pub old: &'a ClueBook,
     pub new: &'a ClueBook,
     pub change: &'a Change,
+    pub same: &'a LineSet,
     pub before: &'a Facts,
     pub after: &'a Facts,
 }
@@ -27,6 +29,8 @@ pub(crate) struct Sides<'a> {
 // The lines that may say something new.
 pub(crate) fn dirty_lines(sides: &Sides<'_>) -> LineSet
     requires books { HaveBooks sides.now.change.now.moves sides.now.old.now sides.now.new.now }
+    requires same { HaveSameClues sides.now.change.now.moves sides.now.old.now sides.now.new.now
+        sides.now.same.now }
     requires facts { HaveFacts sides.now.change.now.moves sides.now.before.now sides.now.after.now }
     ensures { AreDirty sides.now.change.now.moves sides.now.old.now sides.now.new.now
         sides.now.before.now sides.now.after.now result }
@@ -40,6 +44,8 @@ pub(crate) fn dirty_lines(sides: &Sides<'_>) -> LineSet
 // Puts the dirty lines along an axis.
 fn put_dirty(dirty: &mut LineSet, axis: Axis, sides: &Sides<'_>)
     requires books { HaveBooks sides.now.change.now.moves sides.now.old.now sides.now.new.now }
+    requires same { HaveSameClues sides.now.change.now.moves sides.now.old.now sides.now.new.now
+        sides.now.same.now }
     requires facts { HaveFacts sides.now.change.now.moves sides.now.before.now sides.now.after.now }
     requires none { (line : LineId) → line.axis ≡ axis → HasName dirty.old line → ⊥ }
     ensures along { AreDirtyAlong axis sides.now.change.now.moves sides.now.old.now
@@ -60,6 +66,8 @@ fn put_dirty(dirty: &mut LineSet, axis: Axis, sides: &Sides<'_>)
 fn is_clean(in_place: bool, sides: &Sides<'_>, line: LineId) -> bool
     requires in_place { IsTrue in_place ↔ IsInPlace sides.now.change.now.moves line.axis }
     requires books { HaveBooks sides.now.change.now.moves sides.now.old.now sides.now.new.now }
+    requires same { HaveSameClues sides.now.change.now.moves sides.now.old.now sides.now.new.now
+        sides.now.same.now }
     requires facts { HaveFacts sides.now.change.now.moves sides.now.before.now sides.now.after.now }
     requires line { HasLine sides.now.after.now line }
     ensures { IsTrue result ↔ IsClean sides.now.change.now.moves sides.now.old.now
@@ -71,6 +79,8 @@ fn is_clean(in_place: bool, sides: &Sides<'_>, line: LineId) -> bool
 // Whether the old line that a new line is has the same clue, and the same is known of its cells.
 fn says_the_same(sides: &Sides<'_>, line: LineId) -> bool
     requires books { HaveBooks sides.now.change.now.moves sides.now.old.now sides.now.new.now }
+    requires same { HaveSameClues sides.now.change.now.moves sides.now.old.now sides.now.new.now
+        sides.now.same.now }
     requires facts { HaveFacts sides.now.change.now.moves sides.now.before.now sides.now.after.now }
     requires line { HasLine sides.now.after.now line }
     ensures { IsTrue result ↔ SaysTheSame sides.now.change.now.moves sides.now.old.now
@@ -79,6 +89,6 @@ fn says_the_same(sides: &Sides<'_>, line: LineId) -> bool
     let Some(from) = sides.change.origin(line) else {
         return false;
     };
-    sides.old.clue(from).same(sides.new.clue(line))
-        && sides.before.same_line(from, sides.after, line)
+    let _ = sides.old.line_count(from.axis);
+    sides.same.has(from) && sides.before.same_line(from, sides.after, line)
 }

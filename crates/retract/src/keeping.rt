@@ -12,6 +12,7 @@ ghost use Rattle.retract.specs.Standing.{AreStanding, HaveBooks};
 ghost use Rattle.retract.specs.Dirty.{AreDirty};
 
 use crate::dirty::{Sides, dirty_lines};
+use crate::same_clues::lines_of_same_clue;
 use crate::standing::standing_line;
 use clues::{Change, ClueBook};
 use justify::Book;
@@ -54,9 +55,10 @@ pub fn keep(
         → IfOk result (λ kept. EachOutside CanFit new.now kept.book.facts kept.dirty) }
 {
     let _ = base.height();
+    let same = lines_of_same_clue(old, new, change);
     let mut kept = Book::start(alloc, base)?;
     for step in book.steps() {
-        if let Some(to) = standing_line(step, old, new, change, kept.facts()) {
+        if let Some(to) = standing_line(step, old, new, change, &same, kept.facts()) {
             kept.add_step(step.moved_to(to)?)?;
         }
     }
@@ -64,6 +66,7 @@ pub fn keep(
         old,
         new,
         change,
+        same: &same,
         before: book.facts(),
         after: kept.facts(),
     };

@@ -3,6 +3,7 @@
 
 mod dirty;
 mod keeping;
+mod same_clues;
 mod sizes;
 mod standing;
 

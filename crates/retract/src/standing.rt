@@ -8,24 +8,26 @@ ghost use Rattle.clues.specs.Change.{AreMoves, lines_after, lines_before};
 ghost use Rattle.picture.specs.Crossing.{crossing};
 ghost use Rattle.line_settle.specs.FactSets.{Excludes};
 ghost use Rattle.justify.specs.Premises.{Mentions};
-ghost use Rattle.retract.specs.Standing.{AreKnown, ExcludesAll, HaveBooks, Stands, StayInPlace};
+ghost use Rattle.retract.specs.Standing.{AreKnown, ExcludesAll, HaveBooks, HaveSameClues, Stands, StayInPlace};
 
 use crate::sizes::keeps_length;
 use clues::{Change, ClueBook};
 use justify::{Premise, Step};
 use line_settle::Facts;
-use picture::{Axis, LineId};
+use picture::{Axis, LineId, LineSet};
 
 // The line of the new picture on which a step stands, if it does. `known` is what the new base excludes and the steps kept so
-// far draw.
+// far draw, and `same` has the names of the old lines that keep their clues.
 pub(crate) fn standing_line(
     step: &Step,
     old: &ClueBook,
     new: &ClueBook,
     change: &Change,
+    same: &LineSet,
     known: &Facts,
 ) -> Option<LineId>
     requires books { HaveBooks change.now.moves old.now new.now }
+    requires same { HaveSameClues change.now.moves old.now new.now same.now }
     requires line { step.now.line.at < lines_before step.now.line.axis change.now.moves }
     requires premises { (i : ℕ) → Mentions step.now.premises i
         → i < lines_before (crossing step.now.line.axis) change.now.moves }
@@ -44,7 +46,7 @@ pub(crate) fn standing_line(
     let to = change.image(line)?;
     let premises = step.premises.as_slice();
     if keeps_length(old, new, change, line.axis)
-        && new.clue(to).same(old.clue(line))
+        && same.has(line)
         && stay_in_place(change, line.axis, premises)
         && stay_in_place(change, line.axis, step.drawn.as_slice())
         && are_known(known, to, premises)
