@@ -30,7 +30,8 @@ pub(crate) fn cell_in(picture: &Picture, cell: CellNumber) -> Option<Cell>
     ensures { MatchOption
         result
         (HasCellNumber picture.now cell → ⊥)
-        (λ found. HasCellNumber picture.now cell × (found.row ≡ cell.row - 1) × (found.col ≡ cell.col - 1)) }
+        (λ found. HasCellNumber picture.now cell
+        × (found.row ≡ cell.row - 1) × (found.col ≡ cell.col - 1)) }
 {
     let (height, width) = (u16::from(picture.height()), u16::from(picture.width()));
     if cell.row == 0 || cell.row > height || cell.col == 0 || cell.col > width {

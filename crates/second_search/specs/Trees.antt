@@ -147,6 +147,7 @@ abbrev pub AreNone : Bool → Lines → Type 0
 AreNone keeps (Kept lines) = (keeps ≡ true) × (lines.items ≡ [])
 AreNone keeps Dropped = keeps ≡ false
 
+-- lines are kept exactly where that is asked
 abbrev pub AreKeptWhere : Bool → Lines → Type 0
 AreKeptWhere keeps (Kept lines) = keeps ≡ true
 AreKeptWhere keeps Dropped = keeps ≡ false

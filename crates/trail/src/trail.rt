@@ -1,4 +1,4 @@
-//! The facts that wait, kept as those at hand and a stack of notes.
+//! The trail: the facts of the branch at hand, and a stack of notes that tells which others wait.
 
 ghost use Rattle.std.specs.Prelude.{◌≡◌, ℕ, ◌<◌, [], ◌∷◌, ◌++◌, length, reverse, IfOk, OnOk, IfSome};
 ghost use Rattle.picture.specs.Rows.{width_of, cell_at, with_cell};
@@ -18,7 +18,8 @@ use std::marker::Model;
 /// which others wait behind them, the newest last.
 ///
 /// A cell's mask is noted only where it changes, and a branch only while it has colours to try. So where `advance` follows each
-/// split, and cells are held to fewer colours alone, the cells and the colours bound the notes, however deep a search goes.
+/// split, and colours are only taken from cells, cells and colours bound the notes, however deep a search goes. After lack of
+/// memory a trail is only for throwing away.
 #[derive(Drop)]
 pub struct Trail {
     facts: Facts,
@@ -38,7 +39,7 @@ impl Model for Trail {
 }
 
 impl Trail {
-    /// The facts alone, with none behind them.
+    /// A trail with these facts at hand, and none behind them.
     pub fn start(alloc: Global, facts: Facts) -> Trail
         ensures { result ≡ trail_of facts [] [] }
     {
