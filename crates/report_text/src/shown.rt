@@ -8,7 +8,7 @@ ghost use Rattle.report_text.specs.Room.{TakesRoom, picture_room};
 ghost use Rattle.report_text.specs.Shown.{letter, map_text, mask_letter, picture_text, row_text};
 
 use line_settle::Facts;
-use picture::Picture;
+use picture::{MAX_SIDE, Picture};
 use std::alloc::AllocError;
 
 // The letter of a colour.
@@ -75,14 +75,17 @@ pub fn push_map(text: &mut Vec<u8>, facts: &Facts) -> Result<(), AllocError>
     Ok(())
 }
 
-// A row of a map.
+// A row of a map, whose letters are put behind the text together.
 fn push_masks(text: &mut Vec<u8>, facts: &Facts, row: u8) -> Result<(), AllocError>
     requires { row < length facts.now }
     ensures { OnOk result (text.new.items
         ≡ text.old.items ++ row_text mask_letter (row_at facts.now row)) }
 {
-    for col in 0..facts.width() {
-        text.push(mask_letter(facts.left(row, col)))?;
+    let mut letters = [0; MAX_SIDE as usize];
+    let cells = facts.width();
+    for col in 0..cells {
+        letters[usize::from(col)] = mask_letter(facts.left(row, col));
     }
+    text.extend_from_slice(&letters[..usize::from(cells)])?;
     Ok(text.push(b'\n')?)
 }
