@@ -1,6 +1,6 @@
 //! Sets of states of a pattern as bits, for leaving premises out.
 
-ghost use Rattle.std.specs.Prelude.{◌≡◌, ℕ, ◌+◌, ◌<◌, ◌≤◌, ◌↔◌, true, List, Bool, bit_and, length, map, replicate, slice_index};
+ghost use Rattle.std.specs.Prelude.{◌≡◌, ℕ, ◌+◌, ◌<◌, ◌≤◌, ◌↔◌, true, List, Bool, length, map, replicate, slice_index};
 ghost use Rattle.clues.specs.Clue.{IsClue};
 ghost use Rattle.line_settle.specs.Spelling.{allows, pattern_of, finish_step, reach_step};
 ghost use Rattle.line_settle.specs.Laying.{gap_before};
@@ -158,20 +158,6 @@ impl<'a, W: Word> PatternSets<'a, W> {
         }
     }
 
-    // How a cell moves a line in which all colours of the pattern are left.
-    #[inline]
-    fn moves_by_all(&self, mask: u16) -> Moves<W>
-        requires { bit_and mask self.now.colours ≡ self.now.colours }
-        ensures mask { result.mask ≡ mask }
-        ensures moves { AreMovesOf W.width (sets_of W.bits self.now) mask (moves_of W.bits result) }
-    {
-        Moves {
-            mask,
-            advancing: self.inner,
-            resting: self.waiting,
-        }
-    }
-
     /// How a cell with one of the mask's colours moves a line.
     pub fn moves_by(&self, mask: u16) -> Moves<W>
         requires { length self.now.next.now ≡ 16 }
@@ -180,7 +166,11 @@ impl<'a, W: Word> PatternSets<'a, W> {
     {
         let colours = mask & self.colours;
         if colours == self.colours {
-            return self.moves_by_all(mask);
+            return Moves {
+                mask,
+                advancing: self.inner,
+                resting: self.waiting,
+            };
         }
         Moves {
             mask,
@@ -189,21 +179,18 @@ impl<'a, W: Word> PatternSets<'a, W> {
         }
     }
 
-    /// The same. The moves of all colours are at hand, and where those of the mask are kept, nothing is looked up; else they are
-    /// kept for the next cell.
+    /// The same. Where it is the mask of the cell before, nothing is looked up.
     #[inline]
-    pub fn moves_after(&self, mask: u16, kept: &mut Moves<W>) -> Moves<W>
+    pub fn moves_after(&self, mask: u16, before: Moves<W>) -> Moves<W>
         requires sixteen { length self.now.next.now ≡ 16 }
-        requires kept { AreKept W.bits W.width (sets_of W.bits self.now) kept.old }
-        ensures kept { AreKept W.bits W.width (sets_of W.bits self.now) kept.new }
+        requires kept { AreKept W.bits W.width (sets_of W.bits self.now) before }
+        ensures kept { AreKept W.bits W.width (sets_of W.bits self.now) result }
         ensures moves { AreMovesOf W.width (sets_of W.bits self.now) mask (moves_of W.bits result) }
     {
-        if mask & self.colours == self.colours {
-            return self.moves_by_all(mask);
+        if mask == before.mask {
+            before
+        } else {
+            self.moves_by(mask)
         }
-        if mask != kept.mask {
-            *kept = self.moves_by(mask);
-        }
-        *kept
     }
 }

@@ -76,7 +76,8 @@ impl<'a, W: Word> PatternSets<'a, W> {
         if colours == 0 {
             return W::low(0);
         }
-        self.moves_after(colours, kept).forward(from)
+        *kept = self.moves_after(colours, *kept);
+        kept.forward(from)
     }
 
     // The states behind a cell, `drawn` being those of the mask's colours that are drawn there.
@@ -115,7 +116,8 @@ impl<'a, W: Word> PatternSets<'a, W> {
         if colours == 0 {
             return W::low(0);
         }
-        self.moves_after(colours, kept).back(later)
+        *kept = self.moves_after(colours, *kept);
+        kept.back(later)
     }
 
     // The states before a cell from which lines, and marked lines, can go on to the states behind it.
@@ -174,8 +176,8 @@ impl<'a, W: Word> PatternSets<'a, W> {
             at -= 1;
             plain[at] = states;
             marked[at] = W::low(0);
-            let moves = self.moves_after(left[at], &mut cell);
-            states = moves.back(states);
+            cell = self.moves_after(left[at], cell);
+            states = cell.back(states);
         }
         Edge { at, states }
     }
@@ -210,8 +212,8 @@ impl<'a, W: Word> PatternSets<'a, W> {
         for i in (0..last.at).rev() {
             plain[i] = later.all;
             marked[i] = later.marked;
-            let moves = self.moves_after(left[i], &mut cell);
-            later = self.back(moves, left[i] & drawn[i], later, &mut drawing);
+            cell = self.moves_after(left[i], cell);
+            later = self.back(cell, left[i] & drawn[i], later, &mut drawing);
         }
         last.at
     }
@@ -246,8 +248,8 @@ impl<'a, W: Word> PatternSets<'a, W> {
                 left[at] = u16::MAX;
                 states = on;
             } else {
-                let moves = self.moves_after(left[at], &mut cell);
-                states = moves.forward(states);
+                cell = self.moves_after(left[at], cell);
+                states = cell.forward(states);
             }
             at += 1;
         }
@@ -294,8 +296,8 @@ impl<'a, W: Word> PatternSets<'a, W> {
         for i in first.at..behind.end {
             let on = self.reach(full, u16::MAX & drawn[i], from, &mut drawing);
             if meets_marked(on, behind.plain[i], behind.marked[i]) {
-                let moves = self.moves_after(left[i], &mut cell);
-                from = self.reach(moves, left[i] & drawn[i], from, &mut drawing);
+                cell = self.moves_after(left[i], cell);
+                from = self.reach(cell, left[i] & drawn[i], from, &mut drawing);
             } else {
                 left[i] = u16::MAX;
                 from = on;
@@ -342,8 +344,8 @@ impl<'a, W: Word> PatternSets<'a, W> {
                 left[place] = u16::MAX;
                 marked = on;
             } else {
-                let moves = self.moves_after(left[place], &mut cell);
-                marked = moves.forward(marked);
+                cell = self.moves_after(left[place], cell);
+                marked = cell.forward(marked);
             }
         }
     }

@@ -24,8 +24,8 @@ loop-i-preserved g c =
     record {
       later_is = λ pattern are.
           before_cell pattern left drawn i (reached_of bits c.back-later.result) (omega arith) (omega arith)
-          (c.back-later.ensures.states pattern (get_or left i 0) (finishes pattern (drop (suc i) left)) (finishes_marked pattern (drop (suc i) left) (drop (suc i) drawn)) are (c.moves_after-moves.ensures.moves pattern are) (later pattern are));
-      cell_is = c.moves_after-moves.ensures.kept;
+          (c.back-later.ensures.states pattern (get_or left i 0) (finishes pattern (drop (suc i) left)) (finishes_marked pattern (drop (suc i) left) (drop (suc i) drawn)) are (c.moves_after-cell.ensures.moves pattern are) (later pattern are));
+      cell_is = c.moves_after-cell.ensures.kept;
       drawing_is = c.back-later.ensures.kept;
       noted = λ pattern are.
           let l = length-map c.loop-i.plain bits in

@@ -31,8 +31,8 @@ cells-preserved g c =
       later_is = λ pattern are.
           let later = behind pattern are in
           before_cell pattern left drawn i (unmarked (bits c.back-states.result)) (omega arith) (omega arith)
-          (unmarked_back pattern (get_or left i 0) (get_or drawn i 0) _ (finishes pattern (drop (suc i) left)) (finishes_marked pattern (drop (suc i) left) (drop (suc i) drawn)) here later.marked_are (c.back-states.ensures pattern _ _ (c.moves_after-moves.ensures.moves pattern are) later.all_are));
-      cell_is = c.moves_after-moves.ensures.kept;
+          (unmarked_back pattern (get_or left i 0) (get_or drawn i 0) _ (finishes pattern (drop (suc i) left)) (finishes_marked pattern (drop (suc i) left) (drop (suc i) drawn)) here later.marked_are (c.back-states.ensures pattern _ _ (c.moves_after-cell.ensures.moves pattern are) later.all_are));
+      cell_is = c.moves_after-cell.ensures.kept;
       noted = λ pattern are.
           let l = length-map c.cells.plain bits in
           let k = length-map c.cells.marked bits in

@@ -32,12 +32,12 @@ loop-i-preserved g c =
           rw add-one (elim c.if-meets_marked.branch [
             | then-meets_marked x ↦
                 let to = reached_of bits x.reach-from.result in
-                let nexts : Reaches w sets drawn left i (get_or left i 0) to = λ pattern are. x.reach-from.ensures.states pattern (get_or left i 0) (reaches pattern left i) (reaches_marked pattern left drawn i) are (x.moves_after-moves.ensures.moves pattern are) (swept.from_is pattern are) in
+                let nexts : Reaches w sets drawn left i (get_or left i 0) to = λ pattern are. x.reach-from.ensures.states pattern (get_or left i 0) (reaches pattern left i) (reaches_marked pattern left drawn i) are (x.moves_after-cell.ensures.moves pattern are) (swept.from_is pattern are) in
                 rw (x.from-is, x.left-is) (step_kept w sets drawn _ _ old left _ on to i inside same swept ons nexts (meets.0 x.if-meets_marked.true))
             | else-meets_marked x ↦ rw (x.from-is, x.left-is) (step_out w sets drawn _ _ old left _ on i inside same swept ons (λ s. false≢true (sym x.if-meets_marked.false ∙ meets.1 s)))
           ]);
       cell_is = elim c.if-meets_marked.branch [
-        | then-meets_marked x ↦ rw x.cell-is x.moves_after-moves.ensures.kept
+        | then-meets_marked x ↦ rw x.cell-is x.moves_after-cell.ensures.kept
         | else-meets_marked x ↦ rw x.cell-is c.loop-i.invariant.cell_is
       ];
       drawing_is = elim c.if-meets_marked.branch [

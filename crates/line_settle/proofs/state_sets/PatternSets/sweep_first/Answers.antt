@@ -47,11 +47,11 @@ cells-preserved g c =
             let to = bits x.forward-states.result in
             let nexts : Reaches w sets drawn left i (get_or left i 0) (unmarked to) = λ pattern are.
             (let from = swept.from_is pattern are in
-            unmarked_forward pattern (get_or left i 0) (get_or drawn i 0) to (reaches pattern left i) (reaches_marked pattern left drawn i) none from.marked_are (x.forward-states.ensures pattern _ (reaches pattern left i) (x.moves_after-moves.ensures.moves pattern are) from.all_are)) in
+            unmarked_forward pattern (get_or left i 0) (get_or drawn i 0) to (reaches pattern left i) (reaches_marked pattern left drawn i) none from.marked_are (x.forward-states.ensures pattern _ (reaches pattern left i) (x.moves_after-cell.ensures.moves pattern are) from.all_are)) in
             rw (x.states-is, x.left-is) (step_kept w sets drawn _ _ _ left _ (unmarked on) (unmarked to) i inside same swept ons nexts (inr (test.0 x.if-is_none.false)))
       ]);
       cell_is = elim c.if-is_none.branch [
         | then-is_none x ↦ rw x.cell-is c.cells.invariant.cell_is
-        | else-is_none x ↦ rw x.cell-is x.moves_after-moves.ensures.kept
+        | else-is_none x ↦ rw x.cell-is x.moves_after-cell.ensures.kept
       ];
     }

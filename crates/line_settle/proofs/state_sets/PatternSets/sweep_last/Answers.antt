@@ -34,12 +34,12 @@ loop-place-preserved g c =
             | then-is_none x ↦ rw (x.marked-is, x.left-is) (last_out w sets drawn _ _ old left _ on i inside same none swept ons (test.1 x.if-is_none.true))
             | else-is_none x ↦
                 let to = bits x.forward-marked.result in
-                let nexts : Marks w sets drawn left i (get_or left i 0) to = λ pattern are. x.forward-marked.ensures pattern (get_or left i 0) (reaches_marked pattern left drawn i) (x.moves_after-moves.ensures.moves pattern are) (swept.from_is pattern are) in
+                let nexts : Marks w sets drawn left i (get_or left i 0) to = λ pattern are. x.forward-marked.ensures pattern (get_or left i 0) (reaches_marked pattern left drawn i) (x.moves_after-cell.ensures.moves pattern are) (swept.from_is pattern are) in
                 rw (x.marked-is, x.left-is) (last_kept w sets drawn _ _ old left _ on to i inside same none swept ons nexts (test.0 x.if-is_none.false))
           ]);
       cell_is = elim c.if-is_none.branch [
         | then-is_none x ↦ rw x.cell-is c.loop-place.invariant.cell_is
-        | else-is_none x ↦ rw x.cell-is x.moves_after-moves.ensures.kept
+        | else-is_none x ↦ rw x.cell-is x.moves_after-cell.ensures.kept
       ];
     }
 
