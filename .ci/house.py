@@ -34,10 +34,15 @@ def place(file, line):
 
 
 def wide_clauses():
-    """Clauses of more than a hundred columns."""
+    """Lines of clauses of more than a hundred columns, their continuations too."""
     for file, text in sources('src', '.rt'):
+        inside = False
         for number, line in enumerate(text.split('\n'), 1):
-            if re.match(r'\s*(requires|ensures)\b', line) and len(line) > WIDE:
+            if re.match(r'\s*(requires|ensures)\b', line):
+                inside = True
+            elif re.match(r'\s*({|}|//|(pub )?fn |pub\b|$)', line):
+                inside = False
+            if inside and len(line) > WIDE:
                 yield place(file, number)
 
 

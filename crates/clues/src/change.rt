@@ -85,7 +85,8 @@ impl Change {
         ensures lines { (picture : List (List ℕ)) → HasSize height width picture
             → Follows result picture (line_deleted picture line) }
         ensures exact { (picture : List (List ℕ)) → HasSize height width picture
-            → IsPicture (line_deleted picture line) → IsChangeOf result picture (line_deleted picture line) }
+            → IsPicture (line_deleted picture line)
+            → IsChangeOf result picture (line_deleted picture line) }
         ensures only_changed { (old new : List (List ℕ)) → IsPicture old → IsPicture new
             → HaveSizes result.moves old new → TouchesChanged result old new }
     {
@@ -102,7 +103,8 @@ impl Change {
         ensures are_moves { AreMoves result.moves }
         ensures untouched { (line : LineId) → IsTouched result line → ⊥ }
         ensures lines { (picture : List (List ℕ)) → HasSize height width picture
-            → FollowsSwap axis first second result.moves picture (lines_swapped axis first second picture) }
+            → FollowsSwap axis first second result.moves picture
+            (lines_swapped axis first second picture) }
     {
         Change::along(axis, Places::Swapped(first, second), height, width)
     }

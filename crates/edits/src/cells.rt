@@ -42,7 +42,8 @@ pub(crate) fn put_givens(givens: &mut CellSet, picture: &Picture, places: &[(u8,
     requires places { All (IsPlaceIn picture.now) places.now }
     requires inside { AreInside givens.old picture.now }
     ensures marks { marks_of (length picture.now) (width_of picture.now) givens.new
-        ≡ with_cells (marks_of (length picture.now) (width_of picture.now) givens.old) (map as_mark places.now) }
+        ≡ with_cells (marks_of (length picture.now) (width_of picture.now) givens.old)
+        (map as_mark places.now) }
     ensures inside { AreInside givens.new picture.now }
 {
     for &(row, col) in places {

@@ -25,7 +25,9 @@ pub fn painted(document: &Document, edit: &Edit, cells: &[Cell]) -> Result<Docum
     requires coloured { AreColoured (with_cells document.now.picture
         (map (repainted edit.now) cells.now)) document.now.palette }
     ensures { IfOk result (λ d. design_of d
-        ≡ design document.now.palette (with_cells document.now.picture (map (repainted edit.now) cells.now)) (design_of document.now).marks) }
+        ≡ design document.now.palette
+        (with_cells document.now.picture (map (repainted edit.now) cells.now))
+        (design_of document.now).marks) }
 {
     let mut after = document.copy()?;
     paint_cells(&mut after.picture, edit, cells);
@@ -39,7 +41,8 @@ pub fn with_cells(document: &Document, cells: &[Cell]) -> Result<Document, Alloc
     requires coloured { AreColoured (with_cells document.now.picture cells.now)
         document.now.palette }
     ensures { IfOk result (λ d. design_of d
-        ≡ design document.now.palette (with_cells document.now.picture cells.now) (design_of document.now).marks) }
+        ≡ design document.now.palette (with_cells document.now.picture cells.now)
+        (design_of document.now).marks) }
 {
     let mut after = document.copy()?;
     put_cells(&mut after.picture, cells);
@@ -70,7 +73,8 @@ pub fn inserted(document: &Document, line: LineId) -> Result<Document, AllocErro
     requires room { lines_along line.axis document.now.picture < MAX_SIDE }
     requires coloured { AreColoured (line_inserted document.now.picture line) document.now.palette }
     ensures { IfOk result (λ d. design_of d
-        ≡ design document.now.palette (line_inserted document.now.picture line) (line_inserted (design_of document.now).marks line)) }
+        ≡ design document.now.palette (line_inserted document.now.picture line)
+        (line_inserted (design_of document.now).marks line)) }
 {
     let mut picture = document.picture.copy()?;
     picture.insert_line(line)?;
@@ -85,7 +89,8 @@ pub fn deleted(document: &Document, line: LineId) -> Result<Document, AllocError
     requires others { 1 < lines_along line.axis document.now.picture }
     requires coloured { AreColoured (line_deleted document.now.picture line) document.now.palette }
     ensures { IfOk result (λ d. design_of d
-        ≡ design document.now.palette (line_deleted document.now.picture line) (line_deleted (design_of document.now).marks line)) }
+        ≡ design document.now.palette (line_deleted document.now.picture line)
+        (line_deleted (design_of document.now).marks line)) }
 {
     let mut picture = document.picture.copy()?;
     picture.delete_line(line);
@@ -106,7 +111,8 @@ pub fn swapped(
     requires coloured { AreColoured (lines_swapped axis first second document.now.picture)
         document.now.palette }
     ensures { IfOk result (λ d. design_of d
-        ≡ design document.now.palette (lines_swapped axis first second document.now.picture) (lines_swapped axis first second (design_of document.now).marks)) }
+        ≡ design document.now.palette (lines_swapped axis first second document.now.picture)
+        (lines_swapped axis first second (design_of document.now).marks)) }
 {
     let mut picture = document.picture.copy()?;
     picture.swap_lines(axis, first, second);
@@ -120,7 +126,8 @@ pub fn pinned(document: &Document, row: u8, col: u8) -> Result<Document, AllocEr
     requires in_rows { row < length document.now.picture }
     requires in_columns { col < width_of document.now.picture }
     ensures { IfOk result (λ d. design_of d
-        ≡ design document.now.palette document.now.picture (with_cell (design_of document.now).marks row col 1)) }
+        ≡ design document.now.palette document.now.picture
+        (with_cell (design_of document.now).marks row col 1)) }
 {
     let mut after = document.copy()?;
     after.givens.put(row, col);
@@ -133,7 +140,8 @@ pub fn unpinned(document: &Document, row: u8, col: u8) -> Result<Document, Alloc
     requires in_rows { row < length document.now.picture }
     requires in_columns { col < width_of document.now.picture }
     ensures { IfOk result (λ d. design_of d
-        ≡ design document.now.palette document.now.picture (with_cell (design_of document.now).marks row col 0)) }
+        ≡ design document.now.palette document.now.picture
+        (with_cell (design_of document.now).marks row col 0)) }
 {
     let mut after = document.copy()?;
     after.givens.take_out(row, col);
@@ -143,7 +151,8 @@ pub fn unpinned(document: &Document, row: u8, col: u8) -> Result<Document, Alloc
 /// The document with one colour more.
 pub fn added(document: &Document, rgb: Rgb) -> Result<Document, AllocError>
     ensures { IfOk result (λ d. design_of d
-        ≡ design (with_colour document.now.palette rgb) document.now.picture (design_of document.now).marks) }
+        ≡ design (with_colour document.now.palette rgb) document.now.picture
+        (design_of document.now).marks) }
 {
     let mut after = document.copy()?;
     // The edit was lawful, so only memory can be wanting.
@@ -155,7 +164,8 @@ pub fn added(document: &Document, rgb: Rgb) -> Result<Document, AllocError>
 pub fn recoloured(document: &Document, colour: u8, rgb: Rgb) -> Result<Document, AllocError>
     requires { colour < length document.now.palette.triples }
     ensures { IfOk result (λ d. design_of d
-        ≡ design (with_triple document.now.palette colour rgb) document.now.picture (design_of document.now).marks) }
+        ≡ design (with_triple document.now.palette colour rgb) document.now.picture
+        (design_of document.now).marks) }
 {
     let mut after = document.copy()?;
     // The edit was lawful, so only memory can be wanting.
@@ -168,7 +178,8 @@ pub fn without_last(document: &Document) -> Result<Document, AllocError>
     requires more { 1 < length document.now.palette.triples }
     requires coloured { AreColoured document.now.picture (without_last document.now.palette) }
     ensures { IfOk result (λ d. design_of d
-        ≡ design (without_last document.now.palette) document.now.picture (design_of document.now).marks) }
+        ≡ design (without_last document.now.palette) document.now.picture
+        (design_of document.now).marks) }
 {
     let mut after = document.copy()?;
     after.palette.pop_last();
@@ -191,7 +202,8 @@ pub fn restored(
     requires coloured { AreColoured (with_cells (line_inserted document.now.picture line) cells.now)
         document.now.palette }
     ensures { IfOk result (λ d. design_of d
-        ≡ design document.now.palette (with_cells (line_inserted document.now.picture line) cells.now)
+        ≡ design document.now.palette
+        (with_cells (line_inserted document.now.picture line) cells.now)
         (with_cells (line_inserted (design_of document.now).marks line) (map as_mark givens.now))) }
 {
     let blank = inserted(document, line)?;

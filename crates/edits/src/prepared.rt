@@ -84,7 +84,8 @@ pub fn undo_of(document: &Document, entry: &Entry) -> Result<Prepared, AllocErro
     requires { (before : Design) × IsStep before (note_of entry.now) (design_of document.now) }
     ensures { IfOk result (λ p.
         (before : Design) → IsStep before (note_of entry.now) (design_of document.now)
-        → IsMade ByUndo (back (moves_of entry.now.edit before.rows)) (design_of document.now) before p) }
+        → IsMade ByUndo (back (moves_of entry.now.edit before.rows))
+        (design_of document.now) before p) }
 {
     let before = entry.revert(document)?;
     let change = entry.change_back(&before, document);

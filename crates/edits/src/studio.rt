@@ -110,7 +110,9 @@ impl Studio {
         ensures ready { IfOk result (λ p. IsPlanFor self.now p) }
         ensures next { IfOk result (λ p. advanced self.now p.advance ≡ undone self.now) }
         ensures change { IfOk result (λ p. IfSome (last_turn self.now.past) (λ turn.
-            IsChangeBy (back (moves_of turn.edit turn.document.rows)) self.now.document.rows p.document.rows p.change)) }
+            IsChangeBy
+            (back (moves_of turn.edit turn.document.rows)) self.now.document.rows
+            p.document.rows p.change)) }
         ensures exact { IfOk result
             (λ p. IsChangeOf p.change self.now.document.rows p.document.rows) }
     {
@@ -126,7 +128,9 @@ impl Studio {
         ensures ready { IfOk result (λ p. IsPlanFor self.now p) }
         ensures next { IfOk result (λ p. advanced self.now p.advance ≡ redone self.now) }
         ensures change { IfOk result (λ p. IfSome (first_turn self.now.future) (λ turn.
-            IsChangeBy (moves_of turn.edit self.now.document.rows) self.now.document.rows p.document.rows p.change)) }
+            IsChangeBy
+            (moves_of turn.edit self.now.document.rows) self.now.document.rows p.document.rows
+            p.change)) }
         ensures exact { IfOk result
             (λ p. IsChangeOf p.change self.now.document.rows p.document.rows) }
     {

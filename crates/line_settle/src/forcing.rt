@@ -57,7 +57,8 @@ pub fn force_crossing<E: LineEngine>(
     requires short { length (line_of facts.old line) ≤ E.longest engine.old }
     ensures gains { Gains clue.now line facts.old facts.new result.outcome }
     ensures changed { (other : LineId)
-        → HasName result.changed other ↔ CrossesChange line (line_of facts.old line) (line_of facts.new line) other }
+        → HasName result.changed other
+        ↔ CrossesChange line (line_of facts.old line) (line_of facts.new line) other }
     ensures counted { count.new ≡ counted count.old 1 }
     ensures called { E.calls engine.new ≡ counted (E.calls engine.old) 1 }
     ensures same_longest { E.longest engine.new ≡ E.longest engine.old }
@@ -88,7 +89,8 @@ fn write_changes(
     requires same_behind { (i : ℕ) → cells ≤ i → slice_index left.now i ≡ slice_index masks.now i }
     ensures holds { HoldsLine line facts.old facts.new (take cells masks.now) }
     ensures changed { (other : LineId)
-        → HasName result other ↔ CrossesChange line (take cells left.now) (take cells masks.now) other }
+        → HasName result other
+        ↔ CrossesChange line (take cells left.now) (take cells masks.now) other }
 {
     let places = places_apart(left, masks, cells);
     if places != 0 {

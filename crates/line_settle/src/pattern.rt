@@ -36,7 +36,8 @@ fn write_block(block: Block, is_gap: bool, buffer: &mut [u8], start: usize) -> O
         result
         (length buffer.old < start + length (gap is_gap ++ replicate block.len block.colour))
         (λ n. (n ≤ length buffer.new)
-        × (take n buffer.new ≡ take start buffer.old ++ (gap is_gap ++ replicate block.len block.colour))) }
+        × (take n buffer.new
+        ≡ take start buffer.old ++ (gap is_gap ++ replicate block.len block.colour))) }
 {
     let first = if is_gap { start + 1 } else { start };
     let end = first + usize::from(block.len);

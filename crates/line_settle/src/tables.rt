@@ -104,7 +104,8 @@ fn colours_through(pattern: &[u8], mask: u16, before: &[bool], later: &[bool]) -
     requires row { length pattern.now ≤ length later.now }
     requires rows { length pattern.now ≤ length before.now }
     ensures { (k : ℕ) → allows result k
-        ≡ passes_below pattern.now mask (truth_at before.now) (truth_at later.now) (length pattern.now) k }
+        ≡ passes_below pattern.now mask (truth_at before.now) (truth_at later.now)
+        (length pattern.now) k }
 {
     let mut seen = 0;
     for q in 0..pattern.len() {

@@ -78,8 +78,10 @@ pub(crate) fn rule<E: LineEngine>(
     requires long { MAX_SIDE ≤ E.longest engine.old }
     ensures judges { IfOk result (λ (is_decided, work). (j : Verdict)
         × (IsToldBy (design_of document.now) allowance keeper.new is_decided j
-        × Done 0 work.parts 0 work.splits nothing_done work.search (E.calls engine.old) (E.calls engine.new)
-        (Judges audit.now.clues audit.now.book.facts document.now.picture allowance keeper.old keeper.new j))) }
+        × Done 0 work.parts 0 work.splits nothing_done work.search (E.calls engine.old)
+        (E.calls engine.new)
+        (Judges audit.now.clues audit.now.book.facts document.now.picture allowance keeper.old
+        keeper.new j))) }
     ensures answers { AreAnswersOf (design_of document.now) audit.now.clues audit.now.book.facts
         keeper.new }
     ensures refused { OnErr result (keeper.new ≡ keeper.old) }

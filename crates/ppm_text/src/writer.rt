@@ -44,9 +44,11 @@ fn send_row<W: Write>(document: &Document, row: u8, writer: &mut W) -> Result<()
 // Writes the sizes and the maxval.
 fn send_sizes<W: Write>(document: &Document, writer: &mut W) -> Result<(), WriteFault>
     ensures ok { OnOk result (Appends (W.contents writer.old) (W.contents writer.new)
-        (sizes_text (width_of document.now.picture) (length document.now.picture) document.now.palette.maxval)) }
+        (sizes_text (width_of document.now.picture)
+        (length document.now.picture) document.now.palette.maxval)) }
     ensures err { OnErr result (AppendsFront (W.contents writer.old) (W.contents writer.new)
-        (sizes_text (width_of document.now.picture) (length document.now.picture) document.now.palette.maxval)) }
+        (sizes_text (width_of document.now.picture)
+        (length document.now.picture) document.now.palette.maxval)) }
 {
     send_number(u16::from(document.picture.width()), b' ', writer)?;
     send_number(u16::from(document.picture.height()), b'\n', writer)?;

@@ -105,8 +105,10 @@ fn goes_through(line: LineId, cells: &CellSet, facts: &Facts) -> bool
 pub(crate) fn first_cell(cells: &CellSet, facts: &Facts) -> Option<Cell>
     ensures { MatchOption
         result
-        ((row col : ℕ) → row < length facts.now → col < width_of facts.now → HasCell cells.now row col → ⊥)
-        (λ cell. (cell.row < length facts.now) × ((cell.col < width_of facts.now) × HasCell cells.now cell.row cell.col)) }
+        ((row col : ℕ) → row < length facts.now → col < width_of facts.now
+        → HasCell cells.now row col → ⊥)
+        (λ cell. (cell.row < length facts.now)
+        × ((cell.col < width_of facts.now) × HasCell cells.now cell.row cell.col)) }
 {
     for row in 0..facts.height() {
         if let Some(cell) = first_in_row(cells, facts, row) {
@@ -122,7 +124,8 @@ fn first_in_row(cells: &CellSet, facts: &Facts, row: u8) -> Option<Cell>
     ensures { MatchOption
         result
         ((col : ℕ) → col < width_of facts.now → HasCell cells.now row col → ⊥)
-        (λ cell. (cell.row < length facts.now) × ((cell.col < width_of facts.now) × HasCell cells.now cell.row cell.col)) }
+        (λ cell. (cell.row < length facts.now)
+        × ((cell.col < width_of facts.now) × HasCell cells.now cell.row cell.col)) }
 {
     for col in 0..facts.width() {
         if cells.has(row, col) {

@@ -147,7 +147,8 @@ impl Keeper {
         ensures true_answers { IfOk result
             (AreTrue after.now.clues.now after.now.givens.now after.now.picture.now) }
         ensures carries { IfOk result
-            (Carries before.now.clues.now before.now.facts.now before.now.picture.now after.now.clues.now after.now.facts.now after.now.picture.now self.now) }
+            (Carries before.now.clues.now before.now.facts.now before.now.picture.now
+            after.now.clues.now after.now.facts.now after.now.picture.now self.now) }
     {
         let alloc = *self.kept.allocator();
         if self.knows_nothing() {
@@ -195,7 +196,8 @@ impl Keeper {
             same.now }
         requires part { IsPart after.now.facts.now cells.now }
         ensures carried { IfOk result
-            (IsCarried before.now.clues.now before.now.facts.now before.now.picture.now after.now.clues.now after.now.facts.now after.now.picture.now self.now cells.now) }
+            (IsCarried before.now.clues.now before.now.facts.now before.now.picture.now
+            after.now.clues.now after.now.facts.now after.now.picture.now self.now cells.now) }
         ensures true_answer { IfOk result
             (IsTrueOf after.now.clues.now after.now.givens.now after.now.picture.now cells.now) }
     {
@@ -270,8 +272,10 @@ impl Keeper {
             × AreTrue scene.now.clues.now scene.now.givens.now scene.now.picture.now last
             × MatchResult result
             (λ judged. (verdict : Verdict) × (AnswersAs last judged verdict
-            × Done searched.old searched.new splits.old splits.new meter.old meter.new (E.calls engine.old) (E.calls engine.new)
-            (Judges scene.now.clues.now scene.now.facts.now scene.now.picture.now allowance self.old last verdict)))
+            × Done searched.old searched.new splits.old splits.new meter.old meter.new
+            (E.calls engine.old) (E.calls engine.new)
+            (Judges scene.now.clues.now scene.now.facts.now scene.now.picture.now allowance
+            self.old last verdict)))
             (λ _. last ≡ self.old))) }
         ensures answer { IfOk result
             (IsAnswer scene.now.clues.now scene.now.givens.now scene.now.picture.now) }

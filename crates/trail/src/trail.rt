@@ -110,8 +110,10 @@ impl Trail {
         requires in_rows { cell.row < length self.old.at_hand }
         requires in_columns { cell.col < width_of self.old.at_hand }
         ensures { OnOk result (self.new ≡ trail_of self.old.at_hand
-            (branches self.old.at_hand cell.row cell.col (cell_at self.old.at_hand cell.row cell.col) ++ self.old.behind)
-            (places cell.row cell.col (cell_at self.old.at_hand cell.row cell.col) ++ self.old.cells)) }
+            (branches self.old.at_hand cell.row cell.col
+            (cell_at self.old.at_hand cell.row cell.col) ++ self.old.behind)
+            (places cell.row cell.col (cell_at self.old.at_hand cell.row cell.col)
+            ++ self.old.cells)) }
     {
         let Cell { row, col } = cell;
         let mask = self.facts.left(row, col);

@@ -87,7 +87,8 @@ fn next_line(lines: &LineSet, axis: Axis, from: u8) -> Option<LineId>
     ensures { MatchOption
         result
         (lines.now ≡ no_names)
-        (λ line. (line.at < MAX_SIDE) × IsNextRound (round lines.now (place_along axis from)) line) }
+        (λ line. (line.at < MAX_SIDE)
+        × IsNextRound (round lines.now (place_along axis from)) line) }
 {
     if let Some(at) = lines.first_from(axis, from) {
         return Some(LineId { axis, at });

@@ -77,7 +77,8 @@ impl Growth {
     fn wait_for(&mut self, line: LineId)
         requires { line.at < MAX_SIDE }
         ensures waiting { (other : LineId) → HasName self.new.waiting other
-            ↔ (HasName self.old.waiting other ⊎ (HasName self.old.unvisited other × (other ≡ line))) }
+            ↔ (HasName self.old.waiting other
+            ⊎ (HasName self.old.unvisited other × (other ≡ line))) }
         ensures cells { self.new.cells ≡ self.old.cells }
         ensures unvisited { self.new.unvisited ≡ self.old.unvisited }
     {
