@@ -1,10 +1,11 @@
 -- Sets of the states of a pattern, moved by a cell.
 use Rattle.std.proofs.Common.{◌≡◌, ◌≢◌, ℕ, zero, suc, ◌+◌, ◌-◌, ◌*◌, ◌/◌, ◌%◌, ◌^◌, ◌<◌, ◌≤◌, ◌↔◌, ◌⊎◌, Bool, true, false, ◌==◌, ◌&&◌, ◌||◌, List, bit_and, bit_or, refl, sym, ap, subst, ◌∙◌, arith, inl, inr, eq-eqb, length, get_or, replicate}
-use Rattle.std.specs.Int.{bit_at, bit_not, trailing_zeros, w16}
+use Rattle.std.specs.Int.{bit_at, trailing_zeros, w16}
 use Rattle.std.proofs.Math.Pow.{pow_mono}
 use Rattle.std.proofs.lemmas.Bool.{cases_eq, cases_lt, and_parts, and_from, or_cases, or_left, or_right, false≢true, eqb-true}
-use Rattle.std.proofs.lemmas.Nat.{and_le_l}
-use Rattle.std.proofs.lemmas.Nat.Bits.{bit_at_lowest, bit_at-trailing_zeros, bit_at_clear_same, bit_at_clear_other, bit_at_mask_inside, bit_at_mask_below, bit_at_mask_above}
+use Rattle.std.specs.Int.Bits.{or_zero_l}
+use Rattle.std.proofs.lemmas.Nat.{and_le_r}
+use Rattle.std.proofs.lemmas.Nat.Bits.{bit_at_lowest, bit_at-trailing_zeros, bit_at_mask_inside, bit_at_mask_below, bit_at_mask_above}
 use Rattle.clues.specs.declared.block.Block.{Block}
 use Rattle.clues.specs.Clue.{IsClue}
 use Rattle.line_settle.specs.Spelling.{pattern_of, allows, waits, finish_step, reach_step}
@@ -175,13 +176,30 @@ none_taken next colours = record {
 lowest_allowed : (mask : ℕ) → 0 < mask → mask < 2 ^ 16 → allows mask (trailing_zeros w16 mask) ≡ true
 lowest_allowed mask p l = allows_is mask (trailing_zeros w16 mask) ∙ eq-eqb _ _ (bit_at-trailing_zeros w16 mask p l).1
 
--- a colour taken out of a mask
-abbrev pub taken_out : ℕ → ℕ → ℕ
-taken_out mask colour = bit_and mask (bit_not w16 (1 * 2 ^ colour % 65536))
+bit_is : (n k : ℕ) → has n k ≡ true → bit_at n k ≡ 1
+unfolding has
+bit_is n k h = eqb-true _ _ h
 
-pub stays_allowed : (mask colour k : ℕ) → mask < 2 ^ 16 → colour < 16 → k ≢ colour → allows mask k ≡ true → allows (taken_out mask colour) k ≡ true
-stays_allowed mask colour k l c n a =
-    allows_is (taken_out mask colour) k ∙ (ap (λ x. x == 1) (bit_at_clear_other w16 mask colour c k (bit_below mask 16 k l (allows_bit mask k a)) n) ∙ (sym (allows_is mask k) ∙ a))
+is_bit : (n k : ℕ) → bit_at n k ≡ 1 → has n k ≡ true
+unfolding has
+is_bit n k e = eq-eqb _ _ e
+
+next_has : (n k : ℕ) → has n (suc k) ≡ has (n / 2) k
+next_has n k = sym (has_down 1 n k ∙ ap (has n) (let e : k + 1 ≡ suc k = omega arith in e))
+
+odd_less : (n k : ℕ) → n % 2 ≡ 1 → has (n - 1) (suc k) ≡ has n (suc k)
+odd_less n k odd = next_has (n - 1) k ∙ (ap (λ m. has m k) (let half : (n - 1) / 2 ≡ n / 2 = omega arith in half) ∙ sym (next_has n k))
+
+-- above a bit that is set a number less one has the same bits
+less_one_has : (k c n : ℕ) → c < k → has n c ≡ true → has (n - 1) k ≡ has n k
+less_one_has zero c n l h = absurd (omega arith)
+less_one_has (suc k) zero n l h = odd_less n k (sym (bit_at_lowest n) ∙ bit_is n 0 h)
+less_one_has (suc k) (suc c) n l h = elim (cases_eq (n % 2) 1) [
+  | inl odd ↦ odd_less n k odd
+  | inr even ↦
+      let half : (n - 1) / 2 ≡ n / 2 - 1 = omega arith in
+      next_has (n - 1) k ∙ (ap (λ m. has m k) half ∙ (less_one_has k c (n / 2) (omega arith) (sym (next_has n c) ∙ h) ∙ sym (next_has n k)))
+]
 
 pub allowed_both : (m n k : ℕ) → allows (bit_and m n) k ≡ true → (allows m k ≡ true) × (allows n k ≡ true)
 unfolding has
@@ -193,22 +211,27 @@ pub both_allowed : (m n k : ℕ) → allows m k ≡ true → allows n k ≡ true
 unfolding has
 both_allowed m n k g h = allows_is (bit_and m n) k ∙ and_in m n k (sym (allows_is m k) ∙ g) (sym (allows_is n k) ∙ h)
 
-taken_less : (mask : ℕ) → mask ≢ 0 → mask < 2 ^ 16 → taken_out mask (trailing_zeros w16 mask) < mask
-taken_less mask n l =
-    let c = trailing_zeros w16 mask in
-    let t = bit_at-trailing_zeros w16 mask (omega arith) l in
-    let z = bit_at_clear_same w16 mask c t.0 in
-    let le = and_le_l mask (bit_not w16 (1 * 2 ^ c % 65536)) in
-    elim (cases_eq (taken_out mask c) mask) [
-      | inl e ↦ let x = ap (λ m. bit_at m c) e in let y = t.1 in absurd (omega arith)
-      | inr d ↦ omega arith
+-- a mask without its lowest colour
+abbrev pub without_lowest : ℕ → ℕ
+without_lowest mask = bit_and mask (mask - 1)
+
+stays_allowed : (mask k : ℕ) → mask ≢ 0 → mask < 2 ^ 16 → k ≢ trailing_zeros w16 mask → allows mask k ≡ true → allows (without_lowest mask) k ≡ true
+unfolding has
+stays_allowed mask k n l other a =
+    let lowest = trailing_zeros w16 mask in
+    let b = bit_at-trailing_zeros w16 mask (omega arith) l in
+    let here = sym (allows_is mask k) ∙ a in
+    elim (cases_lt k lowest) [
+      | inl below ↦ let none = b.2 k below in let one = bit_is mask k here in absurd (omega arith)
+      | inr above ↦
+          let set : has mask lowest ≡ true = is_bit mask lowest b.1 in
+          both_allowed mask (mask - 1) k a (allows_is (mask - 1) k ∙ (less_one_has k lowest mask (omega arith) set ∙ here))
     ]
 
 -- the lowest colour of those that are left is taken
-taken_more : (next : List ℕ) (colours rest advancing : ℕ) → rest ≢ 0 → rest < 2 ^ 16 → Taken next colours rest advancing → Taken next colours (taken_out rest (trailing_zeros w16 rest)) (bit_or advancing (get_or next (trailing_zeros w16 rest) 0))
+pub taken_more : (next : List ℕ) (colours rest advancing : ℕ) → rest ≢ 0 → rest < 2 ^ 16 → Taken next colours rest advancing → Taken next colours (without_lowest rest) (bit_or advancing (get_or next (trailing_zeros w16 rest) 0))
 taken_more next colours rest advancing n l t =
     let c = trailing_zeros w16 rest in
-    let b = bit_at-trailing_zeros w16 rest (omega arith) l in
     record {
       from = λ q h. elim (in_or advancing (get_or next c 0) q h) [
         | inl a ↦ t.from q a
@@ -218,20 +241,20 @@ taken_more next colours rest advancing n l t =
         | inl i ↦ inl (left_in advancing (get_or next c 0) q i)
         | inr r ↦ elim (cases_eq k c) [
           | inl e ↦ inl (right_in advancing (get_or next c 0) q (let P : ℕ → Type 0 = λ j. has (get_or next j 0) q ≡ true in subst P e h))
-          | inr d ↦ inr (stays_allowed rest c k l b.0 d r)
+          | inr d ↦ inr (stays_allowed rest k n l d r)
         ]
       ];
-      part = λ k a. t.part k (allowed_both rest (bit_not w16 (1 * 2 ^ c % 65536)) k a).0;
+      part = λ k a. t.part k (allowed_both rest (rest - 1) k a).0;
     }
 
--- the same for the lowest colour as the program finds it
-pub taken_next : (next : List ℕ) (colours rest advancing colour : ℕ) → colour ≡ trailing_zeros w16 rest → rest ≢ 0 → rest < 2 ^ 16 → Taken next colours rest advancing → Taken next colours (taken_out rest colour) (bit_or advancing (get_or next colour 0))
-taken_next next colours rest advancing colour e n l t =
-    let P : ℕ → Type 0 = λ c. Taken next colours (taken_out rest c) (bit_or advancing (get_or next c 0)) in
-    subst P (sym e) (taken_more next colours rest advancing n l t)
+-- the lowest of all colours is taken
+pub first_taken : (next : List ℕ) (colours : ℕ) → colours ≢ 0 → colours < 2 ^ 16 → Taken next colours (without_lowest colours) (get_or next (trailing_zeros w16 colours) 0)
+first_taken next colours n l =
+    let P : ℕ → Type 0 = λ m. Taken next colours (without_lowest colours) m in
+    subst P (or_zero_l (get_or next (trailing_zeros w16 colours) 0)) (taken_more next colours colours 0 n l (none_taken next colours))
 
-pub rest_falls : (rest colour : ℕ) → colour ≡ trailing_zeros w16 rest → rest ≢ 0 → rest < 2 ^ 16 → taken_out rest colour < rest
-rest_falls rest colour e n l = let P : ℕ → Type 0 = λ c. taken_out rest c < rest in subst P (sym e) (taken_less rest n l)
+pub rest_falls : (rest : ℕ) → rest ≢ 0 → without_lowest rest < rest
+rest_falls rest n = let l = and_le_r rest (rest - 1) in omega arith
 
 pub all_taken : (next : List ℕ) (colours rest advancing q : ℕ) → rest ≡ 0 → Taken next colours rest advancing → (has advancing q ≡ true) ↔ ((k : ℕ) × (allows colours k ≡ true) × (has (get_or next k 0) q ≡ true))
 all_taken next colours rest advancing q e t = (
@@ -241,6 +264,10 @@ all_taken next colours rest advancing q e t = (
     | inr r ↦ absurd (false≢true (sym (allows_none p.0) ∙ (ap (λ m. allows m p.0) (sym e) ∙ r)))
   ]),
 )
+
+-- a mask of no colours has none to take
+pub no_colour : (next : List ℕ) (colours q : ℕ) → colours ≡ 0 → (has 0 q ≡ true) ↔ ((k : ℕ) × (allows colours k ≡ true) × (has (get_or next k 0) q ≡ true))
+no_colour next colours q e = all_taken next colours colours 0 q e (none_taken next colours)
 
 pub moves_made : (w : ℕ) (pattern : List ℕ) (sets : StateSets) (mask advancing resting : ℕ) → ArePatternSets w pattern sets → ((q : ℕ) → (has advancing q ≡ true) ↔ ((k : ℕ) × (allows (bit_and mask sets.colours) k ≡ true) × (has (get_or sets.next k 0) q ≡ true))) → ((q : ℕ) → (has resting q ≡ true) ↔ ((has sets.waiting q ≡ true) × (allows (bit_and mask sets.colours) 0 ≡ true))) → MovesBy w pattern mask (record { advancing = advancing; resting = resting })
 moves_made w pattern sets mask advancing resting are on stay = record {

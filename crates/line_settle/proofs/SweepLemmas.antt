@@ -5,7 +5,7 @@ use Rattle.std.proofs.Math.ListN.{set, drop_of_length-le}
 use Rattle.std.proofs.Math.Seq.{drop-length}
 use Rattle.std.specs.Int.Bits.{and_zero_r, or_zero_r}
 use Rattle.std.proofs.lemmas.Bool.{cases_eq, cases_lt, or_cases, or_left, or_right, false≢true, eqb-true, eqb-false, not-true, not_from_false}
-use Rattle.std.proofs.lemmas.List.{length-set, length-replicate, get_or-set_same, get_or-set_other, get_or-drop, get_or-replicate, drop-set-lt}
+use Rattle.std.proofs.lemmas.List.{get_or_past, length-set, length-replicate, get_or-set_same, get_or-set_other, get_or-drop, get_or-replicate, drop-set-lt}
 use Rattle.std.proofs.lemmas.List.Elements.{All-get_or}
 use Rattle.clues.specs.declared.block.Block.{Block}
 use Rattle.clues.specs.Clue.{IsClue}
@@ -15,33 +15,49 @@ use Rattle.line_settle.specs.Marking.{finish_marked, finishes_marked, reach_mark
 use Rattle.line_settle.specs.Sweeping.{IsUndrawn, SweptTo, SweptMarked}
 use Rattle.line_settle.specs.Positions.{has}
 use Rattle.line_settle.specs.Spelling.{pattern_of, allows, finish_step, finishes, reach_step, reaches}
-use Rattle.line_settle.specs.StateSets.{AreStates, Shares, StateSets, ArePatternSets}
+use Rattle.line_settle.specs.StateSets.{AreStates, IsForeign, Shares, StateSets, ArePatternSets}
 use Rattle.picture.specs.BitLaws.{bit_below}
 use Rattle.line_settle.specs.MaskLaws.{full_has}
 use Rattle.line_settle.proofs.BitLemmas.{allows_none}
 use Rattle.line_settle.proofs.FillLemmas.{reach_step_agree}
 use Rattle.line_settle.proofs.FittingLemmas.{allows_bit, bit_allows, too_long, have_fits}
 use Rattle.line_settle.proofs.PositionLemmas.{has_power, has_one}
-use Rattle.line_settle.proofs.StateSetLemmas.{in_and, and_in, in_or, left_in, right_in, in_none, has_member}
+use Rattle.line_settle.proofs.StateSetLemmas.{in_and, and_in, in_or, left_in, right_in, in_none, has_member, allowed_both, both_allowed}
+use Rattle.line_settle.proofs.StateLemmas.{Step}
 use Rattle.line_settle.proofs.StepLemmas.{finish_crosses, reached_by_step}
 use Rattle.line_settle.proofs.MarkedLemmas.{within, marked_line, IsWider, Meets, SameBefore, forces_unmarked, unmarked_forces, marked_misses, wider_marked, marked_at, at_marked, same_reached, same_reached_marked}
 
 -- ---- sets of states
 
--- no cell of no colour leads anywhere
-pub none_forward : (pattern : List ℕ) (mask : ℕ) (before : ℕ → Bool) → mask ≡ 0 → AreStates pattern (reach_step pattern mask before) 0
-none_forward pattern mask before e = record {
+-- a cell with none of the pattern's colours leads nowhere
+pub foreign_is : (colours mask : ℕ) → bit_and mask colours ≡ 0 → IsForeign colours mask
+foreign_is colours mask e k a b = false≢true (sym (allows_none k) ∙ (ap (λ m. allows m k) (sym e) ∙ both_allowed mask colours k a b))
+
+foreign_part : (colours mask d : ℕ) → IsForeign colours d → IsForeign colours (bit_and mask d)
+foreign_part colours mask d none k a = none k (allowed_both mask d k a).1
+
+leads_nowhere : (w : ℕ) (pattern : List ℕ) (sets : StateSets) (mask q x r : ℕ) → ArePatternSets w pattern sets → IsForeign sets.colours mask → allows mask x ≡ true → Step pattern q x r → ⊥
+leads_nowhere w pattern sets mask q x r are none a s = elim s [
+  | inl f ↦
+      let e = are.is_end in
+      let l : q < are.end = (let b = f.0 in omega arith) in
+      none x a (ap (allows sets.colours) f.1 ∙ are.colours.each q l)
+  | inr b ↦ none x a (ap (allows sets.colours) b.0 ∙ are.colours.background)
+]
+
+pub none_forward : (w : ℕ) (pattern : List ℕ) (sets : StateSets) (mask : ℕ) (before : ℕ → Bool) → ArePatternSets w pattern sets → IsForeign sets.colours mask → AreStates pattern (reach_step pattern mask before) 0
+none_forward w pattern sets mask before are none = record {
   each = λ q. (
     (λ h. absurd (in_none q h)),
-    (λ p. let r = reached_by_step pattern mask before q p.0 p.1 in absurd (false≢true (sym (allows_none r.colour) ∙ (ap (λ m. allows m r.colour) (sym e) ∙ r.allowed)))),
+    (λ p. let r = reached_by_step pattern mask before q p.0 p.1 in absurd (leads_nowhere w pattern sets mask r.from r.colour q are none r.allowed r.step)),
   );
 }
 
-pub none_back : (pattern : List ℕ) (mask : ℕ) (behind : ℕ → Bool) → mask ≡ 0 → AreStates pattern (finish_step pattern mask behind) 0
-none_back pattern mask behind e = record {
+pub none_back : (w : ℕ) (pattern : List ℕ) (sets : StateSets) (mask : ℕ) (behind : ℕ → Bool) → ArePatternSets w pattern sets → IsForeign sets.colours mask → AreStates pattern (finish_step pattern mask behind) 0
+none_back w pattern sets mask behind are none = record {
   each = λ q. (
     (λ h. absurd (in_none q h)),
-    (λ p. let c = finish_crosses pattern mask behind q p.1 in absurd (false≢true (sym (allows_none c.0) ∙ (ap (λ m. allows m c.0) (sym e) ∙ c.1.allowed)))),
+    (λ p. let c = finish_crosses pattern mask behind q p.1 in absurd (leads_nowhere w pattern sets mask q c.0 c.1.next are none c.1.allowed c.1.step)),
   );
 }
 
@@ -358,9 +374,6 @@ nowhere_back pattern mask behind none = record {
   );
 }
 
-no_colours : (mask d : ℕ) → d ≡ 0 → bit_and mask d ≡ 0
-no_colours mask d e = ap (bit_and mask) e ∙ and_zero_r mask
-
 -- the states below n for which a test holds have a set
 abbrev AreBelow : (ℕ → Bool) → ℕ → ℕ → Type 0
 AreBelow test n set = (q : ℕ) → (has set q ≡ true) ↔ ((q < n) × (test q ≡ true))
@@ -398,37 +411,46 @@ set_for : (pattern : List ℕ) (test : ℕ → Bool) → (set : ℕ) × AreState
 set_for pattern test = let s = states_below test (length pattern) in (s.0, record { each = s.1 })
 
 -- where no line is marked before an undrawn cell, none is behind it; and the same from the end
-pub unmarked_forward : (pattern : List ℕ) (mask d on : ℕ) (all marked : ℕ → Bool) → d ≡ 0 → AreStates pattern marked 0 → AreStates pattern (reach_step pattern mask all) on → AreReached pattern (reach_step pattern mask all) (reach_marked pattern mask (bit_and mask d) all marked) (unmarked on)
-unmarked_forward pattern mask d on all marked e none is = record {
+pub unmarked_forward : (w : ℕ) (pattern : List ℕ) (sets : StateSets) (mask d on : ℕ) (all marked : ℕ → Bool) → ArePatternSets w pattern sets → IsForeign sets.colours d → AreStates pattern marked 0 → AreStates pattern (reach_step pattern mask all) on → AreReached pattern (reach_step pattern mask all) (reach_marked pattern mask (bit_and mask d) all marked) (unmarked on)
+unmarked_forward w pattern sets mask d on all marked are foreign none is = record {
   all_are = is;
-  marked_are = either_states pattern (reach_step pattern mask marked) (reach_step pattern (bit_and mask d) all) 0 0 (nowhere_forward pattern mask marked none) (none_forward pattern (bit_and mask d) all (no_colours mask d e));
+  marked_are = either_states pattern (reach_step pattern mask marked) (reach_step pattern (bit_and mask d) all) 0 0 (nowhere_forward pattern mask marked none) (none_forward w pattern sets (bit_and mask d) all are (foreign_part sets.colours mask d foreign));
 }
 
-pub unmarked_back : (pattern : List ℕ) (mask d on : ℕ) (all marked : ℕ → Bool) → d ≡ 0 → AreStates pattern marked 0 → AreStates pattern (finish_step pattern mask all) on → AreReached pattern (finish_step pattern mask all) (finish_marked pattern mask (bit_and mask d) all marked) (unmarked on)
-unmarked_back pattern mask d on all marked e none is = record {
+pub unmarked_back : (w : ℕ) (pattern : List ℕ) (sets : StateSets) (mask d on : ℕ) (all marked : ℕ → Bool) → ArePatternSets w pattern sets → IsForeign sets.colours d → AreStates pattern marked 0 → AreStates pattern (finish_step pattern mask all) on → AreReached pattern (finish_step pattern mask all) (finish_marked pattern mask (bit_and mask d) all marked) (unmarked on)
+unmarked_back w pattern sets mask d on all marked are foreign none is = record {
   all_are = is;
-  marked_are = either_states pattern (finish_step pattern mask marked) (finish_step pattern (bit_and mask d) all) 0 0 (nowhere_back pattern mask marked none) (none_back pattern (bit_and mask d) all (no_colours mask d e));
+  marked_are = either_states pattern (finish_step pattern mask marked) (finish_step pattern (bit_and mask d) all) 0 0 (nowhere_back pattern mask marked none) (none_back w pattern sets (bit_and mask d) all are (foreign_part sets.colours mask d foreign));
 }
 
 -- one undrawn cell more
-pub undrawn_more : (drawn : List ℕ) (i : ℕ) → get_or drawn i 0 ≡ 0 → IsUndrawn drawn (suc i) → IsUndrawn drawn i
-undrawn_more drawn i here rest = λ j h. elim (cases_eq j i) [
-  | inl e ↦ ap (λ n. get_or drawn n 0) e ∙ here
+pub undrawn_more : (colours : ℕ) (drawn : List ℕ) (i : ℕ) → IsForeign colours (get_or drawn i 0) → IsUndrawn colours drawn (suc i) → IsUndrawn colours drawn i
+undrawn_more colours drawn i here rest = λ j h. elim (cases_eq j i) [
+  | inl e ↦ let P : ℕ → Type 0 = λ n. IsForeign colours (get_or drawn n 0) in subst P (sym e) here
   | inr other ↦ rest j (omega arith)
 ]
 
--- the marked lines behind an undrawn cell
-pub marked_forward : (pattern : List ℕ) (mask d on : ℕ) (all marked : ℕ → Bool) → d ≡ 0 → AreStates pattern (reach_step pattern mask marked) on → AreStates pattern (reach_marked pattern mask (bit_and mask d) all marked) on
-marked_forward pattern mask d on all marked e is =
-    let P : ℕ → Type 0 = λ n. AreStates pattern (reach_marked pattern mask (bit_and mask d) all marked) n in
-    subst P (or_zero_r on) (either_states pattern (reach_step pattern mask marked) (reach_step pattern (bit_and mask d) all) on 0 is (none_forward pattern (bit_and mask d) all (no_colours mask d e)))
+pub undrawn_past : (colours : ℕ) (drawn : List ℕ) (i : ℕ) → length drawn ≤ i → IsForeign colours (get_or drawn i 0)
+undrawn_past colours drawn i h k a b = false≢true (sym (allows_none k) ∙ (ap (λ m. allows m k) (sym (get_or_past drawn i 0 h)) ∙ a))
 
--- where nothing is drawn no line is marked
-never_marked : (pattern masks drawn : List ℕ) (q : ℕ) → q < length pattern → IsUndrawn drawn 0 → finishes_marked pattern masks drawn q ≡ true → ⊥
-never_marked pattern masks drawn q l none m =
-    let line = marked_line pattern masks drawn q l m in
-    let c = get_or line.line line.place 0 in
-    false≢true (sym (allows_none c) ∙ (ap (λ d. allows d c) (sym (none line.place (omega arith))) ∙ line.is_drawn))
+-- the marked lines behind an undrawn cell
+pub marked_forward : (w : ℕ) (pattern : List ℕ) (sets : StateSets) (mask d on : ℕ) (all marked : ℕ → Bool) → ArePatternSets w pattern sets → IsForeign sets.colours d → AreStates pattern (reach_step pattern mask marked) on → AreStates pattern (reach_marked pattern mask (bit_and mask d) all marked) on
+marked_forward w pattern sets mask d on all marked are foreign is =
+    let P : ℕ → Type 0 = λ n. AreStates pattern (reach_marked pattern mask (bit_and mask d) all marked) n in
+    subst P (or_zero_r on) (either_states pattern (reach_step pattern mask marked) (reach_step pattern (bit_and mask d) all) on 0 is (none_forward w pattern sets (bit_and mask d) all are (foreign_part sets.colours mask d foreign)))
+
+-- where none of the pattern's colours is drawn no line is marked
+never_marked : (w : ℕ) (pattern : List ℕ) (sets : StateSets) (masks drawn : List ℕ) (q : ℕ) → ArePatternSets w pattern sets → IsUndrawn sets.colours drawn 0 → finishes_marked pattern masks drawn q ≡ true → ⊥
+never_marked w pattern sets [] drawn q are none m = false≢true m
+never_marked w pattern sets (mask ∷ masks) [] q are none m = false≢true m
+never_marked w pattern sets (mask ∷ masks) (d ∷ drawn) q are none m = elim (or_cases _ _ m) [
+  | inl a ↦
+      let c = finish_crosses pattern mask (finishes_marked pattern masks drawn) q a in
+      never_marked w pattern sets masks drawn c.1.next are (λ i h. none (suc i) (omega arith)) c.1.reaches_good
+  | inr b ↦
+      let c = finish_crosses pattern (bit_and mask d) (finishes pattern masks) q b in
+      leads_nowhere w pattern sets (bit_and mask d) q c.0 c.1.next are (foreign_part sets.colours mask d (none 0 (omega arith))) c.1.allowed c.1.step
+]
 
 -- the test of a cell before which no line is marked
 pub test_first : (on plain marked : ℕ) → (Shares 0 plain ⊎ Shares on marked) ↔ Shares on marked
@@ -437,20 +459,21 @@ test_first on plain marked = (
   (λ s. inr s),
 )
 
--- the test of a cell from which on nothing is drawn
-pub test_last : (pattern old left drawn plain marked : List ℕ) (i on : ℕ) → 0 < length pattern → i < length left → length drawn ≡ length left → drop (suc i) left ≡ drop (suc i) old → IsUndrawn drawn i → AreBehind pattern old drawn plain marked i → AreStates pattern (reach_step pattern 65535 (reaches_marked pattern left drawn i)) on → Shares on (get_or plain i 0) ↔ (finishes_marked pattern (set left i 65535) drawn 0 ≡ true)
-test_last pattern old left drawn plain marked i on p l e d none b is =
+-- the test of a cell from which on none of the pattern's colours is drawn
+pub test_last : (w : ℕ) (sets : StateSets) (pattern old left drawn plain marked : List ℕ) (i on : ℕ) → ArePatternSets w pattern sets → 0 < length pattern → i < length left → length drawn ≡ length left → drop (suc i) left ≡ drop (suc i) old → IsUndrawn sets.colours drawn i → AreBehind pattern old drawn plain marked i → AreStates pattern (reach_step pattern 65535 (reaches_marked pattern left drawn i)) on → Shares on (get_or plain i 0) ↔ (finishes_marked pattern (set left i 65535) drawn 0 ≡ true)
+test_last w sets pattern old left drawn plain marked i on are p l e d none b is =
     let all = set_for pattern (reach_step pattern 65535 (reaches pattern left i)) in
     let r : AreReached pattern (reach_step pattern 65535 (reaches pattern left i)) (reach_marked pattern 65535 (bit_and 65535 (get_or drawn i 0)) (reaches pattern left i) (reaches_marked pattern left drawn i)) (record { all = all.0; marked = on }) = record {
       all_are = all.1;
-      marked_are = marked_forward pattern 65535 (get_or drawn i 0) on (reaches pattern left i) (reaches_marked pattern left drawn i) (none i (omega arith)) is;
+      marked_are = marked_forward w pattern sets 65535 (get_or drawn i 0) on (reaches pattern left i) (reaches_marked pattern left drawn i) are (none i (omega arith)) is;
     } in
     let t = test_marked pattern old left drawn plain marked i (record { all = all.0; marked = on }) p l e d b r in
-    let rest : IsUndrawn (drop (suc i) drawn) 0 = λ j h. get_or-drop (suc i) drawn j 0 ∙ none (suc i + j) (omega arith) in (
+    let P : ℕ → Type 0 = IsForeign sets.colours in
+    let rest : IsUndrawn sets.colours (drop (suc i) drawn) 0 = λ j h. subst P (sym (get_or-drop (suc i) drawn j 0)) (none (suc i + j) (omega arith)) in (
       (λ s. t.0 (inl s)),
       (λ m. elim (t.1 m) [
         | inl s ↦ s
-        | inr s ↦ (let x = (b.marked_are.each s.0).0 s.2 in absurd (never_marked pattern (drop (suc i) old) (drop (suc i) drawn) s.0 x.0 rest x.1))
+        | inr s ↦ (let x = (b.marked_are.each s.0).0 s.2 in absurd (never_marked w pattern sets (drop (suc i) old) (drop (suc i) drawn) s.0 are rest x.1))
       ]),
     )
 
@@ -459,32 +482,32 @@ abbrev pub Marks : ℕ → StateSets → List ℕ → List ℕ → ℕ → ℕ �
 Marks w sets drawn left i mask on = (pattern : List ℕ) → ArePatternSets w pattern sets → AreStates pattern (reach_step pattern mask (reaches_marked pattern left drawn i)) on
 
 -- marked lines behind cell i of a line that has the same masks before it, and this mask there
-marked_behind : (pattern left new drawn : List ℕ) (i mask on : ℕ) → SameBefore i new left → get_or new i 0 ≡ mask → get_or drawn i 0 ≡ 0 → AreStates pattern (reach_step pattern mask (reaches_marked pattern left drawn i)) on → AreStates pattern (reaches_marked pattern new drawn (suc i)) on
-marked_behind pattern left new drawn i mask on same e none is =
+marked_behind : (w : ℕ) (pattern : List ℕ) (sets : StateSets) (left new drawn : List ℕ) (i mask on : ℕ) → ArePatternSets w pattern sets → SameBefore i new left → get_or new i 0 ≡ mask → IsForeign sets.colours (get_or drawn i 0) → AreStates pattern (reach_step pattern mask (reaches_marked pattern left drawn i)) on → AreStates pattern (reaches_marked pattern new drawn (suc i)) on
+marked_behind w pattern sets left new drawn i mask on are same e none is =
     let all = set_for pattern (reach_step pattern mask (reaches pattern left i)) in
-    let r : AreReached pattern (reach_step pattern mask (reaches pattern left i)) (reach_marked pattern mask (bit_and mask (get_or drawn i 0)) (reaches pattern left i) (reaches_marked pattern left drawn i)) (record { all = all.0; marked = on }) = record { all_are = all.1; marked_are = marked_forward pattern mask (get_or drawn i 0) on (reaches pattern left i) (reaches_marked pattern left drawn i) none is } in
+    let r : AreReached pattern (reach_step pattern mask (reaches pattern left i)) (reach_marked pattern mask (bit_and mask (get_or drawn i 0)) (reaches pattern left i) (reaches_marked pattern left drawn i)) (record { all = all.0; marked = on }) = record { all_are = all.1; marked_are = marked_forward w pattern sets mask (get_or drawn i 0) on (reaches pattern left i) (reaches_marked pattern left drawn i) are none is } in
     (behind_cell pattern left new drawn i mask (record { all = all.0; marked = on }) same e r).marked_are
 
-pub last_kept : (w : ℕ) (sets : StateSets) (drawn plain marked old left : List ℕ) (from on next i : ℕ) → i < length left → length drawn ≡ length left → IsUndrawn drawn i → SweptMarked w sets drawn plain marked old left from i → Marks w sets drawn left i 65535 on → Marks w sets drawn left i (get_or left i 0) next → Shares on (get_or plain i 0) → SweptMarked w sets drawn plain marked old left next (suc i)
+pub last_kept : (w : ℕ) (sets : StateSets) (drawn plain marked old left : List ℕ) (from on next i : ℕ) → i < length left → length drawn ≡ length left → IsUndrawn sets.colours drawn i → SweptMarked w sets drawn plain marked old left from i → Marks w sets drawn left i 65535 on → Marks w sets drawn left i (get_or left i 0) next → Shares on (get_or plain i 0) → SweptMarked w sets drawn plain marked old left next (suc i)
 last_kept w sets drawn plain marked old left from on next i l e none t ons nexts shares = record {
   small = t.small;
-  from_is = λ pattern are. marked_behind pattern left left drawn i (get_or left i 0) next (same_here left i) refl (none i (omega arith)) (nexts pattern are);
+  from_is = λ pattern are. marked_behind w pattern sets left left drawn i (get_or left i 0) next are (same_here left i) refl (none i (omega arith)) (nexts pattern are);
   so_far = λ pattern are tables unmarked_old.
       let s = t.so_far pattern are tables unmarked_old in
       let n = s.same_length in
       swept_kept pattern drawn old left i s
-      ((test_last pattern old left drawn plain marked i on (omega arith) l e (drop_more left old i n s.behind) none (tables i (omega arith)) (ons pattern are)).0 shares);
+      ((test_last w sets pattern old left drawn plain marked i on are (omega arith) l e (drop_more left old i n s.behind) none (tables i (omega arith)) (ons pattern are)).0 shares);
 }
 
-pub last_out : (w : ℕ) (sets : StateSets) (drawn plain marked old left : List ℕ) (from on i : ℕ) → i < length left → length drawn ≡ length left → IsUndrawn drawn i → SweptMarked w sets drawn plain marked old left from i → Marks w sets drawn left i 65535 on → (Shares on (get_or plain i 0) → ⊥) → SweptMarked w sets drawn plain marked old (set left i 65535) on (suc i)
+pub last_out : (w : ℕ) (sets : StateSets) (drawn plain marked old left : List ℕ) (from on i : ℕ) → i < length left → length drawn ≡ length left → IsUndrawn sets.colours drawn i → SweptMarked w sets drawn plain marked old left from i → Marks w sets drawn left i 65535 on → (Shares on (get_or plain i 0) → ⊥) → SweptMarked w sets drawn plain marked old (set left i 65535) on (suc i)
 last_out w sets drawn plain marked old left from on i l e none t ons none_shared = record {
   small = small_set left i l t.small;
-  from_is = λ pattern are. marked_behind pattern left (set left i 65535) drawn i 65535 on (same_set left i 65535) (get_or-set_same left i 65535 0 l) (none i (omega arith)) (ons pattern are);
+  from_is = λ pattern are. marked_behind w pattern sets left (set left i 65535) drawn i 65535 on are (same_set left i 65535) (get_or-set_same left i 65535 0 l) (none i (omega arith)) (ons pattern are);
   so_far = λ pattern are tables unmarked_old.
       let s = t.so_far pattern are tables unmarked_old in
       let n = s.same_length in
       swept_out pattern drawn old left i (omega arith) l t.small s
-      (λ m. none_shared ((test_last pattern old left drawn plain marked i on (omega arith) l e (drop_more left old i n s.behind) none (tables i (omega arith)) (ons pattern are)).1 m));
+      (λ m. none_shared ((test_last w sets pattern old left drawn plain marked i on are (omega arith) l e (drop_more left old i n s.behind) none (tables i (omega arith)) (ons pattern are)).1 m));
 }
 
 -- whether two sets share a state, as it is told

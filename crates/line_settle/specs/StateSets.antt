@@ -41,6 +41,10 @@ pub record HasColours (pattern : List ℕ) (n colours : ℕ) : Type 0 where
   pub background : allows colours 0 ≡ true
   pub each : (q : ℕ) → q < n → allows colours (slice_index pattern (q + 1)) ≡ true
 
+-- a mask has none of these colours
+abbrev pub IsForeign : ℕ → ℕ → Type 0
+IsForeign colours mask = (k : ℕ) → allows mask k ≡ true → allows colours k ≡ true → ⊥
+
 -- the sets of a pattern's states as numbers, by the numbers that words are
 pub record StateSets : Type 0 where
   pub next : List ℕ
@@ -66,7 +70,3 @@ pub record ArePatternSets (width : ℕ) (pattern : List ℕ) (sets : StateSets) 
 -- how a cell of a mask moves a line along each pattern with these sets
 abbrev pub AreMovesOf : ℕ → StateSets → ℕ → MoveSets → Type 0
 AreMovesOf width sets mask moves = (pattern : List ℕ) → ArePatternSets width pattern sets → MovesBy width pattern mask moves
-
--- the moves of a cell, kept for the next one of its mask
-abbrev pub AreKept : {W : Type 0} → (W → ℕ) → ℕ → StateSets → Moves W → Type 0
-AreKept bits width sets kept = AreMovesOf width sets kept.mask (moves_of bits kept)

@@ -2,11 +2,11 @@
 use Rattle.std.specs.Prelude.{◌≡◌, ℕ, ◌^◌, ◌<◌, ◌≤◌, List, true, length, slice_index}
 use Rattle.line_settle.specs.Spelling.{reaches}
 use Rattle.line_settle.specs.Marking.{finishes_marked, reaches_marked, AreReached, AreBehind, ReachedSets, SweepsOut}
-use Rattle.line_settle.specs.StateSets.{AreStates, StateSets, ArePatternSets}
+use Rattle.line_settle.specs.StateSets.{AreStates, IsForeign, StateSets, ArePatternSets}
 
--- from a place on nothing is drawn
-abbrev pub IsUndrawn : List ℕ → ℕ → Type 0
-IsUndrawn drawn place = (i : ℕ) → place ≤ i → slice_index drawn i ≡ 0
+-- from a place on none of these colours is drawn
+abbrev pub IsUndrawn : ℕ → List ℕ → ℕ → Type 0
+IsUndrawn colours drawn place = (i : ℕ) → place ≤ i → IsForeign colours (slice_index drawn i)
 
 -- the first i cells are swept, where the tables tell of the line as it was, which marks no line
 abbrev pub SweptAll : ℕ → StateSets → List ℕ → List ℕ → List ℕ → List ℕ → List ℕ → ℕ → Type 0

@@ -5,7 +5,7 @@ ghost use Rattle.clues.specs.Clue.{IsClue};
 ghost use Rattle.line_settle.specs.Spelling.{allows, pattern_of, finish_step, reach_step};
 ghost use Rattle.line_settle.specs.Laying.{gap_before};
 ghost use Rattle.line_settle.specs.Positions.{has};
-ghost use Rattle.line_settle.specs.StateSets.{AreStates, MovesBy, AreMovesOf, AreKept, AreNext, ArePatternSets, moves_of, sets_of};
+ghost use Rattle.line_settle.specs.StateSets.{AreStates, MovesBy, AreMovesOf, AreNext, ArePatternSets, moves_of, sets_of};
 
 use crate::block_steps::meets;
 use crate::pattern::allows;
@@ -136,12 +136,14 @@ impl<'a, W: Word> PatternSets<'a, W> {
             ↔ ((k : ℕ) × (allows colours k ≡ true)
             × (has (slice_index (map W.bits self.now.next.now) k) q ≡ true)) }
     {
-        let mut rest = colours;
-        let mut advancing = W::low(0);
+        if colours == 0 {
+            return W::low(0);
+        }
+        let mut advancing = self.next[colours.trailing_zeros() as usize];
+        let mut rest = colours & (colours - 1);
         'colours: while rest != 0 {
-            let colour = rest.trailing_zeros();
-            advancing = advancing.or(self.next[colour as usize]);
-            rest &= !(1 << colour);
+            advancing = advancing.or(self.next[rest.trailing_zeros() as usize]);
+            rest &= rest - 1;
         }
         advancing
     }
@@ -183,8 +185,9 @@ impl<'a, W: Word> PatternSets<'a, W> {
     #[inline]
     pub fn moves_after(&self, mask: u16, before: Moves<W>) -> Moves<W>
         requires sixteen { length self.now.next.now ≡ 16 }
-        requires kept { AreKept W.bits W.width (sets_of W.bits self.now) before }
-        ensures kept { AreKept W.bits W.width (sets_of W.bits self.now) result }
+        requires before { AreMovesOf W.width (sets_of W.bits self.now) before.mask
+            (moves_of W.bits before) }
+        ensures mask { result.mask ≡ mask }
         ensures moves { AreMovesOf W.width (sets_of W.bits self.now) mask (moves_of W.bits result) }
     {
         if mask == before.mask {

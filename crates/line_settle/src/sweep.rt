@@ -6,7 +6,7 @@ ghost use Rattle.std.specs.Mem.{type_size};
 ghost use Rattle.clues.specs.Clue.{IsClue};
 ghost use Rattle.line_settle.specs.LeavingOut.{ForcesAll, LeavesOut};
 ghost use Rattle.line_settle.specs.Spelling.{pattern_of, finishes, finish_step, reach_step};
-ghost use Rattle.line_settle.specs.StateSets.{AreStates, MovesBy, AreKept, ArePatternSets, Shares, moves_of, sets_of};
+ghost use Rattle.line_settle.specs.StateSets.{AreStates, MovesBy, ArePatternSets, Shares, moves_of, sets_of};
 ghost use Rattle.line_settle.specs.Marking.{finish_marked, finishes_marked, reach_marked, AreReached, AreBehind, SweepsOut, reached_of, unmarked};
 ghost use Rattle.line_settle.specs.Sweeping.{IsUndrawn, SweptTo, SweptMarked, SweptAll};
 ghost use Rattle.line_settle.specs.Masks.{all_sixteen};
@@ -20,9 +20,6 @@ use picture::MAX_SIDE;
 
 // How many cells a line has at the most.
 const MOST: usize = MAX_SIDE as usize;
-
-// Lines of so many cells get small buffers.
-const FEW: usize = 16;
 
 // A clue that needs at most so many cells has its states in 64 bits.
 const NEAR: usize = 63;
@@ -64,82 +61,72 @@ fn meets_marked<W: Word>(on: Reached<W>, plain: W, marked: W) -> bool
 
 impl<'a, W: Word> PatternSets<'a, W> {
     // The states behind a cell of drawn colours; mostly it has none.
-    fn reach_drawn(&self, colours: u16, from: W, kept: &mut Moves<W>) -> W
+    fn reach_drawn(&self, colours: u16, from: W) -> W
         requires sixteen { length self.now.next.now ≡ 16 }
-        requires kept { AreKept W.bits W.width (sets_of W.bits self.now) kept.old }
-        ensures kept { AreKept W.bits W.width (sets_of W.bits self.now) kept.new }
-        ensures states { (pattern : List ℕ) (before : ℕ → Bool)
+        ensures { (pattern : List ℕ) (before : ℕ → Bool)
             → ArePatternSets W.width pattern (sets_of W.bits self.now)
             → AreStates pattern before (W.bits from)
             → AreStates pattern (reach_step pattern colours before) (W.bits result) }
     {
-        if colours == 0 {
+        if colours & self.colours == 0 {
             return W::low(0);
         }
-        *kept = self.moves_after(colours, *kept);
-        kept.forward(from)
+        self.moves_by(colours).forward(from)
     }
 
-    // The states behind a cell, `drawn` being those of the mask's colours that are drawn there.
-    fn reach(&self, cell: Moves<W>, drawn: u16, from: Reached<W>, kept: &mut Moves<W>) -> Reached<W>
+    // The states behind a cell, `colours` being those of the mask's colours that are drawn there.
+    fn reach(&self, moves: Moves<W>, colours: u16, from: Reached<W>) -> Reached<W>
         requires sixteen { length self.now.next.now ≡ 16 }
-        requires kept { AreKept W.bits W.width (sets_of W.bits self.now) kept.old }
-        ensures kept { AreKept W.bits W.width (sets_of W.bits self.now) kept.new }
-        ensures states { (pattern : List ℕ) (mask : ℕ) (all marked : ℕ → Bool)
+        ensures { (pattern : List ℕ) (mask : ℕ) (all marked : ℕ → Bool)
             → ArePatternSets W.width pattern (sets_of W.bits self.now)
-            → MovesBy W.width pattern mask (moves_of W.bits cell)
+            → MovesBy W.width pattern mask (moves_of W.bits moves)
             → AreReached pattern all marked (reached_of W.bits from)
             → AreReached
             pattern
             (reach_step pattern mask all)
-            (reach_marked pattern mask drawn all marked)
+            (reach_marked pattern mask colours all marked)
             (reached_of W.bits result) }
     {
         Reached {
-            all: cell.forward(from.all),
-            marked: cell
+            all: moves.forward(from.all),
+            marked: moves
                 .forward(from.marked)
-                .or(self.reach_drawn(drawn, from.all, kept)),
+                .or(self.reach_drawn(colours, from.all)),
         }
     }
 
     // The states before a cell of drawn colours that it leads to one of a set; mostly it has none.
-    fn back_drawn(&self, colours: u16, later: W, kept: &mut Moves<W>) -> W
+    fn back_drawn(&self, colours: u16, later: W) -> W
         requires sixteen { length self.now.next.now ≡ 16 }
-        requires kept { AreKept W.bits W.width (sets_of W.bits self.now) kept.old }
-        ensures kept { AreKept W.bits W.width (sets_of W.bits self.now) kept.new }
-        ensures states { (pattern : List ℕ) (behind : ℕ → Bool)
+        ensures { (pattern : List ℕ) (behind : ℕ → Bool)
             → ArePatternSets W.width pattern (sets_of W.bits self.now)
             → AreStates pattern behind (W.bits later)
             → AreStates pattern (finish_step pattern colours behind) (W.bits result) }
     {
-        if colours == 0 {
+        if colours & self.colours == 0 {
             return W::low(0);
         }
-        *kept = self.moves_after(colours, *kept);
-        kept.back(later)
+        self.moves_by(colours).back(later)
     }
 
     // The states before a cell from which lines, and marked lines, can go on to the states behind it.
-    fn back(&self, cell: Moves<W>, drawn: u16, later: Reached<W>, kept: &mut Moves<W>) -> Reached<W>
+    fn back(&self, moves: Moves<W>, colours: u16, later: Reached<W>) -> Reached<W>
         requires sixteen { length self.now.next.now ≡ 16 }
-        requires kept { AreKept W.bits W.width (sets_of W.bits self.now) kept.old }
-        ensures kept { AreKept W.bits W.width (sets_of W.bits self.now) kept.new }
-        ensures states { (pattern : List ℕ) (mask : ℕ) (all marked : ℕ → Bool)
+        ensures { (pattern : List ℕ) (mask : ℕ) (all marked : ℕ → Bool)
             → ArePatternSets W.width pattern (sets_of W.bits self.now)
-            → MovesBy W.width pattern mask (moves_of W.bits cell)
+            → MovesBy W.width pattern mask (moves_of W.bits moves)
             → AreReached pattern all marked (reached_of W.bits later)
             → AreReached
             pattern
             (finish_step pattern mask all)
-            (finish_marked pattern mask drawn all marked)
+            (finish_marked pattern mask colours all marked)
             (reached_of W.bits result) }
     {
         Reached {
-            all: cell.back(later.all),
-            marked: cell
+            all: moves.back(later.all),
+            marked: moves
                 .back(later.marked)
-                .or(self.back_drawn(drawn, later.all, kept)),
+                .or(self.back_drawn(colours, later.all)),
         }
     }
 
@@ -150,7 +137,7 @@ impl<'a, W: Word> PatternSets<'a, W> {
         requires plain_room { length left.now ≤ length plain.old }
         requires marked_room { length left.now ≤ length marked.old }
         ensures inside { result.at ≤ length left.now }
-        ensures undrawn { IsUndrawn drawn.now result.at }
+        ensures undrawn { IsUndrawn self.now.colours drawn.now result.at }
         ensures later { (pattern : List ℕ)
             → ArePatternSets W.width pattern (sets_of W.bits self.now)
             → AreReached
@@ -172,7 +159,7 @@ impl<'a, W: Word> PatternSets<'a, W> {
         let mut states = self.last;
         let mut cell = self.moves_by(u16::MAX);
         let mut at = left.len();
-        'cells: while at > 0 && drawn[at - 1] == 0 {
+        'cells: while at > 0 && drawn[at - 1] & self.colours == 0 {
             at -= 1;
             plain[at] = states;
             marked[at] = W::low(0);
@@ -190,7 +177,7 @@ impl<'a, W: Word> PatternSets<'a, W> {
         requires plain_room { length left.now ≤ length plain.old }
         requires marked_room { length left.now ≤ length marked.old }
         ensures inside { result ≤ length left.now }
-        ensures undrawn { IsUndrawn drawn.now result }
+        ensures undrawn { IsUndrawn self.now.colours drawn.now result }
         ensures noted { (pattern : List ℕ)
             → ArePatternSets W.width pattern (sets_of W.bits self.now)
             → (i : ℕ) → i < length left.now
@@ -208,12 +195,11 @@ impl<'a, W: Word> PatternSets<'a, W> {
             marked: W::low(0),
         };
         let mut cell = self.moves_by(u16::MAX);
-        let mut drawing = cell;
         for i in (0..last.at).rev() {
             plain[i] = later.all;
             marked[i] = later.marked;
             cell = self.moves_after(left[i], cell);
-            later = self.back(cell, left[i] & drawn[i], later, &mut drawing);
+            later = self.back(cell, left[i] & drawn[i], later);
         }
         last.at
     }
@@ -242,7 +228,7 @@ impl<'a, W: Word> PatternSets<'a, W> {
         let mut cell = full;
         let mut states = W::low(1);
         let mut at = 0;
-        'cells: while at < behind.end && drawn[at] == 0 {
+        'cells: while at < behind.end && drawn[at] & self.colours == 0 {
             let on = full.forward(states);
             if on.and(behind.marked[at]).is_none() {
                 left[at] = u16::MAX;
@@ -292,12 +278,11 @@ impl<'a, W: Word> PatternSets<'a, W> {
             all: first.states,
             marked: W::low(0),
         };
-        let mut drawing = cell;
         for i in first.at..behind.end {
-            let on = self.reach(full, u16::MAX & drawn[i], from, &mut drawing);
+            let on = self.reach(full, u16::MAX & drawn[i], from);
             if meets_marked(on, behind.plain[i], behind.marked[i]) {
                 cell = self.moves_after(left[i], cell);
-                from = self.reach(cell, left[i] & drawn[i], from, &mut drawing);
+                from = self.reach(cell, left[i] & drawn[i], from);
             } else {
                 left[i] = u16::MAX;
                 from = on;
@@ -311,7 +296,7 @@ impl<'a, W: Word> PatternSets<'a, W> {
         requires sixteen { length self.now.next.now ≡ 16 }
         requires same_length { length drawn.now ≡ length left.old }
         requires end { behind.now.end ≤ length left.old }
-        requires undrawn { IsUndrawn drawn.now behind.now.end }
+        requires undrawn { IsUndrawn self.now.colours drawn.now behind.now.end }
         requires plain_room { length left.old ≤ length behind.now.plain.now }
         requires marked_room { length left.old ≤ length behind.now.marked.now }
         ensures { (old : List ℕ)
@@ -351,27 +336,26 @@ impl<'a, W: Word> PatternSets<'a, W> {
     }
 }
 
-// Leaves out what a line with room for its blocks can do without, by sets of states in words, in the buffers that are lent.
-fn leave_out_by<W: Word>(
-    blocks: &[Block],
-    drawn: &[u16],
-    left: &mut [u16],
-    plain: &mut [W],
-    marked: &mut [W],
-)
+// Leaves out what a line with room for its blocks can do without, by sets of states in words.
+fn leave_out_by<W: Word>(blocks: &[Block], drawn: &[u16], left: &mut [u16])
     requires blocks_of_clue { IsClue blocks.now }
     requires small_word { type_size W.row ≤ 16 }
     requires same_length { length drawn.now ≡ length left.old }
-    requires plain_room { length left.old ≤ length plain.old }
-    requires marked_room { length left.old ≤ length marked.old }
+    requires short { length left.old ≤ MAX_SIDE }
     requires few_states { length (pattern_of blocks.now) ≤ W.width }
     ensures { (finishes_marked (pattern_of blocks.now) left.old drawn.now 0 ≡ true → ⊥)
         → SweepsOut (pattern_of blocks.now) drawn.now left.old left.new (length left.old) }
 {
     let mut next = [W::low(0); 16];
     let sets = PatternSets::of(blocks, &mut next);
-    let end = sets.note_behind(drawn, left, plain, marked);
-    let behind = Behind { plain, marked, end };
+    let mut plain = [W::low(0); MOST];
+    let mut marked = [W::low(0); MOST];
+    let end = sets.note_behind(drawn, left, &mut plain, &mut marked);
+    let behind = Behind {
+        plain: &plain,
+        marked: &marked,
+        end,
+    };
     // Each cell gets all sixteen colours where no line is marked then, from the first cell on.
     let first = sets.sweep_first(drawn, &behind, left);
     let before = sets.sweep_drawn(drawn, &behind, left, first);
@@ -411,11 +395,9 @@ pub fn leave_out(clue: &Clue, drawn: &[u16], left: &mut [u16])
         left.fill(u16::MAX);
         return;
     }
-    if left.len() <= FEW {
-        leave_out_by::<u64>(blocks, drawn, left, &mut [0; FEW], &mut [0; FEW]);
-    } else if are_near(blocks, left.len()) {
-        leave_out_by::<u64>(blocks, drawn, left, &mut [0; MOST], &mut [0; MOST]);
+    if are_near(blocks, left.len()) {
+        leave_out_by::<u64>(blocks, drawn, left);
     } else {
-        leave_out_by::<u128>(blocks, drawn, left, &mut [0; MOST], &mut [0; MOST]);
+        leave_out_by::<u128>(blocks, drawn, left);
     }
 }

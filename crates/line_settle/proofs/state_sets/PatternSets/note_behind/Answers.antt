@@ -9,7 +9,6 @@ pub loop-i-init : goal.loop-i-init
 loop-i-init g c = record {
   later_is = λ pattern are. rw c.low.ensures (c.note_last-last.ensures.later pattern are);
   cell_is = rw c.moves_by-cell.ensures.mask c.moves_by-cell.ensures.moves;
-  drawing_is = rw c.moves_by-cell.ensures.mask c.moves_by-cell.ensures.moves;
   noted = c.note_last-last.ensures.noted;
 }
 
@@ -24,9 +23,8 @@ loop-i-preserved g c =
     record {
       later_is = λ pattern are.
           before_cell pattern left drawn i (reached_of bits c.back-later.result) (omega arith) (omega arith)
-          (c.back-later.ensures.states pattern (get_or left i 0) (finishes pattern (drop (suc i) left)) (finishes_marked pattern (drop (suc i) left) (drop (suc i) drawn)) are (c.moves_after-cell.ensures.moves pattern are) (later pattern are));
-      cell_is = c.moves_after-cell.ensures.kept;
-      drawing_is = c.back-later.ensures.kept;
+          (c.back-later.ensures pattern (get_or left i 0) (finishes pattern (drop (suc i) left)) (finishes_marked pattern (drop (suc i) left) (drop (suc i) drawn)) are (c.moves_after-cell.ensures.moves pattern are) (later pattern are));
+      cell_is = rw c.moves_after-cell.ensures.mask c.moves_after-cell.ensures.moves;
       noted = λ pattern are.
           let l = length-map c.loop-i.plain bits in
           let m = length-map c.loop-i.marked bits in

@@ -1,15 +1,15 @@
 use Rattle.std.proofs.Common.{◌≡◌, ℕ, suc, ◌-◌, refl, arith, length, drop, get_or, map}
-use Rattle.std.proofs.lemmas.List.{get_or_past, length-map, map-set}
+use Rattle.std.proofs.lemmas.List.{length-map, map-set}
 use Rattle.line_settle.specs.Spelling.{finishes}
 use Rattle.line_settle.specs.Marking.{finishes_marked, unmarked}
 use Rattle.line_settle.specs.StateSets.{sets_of}
-use Rattle.line_settle.proofs.SweepLemmas.{at_end, before_cell, noted_more, unmarked_back, undrawn_more}
+use Rattle.line_settle.proofs.SweepLemmas.{at_end, before_cell, noted_more, foreign_is, unmarked_back, undrawn_more, undrawn_past}
 use Rattle.line_settle.proofs.state_sets.PatternSets.note_last.Goals as goal
 
 pub cells-init : goal.cells-init
 cells-init g c = record {
   inside = omega arith;
-  undrawn = λ i h. get_or_past c.args.drawn.now i 0 (omega arith);
+  undrawn = λ i h. undrawn_past c.args.self.now.colours c.args.drawn.now i (omega arith);
   later_is = λ pattern are. at_end g.W.Word.width pattern c.args.left.now c.args.drawn.now (sets_of g.W.Word.bits c.args.self.now) (length c.args.left.now) refl are;
   cell_is = rw c.moves_by-cell.ensures.mask c.moves_by-cell.ensures.moves;
   noted = λ pattern are j h l. absurd (omega arith);
@@ -23,16 +23,17 @@ cells-preserved g c =
     let i : ℕ = c.cells.at - 1 in
     let inside = c.cells.invariant.inside in
     let up : c.cells.at ≡ suc i = omega arith in
-    let here : get_or drawn i 0 ≡ 0 = c.if-drawn-at-eq0.true in
+    let sets = sets_of bits c.args.self.now in
+    let here = foreign_is sets.colours (get_or drawn i 0) c.if-drawn-at-eq0.true in
     let behind = rw up at c.cells.invariant.later_is in
     record {
       inside = omega arith;
-      undrawn = undrawn_more drawn i here (rw up at c.cells.invariant.undrawn);
+      undrawn = undrawn_more sets.colours drawn i here (rw up at c.cells.invariant.undrawn);
       later_is = λ pattern are.
           let later = behind pattern are in
           before_cell pattern left drawn i (unmarked (bits c.back-states.result)) (omega arith) (omega arith)
-          (unmarked_back pattern (get_or left i 0) (get_or drawn i 0) _ (finishes pattern (drop (suc i) left)) (finishes_marked pattern (drop (suc i) left) (drop (suc i) drawn)) here later.marked_are (c.back-states.ensures pattern _ _ (c.moves_after-cell.ensures.moves pattern are) later.all_are));
-      cell_is = c.moves_after-cell.ensures.kept;
+          (unmarked_back g.W.Word.width pattern sets (get_or left i 0) (get_or drawn i 0) _ (finishes pattern (drop (suc i) left)) (finishes_marked pattern (drop (suc i) left) (drop (suc i) drawn)) are here later.marked_are (c.back-states.ensures pattern _ _ (c.moves_after-cell.ensures.moves pattern are) later.all_are));
+      cell_is = rw c.moves_after-cell.ensures.mask c.moves_after-cell.ensures.moves;
       noted = λ pattern are.
           let l = length-map c.cells.plain bits in
           let k = length-map c.cells.marked bits in

@@ -9,7 +9,7 @@ use Rattle.line_settle.proofs.state_sets.PatternSets.sweep_drawn.Goals as goal
 use Rattle.line_settle.proofs.state_sets.PatternSets.sweep_drawn.Goals.{then-meets_marked, else-meets_marked}
 
 pub loop-i-init : goal.loop-i-init
-loop-i-init g c = record { swept = λ old start. rw c.low.ensures start; cell_is = rw c.moves_by-full.ensures.mask c.moves_by-full.ensures.moves; drawing_is = rw c.moves_by-full.ensures.mask c.moves_by-full.ensures.moves }
+loop-i-init g c = record { swept = λ old start. rw c.low.ensures start; cell_is = rw c.moves_by-full.ensures.mask c.moves_by-full.ensures.moves }
 
 pub loop-i-preserved : goal.loop-i-preserved
 loop-i-preserved g c =
@@ -28,21 +28,17 @@ loop-i-preserved g c =
     record {
       swept = λ old start.
           let swept = c.loop-i.invariant.swept old start in
-          let ons : Reaches w sets drawn left i 65535 on = λ pattern are. c.reach-on.ensures.states pattern 65535 (reaches pattern left i) (reaches_marked pattern left drawn i) are (c.moves_by-full.ensures.moves pattern are) (swept.from_is pattern are) in
+          let ons : Reaches w sets drawn left i 65535 on = λ pattern are. c.reach-on.ensures pattern 65535 (reaches pattern left i) (reaches_marked pattern left drawn i) are (c.moves_by-full.ensures.moves pattern are) (swept.from_is pattern are) in
           rw add-one (elim c.if-meets_marked.branch [
             | then-meets_marked x ↦
                 let to = reached_of bits x.reach-from.result in
-                let nexts : Reaches w sets drawn left i (get_or left i 0) to = λ pattern are. x.reach-from.ensures.states pattern (get_or left i 0) (reaches pattern left i) (reaches_marked pattern left drawn i) are (x.moves_after-cell.ensures.moves pattern are) (swept.from_is pattern are) in
+                let nexts : Reaches w sets drawn left i (get_or left i 0) to = λ pattern are. x.reach-from.ensures pattern (get_or left i 0) (reaches pattern left i) (reaches_marked pattern left drawn i) are (x.moves_after-cell.ensures.moves pattern are) (swept.from_is pattern are) in
                 rw (x.from-is, x.left-is) (step_kept w sets drawn _ _ old left _ on to i inside same swept ons nexts (meets.0 x.if-meets_marked.true))
             | else-meets_marked x ↦ rw (x.from-is, x.left-is) (step_out w sets drawn _ _ old left _ on i inside same swept ons (λ s. false≢true (sym x.if-meets_marked.false ∙ meets.1 s)))
           ]);
       cell_is = elim c.if-meets_marked.branch [
-        | then-meets_marked x ↦ rw x.cell-is x.moves_after-cell.ensures.kept
+        | then-meets_marked x ↦ rw (x.cell-is, x.moves_after-cell.ensures.mask) x.moves_after-cell.ensures.moves
         | else-meets_marked x ↦ rw x.cell-is c.loop-i.invariant.cell_is
-      ];
-      drawing_is = elim c.if-meets_marked.branch [
-        | then-meets_marked x ↦ rw x.drawing-is x.reach-from.ensures.kept
-        | else-meets_marked x ↦ rw x.drawing-is c.reach-on.ensures.kept
       ];
     }
 

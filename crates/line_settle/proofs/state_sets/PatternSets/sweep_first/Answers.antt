@@ -3,7 +3,7 @@ use Rattle.line_settle.specs.Spelling.{reaches}
 use Rattle.line_settle.specs.Marking.{reaches_marked, unmarked}
 use Rattle.line_settle.specs.StateSets.{sets_of}
 use Rattle.std.proofs.lemmas.List.{get_or-map}
-use Rattle.line_settle.proofs.SweepLemmas.{Reaches, first_reached, none_swept, step_kept, step_out, share_test, test_first, unmarked_forward}
+use Rattle.line_settle.proofs.SweepLemmas.{Reaches, first_reached, foreign_is, none_swept, step_kept, step_out, share_test, test_first, unmarked_forward}
 use Rattle.line_settle.proofs.state_sets.PatternSets.sweep_first.Goals as goal
 use Rattle.line_settle.proofs.state_sets.PatternSets.sweep_first.Goals.{then-is_none, else-is_none}
 
@@ -31,14 +31,14 @@ cells-preserved g c =
     let swept = c.cells.invariant.swept in
     let inside : i < length left = omega arith in
     let same : length drawn ≡ length left = omega arith in
-    let none : get_or drawn i 0 ≡ 0 = c.if-drawn-at-eq0.true in
+    let foreign = foreign_is sets.colours (get_or drawn i 0) c.if-drawn-at-eq0.true in
     let at_marked = get_or-map bits c.args.behind.now.marked.now i c.index-behind-at.result 0 (omega arith) in
     let both : bits c.and.result ≡ bit_and on (get_or marked i 0) = rw (c.and.ensures, ← at_marked) refl in
     let test = share_test on (get_or marked i 0) (bits c.and.result) c.is_none.result both c.is_none.ensures.value in
     let first = test_first on (get_or (map bits c.args.behind.now.plain.now) i 0) (get_or marked i 0) in
     let ons : Reaches w sets drawn left i 65535 (unmarked on) = λ pattern are.
     (let from = swept.from_is pattern are in
-    unmarked_forward pattern 65535 (get_or drawn i 0) on (reaches pattern left i) (reaches_marked pattern left drawn i) none from.marked_are (c.forward-on.ensures pattern 65535 (reaches pattern left i) (c.moves_by-full.ensures.moves pattern are) from.all_are)) in
+    unmarked_forward w pattern sets 65535 (get_or drawn i 0) on (reaches pattern left i) (reaches_marked pattern left drawn i) are foreign from.marked_are (c.forward-on.ensures pattern 65535 (reaches pattern left i) (c.moves_by-full.ensures.moves pattern are) from.all_are)) in
     record {
       inside = omega arith;
       swept = rw add-one (elim c.if-is_none.branch [
@@ -47,11 +47,11 @@ cells-preserved g c =
             let to = bits x.forward-states.result in
             let nexts : Reaches w sets drawn left i (get_or left i 0) (unmarked to) = λ pattern are.
             (let from = swept.from_is pattern are in
-            unmarked_forward pattern (get_or left i 0) (get_or drawn i 0) to (reaches pattern left i) (reaches_marked pattern left drawn i) none from.marked_are (x.forward-states.ensures pattern _ (reaches pattern left i) (x.moves_after-cell.ensures.moves pattern are) from.all_are)) in
+            unmarked_forward w pattern sets (get_or left i 0) (get_or drawn i 0) to (reaches pattern left i) (reaches_marked pattern left drawn i) are foreign from.marked_are (x.forward-states.ensures pattern _ (reaches pattern left i) (x.moves_after-cell.ensures.moves pattern are) from.all_are)) in
             rw (x.states-is, x.left-is) (step_kept w sets drawn _ _ _ left _ (unmarked on) (unmarked to) i inside same swept ons nexts (inr (test.0 x.if-is_none.false)))
       ]);
       cell_is = elim c.if-is_none.branch [
         | then-is_none x ↦ rw x.cell-is c.cells.invariant.cell_is
-        | else-is_none x ↦ rw x.cell-is x.moves_after-cell.ensures.kept
+        | else-is_none x ↦ rw (x.cell-is, x.moves_after-cell.ensures.mask) x.moves_after-cell.ensures.moves
       ];
     }

@@ -22,7 +22,7 @@ loop-place-preserved g c =
     let on = bits c.forward-on.result in
     let inside : i < length left = omega arith in
     let same : length drawn ≡ length left = omega arith in
-    let none : IsUndrawn drawn i = λ j h. c.requires.undrawn j (omega arith) in
+    let none : IsUndrawn sets.colours drawn i = λ j h. c.requires.undrawn j (omega arith) in
     let at_plain = get_or-map bits c.args.behind.now.plain.now i c.index-behind-place.result 0 (omega arith) in
     let both : bits c.and.result ≡ bit_and on (get_or plain i 0) = rw (c.and.ensures, ← at_plain) refl in
     let test = share_test on (get_or plain i 0) (bits c.and.result) c.is_none.result both c.is_none.ensures.value in
@@ -39,7 +39,7 @@ loop-place-preserved g c =
           ]);
       cell_is = elim c.if-is_none.branch [
         | then-is_none x ↦ rw x.cell-is c.loop-place.invariant.cell_is
-        | else-is_none x ↦ rw x.cell-is x.moves_after-cell.ensures.kept
+        | else-is_none x ↦ rw (x.cell-is, x.moves_after-cell.ensures.mask) x.moves_after-cell.ensures.moves
       ];
     }
 
