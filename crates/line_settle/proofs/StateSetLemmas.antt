@@ -12,9 +12,7 @@ use Rattle.line_settle.specs.Spelling.{pattern_of, allows, waits, finish_step, r
 use Rattle.line_settle.specs.Positions.{has}
 use Rattle.line_settle.specs.Laying.{meets, gap_before, state_behind}
 use Rattle.line_settle.specs.StateSets.{AreStates, MoveSets, MovesBy, AreNext, AreWaiting, HasColours, StateSets, ArePatternSets}
-use Rattle.picture.specs.BitLaws.{bit_below}
 use Rattle.line_settle.proofs.BitLemmas.{allows_is, allows_or, allows_none, allows_shifted}
-use Rattle.line_settle.proofs.FittingLemmas.{allows_bit}
 use Rattle.line_settle.proofs.NarrowLemmas.{zeros}
 use Rattle.line_settle.proofs.PositionLemmas.{has_and, has_or, has_none, has_above, has_down, none_moved_up, moved_up}
 use Rattle.line_settle.proofs.StateLemmas.{Step, waits_at_end}

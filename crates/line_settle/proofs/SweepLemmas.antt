@@ -3,7 +3,7 @@ use Rattle.std.proofs.Common.{◌≡◌, ◌≢◌, ℕ, zero, suc, ◌+◌, ◌
 use Rattle.std.specs.List.{All}
 use Rattle.std.proofs.Math.ListN.{set, drop_of_length-le}
 use Rattle.std.proofs.Math.Seq.{drop-length}
-use Rattle.std.specs.Int.Bits.{and_zero_r, or_zero_r}
+use Rattle.std.specs.Int.Bits.{or_zero_r}
 use Rattle.std.proofs.lemmas.Bool.{cases_eq, cases_lt, or_cases, or_left, or_right, false≢true, eqb-true, eqb-false, not-true, not_from_false}
 use Rattle.std.proofs.lemmas.List.{get_or_past, length-set, length-replicate, get_or-set_same, get_or-set_other, get_or-drop, get_or-replicate, drop-set-lt}
 use Rattle.std.proofs.lemmas.List.Elements.{All-get_or}
@@ -25,7 +25,7 @@ use Rattle.line_settle.proofs.PositionLemmas.{has_power, has_one}
 use Rattle.line_settle.proofs.StateSetLemmas.{in_and, and_in, in_or, left_in, right_in, in_none, has_member, allowed_both, both_allowed}
 use Rattle.line_settle.proofs.StateLemmas.{Step}
 use Rattle.line_settle.proofs.StepLemmas.{finish_crosses, reached_by_step}
-use Rattle.line_settle.proofs.MarkedLemmas.{within, marked_line, IsWider, Meets, SameBefore, forces_unmarked, unmarked_forces, marked_misses, wider_marked, marked_at, at_marked, same_reached, same_reached_marked}
+use Rattle.line_settle.proofs.MarkedLemmas.{within, IsWider, Meets, SameBefore, forces_unmarked, unmarked_forces, marked_misses, wider_marked, marked_at, at_marked, same_reached, same_reached_marked}
 
 -- ---- sets of states
 
