@@ -1,7 +1,6 @@
 -- Lists that fit the masks of a line, and lists that keep to what is said.
-use Rattle.std.proofs.Common.{◌≡◌, ℕ, ◌<◌, List, length, sym, ◌∙◌, arith, inl, inr, get_or}
+use Rattle.std.proofs.Common.{◌≡◌, ℕ, ◌<◌, List, length, sym, ◌∙◌, arith, get_or}
 use Rattle.std.specs.Prelude.{IsBitSet}
-use Rattle.std.proofs.lemmas.Bool.{cases_lt}
 use Rattle.std.proofs.lemmas.List.{get_or_past}
 use Rattle.clues.specs.declared.block.Block.{Block}
 use Rattle.line_settle.specs.Fitting.{Fits, CanHave}

@@ -1,9 +1,12 @@
 -- Masks of a line made from premises, turned, and compared.
-use Rattle.std.proofs.Common.{◌≡◌, ℕ, ◌+◌, ◌-◌, ◌<◌, ◌≤◌, ◌^◌, ◌↔◌, List, length, refl, sym, ap, ◌∙◌, subst, arith, inl, inr, get_or, set, bit_and, bit_or, get_or-set_same, get_or-set_other}
+use Rattle.std.proofs.Common.{◌≡◌, Bool, not, nat_eq, ne_eqb, ℕ, ◌+◌, ◌-◌, ◌<◌, ◌≤◌, ◌^◌, ◌↔◌, List, length, refl, sym, ap, ◌∙◌, subst, arith, inl, inr, get_or, set, bit_and, bit_or, get_or-set_same, get_or-set_other}
 use Rattle.std.specs.Prelude.{IsBitSet}
 use Rattle.std.specs.Int.{bit_at, trailing_zeros, w16}
 use Rattle.std.proofs.lemmas.Bool.{cases_eq, cases_lt}
+use Rattle.std.specs.Bool.{MatchBool}
+use Rattle.std.specs.List.{All}
 use Rattle.std.proofs.lemmas.List.{get_or_past, length-set}
+use Rattle.std.proofs.lemmas.List.Elements.{All-get_or, All-from_get_or}
 use Rattle.std.proofs.lemmas.Nat.{le_or_l, le_or_r}
 use Rattle.std.proofs.lemmas.Nat.Bits.{bit_at_and, bit_at-lt, bit_at_not, bit_at-trailing_zeros}
 use Rattle.justify.specs.declared.premise.Premise.{Premise}
@@ -51,6 +54,40 @@ both_bits a b k =
 -- masks are empty together where each is
 pub empty_more : (masks : List ℕ) (seen n : ℕ) → ((seen ≡ 0) ↔ ((i : ℕ) → i < n → get_or masks i 0 ≡ 0)) → (bit_or seen (get_or masks n 0) ≡ 0) ↔ ((i : ℕ) → i < n + 1 → get_or masks i 0 ≡ 0)
 empty_more masks seen n so_far = grind (arith, bit_or, get_or, le_or_l, le_or_r)
+
+-- one mask more of those that are kept
+pub lost_more : (masks : List ℕ) (seen lost n : ℕ) → n < length masks → ((seen ≡ 0) ↔ ((i : ℕ) → i < n → get_or masks i 0 ≡ 0)) → (bit_or seen lost ≡ 0) ↔ ((i : ℕ) → i < n + 1 → get_or (set masks n lost) i 0 ≡ 0)
+lost_more masks seen lost n room so_far =
+    let here = get_or-set_same masks n lost 0 room in
+    let before : (seen ≡ 0) ↔ ((i : ℕ) → i < n → get_or (set masks n lost) i 0 ≡ 0) = (
+      (λ e i l. get_or-set_other masks n i lost 0 (omega arith) ∙ so_far.0 e i l),
+      (λ all. so_far.1 (λ i l. sym (get_or-set_other masks n i lost 0 (omega arith)) ∙ all i l)),
+    ) in
+    let P : ℕ → Type 0 = λ m. (bit_or seen m ≡ 0) ↔ ((i : ℕ) → i < n + 1 → get_or (set masks n lost) i 0 ≡ 0) in
+    subst P here (empty_more (set masks n lost) seen n before)
+
+pub lost_so_far : (before old masks : List ℕ) (n : ℕ) → n < length masks → get_or masks n 0 ≡ get_or old n 0 → ((i : ℕ) → i < n → get_or masks i 0 ≡ bit_and (get_or before i 0) (65535 - get_or old i 0)) → (i : ℕ) → i < n + 1 → get_or (set masks n (bit_and (get_or before n 0) (65535 - get_or masks n 0))) i 0 ≡ bit_and (get_or before i 0) (65535 - get_or old i 0)
+lost_so_far before old masks n room same done i l = elim (cases_eq i n) [
+  | inl e ↦
+      let value : ℕ → ℕ = λ m. bit_and (get_or before n 0) (65535 - m) in
+      let P : ℕ → Type 0 = λ j. get_or (set masks n (value (get_or masks n 0))) j 0 ≡ bit_and (get_or before j 0) (65535 - get_or old j 0) in
+      subst P (sym e) (get_or-set_same masks n (value (get_or masks n 0)) 0 room ∙ ap value same)
+  | inr other ↦ get_or-set_other masks n i _ 0 other ∙ done i (omega arith)
+]
+
+-- some are left where not each mask is empty
+pub any_lost : (masks : List ℕ) (seen n : ℕ) → length masks ≤ n → ((seen ≡ 0) ↔ ((i : ℕ) → i < n → get_or masks i 0 ≡ 0)) → MatchBool (not (nat_eq seen 0)) (All (λ mask. mask ≡ 0) masks → ⊥) (All (λ mask. mask ≡ 0) masks)
+any_lost masks seen n all so_far = elim (cases_eq seen 0) [
+  | inl e ↦
+      let P : ℕ → Type 0 = λ m. MatchBool (not (nat_eq m 0)) (All (λ mask. mask ≡ 0) masks → ⊥) (All (λ mask. mask ≡ 0) masks) in
+      subst P (sym e) (All-from_get_or (λ mask. mask ≡ 0) masks 0 (λ i l. so_far.0 e i (omega arith)))
+  | inr some ↦
+      let Q : Bool → Type 0 = λ b. MatchBool (not b) (All (λ mask. mask ≡ 0) masks → ⊥) (All (λ mask. mask ≡ 0) masks) in
+      subst Q (sym (ne_eqb seen 0 some)) (λ none. some (so_far.1 (λ i l. elim (cases_lt i (length masks)) [
+        | inl inside ↦ All-get_or (λ mask. mask ≡ 0) masks i 0 inside none
+        | inr past ↦ get_or_past masks i 0 past
+      ])))
+]
 
 -- ---- whole lines
 

@@ -1,19 +1,18 @@
 -- The reason for one exclusion.
 use Rattle.std.proofs.Common.{◌≡◌, ℕ, ◌*◌, ◌%◌, ◌^◌, ◌<◌, ◌≤◌, List, length, refl, sym, ap, ◌∙◌, subst, arith, inl, inr, get_or, set, replicate, get_or-set_same, get_or-set_other}
 use Rattle.std.specs.Prelude.{IsBitSet}
-use Rattle.std.proofs.lemmas.Bool.{cases_eq, cases_lt}
+use Rattle.std.proofs.lemmas.Bool.{cases_eq}
 use Rattle.std.proofs.lemmas.List.{get_or_past, get_or-replicate, length-replicate}
 use Rattle.picture.specs.Rows.{line_of}
 use Rattle.clues.specs.declared.block.Block.{Block}
 use Rattle.clues.specs.ClueBook.{Clues, clue_at}
-use Rattle.line_settle.specs.Fitting.{CanHave}
 use Rattle.line_settle.specs.FactSets.{Leaves, row_on, col_on}
 use Rattle.line_settle.specs.LeavingOut.{ForcesAll}
 use Rattle.justify.specs.declared.premise.Premise.{Premise}
 use Rattle.justify.specs.declared.step.Step.{Step}
 use Rattle.justify.specs.Premises.{IsMark, LeavesRest, Mentions, Says, SaysBut}
 use Rattle.justify.specs.Forcing.{CanHaveWithout, ForcesFrom}
-use Rattle.justify.specs.Steps.{step_at, Draws, IsForced}
+use Rattle.justify.specs.Steps.{step_at, Draws}
 use Rattle.justify.specs.Book.{Account, CanFollow, IsAccount, IsDerivation}
 use Rattle.justify.specs.Needs.{AreNeeded}
 use Rattle.justify.specs.Reasons.{Argues, Supports}

@@ -38,13 +38,17 @@ impl Book {
     pub fn start(alloc: Global, base: Facts) -> Result<Book, AllocError>
         ensures { IfOk result (λ book. book ≡ account base [] base) }
     {
+        Book::with_room(alloc, base, 0)
+    }
+
+    /// The same, with room for so many steps before a further one asks for memory.
+    pub fn with_room(alloc: Global, base: Facts, steps: usize) -> Result<Book, AllocError>
+        ensures { IfOk result (λ book. book ≡ account base [] base) }
+    {
         let _ = base.height();
         let facts = base.copy()?;
-        Ok(Book {
-            base,
-            facts,
-            steps: Vec::new(alloc),
-        })
+        let steps = Vec::with_capacity(alloc, steps)?;
+        Ok(Book { base, facts, steps })
     }
 
     /// What was given: the exclusions that need no reason.

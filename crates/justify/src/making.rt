@@ -7,7 +7,7 @@ ghost use Rattle.justify.specs.Making.{Makes};
 
 use crate::book::Book;
 use crate::fault::StepFault;
-use crate::masks::{MOST_CELLS, are_empty, keep_lost};
+use crate::masks::{MOST_CELLS, keep_lost};
 use crate::needs::needed_for;
 use crate::premise::Premises;
 use crate::step::Step;
@@ -45,8 +45,7 @@ impl Book {
             Outcome::Dead => return Err(StepFault::Dead),
             Outcome::Narrowed => {}
         }
-        keep_lost(left, drawn);
-        if are_empty(drawn) {
+        if !keep_lost(left, drawn) {
             return Ok(None);
         }
         let lost = Premises::from_masks(self.allocator(), drawn)?;

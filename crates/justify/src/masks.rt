@@ -125,14 +125,20 @@ pub(crate) fn complement(masks: &mut [u16])
     }
 }
 
-// Makes the masks those of the colours that were there before and are no more.
-pub(crate) fn keep_lost(before: &[u16], masks: &mut [u16])
+// Makes the masks those of the colours that were there before and are no more, and says whether there are any.
+pub(crate) fn keep_lost(before: &[u16], masks: &mut [u16]) -> bool
     requires { length before.now ≡ length masks.old }
-    ensures { KeepsLost before.now masks.old masks.new }
+    ensures kept { KeepsLost before.now masks.old masks.new }
+    ensures any { MatchBool result (All (λ mask. mask ≡ 0) masks.new → ⊥)
+        (All (λ mask. mask ≡ 0) masks.new) }
 {
+    let mut seen = 0;
     for place in 0..masks.len() {
-        masks[place] = before[place] & !masks[place];
+        let lost = before[place] & !masks[place];
+        masks[place] = lost;
+        seen |= lost;
     }
+    seen != 0
 }
 
 // Whether no cell of a line has a colour that is said there.
@@ -146,17 +152,6 @@ pub(crate) fn has_none(premises: &[Premise], left: &[u16]) -> bool
         }
     }
     true
-}
-
-// Whether no cell of a line has a colour. All cells are looked at, so that some can be together.
-pub(crate) fn are_empty(masks: &[u16]) -> bool
-    ensures { IsTrue result ↔ All (λ mask. mask ≡ 0) masks.now }
-{
-    let mut seen = 0;
-    for mask in masks {
-        seen |= *mask;
-    }
-    seen == 0
 }
 
 // Makes the masks of a line empty but for one colour in one cell.

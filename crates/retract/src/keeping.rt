@@ -27,6 +27,12 @@ pub struct Kept {
     pub dirty: LineSet,
 }
 
+// For how many steps the kept book gets room: mostly as many follow as are dropped, or a few more.
+fn room_for(book: &Book) -> usize {
+    let steps = book.steps().len();
+    steps + steps / 4
+}
+
 /// Keeps the steps of a book that stand after a change, in order and each moved to its new line, over a new base, and
 /// names the dirty lines. The book is a derivation from the old clues, the change is of the sizes of both clue books, and
 /// the base has the new size. The old book stays.
@@ -56,7 +62,7 @@ pub fn keep(
 {
     let _ = base.height();
     let same = lines_of_same_clue(old, new, change);
-    let mut kept = Book::start(alloc, base)?;
+    let mut kept = Book::with_room(alloc, base, room_for(book))?;
     for step in book.steps() {
         if let Some(to) = standing_line(step, old, new, change, &same, kept.facts()) {
             kept.add_step(step.moved_to(to)?)?;

@@ -1,4 +1,4 @@
-use Rattle.std.proofs.Common.{◌≡◌, ◌+◌, ◌<◌, ◌^◌, ℕ, List, arith, refl, sym, subst, get_or, set, length}
+use Rattle.std.proofs.Common.{◌≡◌, ◌+◌, ◌<◌, ◌^◌, ℕ, List, arith, refl, sym, subst, get_or, length}
 use Rattle.justify.specs.declared.premise.Premise.{Premise}
 use Rattle.justify.specs.Gathering.{Gathered}
 use Rattle.justify.specs.Premises.{premise}

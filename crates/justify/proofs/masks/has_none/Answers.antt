@@ -1,4 +1,4 @@
-use Rattle.std.proofs.Common.{◌≡◌, ℕ, ◌<◌, ◌^◌, length, get_or, bit_and, subst, refl, arith}
+use Rattle.std.proofs.Common.{length, get_or, bit_and, refl, arith}
 use Rattle.std.proofs.lemmas.Nat.{and_le_l}
 use Rattle.justify.specs.Premises.{premise_at}
 use Rattle.justify.proofs.LineMaskLemmas.{said_here, none_said}

@@ -1,6 +1,5 @@
-use Rattle.std.proofs.Common.{ℕ, ◌+◌, ◌-◌, length, set, refl, arith}
-use Rattle.justify.specs.Premises.{premise_at}
-use Rattle.justify.proofs.LineMaskLemmas.{Rest, rest_more, rest_all}
+use Rattle.std.proofs.Common.{length, refl, arith}
+use Rattle.justify.proofs.LineMaskLemmas.{rest_more, rest_all}
 use Rattle.justify.proofs.StandingLemmas.{place_inside}
 use Rattle.justify.proofs.masks.leave_rest.Goals as goal
 

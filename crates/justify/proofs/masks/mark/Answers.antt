@@ -1,5 +1,4 @@
-use Rattle.std.proofs.Common.{◌≡◌, ℕ, ◌*◌, ◌%◌, ◌^◌, length, set, replicate}
-use Rattle.justify.specs.Premises.{IsMark}
+use Rattle.std.proofs.Common.{◌≡◌, length, replicate}
 use Rattle.justify.proofs.ReasonLemmas.{marked}
 use Rattle.justify.proofs.masks.mark.Goals as goal
 

@@ -1,8 +1,5 @@
-use Rattle.std.proofs.Common.{◌≡◌, ℕ, List, length, ◌∙◌, arith}
+use Rattle.std.proofs.Common.{◌≡◌, length, ◌∙◌, arith}
 use Rattle.std.proofs.lemmas.Result.{IfOk-weaker}
-use Rattle.justify.specs.declared.premise.Premise.{Premise}
-use Rattle.justify.specs.Premises.{LeavesRest, Says}
-use Rattle.justify.specs.Forcing.{ForcesFrom}
 use Rattle.justify.specs.Needs.{AreNeeded}
 use Rattle.justify.specs.Reasons.{Supports}
 use Rattle.justify.proofs.ReasonLemmas.{forces_mark, supports}

@@ -1,7 +1,4 @@
-use Rattle.std.proofs.Common.{◌≡◌, ◌↔◌, ℕ, List, length, ◌∙◌, arith, IsTrue, MatchBool}
-use Rattle.justify.specs.declared.premise.Premise.{Premise}
-use Rattle.justify.specs.Premises.{HasSaid, LeavesRest}
-use Rattle.justify.specs.Steps.{IsForced}
+use Rattle.std.proofs.Common.{◌≡◌, length, ◌∙◌, arith}
 use Rattle.justify.proofs.StandingLemmas.{forced_is, mentions_same}
 use Rattle.justify.proofs.standing.is_forced_on.Goals as goal
 

@@ -1,8 +1,8 @@
-use Rattle.std.proofs.Common.{ℕ, ◌<◌, List, length, subst, sym, arith}
+use Rattle.std.proofs.Common.{ℕ, ◌<◌, length, subst, sym, arith}
 use Rattle.picture.specs.Rows.{line_of}
 use Rattle.justify.specs.declared.step.Step.{Step}
 use Rattle.justify.specs.Premises.{Mentions}
-use Rattle.justify.specs.Book.{Account, account, CanAdd, GainDrawn, IsAccount}
+use Rattle.justify.specs.Book.{Account, CanAdd}
 use Rattle.justify.proofs.BookLemmas.{account_more, drawn_lies_inside, found_last}
 use Rattle.justify.proofs.book.Book.add_step.Goals as goal
 
