@@ -99,6 +99,7 @@ fn start_behind(state: usize, is_gap: bool) -> usize
 
 impl<'a, W: Word> PatternSets<'a, W> {
     /// The sets of a clue's pattern, block by block. Those by colour are made in `next`, which is empty before.
+    #[inline(always)]
     pub fn of(blocks: &[Block], next: &'a mut [W]) -> PatternSets<'a, W>
         requires blocks_of_clue { IsClue blocks.now }
         requires short { length (pattern_of blocks.now) ≤ W.width }

@@ -21,6 +21,9 @@ use picture::MAX_SIDE;
 // How many cells a line has at the most.
 const MOST: usize = MAX_SIDE as usize;
 
+// The longest of the short lines.
+const FEW: usize = 16;
+
 // A clue that needs at most so many cells has its states in 64 bits.
 const NEAR: usize = 63;
 
@@ -61,6 +64,7 @@ fn meets_marked<W: Word>(on: Reached<W>, plain: W, marked: W) -> bool
 
 impl<'a, W: Word> PatternSets<'a, W> {
     // The states behind a cell of drawn colours; mostly it has none.
+    #[inline(always)]
     fn reach_drawn(&self, colours: u16, from: W) -> W
         requires sixteen { length self.now.next.now ≡ 16 }
         ensures { (pattern : List ℕ) (before : ℕ → Bool)
@@ -75,6 +79,7 @@ impl<'a, W: Word> PatternSets<'a, W> {
     }
 
     // The states behind a cell, `colours` being those of the mask's colours that are drawn there.
+    #[inline(always)]
     fn reach(&self, moves: Moves<W>, colours: u16, from: Reached<W>) -> Reached<W>
         requires sixteen { length self.now.next.now ≡ 16 }
         ensures { (pattern : List ℕ) (mask : ℕ) (all marked : ℕ → Bool)
@@ -96,6 +101,7 @@ impl<'a, W: Word> PatternSets<'a, W> {
     }
 
     // The states before a cell of drawn colours that it leads to one of a set; mostly it has none.
+    #[inline(always)]
     fn back_drawn(&self, colours: u16, later: W) -> W
         requires sixteen { length self.now.next.now ≡ 16 }
         ensures { (pattern : List ℕ) (behind : ℕ → Bool)
@@ -110,6 +116,7 @@ impl<'a, W: Word> PatternSets<'a, W> {
     }
 
     // The states before a cell from which lines, and marked lines, can go on to the states behind it.
+    #[inline(always)]
     fn back(&self, moves: Moves<W>, colours: u16, later: Reached<W>) -> Reached<W>
         requires sixteen { length self.now.next.now ≡ 16 }
         ensures { (pattern : List ℕ) (mask : ℕ) (all marked : ℕ → Bool)
@@ -131,6 +138,7 @@ impl<'a, W: Word> PatternSets<'a, W> {
     }
 
     // Notes the states behind each cell that comes after the last drawn one. There no line is marked.
+    #[inline(always)]
     fn note_last(&self, drawn: &[u16], left: &[u16], plain: &mut [W], marked: &mut [W]) -> Edge<W>
         requires sixteen { length self.now.next.now ≡ 16 }
         requires same_length { length drawn.now ≡ length left.now }
@@ -171,6 +179,7 @@ impl<'a, W: Word> PatternSets<'a, W> {
 
     /// Notes for each cell the states behind it from which lines, and marked lines, can go to the end, and answers the
     /// place behind the last drawn cell.
+    #[inline(always)]
     fn note_behind(&self, drawn: &[u16], left: &[u16], plain: &mut [W], marked: &mut [W]) -> usize
         requires sixteen { length self.now.next.now ≡ 16 }
         requires same_length { length drawn.now ≡ length left.now }
@@ -206,6 +215,7 @@ impl<'a, W: Word> PatternSets<'a, W> {
 
     // Gives the cells before the first drawn one all sixteen colours where no line is marked then. None is marked before
     // them.
+    #[inline(always)]
     fn sweep_first(&self, drawn: &[u16], behind: &Behind<W>, left: &mut [u16]) -> Edge<W>
         requires sixteen { length self.now.next.now ≡ 16 }
         requires same_length { length drawn.now ≡ length left.old }
@@ -243,6 +253,7 @@ impl<'a, W: Word> PatternSets<'a, W> {
     }
 
     // The same for the cells up to the last drawn one, and answers the states behind it that marked lines come to.
+    #[inline(always)]
     fn sweep_drawn(&self, drawn: &[u16], behind: &Behind<W>, left: &mut [u16], first: Edge<W>) -> W
         requires sixteen { length self.now.next.now ≡ 16 }
         requires same_length { length drawn.now ≡ length left.old }
@@ -292,6 +303,7 @@ impl<'a, W: Word> PatternSets<'a, W> {
     }
 
     // The same for the cells behind the last drawn one, where only marked lines matter.
+    #[inline(always)]
     fn sweep_last(&self, drawn: &[u16], behind: &Behind<W>, left: &mut [u16], before: W)
         requires sixteen { length self.now.next.now ≡ 16 }
         requires same_length { length drawn.now ≡ length left.old }
@@ -336,20 +348,23 @@ impl<'a, W: Word> PatternSets<'a, W> {
     }
 }
 
-// Leaves out what a line with room for its blocks can do without, by sets of states in words.
-fn leave_out_by<W: Word>(blocks: &[Block], drawn: &[u16], left: &mut [u16])
+// Leaves out what a line with room for its blocks can do without, by sets of states in words, in buffers for lines of at most
+// N cells. A function empties its buffers first, so short lines have small ones.
+#[inline(never)]
+fn leave_out_by<W: Word, const N: usize>(blocks: &[Block], drawn: &[u16], left: &mut [u16])
     requires blocks_of_clue { IsClue blocks.now }
     requires small_word { type_size W.row ≤ 16 }
+    requires small_buffers { N ≤ MAX_SIDE }
     requires same_length { length drawn.now ≡ length left.old }
-    requires short { length left.old ≤ MAX_SIDE }
+    requires short { length left.old ≤ N }
     requires few_states { length (pattern_of blocks.now) ≤ W.width }
     ensures { (finishes_marked (pattern_of blocks.now) left.old drawn.now 0 ≡ true → ⊥)
         → SweepsOut (pattern_of blocks.now) drawn.now left.old left.new (length left.old) }
 {
     let mut next = [W::low(0); 16];
     let sets = PatternSets::of(blocks, &mut next);
-    let mut plain = [W::low(0); MOST];
-    let mut marked = [W::low(0); MOST];
+    let mut plain = [W::low(0); N];
+    let mut marked = [W::low(0); N];
     let end = sets.note_behind(drawn, left, &mut plain, &mut marked);
     let behind = Behind {
         plain: &plain,
@@ -362,12 +377,24 @@ fn leave_out_by<W: Word>(blocks: &[Block], drawn: &[u16], left: &mut [u16])
     sets.sweep_last(drawn, &behind, left, before);
 }
 
-// Whether the states of a clue have room in 64 bits, where its blocks have room on a line of so many cells.
-fn are_near(blocks: &[Block], cells: usize) -> bool
-    requires has_room { length (pattern_of blocks.now) ≤ cells + 1 }
-    ensures { IsTrue result ↔ length (pattern_of blocks.now) ≤ 64 }
+// The same for a line of any length, by 64 bits where its states have room there.
+fn leave_out_in_words(blocks: &[Block], drawn: &[u16], left: &mut [u16])
+    requires blocks_of_clue { IsClue blocks.now }
+    requires has_room { length (pattern_of blocks.now) ≤ length left.old + 1 }
+    requires same_length { length drawn.now ≡ length left.old }
+    requires short { length left.old ≤ MAX_SIDE }
+    ensures { (finishes_marked (pattern_of blocks.now) left.old drawn.now 0 ≡ true → ⊥)
+        → SweepsOut (pattern_of blocks.now) drawn.now left.old left.new (length left.old) }
 {
-    cells <= NEAR || has_room(blocks, NEAR)
+    if left.len() <= FEW {
+        leave_out_by::<u64, FEW>(blocks, drawn, left);
+    } else if left.len() <= NEAR {
+        leave_out_by::<u64, NEAR>(blocks, drawn, left);
+    } else if has_room(blocks, NEAR) {
+        leave_out_by::<u64, MOST>(blocks, drawn, left);
+    } else {
+        leave_out_by::<u128, MOST>(blocks, drawn, left);
+    }
 }
 
 // Whether all sixteen colours are left in each cell.
@@ -395,9 +422,5 @@ pub fn leave_out(clue: &Clue, drawn: &[u16], left: &mut [u16])
         left.fill(u16::MAX);
         return;
     }
-    if are_near(blocks, left.len()) {
-        leave_out_by::<u64>(blocks, drawn, left);
-    } else {
-        leave_out_by::<u128>(blocks, drawn, left);
-    }
+    leave_out_in_words(blocks, drawn, left);
 }

@@ -13,12 +13,7 @@ returns-then-not-has_room c =
     let long = no_room c.has_room.result (length (pattern_of c.blocks-blocks.result.now)) (length c.args.left.now + 1) c.if-not-has_room.true c.has_room.ensures.1 in
     leaves_all _ _ _ _ told.clue (c.fill.ensures.after (λ y h. h)) (rw told.blocks at long)
 
-pub returns-then-are_near : goal.returns-then-are_near
-returns-then-are_near c =
+pub returns : goal.returns
+returns c =
     let told = c.blocks-blocks.ensures in
-    leaves_out _ _ _ _ told.clue c.requires.forced (rw told.blocks at c.leave_out_by.ensures)
-
-pub returns-else-are_near : goal.returns-else-are_near
-returns-else-are_near c =
-    let told = c.blocks-blocks.ensures in
-    leaves_out _ _ _ _ told.clue c.requires.forced (rw told.blocks at c.leave_out_by-else-are_near.ensures)
+    leaves_out _ _ _ _ told.clue c.requires.forced (rw told.blocks at c.leave_out_in_words.ensures)
