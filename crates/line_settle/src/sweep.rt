@@ -225,7 +225,6 @@ impl<'a, W: Word> PatternSets<'a, W> {
             result.at }
     {
         let full = self.moves_by(u16::MAX);
-        let mut cell = full;
         let mut states = W::low(1);
         let mut at = 0;
         'cells: while at < behind.end && drawn[at] & self.colours == 0 {
@@ -234,8 +233,7 @@ impl<'a, W: Word> PatternSets<'a, W> {
                 left[at] = u16::MAX;
                 states = on;
             } else {
-                cell = self.moves_after(left[at], cell);
-                states = cell.forward(states);
+                states = self.moves_by(left[at]).forward(states);
             }
             at += 1;
         }
@@ -273,7 +271,6 @@ impl<'a, W: Word> PatternSets<'a, W> {
             behind.now.end }
     {
         let full = self.moves_by(u16::MAX);
-        let mut cell = full;
         let mut from = Reached {
             all: first.states,
             marked: W::low(0),
@@ -281,8 +278,7 @@ impl<'a, W: Word> PatternSets<'a, W> {
         for i in first.at..behind.end {
             let on = self.reach(full, u16::MAX & drawn[i], from);
             if meets_marked(on, behind.plain[i], behind.marked[i]) {
-                cell = self.moves_after(left[i], cell);
-                from = self.reach(cell, left[i] & drawn[i], from);
+                from = self.reach(self.moves_by(left[i]), left[i] & drawn[i], from);
             } else {
                 left[i] = u16::MAX;
                 from = on;
@@ -321,7 +317,6 @@ impl<'a, W: Word> PatternSets<'a, W> {
             (length left.old) }
     {
         let full = self.moves_by(u16::MAX);
-        let mut cell = full;
         let mut marked = before;
         for place in behind.end..left.len() {
             let on = full.forward(marked);
@@ -329,8 +324,7 @@ impl<'a, W: Word> PatternSets<'a, W> {
                 left[place] = u16::MAX;
                 marked = on;
             } else {
-                cell = self.moves_after(left[place], cell);
-                marked = cell.forward(marked);
+                marked = self.moves_by(left[place]).forward(marked);
             }
         }
     }
