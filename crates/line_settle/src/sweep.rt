@@ -235,7 +235,6 @@ impl<'a, W: Word> PatternSets<'a, W> {
             result.at }
     {
         let full = self.moves_by(u16::MAX);
-        let mut cell = full;
         let mut states = W::low(1);
         let mut at = 0;
         'cells: while at < behind.end && drawn[at] & self.colours == 0 {
@@ -244,8 +243,7 @@ impl<'a, W: Word> PatternSets<'a, W> {
                 left[at] = u16::MAX;
                 states = on;
             } else {
-                cell = self.moves_after(left[at], cell);
-                states = cell.forward(states);
+                states = self.moves_by(left[at]).forward(states);
             }
             at += 1;
         }
@@ -284,7 +282,6 @@ impl<'a, W: Word> PatternSets<'a, W> {
             behind.now.end }
     {
         let full = self.moves_by(u16::MAX);
-        let mut cell = full;
         let mut from = Reached {
             all: first.states,
             marked: W::low(0),
@@ -292,8 +289,7 @@ impl<'a, W: Word> PatternSets<'a, W> {
         for i in first.at..behind.end {
             let on = self.reach(full, u16::MAX & drawn[i], from);
             if meets_marked(on, behind.plain[i], behind.marked[i]) {
-                cell = self.moves_after(left[i], cell);
-                from = self.reach(cell, left[i] & drawn[i], from);
+                from = self.reach(self.moves_by(left[i]), left[i] & drawn[i], from);
             } else {
                 left[i] = u16::MAX;
                 from = on;
@@ -333,7 +329,6 @@ impl<'a, W: Word> PatternSets<'a, W> {
             (length left.old) }
     {
         let full = self.moves_by(u16::MAX);
-        let mut cell = full;
         let mut marked = before;
         for place in behind.end..left.len() {
             let on = full.forward(marked);
@@ -341,8 +336,7 @@ impl<'a, W: Word> PatternSets<'a, W> {
                 left[place] = u16::MAX;
                 marked = on;
             } else {
-                cell = self.moves_after(left[place], cell);
-                marked = cell.forward(marked);
+                marked = self.moves_by(left[place]).forward(marked);
             }
         }
     }

@@ -9,7 +9,7 @@ use Rattle.line_settle.proofs.state_sets.PatternSets.sweep_drawn.Goals as goal
 use Rattle.line_settle.proofs.state_sets.PatternSets.sweep_drawn.Goals.{then-meets_marked, else-meets_marked}
 
 pub loop-i-init : goal.loop-i-init
-loop-i-init g c = record { swept = λ old start. rw c.low.ensures start; cell_is = rw c.moves_by-full.ensures.mask c.moves_by-full.ensures.moves }
+loop-i-init g c = record { swept = λ old start. rw c.low.ensures start }
 
 pub loop-i-preserved : goal.loop-i-preserved
 loop-i-preserved g c =
@@ -32,14 +32,10 @@ loop-i-preserved g c =
           rw add-one (elim c.if-meets_marked.branch [
             | then-meets_marked x ↦
                 let to = reached_of bits x.reach-from.result in
-                let nexts : Reaches w sets drawn left i (get_or left i 0) to = λ pattern are. x.reach-from.ensures pattern (get_or left i 0) (reaches pattern left i) (reaches_marked pattern left drawn i) are (x.moves_after-cell.ensures.moves pattern are) (swept.from_is pattern are) in
+                let nexts : Reaches w sets drawn left i (get_or left i 0) to = λ pattern are. x.reach-from.ensures pattern (get_or left i 0) (reaches pattern left i) (reaches_marked pattern left drawn i) are (x.moves_by.ensures.moves pattern are) (swept.from_is pattern are) in
                 rw (x.from-is, x.left-is) (step_kept w sets drawn _ _ old left _ on to i inside same swept ons nexts (meets.0 x.if-meets_marked.true))
             | else-meets_marked x ↦ rw (x.from-is, x.left-is) (step_out w sets drawn _ _ old left _ on i inside same swept ons (λ s. false≢true (sym x.if-meets_marked.false ∙ meets.1 s)))
           ]);
-      cell_is = elim c.if-meets_marked.branch [
-        | then-meets_marked x ↦ rw (x.cell-is, x.moves_after-cell.ensures.mask) x.moves_after-cell.ensures.moves
-        | else-meets_marked x ↦ rw x.cell-is c.loop-i.invariant.cell_is
-      ];
     }
 
 pub returns : goal.returns

@@ -15,7 +15,6 @@ cells-init g c = record {
     from_is = λ pattern are. first_reached g.W.Word.width pattern c.args.left.now c.args.drawn.now (sets_of g.W.Word.bits c.args.self.now) (g.W.Word.bits c.low-states.result) 0 c.low-states.ensures refl are;
     so_far = λ pattern are tables none. none_swept pattern c.args.drawn.now c.args.left.now none;
   };
-  cell_is = rw c.moves_by-full.ensures.mask c.moves_by-full.ensures.moves;
 }
 
 pub cells-preserved : goal.cells-preserved
@@ -47,11 +46,7 @@ cells-preserved g c =
             let to = bits x.forward-states.result in
             let nexts : Reaches w sets drawn left i (get_or left i 0) (unmarked to) = λ pattern are.
             (let from = swept.from_is pattern are in
-            unmarked_forward w pattern sets (get_or left i 0) (get_or drawn i 0) to (reaches pattern left i) (reaches_marked pattern left drawn i) are foreign from.marked_are (x.forward-states.ensures pattern _ (reaches pattern left i) (x.moves_after-cell.ensures.moves pattern are) from.all_are)) in
+            unmarked_forward w pattern sets (get_or left i 0) (get_or drawn i 0) to (reaches pattern left i) (reaches_marked pattern left drawn i) are foreign from.marked_are (x.forward-states.ensures pattern _ (reaches pattern left i) (x.moves_by.ensures.moves pattern are) from.all_are)) in
             rw (x.states-is, x.left-is) (step_kept w sets drawn _ _ _ left _ (unmarked on) (unmarked to) i inside same swept ons nexts (inr (test.0 x.if-is_none.false)))
       ]);
-      cell_is = elim c.if-is_none.branch [
-        | then-is_none x ↦ rw x.cell-is c.cells.invariant.cell_is
-        | else-is_none x ↦ rw (x.cell-is, x.moves_after-cell.ensures.mask) x.moves_after-cell.ensures.moves
-      ];
     }

@@ -1,6 +1,6 @@
 use Rattle.std.proofs.Common.{map, ◌≤◌, ◌-◌}
 use Rattle.line_settle.specs.Marking.{unmarked}
-use Rattle.line_settle.specs.StateSets.{AreMovesOf, moves_of, sets_of}
+use Rattle.line_settle.specs.StateSets.{sets_of}
 use Rattle.line_settle.specs.Sweeping.{SweptTo}
 use Rattle.line_settle.proofs.state_sets.PatternSets.sweep_first.Given as goal
 
@@ -8,7 +8,6 @@ abbrev pub invariant-cells : goal.invariant-cells
 invariant-cells g l = record {
   inside : l.at ≤ l.behind.end;
   swept : SweptTo g.W.Word.width (sets_of g.W.Word.bits l.self) l.drawn (map g.W.Word.bits l.behind.plain.now) (map g.W.Word.bits l.behind.marked.now) l.initial.left l.left (unmarked (g.W.Word.bits l.states)) l.at;
-  cell_is : AreMovesOf g.W.Word.width (sets_of g.W.Word.bits l.self) l.cell.mask (moves_of g.W.Word.bits l.cell);
 }
 
 abbrev pub decreases-cells : goal.decreases-cells

@@ -8,7 +8,7 @@ use Rattle.line_settle.proofs.state_sets.PatternSets.sweep_last.Goals as goal
 use Rattle.line_settle.proofs.state_sets.PatternSets.sweep_last.Goals.{then-is_none, else-is_none}
 
 pub loop-place-init : goal.loop-place-init
-loop-place-init g c = record { swept = λ old s. s; cell_is = rw c.moves_by-full.ensures.mask c.moves_by-full.ensures.moves }
+loop-place-init g c = record { swept = λ old s. s }
 
 pub loop-place-preserved : goal.loop-place-preserved
 loop-place-preserved g c =
@@ -34,13 +34,9 @@ loop-place-preserved g c =
             | then-is_none x ↦ rw (x.marked-is, x.left-is) (last_out w sets drawn _ _ old left _ on i inside same none swept ons (test.1 x.if-is_none.true))
             | else-is_none x ↦
                 let to = bits x.forward-marked.result in
-                let nexts : Marks w sets drawn left i (get_or left i 0) to = λ pattern are. x.forward-marked.ensures pattern (get_or left i 0) (reaches_marked pattern left drawn i) (x.moves_after-cell.ensures.moves pattern are) (swept.from_is pattern are) in
+                let nexts : Marks w sets drawn left i (get_or left i 0) to = λ pattern are. x.forward-marked.ensures pattern (get_or left i 0) (reaches_marked pattern left drawn i) (x.moves_by.ensures.moves pattern are) (swept.from_is pattern are) in
                 rw (x.marked-is, x.left-is) (last_kept w sets drawn _ _ old left _ on to i inside same none swept ons nexts (test.0 x.if-is_none.false))
           ]);
-      cell_is = elim c.if-is_none.branch [
-        | then-is_none x ↦ rw x.cell-is c.loop-place.invariant.cell_is
-        | else-is_none x ↦ rw (x.cell-is, x.moves_after-cell.ensures.mask) x.moves_after-cell.ensures.moves
-      ];
     }
 
 pub returns : goal.returns

@@ -1,10 +1,9 @@
 use Rattle.std.proofs.Common.{map, ℕ, List}
-use Rattle.line_settle.specs.StateSets.{AreMovesOf, moves_of, sets_of}
+use Rattle.line_settle.specs.StateSets.{sets_of}
 use Rattle.line_settle.specs.Sweeping.{SweptMarked}
 use Rattle.line_settle.proofs.state_sets.PatternSets.sweep_last.Given as goal
 
 abbrev pub invariant-loop-place : goal.invariant-loop-place
 invariant-loop-place g l = record {
   swept : (old : List ℕ) → SweptMarked g.W.Word.width (sets_of g.W.Word.bits l.self) l.drawn (map g.W.Word.bits l.behind.plain.now) (map g.W.Word.bits l.behind.marked.now) old l.initial.left (g.W.Word.bits l.fn.before) l.behind.end → SweptMarked g.W.Word.width (sets_of g.W.Word.bits l.self) l.drawn (map g.W.Word.bits l.behind.plain.now) (map g.W.Word.bits l.behind.marked.now) old l.left (g.W.Word.bits l.marked) l.place;
-  cell_is : AreMovesOf g.W.Word.width (sets_of g.W.Word.bits l.self) l.cell.mask (moves_of g.W.Word.bits l.cell);
 }
