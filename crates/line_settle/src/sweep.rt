@@ -45,8 +45,8 @@ pub struct Behind<'a, W> {
     pub end: usize,
 }
 
-/// An edge of the drawn cells: the place on one side of which nothing is drawn, and the states there of the lines on that
-/// side.
+/// An edge of the drawn cells: the place on one side of which none of the pattern's colours is drawn, and the states there
+/// of the lines on that side.
 #[derive(Clone, Copy)]
 pub struct Edge<W> {
     pub at: usize,
@@ -63,7 +63,7 @@ fn meets_marked<W: Word>(on: Reached<W>, plain: W, marked: W) -> bool
 }
 
 impl<'a, W: Word> PatternSets<'a, W> {
-    // The states behind a cell of drawn colours; mostly it has none.
+    // The states behind a cell of drawn colours; mostly none of them is the pattern's.
     #[inline(always)]
     fn reach_drawn(&self, colours: u16, from: W) -> W
         requires sixteen { length self.now.next.now ≡ 16 }
@@ -100,7 +100,7 @@ impl<'a, W: Word> PatternSets<'a, W> {
         }
     }
 
-    // The states before a cell of drawn colours that it leads to one of a set; mostly it has none.
+    // The states before a cell of drawn colours that it leads to one of a set; mostly none of them is the pattern's.
     #[inline(always)]
     fn back_drawn(&self, colours: u16, later: W) -> W
         requires sixteen { length self.now.next.now ≡ 16 }
@@ -137,7 +137,8 @@ impl<'a, W: Word> PatternSets<'a, W> {
         }
     }
 
-    // Notes the states behind each cell that comes after the last drawn one. There no line is marked.
+    // Notes the states behind each cell that comes after the last drawn one. There no line is marked, since a line has the
+    // pattern's colours alone.
     #[inline(always)]
     fn note_last(&self, drawn: &[u16], left: &[u16], plain: &mut [W], marked: &mut [W]) -> Edge<W>
         requires sixteen { length self.now.next.now ≡ 16 }
@@ -342,8 +343,8 @@ impl<'a, W: Word> PatternSets<'a, W> {
     }
 }
 
-// Leaves out what a line with room for its blocks can do without, by sets of states in words, in buffers for lines of at most
-// N cells. A function empties its buffers first, so short lines have small ones.
+// Leaves out what a line of at most N cells, with room for its blocks, can do without, by sets of states in words. A
+// function empties its buffers first, so short lines have small ones.
 #[inline(never)]
 fn leave_out_by<W: Word, const N: usize>(blocks: &[Block], drawn: &[u16], left: &mut [u16])
     requires blocks_of_clue { IsClue blocks.now }
