@@ -27,7 +27,7 @@ pub record Changes : Type 0 where
   pub moves : Moves
   pub marked : Lines
 
--- the way of the lines that cross
+-- the name of a line along an axis
 abbrev pub line_at : Axis → ℕ → LineId
 line_at axis at = record { axis = axis; at = at }
 

@@ -8,7 +8,7 @@ use Rattle.line_settle.specs.StateSets.{AreStates, IsForeign, StateSets, ArePatt
 abbrev pub IsUndrawn : ℕ → List ℕ → ℕ → Type 0
 IsUndrawn colours drawn place = (i : ℕ) → place ≤ i → IsForeign colours (slice_index drawn i)
 
--- the first i cells are swept, where the tables tell of the line as it was, which marks no line
+-- the first i cells are swept, where the tables tell of the old masks, by which no line is marked
 abbrev pub SweptAll : ℕ → StateSets → List ℕ → List ℕ → List ℕ → List ℕ → List ℕ → ℕ → Type 0
 SweptAll w sets drawn plain marked old left i = (pattern : List ℕ) → ArePatternSets w pattern sets → ((j : ℕ) → j < length old → AreBehind pattern old drawn plain marked j) → (finishes_marked pattern old drawn 0 ≡ true → ⊥) → SweepsOut pattern drawn old left i
 

@@ -37,7 +37,7 @@ pub struct Reached<W> {
 }
 
 /// What is noted of a line from its end: for each cell the states behind it from which lines, and marked lines, can go to
-/// the end, and the place behind the last cell of a drawn colour.
+/// the end, and the place behind the last drawn cell.
 #[derive(Clone, Copy)]
 pub struct Behind<'a, W> {
     pub plain: &'a [W],
@@ -45,8 +45,8 @@ pub struct Behind<'a, W> {
     pub end: usize,
 }
 
-/// An edge of the drawn cells: the place on one side of which none of the pattern's colours is drawn, and the states there
-/// of the lines on that side.
+/// An edge of the drawn cells, which are those where some of the pattern's colours are drawn: the place on one side of which
+/// there is none, and the states there of the lines on that side.
 #[derive(Clone, Copy)]
 pub struct Edge<W> {
     pub at: usize,
@@ -100,7 +100,7 @@ impl<'a, W: Word> PatternSets<'a, W> {
         }
     }
 
-    // The states before a cell of drawn colours that it leads to one of a set; mostly none of them is the pattern's.
+    // The states before a cell of drawn colours from which it leads to one of a set; mostly none of them is the pattern's.
     #[inline(always)]
     fn back_drawn(&self, colours: u16, later: W) -> W
         requires sixteen { length self.now.next.now ≡ 16 }
@@ -402,7 +402,8 @@ fn are_open(left: &[u16]) -> bool
 /// Leaves out the exclusions of a line that are not needed to force those that are drawn. In `left` and `drawn` bit k of
 /// a cell's mask stands for colour k: what `left` leaves, and what is to be excluded. From the line's first cell on, each
 /// cell gets all sixteen colours back where the line still forces all that is drawn; then none of the cells that keep
-/// their old mask can do without it. No memory is taken, and no line is evaluated.
+/// their old mask can do without it. The contract names no order; tests see that it is this one. No memory is taken, and no
+/// line is evaluated.
 pub fn leave_out(clue: &Clue, drawn: &[u16], left: &mut [u16])
     requires same_length { length drawn.now ≡ length left.old }
     requires short { length left.old ≤ MAX_SIDE }

@@ -35,7 +35,7 @@ fn room_for(book: &Book) -> usize {
 
 /// Keeps the steps of a book that stand after a change, in order and each moved to its new line, over a new base, and
 /// names the dirty lines. The book is a derivation from the old clues, the change is of the sizes of both clue books, and
-/// the base has the new size. The old book stays.
+/// the base has the new size. The old book stays. Where none of its steps has a premise too many, none of the new one has.
 pub fn keep(
     alloc: Global,
     book: &Book,
