@@ -3,20 +3,20 @@
 
 For each *.md of the repository, or those that are named: a sentence above 40 words, a stiff phrase, a link or a path that
 does not exist. Of some documents also:
-- README.md: a command that the gate does not run, too many words, too long sentences in the mean;
+- README.md: a command that the gate does not run, too long sentences in the mean;
 - docs/PROOF.md: a line of a clause that stands in no source;
 - docs/PROMISES.md: a call or a clause that no source has;
 - docs/DEFINITIONS.md: a name that is not defined in the folders of its section;
 - docs/MUST_FAIL.md: an edit without its row, or a row without its edit.
 
-Then it counts the words of all documents as `wc -w` does: what stands between white space, in blocks of code and tables too.
 A sentence's words are those that have a letter or a digit. And the file KIT must have a line with the logic that `rt version`
-tells, where there is an rt.
+tells, where there is an rt. It counts, and with --words lists, the words for which INSTEAD has a better one; in the documents
+that CLEAN names each of these is a fault.
 
 A block of README.md that begins with ```sh is run by .ci/tutorial, so its commands pass. A block that begins with
 ```sh build holds commands that only build or serve; each must begin as one of BUILDS. No other block may be named sh.
 
-Usage: .ci/prose.py [--short] [DOCUMENT ..]; --short prints the number of faults of each document alone.
+Usage: .ci/prose.py [--short] [--words] [DOCUMENT ..]; --short prints the number of faults of each document alone.
 """
 import functools
 import os
@@ -27,9 +27,29 @@ import sys
 
 ROOT = os.path.dirname(os.path.dirname(os.path.abspath(__file__)))
 MOST_WORDS = 40
-MOST_IN_ALL, MOST_IN_README, README_MEAN = 18000, 800, 16
+README_MEAN = 16
 STIFF = ["want of memory", "for want of", "wanting", "is had", "are had", "was had", "be had", "in front of which",
          "behind which", "thereof", "therein", "whereof", "hereby", "wherein"]
+# Words of our own that a reader of other documentation does not know, as regular expressions, each with the usual word.
+INSTEAD = {
+    r"lack of memory|refused memory": "out of memory",
+    r"growths?(?: of memory)?(?: (?:is|are|be|was|were))? refused|refused growths?": "failed allocation",
+    r"by chance": "random",
+    r"(?:by |against )?a listing(?: of)?|listings": "brute force",
+    r"the gate(?:'s)?|of the gate": "CI",
+    r"(?:the|with the|a) kit(?:'s)?|kits": "toolchain",
+    r"is told by|are told by|told by": "is defined by, follows from",
+    r"wrong words|the words that|mistake in the words|reads? the words": "arguments",
+    r"faults?": "error",
+    r"hang together": "connected",
+    r"stands? (?:behind|in front of)": "follows, precedes",
+    r"behind": "after",
+    r"comes to (?:its|an) end": "ends",
+    r"in the mean": "on average",
+    r"dearer|dearest": "costs more",
+    r"told anew|judged anew|made anew|read anew": "again",
+}
+CLEAN: set[str] = set()
 # Folders in which a path that is named must exist, and commands that build, prove or serve rather than answer.
 FOLDERS = "docs|crates|measure|tests|examples|page|web|python|\\.ci"
 BUILDS = ["bash .ci/run", "(cd crates/nonobench && rt try ", "(cd crates/nonobench && rt run ", "install -D ",
@@ -165,12 +185,6 @@ def words_of(lines):
     return sum(1 for line in lines for word in line.split() if re.search(r"\w", word))
 
 
-def counted(name):
-    """The words of a document as `wc -w` counts them."""
-    with open(os.path.join(ROOT, name), "rb") as file:
-        return len(file.read().split())
-
-
 def mean_sentence(name):
     """How many words a sentence of a document's paragraphs and items has, in the mean; headings and tables are left out."""
     with open(os.path.join(ROOT, name), encoding="utf-8") as file:
@@ -178,6 +192,17 @@ def mean_sentence(name):
     plain = ["" if re.match(r"#|\||!\[|<", line.strip()) else line for line in lines]
     lengths = [words_of([sentence]) for _, unit in units(plain) for sentence in sentences(unit)]
     return sum(lengths) / len(lengths)
+
+
+def better_words(name):
+    """The words of a document for which INSTEAD has a better one, each with its line; code, names and links are left out."""
+    with open(os.path.join(ROOT, name), encoding="utf-8") as file:
+        _, lines = blocks(file.read())
+    for number, line in enumerate(lines, 1):
+        text = re.sub(r"`[^`]*`", "code", re.sub(r"\]\([^)]*\)", "]", line))
+        for word, better in INSTEAD.items():
+            for found in re.findall(rf"\b(?:{word})\b", text, re.I):
+                yield number, f"{found!r}: better {better!r}"
 
 
 def exists(path, folder):
@@ -224,6 +249,8 @@ def faults_of(name):
                 yield number, f"a path to nothing: {match}"
     if name in OF_DOCUMENT:
         yield from OF_DOCUMENT[name](lines)
+    if name in CLEAN:
+        yield from better_words(name)
     if name == os.path.join("docs", "PROOF.md"):
         known = sources()
         for number, _, held in found:
@@ -258,32 +285,31 @@ def kit_fault():
 def main():
     words = sys.argv[1:]
     short = "--short" in words
-    named = [w for w in words if w != "--short"]
-    total = 0
+    named = [w for w in words if not w.startswith("--")]
+    total, odd = 0, 0
     for name in named or documents():
         faults = sorted(faults_of(name))
         total += len(faults)
+        better = list(better_words(name))
+        odd += len(better)
+        for number, word in better if "--words" in words else ():
+            print(f"{name}:{number}: {word}")
         if short and faults:
             print(f"{name}: {len(faults)}")
         elif not short:
             for number, fault in faults:
                 print(f"{name}:{number}: {fault}")
     if not named:
-        counts = {name: counted(name) for name in documents()}
-        in_all = sum(counts.values())
-        print(f"prose: {in_all} words in {len(counts)} documents, as wc -w counts them")
-        if in_all > MOST_IN_ALL:
-            total += 1
-            print(f"the documents have {in_all} words, and may have {MOST_IN_ALL}")
         mean = mean_sentence("README.md")
-        print(f"prose: README has {counts['README.md']} words, {mean:.1f} a sentence")
-        if counts["README.md"] > MOST_IN_README or mean > README_MEAN:
+        print(f"prose: README has {mean:.1f} words a sentence")
+        if mean > README_MEAN:
             total += 1
-            print(f"README may have {MOST_IN_README} words, and {README_MEAN} a sentence")
+            print(f"README may have {README_MEAN} words a sentence")
         fault = kit_fault()
         if fault:
             total += 1
             print(fault)
+    print(f"prose: {odd} words with a better one (--words lists them)")
     print(f"prose: {total} faults")
     return 1 if total else 0
 
