@@ -7,7 +7,8 @@ does not exist. Of some documents also:
 - docs/PROOF.md: a line of a clause that stands in no source;
 - docs/PROMISES.md: a call or a clause that no source has;
 - docs/DEFINITIONS.md: a name that is not defined in the folders of its section;
-- docs/MUST_FAIL.md: an edit without its row, or a row without its edit.
+- docs/MUST_FAIL.md: an edit without its row, or a row without its edit;
+- docs/TRUST.md: a file that has another number of lines than is told behind its name.
 
 A sentence's words are those that have a letter or a digit. And the file KIT must have a line with the logic that `rt version`
 tells, where there is an rt. It counts, and with --words lists, the words for which INSTEAD has a better one; in the documents
@@ -181,6 +182,16 @@ def edit_faults(lines):
         yield len(lines), f"an edit without its row: {'/'.join(edit)}"
 
 
+def length_faults(lines):
+    """The files of docs/TRUST.md, as `PATH` (N lines), that have another number of lines."""
+    for number, line in enumerate(lines, 1):
+        for path, told in re.findall(r"`([\w./]+)` \((\d+) lines\)", line):
+            with open(os.path.join(ROOT, path), encoding="utf-8") as file:
+                found = len(file.read().splitlines())
+            if found != int(told):
+                yield number, f"{path} has {found} lines, not {told}"
+
+
 def words_of(lines):
     return sum(1 for line in lines for word in line.split() if re.search(r"\w", word))
 
@@ -213,7 +224,7 @@ def exists(path, folder):
 
 
 OF_DOCUMENT = {os.path.join("docs", "PROMISES.md"): promise_faults, os.path.join("docs", "DEFINITIONS.md"): definition_faults,
-               os.path.join("docs", "MUST_FAIL.md"): edit_faults}
+               os.path.join("docs", "MUST_FAIL.md"): edit_faults, os.path.join("docs", "TRUST.md"): length_faults}
 
 
 def faults_of(name):
