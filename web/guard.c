@@ -13,6 +13,9 @@ unsigned nonobench_close(void *, unsigned);
 unsigned nonobench_check(void *, const byte *, u64, const byte *, u64, const byte *, u64);
 u64 nonobench_version(byte *, u64);
 
+// What a refused call answers (crates/web/src/status.rt).
+enum { OPTIONS = 6 };
+
 // Exports a function of this file as the call of that name.
 #define CALL(name) __attribute__((export_name("nonobench_" #name)))
 
@@ -28,11 +31,11 @@ static void *here(u64 at) { return (void *)(size_t)at; }
 // Refuses a call as one with other options. No bench has the handle 0, so closing it does nothing but drop the last call's text.
 static unsigned refuse(u64 desk) {
     nonobench_close(here(desk), 0);
-    return 6;
+    return OPTIONS;
 }
 
 CALL(start)
-unsigned start_within(u64 desk) { return is_within(desk, sizeof(u64)) ? nonobench_start(here(desk)) : 6; }
+unsigned start_within(u64 desk) { return is_within(desk, sizeof(u64)) ? nonobench_start(here(desk)) : OPTIONS; }
 
 CALL(end)
 void end_within(u64 desk) { nonobench_end(desk); }

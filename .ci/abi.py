@@ -1,0 +1,207 @@
+#!/usr/bin/env python3
+"""Compares what calls the proved crate web with the functions that it exports, and says where they differ.
+
+The exported functions are those of crates/web/src/calls.rt. Compared with them, by name, number, width and sign of
+arguments and result: the prototypes of c/nonobench.h and of web/guard.c, and LLVM's module of the crate where one is
+named, as text. Of the calls in web/nonobench.mjs the number of arguments is compared with what web/guard.c exports.
+
+The statuses are those of crates/web/src/status.rt, and what is refused has the one of crates/program_options/src/fault.rt.
+They stand again in c/nonobench.h, web/guard.c, web/nonobench.mjs and python/nonobench/_library.py.
+
+Then it plants differences, and fails where one is not found.
+
+Usage: .ci/abi.py [MODULE.ll]. The last line says how much was compared. Status 1 where something differs.
+"""
+import pathlib
+import re
+import sys
+
+ROOT = pathlib.Path(__file__).resolve().parent.parent
+CALLS = "crates/web/src/calls.rt"
+STATUS = "crates/web/src/status.rt"
+FAULT = "crates/program_options/src/fault.rt"
+HEADER = "c/nonobench.h"
+GUARD = "web/guard.c"
+SCRIPT = "web/nonobench.mjs"
+PYTHON = "python/nonobench/_library.py"
+# A pointer to bytes and a length are two arguments, what takes no bytes is none. `pointer TO` names what lies there.
+RUST = {
+    "Global": [], "": ["nothing"], "bool": ["bool"], "u32": ["u32"], "usize": ["u64"], "&mut u32": ["pointer u32"],
+    "&[u8]": ["pointer const u8", "u64"], "&mut [u8]": ["pointer u8", "u64"],
+    "Held": ["desk"], "&mut Held": ["pointer desk"], "&mut *mut u8": ["pointer desk"],
+    "DeskCell": ["desk"], "&mut DeskCell": ["pointer desk"],
+}
+C = {
+    "void": "nothing", "bool": "bool", "_Bool": "bool",
+    "uint32_t": "u32", "unsigned": "u32", "uint32_t *": "pointer u32", "unsigned *": "pointer u32",
+    "size_t": "u64", "u64": "u64", "u64 *": "pointer u64",
+    "uint8_t *": "pointer u8", "byte *": "pointer u8",
+    "const uint8_t *": "pointer const u8", "const byte *": "pointer const u8",
+    "nonobench_desk *": "desk", "nonobench_desk **": "pointer desk", "void *": "pointer desk",
+}
+# What web/guard.c knows of a desk: a number, which lies behind a pointer to one.
+GUARD_ONLY = {"desk": "u64", "pointer desk": "pointer u64"}
+
+
+def without_comments(text):
+    """C without its comments, in one line."""
+    return " ".join(re.sub(r"/\*.*?\*/|//[^\n]*", " ", text, flags=re.S).split())
+
+
+def exported(text):
+    """The functions that the crate exports: each with its result and its arguments as C sees them."""
+    found = {}
+    pattern = r'#\[unsafe\(no_mangle\)\]\s+pub extern "C" fn (\w+)\((.*?)\)(?:\s*->\s*(\w+))?\s*[{re]'
+    for name, inside, result in re.findall(pattern, text, flags=re.S):
+        types = [part.split(":", 1)[1].strip() for part in inside.split(",") if ":" in part]
+        found[name] = [c for rust in [result, *types] for c in RUST.get(rust, [f"unknown: {rust}"])]
+    return found
+
+
+def c_type(words):
+    """The type of a parameter or a result of C, whether it has a name or not."""
+    spaced = " ".join(re.sub(r"(\*+)", r" \1 ", words).split())
+    for end in (spaced, re.sub(r" \w+$", "", spaced)):
+        if end in C:
+            return C[end]
+    return f"unknown: {spaced}"
+
+
+def prototypes(text):
+    """The functions that C declares and does not define, in the same form."""
+    found = {}
+    pattern = r"(?<![\w*] )\b(\w+(?: \*+)?) (nonobench_\w+)\(([^()]*)\);"
+    for result, name, inside in re.findall(pattern, without_comments(text)):
+        if result not in ("return", "else"):
+            found[name] = [c_type(result)] + [c_type(part) for part in inside.split(",")]
+    return found
+
+
+def llvm_type(kind):
+    """What LLVM hands over for an argument."""
+    if kind.startswith("pointer"):
+        return "ptr"
+    return {"u32": "i32", "u64": "i64", "desk": "i64", "bool": "i1", "nothing": "void"}[kind]
+
+
+def defined(text):
+    """The functions that LLVM's module defines, with the types of result and arguments."""
+    found = {}
+    for words, name, inside in re.findall(r"^define ([^@\n]*)@(nonobench_\w+)\((.*?)\)[^()\n]*\{$", text, flags=re.M):
+        arguments = re.findall(r"(?:^|, )(ptr|i\d+)\b", re.sub(r"\([^()]*\)", "", inside))
+        found[name] = [words.split()[-1]] + arguments
+    return found
+
+
+def guarded(text):
+    """How many arguments each function has that web/guard.c exports."""
+    pattern = r"CALL\((\w+)\) \w+ \w+\(([^()]*)\)"
+    return {"nonobench_" + name: inside.count(",") + 1 for name, inside in re.findall(pattern, without_comments(text))}
+
+
+def script_calls(text):
+    """The calls of a script: name and number of arguments."""
+    for found in re.finditer(r"\bcalls\.(nonobench_\w+)\(", text):
+        depth, commas, at = 1, 0, found.end()
+        while depth:
+            depth += {"(": 1, ")": -1}.get(text[at], 0)
+            commas += depth == 1 and text[at] == ","
+            at += 1
+        yield found[1], 0 if text[found.end()] == ")" else commas + 1
+
+
+def numbers(text, pattern):
+    """The statuses that a text names, by their names."""
+    return {name: int(number) for name, number in re.findall(pattern, text)}
+
+
+def statuses(files):
+    """The statuses as they stand, and as they stand again: pairs of a file and its numbers."""
+    own = numbers(files[STATUS], r"pub const (\w+): u32 = (\d+);")
+    own["REFUSED"] = int(re.search(r"\n +_ => (\d+),\n", files[FAULT])[1])
+    line = re.search(r"^([A-Z, ]+) = ([\d, ]+)$", files[PYTHON], flags=re.M)
+    again = [
+        (HEADER, numbers(files[HEADER], r"NONOBENCH_([A-Z]+) = (\d+)\b")),
+        (GUARD, numbers(files[GUARD], r"\b([A-Z]+) = (\d+)\b")),
+        (SCRIPT, numbers(files[SCRIPT], r"const (DONE|REFUSED|MEMORY|CLOSED|OPTIONS) = (\d+);")),
+        (PYTHON, dict(zip(line[1].split(", "), map(int, line[2].split(", ")))) if line else {}),
+    ]
+    return own, again
+
+
+def differing(name, wanted, got):
+    """A line for each function that is missing, is too many or differs."""
+    for key in sorted(wanted.keys() | got.keys()):
+        if wanted.get(key) != got.get(key):
+            yield f"{name}: {key} is {got.get(key, 'missing')}, in the crate {wanted.get(key, 'missing')}"
+
+
+def blind(functions):
+    """The functions as web/guard.c knows them."""
+    return {name: [GUARD_ONLY.get(kind, kind) for kind in kinds] for name, kinds in functions.items()}
+
+
+def differences(files, module=None):
+    """A line for each place that differs from the crate."""
+    own = exported(files[CALLS])
+    yield from differing(HEADER, own, prototypes(files[HEADER]))
+    yield from differing(GUARD, blind(own), blind(prototypes(files[GUARD])))
+    if module is not None:
+        wanted = {name: [llvm_type(kind) for kind in kinds] for name, kinds in own.items()}
+        yield from differing("the module", wanted, defined(module))
+    guard = guarded(files[GUARD])
+    counts = {name: len(kinds) - 1 for name, kinds in own.items()}
+    yield from differing(f"{GUARD}, what it exports", counts, guard)
+    for name, count in script_calls(files[SCRIPT]):
+        if name in own and guard.get(name) != count:
+            yield f"{SCRIPT}: {name} is called with {count} arguments, of {guard.get(name)}"
+    told, again = statuses(files)
+    for file, found in again:
+        yield from differing(file, {name: told.get(name) for name in found} or {"a status": "there"}, found)
+
+
+# Differences that must be found: a file, a text of it and what is put in its place.
+PLANTED = [
+    (HEADER, "uint32_t nonobench_close(nonobench_desk **desk, uint32_t handle);", ""),
+    (HEADER, "const uint8_t *lines, size_t size);", "const uint8_t *lines, uint32_t size);"),
+    (HEADER, "uint32_t handle, const uint8_t *lines", "int handle, const uint8_t *lines"),
+    (HEADER, "uint32_t nonobench_close(", "size_t nonobench_close("),
+    (HEADER, "NONOBENCH_CLOSED = 5", "NONOBENCH_CLOSED = 3"),
+    (GUARD, "nonobench_say(void *, unsigned, const byte *, u64);", "nonobench_say(void *, u64, const byte *, u64);"),
+    (GUARD, "u64 nonobench_version(byte *, u64);", "u64 nonobench_version(byte *, u64, u64);"),
+    (GUARD, "unsigned close_within(u64 desk, unsigned handle)", "unsigned close_within(u64 desk)"),
+    (SCRIPT, "const MEMORY = 4;", "const MEMORY = 5;"),
+    (SCRIPT, "nonobench_close(this.#cell, handle)", "nonobench_close(this.#cell)"),
+    (PYTHON, "= 0, 1, 4, 5, 6", "= 0, 1, 4, 6, 5"),
+    (STATUS, "OPTIONS: u32 = 6", "OPTIONS: u32 = 7"),
+    (CALLS, "handle: u32, lines: &[u8]) -> u32", "handle: u32, lines: &[u8], more: u32) -> u32"),
+]
+
+
+def unseen(files, module):
+    """A line for each planted difference that is not found, or can't be planted."""
+    for file, old, new in PLANTED:
+        if old not in files[file]:
+            yield f"{file}: nothing to plant at: {old}"
+        elif not list(differences({**files, file: files[file].replace(old, new, 1)}, module)):
+            yield f"{file}: not found where it is planted: {new or 'nothing in place of ' + old}"
+    if module is not None and not list(differences(files, module.replace("@nonobench_say(ptr", "@nonobench_say(i64"))):
+        yield "the module: a planted difference is not found"
+
+
+def main():
+    names = [CALLS, STATUS, FAULT, HEADER, GUARD, SCRIPT, PYTHON]
+    files = {name: (ROOT / name).read_text(encoding="utf-8") for name in names}
+    module = pathlib.Path(sys.argv[1]).read_text(encoding="utf-8") if len(sys.argv) > 1 else None
+    found = list(differences(files, module)) or list(unseen(files, module))
+    for line in found:
+        print(line)
+    told, again = statuses(files)
+    beside = "the module too" if module is not None else "no module was named"
+    print(f"abi: {len(exported(files[CALLS]))} functions, {beside}; {len(told)} statuses in {len(again)} files; "
+          f"{len(PLANTED) + (module is not None)} planted; {len(found)} differences")
+    return 1 if found else 0
+
+
+if __name__ == "__main__":
+    sys.exit(main())
