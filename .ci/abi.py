@@ -24,6 +24,8 @@ HEADER = "c/nonobench.h"
 GUARD = "web/guard.c"
 SCRIPT = "web/nonobench.mjs"
 PYTHON = "python/nonobench/_library.py"
+# What stands after it in the header is C, and not the crate's.
+OWN_C = "/* ---- one question each"
 # A pointer to bytes and a length are two arguments, what takes no bytes is none. `pointer TO` names what lies there.
 RUST = {
     "Global": [], "": ["nothing"], "bool": ["bool"], "u32": ["u32"], "usize": ["u64"], "&mut u32": ["pointer u32"],
@@ -81,7 +83,7 @@ def llvm_type(kind):
     """What LLVM hands over for an argument."""
     if kind.startswith("pointer"):
         return "ptr"
-    return {"u32": "i32", "u64": "i64", "desk": "i64", "bool": "i1", "nothing": "void"}[kind]
+    return {"u32": "i32", "u64": "i64", "desk": "i64", "bool": "i1", "nothing": "void"}.get(kind, kind)
 
 
 def defined(text):
@@ -144,7 +146,7 @@ def blind(functions):
 def differences(files, module=None):
     """A line for each place that differs from the crate."""
     own = exported(files[CALLS])
-    yield from differing(HEADER, own, prototypes(files[HEADER]))
+    yield from differing(HEADER, own, prototypes(files[HEADER].split(OWN_C)[0]))
     yield from differing(GUARD, blind(own), blind(prototypes(files[GUARD])))
     if module is not None:
         wanted = {name: [llvm_type(kind) for kind in kinds] for name, kinds in own.items()}
