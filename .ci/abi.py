@@ -2,8 +2,8 @@
 """Compares what calls the proved crate web with the functions that it exports, and says where they differ.
 
 The exported functions are those of crates/web/src/calls.rt. Compared with them, by name, number, width and sign of
-arguments and result: the prototypes of c/nonobench.h and of web/guard.c, and LLVM's module of the crate where one is
-named, as text. Of the calls in web/nonobench.mjs the number of arguments is compared with what web/guard.c exports.
+arguments and result: the prototypes of c/nonobench.h and of web/guard.c, the table of python/nonobench/_library.py, and
+LLVM's module of the crate where one is named, as text. Of the calls in web/nonobench.mjs the number of arguments is compared with what web/guard.c exports.
 
 The statuses are those of crates/web/src/status.rt, and what is refused has the one of crates/program_options/src/fault.rt.
 They stand again in c/nonobench.h, web/guard.c, web/nonobench.mjs and python/nonobench/_library.py.
@@ -41,8 +41,15 @@ C = {
     "const uint8_t *": "pointer const u8", "const byte *": "pointer const u8",
     "nonobench_desk *": "desk", "nonobench_desk **": "pointer desk", "void *": "pointer desk",
 }
+CTYPES = {
+    "None": ["nothing"], "number": ["u32"], "ctypes.c_size_t": ["u64"], "ctypes.c_bool": ["bool"], "ctypes.c_void_p": ["desk"],
+    "cell": ["pointer desk"], "ctypes.c_char_p": ["pointer u8"], "*bytes_of": ["pointer u8", "u64"],
+    "ctypes.POINTER(number)": ["pointer u32"],
+}
 # What web/guard.c knows of a desk: a number, which lies behind a pointer to one.
 GUARD_ONLY = {"desk": "u64", "pointer desk": "pointer u64"}
+# What Python knows of bytes: not whether they are written.
+PYTHON_ONLY = {"pointer const u8": "pointer u8"}
 
 
 def without_comments(text):
@@ -76,6 +83,15 @@ def prototypes(text):
     for result, name, inside in re.findall(pattern, without_comments(text)):
         if result not in ("return", "else"):
             found[name] = [c_type(result)] + [c_type(part) for part in inside.split(",")]
+    return found
+
+
+def tabled(text):
+    """The functions of Python's table, in the same form."""
+    found = {}
+    for name, result, inside in re.findall(r'^ +"(\w+)": \(([\w.]+), \[(.*?)\]\),$', text, flags=re.M):
+        kinds = [c for ctype in [result, *inside.split(", ")] for c in CTYPES.get(ctype, [f"unknown: {ctype}"])]
+        found["nonobench_" + name] = kinds
     return found
 
 
@@ -138,16 +154,17 @@ def differing(name, wanted, got):
             yield f"{name}: {key} is {got.get(key, 'missing')}, in the crate {wanted.get(key, 'missing')}"
 
 
-def blind(functions):
-    """The functions as web/guard.c knows them."""
-    return {name: [GUARD_ONLY.get(kind, kind) for kind in kinds] for name, kinds in functions.items()}
+def known(functions, only):
+    """The functions as a caller knows them that tells some types not apart."""
+    return {name: [only.get(kind, kind) for kind in kinds] for name, kinds in functions.items()}
 
 
 def differences(files, module=None):
     """A line for each place that differs from the crate."""
     own = exported(files[CALLS])
     yield from differing(HEADER, own, prototypes(files[HEADER].split(OWN_C)[0]))
-    yield from differing(GUARD, blind(own), blind(prototypes(files[GUARD])))
+    yield from differing(GUARD, known(own, GUARD_ONLY), known(prototypes(files[GUARD]), GUARD_ONLY))
+    yield from differing(PYTHON, known(own, PYTHON_ONLY), tabled(files[PYTHON]))
     if module is not None:
         wanted = {name: [llvm_type(kind) for kind in kinds] for name, kinds in own.items()}
         yield from differing("the module", wanted, defined(module))
@@ -175,6 +192,7 @@ PLANTED = [
     (SCRIPT, "const MEMORY = 4;", "const MEMORY = 5;"),
     (SCRIPT, "nonobench_close(this.#cell, handle)", "nonobench_close(this.#cell)"),
     (PYTHON, "= 0, 1, 4, 5, 6", "= 0, 1, 4, 6, 5"),
+    (PYTHON, '"close": (number, [cell, number]),', '"close": (number, [cell, ctypes.c_size_t]),'),
     (STATUS, "OPTIONS: u32 = 6", "OPTIONS: u32 = 7"),
     (CALLS, "handle: u32, lines: &[u8]) -> u32", "handle: u32, lines: &[u8], more: u32) -> u32"),
 ]

@@ -220,7 +220,9 @@ def exists(path, folder):
     path = path.rstrip(".,:;")
     if re.search(r"[*{}<>$]|\b[A-Z]{2,}\b(?!\.md)|/out\b", path) and not path.endswith(".md"):
         return True
-    return any(os.path.exists(os.path.join(base, path)) for base in (ROOT, folder))
+    crate, edit = os.path.split(path)
+    places = [path, os.path.join("crates", crate, "must-fail", edit + ".edit")]
+    return any(os.path.exists(os.path.join(base, place)) for base in (ROOT, folder) for place in places)
 
 
 OF_DOCUMENT = {os.path.join("docs", "PROMISES.md"): promise_faults, os.path.join("docs", "DEFINITIONS.md"): definition_faults,
