@@ -9,6 +9,7 @@ import test from 'node:test';
 import { fileURLToPath } from 'node:url';
 import { setFlagsFromString } from 'node:v8';
 import { runInNewContext } from 'node:vm';
+import { colourShown, coloursTooNear } from './colours.mjs';
 import { Fault, load } from './nonobench.mjs';
 
 const root = join(dirname(fileURLToPath(import.meta.url)), '..');
@@ -332,6 +333,21 @@ test('products and shifts of 128 bits are those of whole numbers', async () => {
       assert.equal(got(), BigInt.asUintN(128, one << BigInt(by)), `${one} << ${by}`);
     }
   }
+});
+
+test('colours are too near as the cases say, and are shown in eight bits', () => {
+  let count = 0;
+  for (const line of text('tests', 'cases', 'near_colours.txt').split('\n')) {
+    if (line === '' || line.startsWith('#')) continue;
+    const [one, other, answer] = line.split(' '), pair = [one, other].map((colour) => colour.split(',').map(Number));
+    assert.equal(coloursTooNear(...pair), answer === 'near', line);
+    assert.equal(coloursTooNear(...pair.reverse()), answer === 'near', line);
+    count += 1;
+  }
+  assert.ok(count > 20, `${count}`);
+  assert.deepEqual(colourShown([1, 3, 5], 510), [1, 2, 3]);
+  assert.deepEqual(colourShown([0, 32767, 65535], 65535), [0, 127, 255]);
+  assert.deepEqual(colourShown([0, 1, 1], 1), [0, 255, 255]);
 });
 
 test('the version is that of the crates, whole or as far as there is room', async () => {

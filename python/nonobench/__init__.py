@@ -31,6 +31,7 @@ from ._answers import (
     Verdict,
 )
 from ._calls import ANY_GIVEN, audit, certify, check, clues, picture_of, verdict
+from ._colours import colour_shown, colours_too_near
 from ._library import version
 from .worker import Worker
 
@@ -55,6 +56,8 @@ __all__ = [
     "certify",
     "check",
     "clues",
+    "colour_shown",
+    "colours_too_near",
     "picture_of",
     "verdict",
     "version",
