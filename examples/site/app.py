@@ -69,7 +69,7 @@ PAGE = """<!doctype html>
 body { font: 16px/1.5 sans-serif; margin: 2rem auto; max-width: 60rem; padding: 0 1rem }
 .refused { border: 2px solid #b00; padding: .5rem 1rem } label { display: block; margin: .7rem 0 }
 table { border-collapse: collapse } td { border: 1px solid #888; width: 22px; height: 22px; padding: 0 }
-tr:nth-child(5n + 1) td { border-bottom: 2px solid #222 } td:nth-child(5n + 1) { border-right: 2px solid #222 }
+tr:nth-child(5n) td { border-bottom: 2px solid #222 } td:nth-child(5n + 1) { border-right: 2px solid #222 }
 th { font: 13px/18px sans-serif; padding: 1px 4px; text-align: right; vertical-align: bottom; white-space: nowrap }
 th span { display: inline-block; min-width: 14px; padding: 0 2px; text-align: center; border: 1px solid #888; margin: 1px }
 thead th span { display: block } td, th span { -webkit-print-color-adjust: exact; print-color-adjust: exact }
