@@ -1,7 +1,8 @@
 /* Checks a certificate of a picture, as files, with the cells that are published: example PICTURE CERTIFICATE [ROW,COLUMN ..].
- * Ends with status 0 where it is accepted, 1 where it is refused, 2 for other arguments and 3 for a file that cannot be read. */
+ * Ends with status 0 where it is accepted, 1 where it is refused, 2 for wrong arguments and 3 for a file that cannot be read. */
 #include "nonobench.h"
 #include <errno.h>
+#include <inttypes.h>
 #include <stdio.h>
 #include <stdlib.h>
 #include <string.h>
@@ -19,7 +20,7 @@ static void leave(const char *name, const char *what) {
     exit(3);
 }
 
-/* Reads a whole file, which may have as many bytes as the library's files. */
+/* Reads a whole file; of one that is too long a byte more than the library takes, which then says so. */
 static file read_file(const char *name) {
     FILE *stream = fopen(name, "rb");
     if (!stream) leave(name, strerror(errno));
@@ -27,23 +28,28 @@ static file read_file(const char *name) {
     if (!whole.bytes) leave(name, "memory");
     whole.size = fread(whole.bytes, 1, NONOBENCH_MOST_BYTES + 1, stream);
     if (ferror(stream)) leave(name, strerror(errno));
-    if (whole.size > NONOBENCH_MOST_BYTES) leave(name, "more than 16 MiB");
     fclose(stream);
     return whole;
 }
 
+/* Reads the cells of some arguments; false where one is no cell. */
+static bool read_places(char **words, size_t count, nonobench_place *places) {
+    char end;
+    for (size_t at = 0; at < count; at++) {
+        if (sscanf(words[at], "%" SCNu32 ",%" SCNu32 "%c", &places[at].row, &places[at].column, &end) != 2) return false;
+    }
+    return true;
+}
+
 int main(int count, char **names) {
     static nonobench_place published[MOST_PUBLISHED];
-    nonobench_options options = {NULL, published, 0, false};
     char said[200];
     nonobench_text text = {said, sizeof said, 0};
-    if (count < 3 || count - 3 > MOST_PUBLISHED) return fprintf(stderr, "usage: example PICTURE CERTIFICATE [ROW,COLUMN ..]\n"), 2;
-    for (; (int)options.published_count < count - 3; options.published_count++) {
-        nonobench_place *place = &published[options.published_count];
-        const char *word = names[3 + options.published_count];
-        char end;
-        if (sscanf(word, "%u,%u%c", &place->row, &place->column, &end) != 2) return fprintf(stderr, "example: not ROW,COLUMN: %s\n", word), 2;
+    if (count < 3 || count > 3 + MOST_PUBLISHED || !read_places(names + 3, (size_t)count - 3, published)) {
+        fprintf(stderr, "usage: example PICTURE CERTIFICATE [ROW,COLUMN ..]\n");
+        return 2;
     }
+    nonobench_options options = {NULL, published, (size_t)count - 3, false};
     file picture = read_file(names[1]), certificate = read_file(names[2]);
     uint32_t status = nonobench_check_pair(picture.bytes, picture.size, certificate.bytes, certificate.size, &options, &text);
     printf(status == NONOBENCH_DONE ? "taken: %s" : "refused: %s\n", said);
