@@ -1,20 +1,59 @@
-/* Checks a certificate of a picture, as files: example PICTURE CERTIFICATE */
+/* Checks a certificate of a picture, as files, with the cells that are published: example PICTURE CERTIFICATE [ROW,COLUMN ..].
+ * Ends with status 0 where it is accepted, 1 where it is refused, 2 for wrong arguments and 3 for a file that cannot be read. */
 #include "nonobench.h"
+#include <errno.h>
+#include <inttypes.h>
 #include <stdio.h>
+#include <stdlib.h>
+#include <string.h>
 
-static size_t read_file(const char *name, char *bytes, size_t room) {
-    FILE *file = fopen(name, "rb");
-    return file ? fread(bytes, 1, room, file) : 0;
+#define MOST_PUBLISHED 14400
+
+typedef struct file {
+    char *bytes;
+    size_t size;
+} file;
+
+/* Says what is wrong with a file, and ends. */
+static void leave(const char *name, const char *what) {
+    fprintf(stderr, "example: %s: %s\n", name, what);
+    exit(3);
+}
+
+/* Reads a whole file; of one that is too long a byte more than the library takes, which then says so. */
+static file read_file(const char *name) {
+    FILE *stream = fopen(name, "rb");
+    if (!stream) leave(name, strerror(errno));
+    file whole = {malloc(NONOBENCH_MOST_BYTES + 1), 0};
+    if (!whole.bytes) leave(name, "memory");
+    whole.size = fread(whole.bytes, 1, NONOBENCH_MOST_BYTES + 1, stream);
+    if (ferror(stream)) leave(name, strerror(errno));
+    fclose(stream);
+    return whole;
+}
+
+/* Reads the cells of some arguments; false where one is no cell. */
+static bool read_places(char **words, size_t count, nonobench_place *places) {
+    char end;
+    for (size_t at = 0; at < count; at++) {
+        if (sscanf(words[at], "%" SCNu32 ",%" SCNu32 "%c", &places[at].row, &places[at].column, &end) != 2) return false;
+    }
+    return true;
 }
 
 int main(int count, char **names) {
-    static char picture[1 << 20], certificate[1 << 20], said[200];
+    static nonobench_place published[MOST_PUBLISHED];
+    char said[200];
     nonobench_text text = {said, sizeof said, 0};
-    size_t givens = 0;
-    if (count != 3) return 2;
-    uint32_t status = nonobench_check_pair(picture, read_file(names[1], picture, sizeof picture), certificate,
-                                           read_file(names[2], certificate, sizeof certificate), NULL, &givens, &text);
-    if (status == NONOBENCH_DONE) return printf("accepted, with %zu givens\n", givens) < 0;
-    printf("refused: %s\n", said);
-    return 1;
+    if (count < 3 || count > 3 + MOST_PUBLISHED || !read_places(names + 3, (size_t)count - 3, published)) {
+        fprintf(stderr, "usage: example PICTURE CERTIFICATE [ROW,COLUMN ..]\n");
+        return 2;
+    }
+    nonobench_options options = {NULL, published, (size_t)count - 3, false};
+    file picture = read_file(names[1]), certificate = read_file(names[2]);
+    uint32_t status = nonobench_check_pair(picture.bytes, picture.size, certificate.bytes, certificate.size, &options, &text);
+    printf(status == NONOBENCH_DONE ? "taken: %s" : "refused: %s\n", said);
+    free(picture.bytes);
+    free(certificate.bytes);
+    return status == NONOBENCH_DONE ? 0 : 1;
 }

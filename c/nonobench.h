@@ -1,7 +1,7 @@
 /* Checks certificates of nonograms, and judges pictures, in a program of your own: over libnonobench, which is proved.
  *
- * Link with libnonobench.a or libnonobench.so (c/build). There are two layers. The calls of the library answer on a desk; the
- * functions at the end of this file each make a desk, ask once and end it, and suit most programs.
+ * Link with libnonobench.a or libnonobench.so (c/build). There are two layers. The proved calls answer on a desk; the functions
+ * at the end of this file each make a desk, ask once and end it, and suit most programs.
  *
  * What is proved is each call of the library but start and end, from the bytes that it is handed to its status and text:
  * docs/PROMISES.md has the clauses. An accepted certificate says that no other picture of that size has the clues and the
@@ -10,7 +10,7 @@
  *   - a pointer leads to as many bytes as the length beside it says, and is not null in a call of the library;
  *   - a desk's cell holds what nonobench_start put there until nonobench_end, and calls with one desk come one after another;
  *   - what a call writes to lies apart from all else that it is handed.
- * The functions of this file are in C and only tested.
+ * The functions at the end of this file are C (c/pair.c), and tested, not proved.
  *
  * The library opens no file, prints nothing and keeps nothing outside its desks. So threads with a desk each are independent.
  * Do not call it in a child that was forked from a program with threads, before the child has run exec: the heap may be locked.
@@ -21,7 +21,6 @@
 #include <stdbool.h>
 #include <stddef.h>
 #include <stdint.h>
-#include <string.h>
 
 #ifdef __cplusplus
 extern "C" {
@@ -76,7 +75,7 @@ uint32_t nonobench_close(nonobench_desk **desk, uint32_t handle);
 uint32_t nonobench_check(nonobench_desk **desk, const uint8_t *picture, size_t picture_size, const uint8_t *certificate,
                          size_t certificate_size, const uint8_t *background, size_t background_size);
 
-/* ---- one question each */
+/* ---- one question each: C, tested and not proved */
 
 /* Where a text is put. `size` becomes the bytes of the whole text. As much as fits is put at `at`, with a NUL behind it. */
 typedef struct nonobench_text {
@@ -96,168 +95,51 @@ typedef enum nonobench_ruling {
     NONOBENCH_AMBIGUOUS
 } nonobench_ruling;
 
-/* Bytes as the library takes them: it takes no null. */
-static inline const uint8_t *nonobench_bytes(const void *bytes) {
-    return bytes ? (const uint8_t *)bytes : (const uint8_t *)"";
-}
+/* What stands beside a picture and its certificate. With all of it zero the background is white and no cell is published. */
+typedef struct nonobench_options {
+    const char *background;           /* as 255,0,0, or null for white */
+    const nonobench_place *published; /* the cells that you publish with their colours, in any order */
+    size_t published_count;
+    bool any_given; /* accept a certificate whatever cells it gives: for who then publishes those (nonobench_givens) */
+} nonobench_options;
 
-/* Puts a text of our own. */
-static inline void nonobench_put(nonobench_text *text, const char *words) {
-    if (!text) return;
-    text->size = strlen(words);
-    if (!text->at || text->room == 0) return;
-    size_t front = text->size < text->room ? text->size : text->room - 1;
-    memcpy(text->at, words, front);
-    text->at[front] = 0;
-}
+/* Checks a certificate of a P3 picture: DONE where it is accepted. A puzzle is unique WITH the cells that its certificate gives,
+ * and these may be all cells. So one that gives a cell which is not published is REFUSED, with the text
+ * `certificate UnpublishedGiven at line N`, which the program does not have. `options` and `text` may be null, and then no cell
+ * is published. The text is the line that the program prints, or why picture or certificate is refused. */
+uint32_t nonobench_check_pair(const void *picture, size_t picture_size, const void *certificate, size_t certificate_size,
+                              const nonobench_options *options, nonobench_text *text);
 
-/* Takes the text of the last call. */
-static inline void nonobench_take_text(nonobench_desk **desk, nonobench_text *text) {
-    uint8_t none;
-    if (!text) return;
-    if (!text->at || text->room == 0) {
-        text->size = nonobench_take(desk, &none, 0);
-        return;
-    }
-    text->size = nonobench_take(desk, (uint8_t *)text->at, text->room - 1);
-    text->at[text->size < text->room ? text->size : text->room - 1] = 0;
-}
+/* Reads the places of the givens of a certificate that was accepted, or refused for one of them, as many as there is room for,
+ * and answers how many there are. Of other bytes the answer means nothing, but nothing outside them is read. */
+size_t nonobench_givens(const void *certificate, size_t size, nonobench_place *places, size_t room);
 
-/* Whether bytes can be handed on: the status and the text where they cannot. */
-static inline uint32_t nonobench_look(const void *bytes, size_t size, nonobench_text *text) {
-    if (!bytes && size > 0) {
-        nonobench_put(text, "a null beside a length");
-        return NONOBENCH_OPTIONS;
-    }
-    if (size > NONOBENCH_MOST_BYTES) {
-        nonobench_put(text, "input too long");
-        return NONOBENCH_REFUSED;
-    }
-    return NONOBENCH_DONE;
-}
-
-/* Puts what is said for a status that leaves no text. */
-static inline uint32_t nonobench_say_status(nonobench_desk **desk, uint32_t status, nonobench_text *text) {
-    if (status == NONOBENCH_MEMORY) {
-        nonobench_put(text, "memory");
-    } else if (status == NONOBENCH_OPTIONS) {
-        nonobench_put(text, "background must be R,G,B");
-    } else {
-        nonobench_take_text(desk, text);
-    }
-    return status;
-}
-
-/* Checks a certificate of a P3 picture: DONE where it is accepted, and then `givens` becomes how many cells it gives. A puzzle
- * is unique WITH these, so compare them with those that you publish. `background` is as 255,0,0, or null for white. `givens` and
- * `text` may be null. The text is the line that the program prints, or why picture or certificate is refused. */
-static inline uint32_t nonobench_check_pair(const void *picture, size_t picture_size, const void *certificate,
-                                            size_t certificate_size, const char *background, size_t *givens,
-                                            nonobench_text *text) {
-    nonobench_desk *desk;
-    char line[64];
-    nonobench_text own = {line, sizeof line, 0};
-    size_t count = 0;
-    uint32_t status = nonobench_look(picture, picture_size, text);
-    if (status == NONOBENCH_DONE) status = nonobench_look(certificate, certificate_size, text);
-    if (status != NONOBENCH_DONE) return status;
-    if (nonobench_start(&desk) != NONOBENCH_DONE) return nonobench_put(text, "memory"), NONOBENCH_MEMORY;
-    status = nonobench_check(&desk, nonobench_bytes(picture), picture_size, nonobench_bytes(certificate), certificate_size,
-                             nonobench_bytes(background), background ? strlen(background) : 0);
-    nonobench_say_status(&desk, status, text);
-    if (status == NONOBENCH_DONE) {
-        nonobench_take_text(&desk, &own);
-        const char *number = strstr(line, "givens ");
-        for (number = number ? number + 7 : ""; *number >= '0' && *number <= '9'; number++) {
-            count = count * 10 + (size_t)(*number - '0');
-        }
-        if (givens) *givens = count;
-    }
-    nonobench_end(desk);
-    return status;
-}
-
-/* Reads the places of the givens of a certificate that was accepted, as many as there is room for, and answers how many there
- * are. Of other bytes the answer means nothing, but nothing outside them is read. */
-static inline size_t nonobench_givens(const void *certificate, size_t size, nonobench_place *places, size_t room) {
-    const uint8_t *at = (const uint8_t *)certificate, *end = certificate ? at + size : at;
-    size_t count = 0;
-    if (!certificate) return 0;
-    while (at < end && *at++ != '\n') continue;
-    for (; (size_t)(end - at) > 6 && memcmp(at, "given ", 6) == 0; count++) {
-        uint32_t numbers[2] = {0, 0};
-        at += 6;
-        for (int which = 0; which < 2; which++) {
-            while (at < end && *at >= '0' && *at <= '9') numbers[which] = numbers[which] * 10 + (uint32_t)(*at++ - '0');
-            if (which == 0 && at < end && *at == ' ') at++;
-        }
-        if (count < room) places[count].row = numbers[0], places[count].column = numbers[1];
-        while (at < end && *at++ != '\n') continue;
-    }
-    return count;
-}
-
-/* Opens a bench on a P3 picture and a desk of its own. Where that is refused, the desk is ended and the text put. */
-static inline uint32_t nonobench_open_one(nonobench_desk **desk, uint32_t *handle, const void *picture, size_t size,
-                                          const char *background, nonobench_text *text) {
-    uint32_t status = nonobench_look(picture, size, text);
-    if (status != NONOBENCH_DONE) return status;
-    if (nonobench_start(desk) != NONOBENCH_DONE) return nonobench_put(text, "memory"), NONOBENCH_MEMORY;
-    status = nonobench_open(desk, nonobench_bytes(picture), size, false, nonobench_bytes(background),
-                            background ? strlen(background) : 0, 1, handle);
-    if (status != NONOBENCH_DONE) {
-        nonobench_say_status(desk, status, text);
-        nonobench_end(*desk);
-    }
-    return status;
-}
-
-/* Says one line, and takes the answer. Memory that is refused within a session is told as MEMORY. */
-static inline uint32_t nonobench_ask(nonobench_desk **desk, uint32_t handle, const char *line, nonobench_text *text) {
-    char front[9] = "";
-    nonobench_text own = {front, sizeof front, 0};
-    uint32_t status = nonobench_say(desk, handle, (const uint8_t *)line, strlen(line));
-    if (status == NONOBENCH_DONE) {
-        nonobench_take_text(desk, &own);
-        if (strcmp(front, "refused:") == 0) status = NONOBENCH_MEMORY;
-    }
-    return nonobench_say_status(desk, status, text);
-}
-
-/* The clues of a P3 picture, a line each, as the program prints them. */
-static inline uint32_t nonobench_clues(const void *picture, size_t size, const char *background, nonobench_text *text) {
-    nonobench_desk *desk;
-    uint32_t handle, status = nonobench_open_one(&desk, &handle, picture, size, background, text);
-    if (status != NONOBENCH_DONE) return status;
-    status = nonobench_ask(&desk, handle, "clues\n", text);
-    nonobench_end(desk);
-    return status;
-}
+/* The clues of a P3 picture, a line each, as the program prints them. `background` is as 255,0,0, or null for white. */
+uint32_t nonobench_clues(const void *picture, size_t size, const char *background, nonobench_text *text);
 
 /* Whether another picture has the clues of a P3 picture. `allowance`, 0 to 99999, is how many splits the search of a part may
  * make, and below 0 there is no such bound: then a call may take very long. The text is what a session answers to `verdict`;
  * where the ruling is AMBIGUOUS its rows are another picture. `ruling` and `text` may be null. */
-static inline uint32_t nonobench_verdict(const void *picture, size_t size, const char *background, int32_t allowance,
-                                         nonobench_ruling *ruling, nonobench_text *text) {
-    nonobench_desk *desk;
-    uint32_t handle, status;
-    char line[] = "allow 00000\n", word[10] = "";
-    nonobench_text own = {word, sizeof word, 0};
-    if (allowance > 99999) return nonobench_put(text, "allowance must be 0 to 99999"), NONOBENCH_OPTIONS;
-    status = nonobench_open_one(&desk, &handle, picture, size, background, text);
-    if (status != NONOBENCH_DONE) return status;
-    if (allowance >= 0) {
-        for (char *digit = line + 10; digit > line + 5; allowance /= 10) *digit-- = (char)('0' + allowance % 10);
-        status = nonobench_ask(&desk, handle, line, NULL);
-    }
-    if (status == NONOBENCH_DONE) status = nonobench_ask(&desk, handle, "verdict\n", text);
-    if (status == NONOBENCH_DONE && ruling) {
-        nonobench_take_text(&desk, &own);
-        *ruling = own.at[0] == 'a' ? NONOBENCH_AMBIGUOUS : strncmp(word, "uni", 3) == 0 ? NONOBENCH_UNIQUE : NONOBENCH_UNDECIDED;
-    }
-    nonobench_end(desk);
-    return status;
-}
+uint32_t nonobench_verdict(const void *picture, size_t size, const char *background, int32_t allowance, nonobench_ruling *ruling,
+                           nonobench_text *text);
+
+/* A ruling, and a certificate where it is UNIQUE. */
+typedef struct nonobench_audited {
+    nonobench_ruling ruling;
+    char *certificate;       /* with a NUL behind it, for free(); null where there is none */
+    size_t certificate_size; /* without the NUL */
+} nonobench_audited;
+
+/* A certificate of a P3 picture, which gives no cell. It has no bound, so it may take very long. Where another picture has the
+ * clues, the ruling is AMBIGUOUS and there is no certificate. The text is `unique` or `ambiguous` with a line feed, or why the
+ * picture is refused; `text` may be null. */
+uint32_t nonobench_certify(const void *picture, size_t size, const char *background, nonobench_audited *found,
+                           nonobench_text *text);
+
+/* Verdict and certificate of a P3 picture that is opened once. Allowance and text are as for nonobench_verdict. There is a
+ * certificate where the ruling is UNIQUE; making it has no bound of its own. */
+uint32_t nonobench_audit(const void *picture, size_t size, const char *background, int32_t allowance, nonobench_audited *found,
+                         nonobench_text *text);
 
 #ifdef __cplusplus
 }

@@ -1,11 +1,11 @@
-/* Tests of libnonobench and of nonobench.h: test FOLDER [TIMES], with the folder that has pictures.case and certificates.case.
- * TIMES is how often what could grow is done. Expected answers stand in those files, or follow from docs/FORMATS.md by hand. */
+/* Tests of libnonobench: test FOLDER [TIMES], with the folder that has pictures.case, certificates.case and published.case. TIMES is how often what could grow is done. Expected answers stand in those files, or follow from docs/FORMATS.md by hand. */
 #include "nonobench.h"
 
 #include <malloc.h>
 #include <pthread.h>
 #include <stdio.h>
 #include <stdlib.h>
+#include <string.h>
 
 #define MOST 4096
 #define THREADS 4
@@ -24,6 +24,10 @@ static void expect(bool holds, const char *what, const char *got) {
 /* Two rows, black and white, white and black: another picture has the clues, and a given decides it. */
 static const char DIAGONAL[] = "P3 2 2 255 0 0 0 255 255 255 255 255 255 0 0 0\n";
 static const char GIVEN[] = "nonocert 2\ngiven 1 1\nline r 1\nline c 1\nline r 2\ndone\n";
+
+/* The options of a caller who publishes what a certificate gives, and of one who publishes the given. */
+static const nonobench_place FIRST = {1, 1};
+static const nonobench_options ANY = {NULL, NULL, 0, true}, ONE = {NULL, &FIRST, 1, false};
 
 /* The bytes of a text as printf reads it: \n, \t, \r, \v, \f, \a, \b, \e, \\, \xHH and octal digits. */
 static size_t unescape(const char *text, size_t size, char *out) {
@@ -79,26 +83,80 @@ static bool is_answer(const char *answer, uint32_t status, const char *text) {
     return status == NONOBENCH_DONE && strcmp(wanted, text) == 0;
 }
 
-/* Runs one line of a file of cases. */
-static void run_case(char *line, bool is_check) {
-    char first[MOST], second[MOST], said[MOST], *answer = NULL;
-    nonobench_text text = {said, sizeof said, 0};
-    uint32_t status;
+/* The answer of a line of cases, past the last ` => `, which becomes a NUL. */
+static char *answer_of(char *line) {
+    char *answer = NULL;
     for (char *at = line; (at = strstr(at, " => ")); at++) answer = at;
-    if (!answer) return;
-    if (is_check) {
-        char *cut = strchr(line, ' ');
-        picture_of(line, (size_t)(cut - line), first);
-        size_t size = cut < answer ? unescape(cut + 1, (size_t)(answer - cut - 1), second) : 0;
-        status = nonobench_check_pair(first, strlen(first), second, size, NULL, NULL, &text);
-    } else {
-        size_t size = unescape(line, (size_t)(answer - line), first);
-        status = nonobench_clues(first, size, NULL, &text);
-    }
-    expect(is_answer(answer + 4, status, said), line, said);
+    if (!answer) return NULL;
+    *answer = 0;
+    return answer + 4;
 }
 
-static void run_cases(const char *folder, const char *name, bool is_check) {
+/* A picture without a certificate: its clues. */
+static void run_picture(char *line, const char *answer) {
+    char file[MOST], said[MOST];
+    nonobench_text text = {said, sizeof said, 0};
+    size_t size = unescape(line, strlen(line), file);
+    uint32_t status = nonobench_clues(file, size, NULL, &text);
+    expect(is_answer(answer, status, said), line, said);
+}
+
+/* A picture and a certificate, `PICTURE TEXT`, under options; what it gives is put where there is room. */
+static void run_check(char *rows, char *proof, const char *answer, const nonobench_options *options) {
+    char picture[MOST], certificate[MOST], said[MOST];
+    nonobench_text text = {said, sizeof said, 0};
+    picture_of(rows, strlen(rows), picture);
+    size_t size = unescape(proof, strlen(proof), certificate);
+    uint32_t status = nonobench_check_pair(picture, strlen(picture), certificate, size, options, &text);
+    expect(is_answer(answer, status, said), proof, said);
+}
+
+static void run_certificate(char *line, const char *answer) {
+    char *proof = strchr(line, ' ');
+    *proof++ = 0;
+    run_check(line, proof, answer, &ANY);
+}
+
+/* The cells of a word of cases, which may be - for none. */
+static size_t places_of(const char *word, nonobench_place *places) {
+    size_t count = 0;
+    for (; word && *word != '-'; count++) {
+        sscanf(word, "%u,%u", &places[count].row, &places[count].column);
+        word = strchr(word, ';');
+        word = word ? word + 1 : NULL;
+    }
+    return count;
+}
+
+/* `PICTURE PUBLISHED TEXT => GIVENS ANSWER` */
+static void run_published(char *line, char *answer) {
+    char *word = strchr(line, ' '), *proof = strchr(word + 1, ' '), *told = strchr(answer, ' '), certificate[MOST];
+    nonobench_place published[9], wanted[9], givens[9];
+    *word++ = *proof++ = *told++ = 0;
+    bool any = strcmp(word, "any") == 0;
+    nonobench_options options = {NULL, published, any ? 0 : places_of(word, published), any};
+    run_check(line, proof, told, &options);
+    /* Of a proof that does not hold the givens mean nothing. */
+    size_t count = places_of(answer, wanted), size = unescape(proof, strlen(proof), certificate);
+    if (strncmp(told, "! ", 2) == 0 && !strstr(told, "UnpublishedGiven")) return;
+    expect(nonobench_givens(certificate, size, givens, 9) == count, "how many givens", proof);
+    expect(memcmp(givens, wanted, count * sizeof *givens) == 0, "which givens", proof);
+}
+
+/* Runs one line of a file of cases. */
+static void run_case(char *line, const char *name) {
+    char *answer = answer_of(line);
+    if (!answer) return;
+    if (strcmp(name, "pictures") == 0) {
+        run_picture(line, answer);
+    } else if (strcmp(name, "certificates") == 0) {
+        run_certificate(line, answer);
+    } else {
+        run_published(line, answer);
+    }
+}
+
+static void run_cases(const char *folder, const char *name) {
     char path[MOST], line[MOST];
     int before = passed;
     snprintf(path, sizeof path, "%s/%s.case", folder, name);
@@ -106,7 +164,7 @@ static void run_cases(const char *folder, const char *name, bool is_check) {
     expect(file != NULL, "a file of cases opens", path);
     while (file && fgets(line, sizeof line, file)) {
         line[strcspn(line, "\n")] = 0;
-        if (line[0] && line[0] != '#') run_case(line, is_check);
+        if (line[0] && line[0] != '#') run_case(line, name);
     }
     if (file) fclose(file);
     expect(passed > before + 20, "there are cases", path);
@@ -117,10 +175,11 @@ static void test_answers(void) {
     nonobench_text text = {said, sizeof said, 0};
     nonobench_ruling ruling;
     nonobench_place place = {0, 0};
-    size_t givens = 9;
     size_t picture = strlen(DIAGONAL), cert = strlen(GIVEN);
-    expect(nonobench_check_pair(DIAGONAL, picture, GIVEN, cert, NULL, &givens, &text) == NONOBENCH_DONE, "a given", said);
-    expect(givens == 1 && strcmp(said, "certificate accepted, givens 1\n") == 0, "one given", said);
+    expect(nonobench_check_pair(DIAGONAL, picture, GIVEN, cert, &ONE, &text) == NONOBENCH_DONE, "a given", said);
+    expect(strcmp(said, "certificate accepted, givens 1\n") == 0, "one given", said);
+    expect(nonobench_check_pair(DIAGONAL, picture, GIVEN, cert, NULL, &text) == NONOBENCH_REFUSED, "one unpublished", said);
+    expect(strcmp(said, "certificate UnpublishedGiven at line 2") == 0, "it is said", said);
     expect(nonobench_givens(GIVEN, cert, &place, 1) == 1 && place.row == 1 && place.column == 1, "its place", "");
     expect(nonobench_givens(GIVEN, cert, NULL, 0) == 1 && nonobench_givens(NULL, 0, NULL, 0) == 0, "no room for it", "");
     expect(nonobench_verdict(DIAGONAL, picture, NULL, -1, &ruling, &text) == NONOBENCH_DONE, "a verdict", said);
@@ -139,6 +198,34 @@ static void test_answers(void) {
     expect(strcmp(said, NONOBENCH_VERSION) == 0, "the version", said);
 }
 
+/* A black cell, the only picture with its clues. */
+static const char TILE[] = "P3 1 1 1 0 0 0";
+
+/* Certificates that are made, and checked again. What both calls answer to pictures with and without another one. */
+static void test_certificates(void) {
+    char said[MOST], rows[] = "ab/.b", picture[MOST];
+    nonobench_text text = {said, sizeof said, 0};
+    nonobench_audited found;
+    expect(nonobench_certify(TILE, strlen(TILE), NULL, &found, &text) == NONOBENCH_DONE, "a certificate", said);
+    expect(found.ruling == NONOBENCH_UNIQUE && strcmp(said, "unique\n") == 0, "it is told", said);
+    expect(found.certificate && strlen(found.certificate) == found.certificate_size, "how long it is", said);
+    expect(nonobench_check_pair(TILE, strlen(TILE), found.certificate, found.certificate_size, NULL, &text) == NONOBENCH_DONE, "it holds", said);
+    free(found.certificate);
+    picture_of(rows, strlen(rows), picture);
+    expect(nonobench_audit(picture, strlen(picture), NULL, -1, &found, &text) == NONOBENCH_DONE, "an audit", said);
+    expect(found.ruling == NONOBENCH_UNIQUE && strcmp(said, "unique\n") == 0 && found.certificate, "its ruling", said);
+    expect(nonobench_check_pair(picture, strlen(picture), found.certificate, found.certificate_size, NULL, &text) == NONOBENCH_DONE, "it holds", said);
+    free(found.certificate);
+    expect(nonobench_audit(DIAGONAL, strlen(DIAGONAL), NULL, 5, &found, &text) == NONOBENCH_DONE, "another picture", said);
+    expect(found.ruling == NONOBENCH_AMBIGUOUS && !found.certificate && strcmp(said, "ambiguous\n.a\na.\n") == 0, "which", said);
+    expect(nonobench_certify(DIAGONAL, strlen(DIAGONAL), NULL, &found, &text) == NONOBENCH_DONE, "no certificate", said);
+    expect(found.ruling == NONOBENCH_AMBIGUOUS && !found.certificate && strcmp(said, "ambiguous\n") == 0, "it is told", said);
+    expect(nonobench_certify("P4", 2, NULL, &found, &text) == NONOBENCH_REFUSED && !found.certificate, "no picture", said);
+    expect(strcmp(said, "ppm NotP3 at byte 0") == 0, "it is said", said);
+    expect(nonobench_audit(TILE, strlen(TILE), NULL, 100000, &found, NULL) == NONOBENCH_OPTIONS, "no allowance", "");
+    expect(nonobench_audit(TILE, strlen(TILE), "0,0", 0, &found, &text) == NONOBENCH_OPTIONS, "no background", said);
+}
+
 /* Nothing at all, nulls, and lengths above what a file may have. */
 static void test_bad_input(void) {
     char said[MOST];
@@ -148,17 +235,19 @@ static void test_bad_input(void) {
     char *big = (char *)malloc(most + 1);
     expect(nonobench_clues(NULL, 0, NULL, &text) == NONOBENCH_REFUSED && !strcmp(said, "ppm NotP3 at byte 0"), "no picture", said);
     expect(nonobench_clues(NULL, 5, NULL, &text) == NONOBENCH_OPTIONS, "a null", said);
-    expect(nonobench_check_pair(DIAGONAL, size, NULL, 0, NULL, NULL, &text) == NONOBENCH_REFUSED, "no certificate", said);
+    expect(nonobench_check_pair(DIAGONAL, size, NULL, 0, NULL, &text) == NONOBENCH_REFUSED, "no certificate", said);
     expect(strcmp(said, "certificate NotCert at line 1") == 0, "it is said", said);
-    expect(nonobench_check_pair(DIAGONAL, size, NULL, 1, NULL, NULL, NULL) == NONOBENCH_OPTIONS, "a null certificate", "");
-    expect(nonobench_check_pair(DIAGONAL, size, GIVEN, strlen(GIVEN), "", NULL, &none) == NONOBENCH_DONE, "no room", "");
+    expect(nonobench_check_pair(DIAGONAL, size, NULL, 1, NULL, NULL) == NONOBENCH_OPTIONS, "a null certificate", "");
+    nonobench_options empty = {"", &FIRST, 1, false}, broken = {NULL, NULL, 1, false};
+    expect(nonobench_check_pair(DIAGONAL, size, GIVEN, strlen(GIVEN), &empty, &none) == NONOBENCH_DONE, "no room", "");
     expect(none.size == 31, "how long it is", "");
+    expect(nonobench_check_pair(DIAGONAL, size, GIVEN, strlen(GIVEN), &broken, &text) == NONOBENCH_OPTIONS, "null places", said);
     if (!big) exit(2);
     memset(big, ' ', most + 1);
     memcpy(big, "P3", 2);
     expect(nonobench_clues(big, most, NULL, &text) == NONOBENCH_REFUSED && !strcmp(said, "ppm Truncated at byte 16777216"), "most", said);
     expect(nonobench_clues(big, most + 1, NULL, &text) == NONOBENCH_REFUSED && !strcmp(said, "input too long"), "too long", said);
-    expect(nonobench_check_pair(DIAGONAL, size, big, most + 1, NULL, NULL, &text) == NONOBENCH_REFUSED, "too long a certificate", said);
+    expect(nonobench_check_pair(DIAGONAL, size, big, most + 1, NULL, &text) == NONOBENCH_REFUSED, "too long a certificate", said);
     /* The library itself takes any length. */
     expect(nonobench_start(&desk) == NONOBENCH_DONE, "a desk", "");
     expect(nonobench_check(&desk, (uint8_t *)big, most + 1, (uint8_t *)big, most + 1, (uint8_t *)"", 0) == NONOBENCH_REFUSED, "long", "");
@@ -220,9 +309,9 @@ static void answer_some(uint32_t seed, int times, char *out, size_t room) {
         memcpy(cert, GIVEN, sizeof cert);
         if (next(&seed, 2)) picture[next(&seed, sizeof picture - 1)] = (char)(32 + next(&seed, 90));
         if (next(&seed, 2)) cert[next(&seed, sizeof cert - 1)] = (char)(10 + next(&seed, 100));
-        status[0] = nonobench_check_pair(picture, sizeof picture - 1, cert, sizeof cert - 1, NULL, NULL, &text);
-        status[1] = nonobench_check_pair(noise, size, noise, size, NULL, NULL, NULL);
-        status[2] = nonobench_check_pair(DIAGONAL, sizeof DIAGONAL - 1, noise, size, NULL, NULL, NULL);
+        status[0] = nonobench_check_pair(picture, sizeof picture - 1, cert, sizeof cert - 1, &ANY, &text);
+        status[1] = nonobench_check_pair(noise, size, noise, size, NULL, NULL);
+        status[2] = nonobench_check_pair(DIAGONAL, sizeof DIAGONAL - 1, noise, size, NULL, NULL);
         status[3] = nonobench_verdict(noise, size, NULL, 100, NULL, NULL);
         used += (size_t)snprintf(out + used, room - used, "%u%u%u%u %s\n", status[0], status[1], status[2], status[3], said);
         if (used + MOST > room) return;
@@ -277,11 +366,13 @@ static void test_growth(int times) {
     bool holds = true;
     expect(nonobench_start(&desk) == NONOBENCH_DONE, "a desk", "");
     for (int i = 0; i < 50 + times; i++) {
-        size_t givens = 0;
+        nonobench_audited found;
         /* What malloc keeps for the next call of a size counts as taken, so the first calls do not count. */
         if (i == 50) before = held();
-        holds = holds && nonobench_check_pair(DIAGONAL, strlen(DIAGONAL), GIVEN, strlen(GIVEN), NULL, &givens, NULL) == NONOBENCH_DONE;
-        holds = holds && givens == 1 && nonobench_check_pair("P4", 2, "", 0, NULL, NULL, NULL) == NONOBENCH_REFUSED;
+        holds = holds && nonobench_check_pair(DIAGONAL, strlen(DIAGONAL), GIVEN, strlen(GIVEN), &ONE, NULL) == NONOBENCH_DONE;
+        holds = holds && nonobench_check_pair("P4", 2, "", 0, NULL, NULL) == NONOBENCH_REFUSED;
+        holds = holds && nonobench_audit(TILE, strlen(TILE), NULL, 9, &found, NULL) == NONOBENCH_DONE && found.certificate;
+        free(found.certificate);
         holds = holds && nonobench_open(&desk, (const uint8_t *)DIAGONAL, strlen(DIAGONAL), false, (const uint8_t *)"", 0, 9, &handle) == 0;
         holds = holds && nonobench_say(&desk, handle, (const uint8_t *)"pin 1 1\nverdict\nundo\n", 21) == NONOBENCH_DONE;
         holds = holds && nonobench_close(&desk, handle) == NONOBENCH_DONE && nonobench_close(&desk, handle) == NONOBENCH_CLOSED;
@@ -294,9 +385,11 @@ static void test_growth(int times) {
 int main(int count, char **words) {
     int times = count > 2 ? atoi(words[2]) : 10000;
     if (count < 2) return 2;
-    run_cases(words[1], "pictures", false);
-    run_cases(words[1], "certificates", true);
+    run_cases(words[1], "pictures");
+    run_cases(words[1], "certificates");
+    run_cases(words[1], "published");
     test_answers();
+    test_certificates();
     test_bad_input();
     test_no_text();
     test_rooms();

@@ -12,28 +12,42 @@ export interface OpenOptions {
   format?: 'ppm' | 'non';
 }
 
-/** What the program says to a picture and a certificate. */
-export interface Checked {
-  /** The certificate proves that no other picture of that size has the clues and the givens. */
-  accepted: boolean;
-  /** The program's status: 0 where it is accepted. */
-  status: number;
-  /** What the program says. */
-  text: string;
+/** A cell, its row and column counted from 1. */
+export type Place = readonly [row: number, column: number];
+
+export interface CheckOptions {
+  /** The colour of the background, 'r,g,b'; white where it is not given. */
+  background?: string | null;
+  /** The cells that are published with their colours; none where it is not given. 'any': those that the certificate gives. */
+  givens?: readonly Place[] | 'any' | null;
 }
 
-/** A bench on a picture, until it is closed. */
+/** What is said to a picture and a certificate. */
+export interface Checked {
+  /** The certificate proves that no other picture of that size has the clues and the givens, and these are published. */
+  accepted: boolean;
+  /** The program's status: 0 where it is accepted; 1 also where a given is not published. */
+  status: number;
+  /** What the program says; or `certificate UnpublishedGiven at line N`, where a given is not published. */
+  text: string;
+  /** The cells that the certificate gives, where its proof holds: also where one is not published. */
+  givens: Place[];
+}
+
+/** A bench on a picture, until it is closed. One that nobody holds any more is closed at some time. */
 export interface Bench {
   /** Answers lines, each a command, with exactly what the program writes for them. */
   say(lines: Input): string;
   /** Ends the bench. Each further call throws a Fault. */
   close(): void;
+  /** As `close`, for `using`; of a closed bench nothing. It is there where the language has Symbol.dispose. */
+  [Symbol.dispose](): void;
 }
 
 /** An instance of the module. Its benches are apart from those of another. */
 export interface Engine {
   open(file: Input, options?: OpenOptions): Bench;
-  check(picture: Input, certificate: Input, options?: { background?: string | null }): Checked;
+  check(picture: Input, certificate: Input, options?: CheckOptions): Checked;
   /** The clues of a file, a line each, as the program prints them. */
   clues(file: Input, options?: OpenOptions): string;
   /** The version of the module, as the program prints it behind its name. */

@@ -5,11 +5,12 @@
 //     const bench = engine.open(picture, {history: 100})    // a P3 picture or a two-colour .non text
 //     bench.say('clues\nverdict\n')                         // what the program `nonobench work` answers
 //     bench.close()
-//     engine.check(picture, certificate)                    // {accepted, status, text}
+//     engine.check(picture, certificate, {givens: [[1, 1]]})    // {accepted, status, text, givens}
 //     engine.clues(picture)                                 // what the program `nonobench` prints for it
 //     engine.version                                        // as `nonobench --version` prints it behind the name
 
 const DONE = 0;
+const REFUSED = 1;
 const MEMORY = 4;
 const CLOSED = 5;
 const OPTIONS = 6;
@@ -48,11 +49,33 @@ function isNon(bytes) {
   return /^[ \t]*(?:width|height|rows|columns|goal|catalogue|title)\b/m.test(front);
 }
 
+// The cells that are published, as texts `ROW COLUMN`; null for 'any'.
+function publishedOf(givens = []) {
+  if (givens === 'any') return null;
+  const isCount = (number) => Number.isInteger(number) && number > 0;
+  if (!Array.isArray(givens) || !givens.every((place) => Array.isArray(place) && place.length === 2 && place.every(isCount))) {
+    throw new TypeError("givens must be pairs [row, column] that count from 1, or 'any'");
+  }
+  return new Set(givens.map(([row, column]) => `${row} ${column}`));
+}
+
+// The cells that an accepted certificate gives: their lines stand directly below its first one.
+function givensOf(certificate) {
+  const text = decoder.decode(certificate), line = /given (\d+) (\d+)(?:\n|$)/y, givens = [];
+  line.lastIndex = text.indexOf('\n') + 1;
+  for (let found = line.exec(text); found; found = line.exec(text)) givens.push([Number(found[1]), Number(found[2])]);
+  return givens;
+}
+
 /** An instance of the module with its memory. Each has benches of its own. */
 class Engine {
   #calls;
   #cell;
   #hasEnded = false;
+  // Closes benches that nobody holds any more.
+  #dropped = new FinalizationRegistry((handle) => {
+    if (!this.#hasEnded) this.#calls.nonobench_close(this.#cell, handle);
+  });
 
   constructor(instance) {
     this.#calls = instance.exports;
@@ -73,19 +96,33 @@ class Engine {
       const status = this.#lend([bytes, background], ([file, word]) =>
         this.#calls.nonobench_open(this.#cell, file.at, file.size, non ? 1 : 0, word.at, word.size, history, out));
       if (status !== DONE) this.#refuse(status);
-      return new Bench(this, new DataView(this.#calls.memory.buffer).getUint32(Number(out), true));
+      const handle = new DataView(this.#calls.memory.buffer).getUint32(Number(out), true), bench = new Bench(this, handle);
+      this.#dropped.register(bench, handle, bench);
+      return bench;
     } finally {
       this.#give(out);
     }
   }
 
-  /** Checks a certificate of a picture, and says what the program says, by its status: 0 where it is accepted. */
+  /**
+   * Checks a certificate of a picture, and says what the program says, by its status: 0 where it is accepted. `givens` are the
+   * cells that are published, [row, column] each; none where nothing is given. A certificate that gives another cell is refused
+   * with the text `certificate UnpublishedGiven at line N`, which the program does not have. The answer has the cells that the
+   * certificate gives, where its proof holds. 'any' accepts it whatever it gives: for who then publishes these cells.
+   */
   check(picture, certificate, options = {}) {
-    const background = this.#background(options.background);
-    const status = this.#lend([this.#input(picture), this.#input(certificate), background], ([file, cert, word]) =>
+    const background = this.#background(options.background), published = publishedOf(options.givens ?? undefined);
+    const proof = this.#input(certificate).slice(); // what is read below is what was checked, also of shared memory
+    const status = this.#lend([this.#input(picture), proof, background], ([file, cert, word]) =>
       this.#calls.nonobench_check(this.#cell, file.at, file.size, cert.at, cert.size, word.at, word.size));
     if (status === MEMORY || status === OPTIONS) this.#refuse(status);
-    return { accepted: status === DONE, status, text: this.#text() };
+    const text = this.#text();
+    if (status !== DONE) return { accepted: false, status, text, givens: [] };
+    const givens = givensOf(proof), count = /, givens (\d+)\n$/.exec(text)?.[1] ?? 0;
+    if (givens.length !== Number(count)) throw new Fault('ended', `the module tells other givens: ${text}`);
+    const at = published ? givens.findIndex(([row, column]) => !published.has(`${row} ${column}`)) : -1;
+    if (at >= 0) return { accepted: false, status: REFUSED, text: `certificate UnpublishedGiven at line ${at + 2}`, givens };
+    return { accepted: true, status, text, givens };
   }
 
   /** The clues of a file, a line each, as the program prints them. Throws a Fault where the file is refused. */
@@ -108,7 +145,8 @@ class Engine {
   }
 
   // Ends the bench of a handle.
-  close(handle) {
+  close(handle, bench) {
+    this.#dropped.unregister(bench);
     const status = this.#run(() => this.#calls.nonobench_close(this.#cell, handle));
     if (status !== DONE) this.#refuse(status);
   }
@@ -205,10 +243,11 @@ class Engine {
   }
 }
 
-/** A bench on a picture: what a session is said to, until it is closed. */
+/** A bench on a picture: what a session is said to, until it is closed. One that nobody holds any more is closed at some time. */
 class Bench {
   #engine;
   #handle;
+  #isClosed = false;
 
   constructor(engine, handle) {
     this.#engine = engine;
@@ -222,7 +261,13 @@ class Bench {
 
   /** Ends the bench. Each further call throws a Fault. */
   close() {
-    this.#engine.close(this.#handle);
+    this.#isClosed = true;
+    this.#engine.close(this.#handle, this);
+  }
+
+  // `using bench = engine.open(..)` ends it, where the language has that.
+  [Symbol.dispose ?? Symbol('dispose')]() {
+    if (!this.#isClosed) this.close();
   }
 }
 

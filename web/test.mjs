@@ -2,10 +2,14 @@
 // examples/, or are worked out by hand from docs/FORMATS.md.
 import assert from 'node:assert/strict';
 import { spawnSync } from 'node:child_process';
-import { readFileSync, readdirSync, existsSync } from 'node:fs';
+import { existsSync, mkdirSync, mkdtempSync, readFileSync, readdirSync, rmSync, writeFileSync } from 'node:fs';
+import { tmpdir } from 'node:os';
 import { dirname, join, resolve } from 'node:path';
 import test from 'node:test';
 import { fileURLToPath } from 'node:url';
+import { setFlagsFromString } from 'node:v8';
+import { runInNewContext } from 'node:vm';
+import { colourShown, coloursTooNear } from './colours.mjs';
 import { Fault, load } from './nonobench.mjs';
 
 const root = join(dirname(fileURLToPath(import.meta.url)), '..');
@@ -331,6 +335,21 @@ test('products and shifts of 128 bits are those of whole numbers', async () => {
   }
 });
 
+test('colours are too near as the cases say, and are shown in eight bits', () => {
+  let count = 0;
+  for (const line of text('tests', 'cases', 'near_colours.txt').split('\n')) {
+    if (line === '' || line.startsWith('#')) continue;
+    const [one, other, answer] = line.split(' '), pair = [one, other].map((colour) => colour.split(',').map(Number));
+    assert.equal(coloursTooNear(...pair), answer === 'near', line);
+    assert.equal(coloursTooNear(...pair.reverse()), answer === 'near', line);
+    count += 1;
+  }
+  assert.ok(count > 20, `${count}`);
+  assert.deepEqual(colourShown([1, 3, 5], 510), [1, 2, 3]);
+  assert.deepEqual(colourShown([0, 32767, 65535], 65535), [0, 127, 255]);
+  assert.deepEqual(colourShown([0, 1, 1], 1), [0, 255, 255]);
+});
+
 test('the version is that of the crates, whole or as far as there is room', async () => {
   const { engine, calls } = await watched();
   const [, version] = /VERSION: &str = "([^"]+)"/.exec(text('crates', 'program_options', 'src', 'version.rt'));
@@ -418,18 +437,89 @@ test('a long answer is taken whole', async () => {
 test('a certificate is accepted, and what is wrong is said', async () => {
   const engine = await fresh();
   const picture = text('examples', 'given.ppm'), certificate = text('examples', 'given.cert');
-  assert.deepEqual(engine.check(picture, certificate), { accepted: true, status: 0, text: 'certificate accepted, givens 1\n' });
-  assert.deepEqual(engine.check(picture, 'no certificate\n'), { accepted: false, status: 1, text: 'certificate NotCert at line 1' });
-  assert.deepEqual(engine.check('P4\n', certificate), { accepted: false, status: 1, text: 'ppm NotP3 at byte 0' });
+  const givens = [[1, 1]];
+  assert.deepEqual(engine.check(picture, certificate, { givens }), { accepted: true, status: 0, text: 'certificate accepted, givens 1\n', givens });
+  const unpublished = { accepted: false, status: 1, text: 'certificate UnpublishedGiven at line 2', givens };
+  for (const options of [undefined, {}, { givens: [] }, { givens: null }, { givens: [[1, 2]] }]) {
+    assert.deepEqual(engine.check(picture, certificate, options), unpublished);
+  }
+  assert.deepEqual(engine.check(picture, 'no certificate\n'), { accepted: false, status: 1, text: 'certificate NotCert at line 1', givens: [] });
+  assert.deepEqual(engine.check('P4\n', certificate), { accepted: false, status: 1, text: 'ppm NotP3 at byte 0', givens: [] });
+  for (const wrong of ['1,1', 'all', [1, 1], [[1]], [[0, 1]], [['1', '1']], [[1, 1.5]], 5, new Set([[1, 1]])]) {
+    assert.throws(() => engine.check(picture, certificate, { givens: wrong }), TypeError);
+  }
   // By its background the first colour of this picture has a clue or none: where the left cell is background, nothing tells the
   // two pictures apart that the certificate is of.
   const two = 'P3 2 1 255 0 0 0 9 9 9\n', plain = 'nonocert 1\nline r 1\ndone\n';
-  assert.deepEqual(engine.check(two, plain), { accepted: true, status: 0, text: 'certificate accepted\n' });
+  assert.deepEqual(engine.check(two, plain), { accepted: true, status: 0, text: 'certificate accepted\n', givens: [] });
   assert.deepEqual(engine.check(two, plain, { background: null }).status, 0);
-  assert.deepEqual(engine.check(two, plain, { background: '0,0,0' }), { accepted: false, status: 1, text: 'certificate NotDone at line 3' });
+  assert.deepEqual(engine.check(two, plain, { background: '0,0,0' }), { accepted: false, status: 1, text: 'certificate NotDone at line 3', givens: [] });
   const bench = engine.open(picture);
-  assert.equal(engine.check(picture, certificate).accepted, true);
+  assert.equal(engine.check(picture, certificate, { givens }).accepted, true);
   assert.equal(bench.say('undo\n'), 'refused: UndoEmpty\n');
+});
+
+// The bytes of a text of cases, as printf reads it: here \n alone.
+const unescaped = (text) => text.replaceAll('\\n', '\n');
+
+// A picture of white, black (a) and red (b) cells, of its rows joined by /.
+function pictureOf(rows) {
+  const lines = rows.split('/'), triples = { '.': '255 255 255', a: '0 0 0', b: '255 0 0' };
+  return `P3\n${lines[0].length} ${lines.length}\n255\n${[...lines.join('')].map((cell) => triples[cell]).join('\n')}\n`;
+}
+
+const placesOf = (word) => (word === '-' ? [] : word.split(';').map((place) => place.split(',').map(Number)));
+
+test('a certificate is accepted where its givens are among those that are published', async () => {
+  const engine = await fresh();
+  let count = 0;
+  for (const line of text('tests', 'cases', 'published.case').split('\n')) {
+    if (line === '' || line.startsWith('#')) continue;
+    const [, rows, published, proof, given, answer] = /^(\S+) (\S+) (.*) => (\S+) (.*)$/.exec(line);
+    const refused = answer.startsWith('! '), givens = published === 'any' ? 'any' : placesOf(published);
+    const wanted = { accepted: !refused, status: refused ? 1 : 0, text: refused ? answer.slice(2) : `${answer}\n`, givens: placesOf(given) };
+    assert.deepEqual(engine.check(pictureOf(rows), unescaped(proof), { givens }), wanted, line);
+    count += 1;
+  }
+  assert.ok(count > 20, `${count}`);
+});
+
+test('what is read of a certificate is what was checked, also where its memory is shared', async () => {
+  const { engine, calls } = await watched();
+  const bytes = new TextEncoder().encode('nonocert 2\ngiven 1 1\nline r 1\nline c 1\nline r 2\ndone\n');
+  const shared = new Uint8Array(new SharedArrayBuffer(bytes.length));
+  shared.set(bytes);
+  const plain = calls.nonobench_check;
+  calls.nonobench_check = (...words) => {
+    const status = plain(...words);
+    shared.fill(0x20); // as another thread may
+    return status;
+  };
+  assert.deepEqual(engine.check(DIAGONAL, shared, { givens: [] }).givens, [[1, 1]]);
+});
+
+test('benches that nobody holds any more are closed, and a bench is closed once by what disposes of it', async () => {
+  setFlagsFromString('--expose-gc');
+  const collect = runInNewContext('gc'), engine = await fresh();
+  const before = engine.open(DIAGONAL);
+  let most = 0;
+  for (let turn = 0; turn < 12; turn += 1) {
+    for (let i = 0; i < 5000; i += 1) engine.open(DIAGONAL).say('clues\n');
+    most = Math.max(most, engine.memory);
+    for (let i = 0; i < 4; i += 1) {
+      collect();
+      await new Promise((go) => setTimeout(go, 1));
+    }
+  }
+  // 60,000 benches would take more than the 1 GiB that there is; two turns of them take less than half.
+  assert.ok(most < 536870912, `${most}`);
+  assert.equal(before.say('verdict\n'), 'ambiguous\n.a\na.\n');
+  if (Symbol.dispose) {
+    const bench = engine.open(DIAGONAL);
+    bench[Symbol.dispose]();
+    assert.deepEqual(faultOf(() => bench.say('')), ['closed', 'closed']);
+    bench[Symbol.dispose]();
+  }
 });
 
 test('10,000 benches are opened and closed, and not a block more is taken', async () => {
@@ -438,7 +528,7 @@ test('10,000 benches are opened and closed, and not a block more is taken', asyn
     const bench = engine.open(DIAGONAL);
     bench.say('pin 1 1\nverdict\ncertify\n');
     bench.close();
-    assert.equal(engine.check(DIAGONAL, 'nonocert 2\ngiven 1 1\nline r 1\nline c 1\nline r 2\ndone\n').accepted, true);
+    assert.equal(engine.check(DIAGONAL, 'nonocert 2\ngiven 1 1\nline r 1\nline c 1\nline r 2\ndone\n', { givens: 'any' }).accepted, true);
     faultOf(() => engine.open('P4\n'));
     faultOf(() => bench.say(''));
   };
@@ -481,12 +571,12 @@ test('each growth refused in turn while a certificate is checked is a fault of m
       engine.refuse(nth);
       let answer = null;
       try {
-        answer = engine.check(picture, certificate);
+        answer = engine.check(picture, certificate, { givens: [[1, 1]] });
       } catch (fault) {
         assert.deepEqual([fault.kind, fault.text], ['memory', 'memory'], `${nth}`);
       }
       engine.refuse(0);
-      if (answer) return assert.deepEqual(answer, { accepted: true, status: 0, text: 'certificate accepted, givens 1\n' }, `${nth}`);
+      if (answer) return assert.deepEqual(answer, { accepted: true, status: 0, text: 'certificate accepted, givens 1\n', givens: [[1, 1]] }, `${nth}`);
       refused += 1;
     }
   };
@@ -550,10 +640,50 @@ test('the sessions of the repository come out as they stand there', async () => 
   assert.ok(count > 20, `${count}`);
 });
 
-test('the example checks an upload in a thread of its own', () => {
+// Runs the example from a folder, and gives what it printed and its status.
+function uploaded(folder, ...words) {
   const env = { ...process.env, WASM: resolve(process.env.WASM ?? join(root, 'web', 'out', 'nonobench.wasm')) };
-  const said = (...files) => spawnSync(process.execPath, ['check_upload.mjs', ...files], { cwd: join(root, 'examples'), env, encoding: 'utf8' }).stdout;
-  assert.equal(said('diagonal.ppm', 'diagonal.cert'), 'taken: certificate accepted\n');
-  assert.equal(said('given.ppm', 'given.cert'), 'taken: certificate accepted, givens 1\n');
-  assert.equal(said('given.ppm', 'diagonal.cert'), 'refused: certificate NotDead at line 5\n');
+  const run = spawnSync(process.execPath, [join(root, 'examples', 'check_upload.mjs'), ...words], { cwd: folder, env, encoding: 'utf8' });
+  return [run.stdout + run.stderr, run.status];
+}
+
+test('the example checks an upload in a thread of its own, and its status tells a refusal', () => {
+  const said = (...words) => uploaded(join(root, 'examples'), ...words);
+  const folder = mkdtempSync(join(tmpdir(), 'nonobench-upload-'));
+  const file = (name, lines) => (writeFileSync(join(folder, name), lines), join(folder, name));
+  try {
+    const one = file('one', 'given 1 1\n'), cross = file('cross.ppm', 'P3\n2 2\n1\n0 0 0 1 1 1\n1 1 1 0 0 0\n');
+    const proof = file('cross.cert', 'nonocert 2\ngiven 1 1\ngiven 1 2\ngiven 2 1\ngiven 2 2\ndone\n');
+    assert.deepEqual(said('diagonal.ppm', 'diagonal.cert'), ['taken: certificate accepted\n', 0]);
+    assert.deepEqual(said('given.ppm', 'given.cert', one), ['taken: certificate accepted, givens 1\n', 0]);
+    assert.deepEqual(said('given.ppm', 'given.cert'), ['refused: certificate UnpublishedGiven at line 2\n', 1]);
+    assert.deepEqual(said('given.ppm', 'diagonal.cert'), ['refused: certificate NotDead at line 5\n', 1]);
+    assert.deepEqual(said(cross, proof), ['refused: certificate UnpublishedGiven at line 2\n', 1]);
+    assert.deepEqual(said(cross, proof, one), ['refused: certificate UnpublishedGiven at line 3\n', 1]);
+    assert.match(said('none.ppm', 'diagonal.cert')[0], /^check_upload: ENOENT: no such file or directory, open 'none.ppm'\n$/);
+    assert.equal(said('none.ppm', 'diagonal.cert')[1], 3);
+    assert.equal(said('given.ppm', 'given.cert', cross)[1], 3);
+    assert.equal(said('given.ppm')[1], 2);
+  } finally {
+    rmSync(folder, { recursive: true, force: true });
+  }
+});
+
+test('the example loads nothing from the current folder', () => {
+  const folder = mkdtempSync(join(tmpdir(), 'nonobench-hostile-'));
+  try {
+    const mark = join(folder, 'ran'), hostile = `require('node:fs').appendFileSync(${JSON.stringify(mark)}, 'ran')`;
+    const files = ['nonobench.mjs', 'index.js', 'worker_threads.js', 'web/nonobench.mjs', 'node_modules/worker_threads/index.js', 'node_modules/fs/promises.js'];
+    for (const name of files) {
+      mkdirSync(dirname(join(folder, name)), { recursive: true });
+      writeFileSync(join(folder, name), name.endsWith('.mjs') ? `import { createRequire } from 'node:module'; const require = createRequire(import.meta.url); ${hostile}` : hostile);
+    }
+    writeFileSync(join(folder, 'package.json'), '{"imports": {"#x": "./index.js"}, "main": "index.js"}');
+    writeFileSync(join(folder, 'nonobench.wasm'), 'no module');
+    const pair = ['diagonal.ppm', 'diagonal.cert'].map((name) => join(root, 'examples', name));
+    assert.deepEqual(uploaded(folder, ...pair), ['taken: certificate accepted\n', 0]);
+    assert.ok(!existsSync(mark));
+  } finally {
+    rmSync(folder, { recursive: true, force: true });
+  }
 });

@@ -7,12 +7,15 @@ a process that is ended where it takes too long, and what is shown is escaped.
 """
 
 import contextlib
+import hashlib
 import io
+import itertools
 import json
 import os
 import queue
 import re
 import sqlite3
+import unicodedata
 
 import nonobench
 from flask import Flask, abort, g, redirect, render_template_string, request, url_for
@@ -26,11 +29,17 @@ MOST_CELLS = 120
 MOST_TITLE = 100
 MOST_SHOWN = 200
 PNG = b"\x89PNG\r\n\x1a\n"
+WHITE = (255, 255, 255)
 
+# The categories of characters that no title has, but for the joiners that some languages and emoji are written with.
+UNSEEN = {"Cc", "Cf", "Cn", "Co", "Cs"}
+JOINERS = "\u200c\u200d"
+
+# `shown` is the sum of the picture as it is shown: what makes two puzzles one, whatever cells their certificates give.
 TABLE = """
-CREATE TABLE IF NOT EXISTS puzzles (
+CREATE TABLE IF NOT EXISTS published (
     id INTEGER PRIMARY KEY, title TEXT NOT NULL, picture BLOB NOT NULL, certificate BLOB NOT NULL,
-    puzzle TEXT NOT NULL UNIQUE
+    puzzle TEXT NOT NULL, shown TEXT NOT NULL UNIQUE
 )"""
 
 # What a fault is called in docs/FORMATS.md, in the words of a reader.
@@ -60,16 +69,17 @@ PAGE = """<!doctype html>
 body { font: 16px/1.5 sans-serif; margin: 2rem auto; max-width: 60rem; padding: 0 1rem }
 .refused { border: 2px solid #b00; padding: .5rem 1rem } label { display: block; margin: .7rem 0 }
 table { border-collapse: collapse } td { border: 1px solid #888; width: 22px; height: 22px; padding: 0 }
-tr:nth-child(5n + 1) td { border-bottom: 2px solid #222 } td:nth-child(5n + 1) { border-right: 2px solid #222 }
+tr:nth-child(5n) td { border-bottom: 2px solid #222 } td:nth-child(5n + 1) { border-right: 2px solid #222 }
 th { font: 13px/18px sans-serif; padding: 1px 4px; text-align: right; vertical-align: bottom; white-space: nowrap }
 th span { display: inline-block; min-width: 14px; padding: 0 2px; text-align: center; border: 1px solid #888; margin: 1px }
 thead th span { display: block } td, th span { -webkit-print-color-adjust: exact; print-color-adjust: exact }
+.given { font: bold 15px/1 sans-serif; text-align: center; outline: 2px solid; outline-offset: -4px }
 @media print { nav { display: none } body { margin: 0 } }
 </style></head><body><nav><a href="{{ url_for('puzzles') }}">Puzzles</a> <a href="{{ url_for('form') }}">Bring one</a></nav>
-<h1>{{ title }}</h1>"""
+<h1 dir="auto">{{ title }}</h1>"""
 
 LIST = PAGE + """<ul>{% for puzzle in found %}
-<li><a href="{{ url_for('puzzle', number=puzzle.id) }}">{{ puzzle.title }}</a></li>{% else %}<li>None yet.</li>{% endfor %}</ul>"""
+<li dir="auto"><a href="{{ url_for('puzzle', number=puzzle.id) }}">{{ puzzle.title }}</a></li>{% else %}<li>None yet.</li>{% endfor %}</ul>"""
 
 FORM = PAGE + """{% if reason %}<p class="refused">{{ reason }}</p>{% endif %}
 <form method="post" action="{{ url_for('take') }}" enctype="multipart/form-data">
@@ -81,9 +91,10 @@ PUZZLE = PAGE + """{% macro clue(blocks) %}{% for length, letter in blocks %}<sp
 {%- else %}<span>0</span>{% endfor %}{% endmacro %}
 <table><thead><tr><th></th>{% for blocks in columns %}<th>{{ clue(blocks) }}</th>{% endfor %}</tr></thead>
 <tbody>{% for blocks in rows %}{% set row = loop.index %}<tr><th>{{ clue(blocks) }}</th>{% for _ in columns %}
-<td{% if (row, loop.index) in givens %} style="{{ givens[(row, loop.index)] }}"{% endif %}></td>{% endfor %}</tr>{% endfor %}
-</tbody></table><p>It has one solution{% if givens %} with the {{ givens|length }} cells that are filled in or marked{% endif %}:
-this was proved when it came.</p>"""
+{%- set given = givens.get((row, loop.index)) %}
+<td{% if given %} class="given" style="{{ given.style }}">{{ given.mark }}{% else %}>{% endif %}</td>{% endfor %}</tr>{% endfor %}
+</tbody></table><p>It has one solution{% if givens %} with the {{ givens|length }} framed
+{{ "cell that is" if givens|length == 1 else "cells that are" }} given (×: it stays empty){% endif %}: this was proved when it came.</p>"""
 
 
 class Refused(Exception):
@@ -113,28 +124,54 @@ def picture_of(file):
     return nonobench.picture_of(*flat.size, flat.convert("RGB").getdata())
 
 
-def cells_of(picture):
-    """The size of a picture that was accepted, and its cells as triples of 8 bits."""
-    words = [int(word) for word in re.sub(rb"#[^\r\n]*", b" ", picture[2:]).split()]
-    columns, _, maxval = words[:3]
-    samples = [round(sample * 255 / maxval) for sample in words[3:]]
-    exact = list(zip(words[3::3], words[4::3], words[5::3]))
-    return columns, maxval, exact, list(zip(samples[::3], samples[1::3], samples[2::3]))
+class Picture:
+    """A picture that was accepted: its size, and its cells as they are shown. `palette` has each colour once, white first and then
+    by first appearance, as the clues' letters go.
+    """
+
+    def __init__(self, file):
+        # A number may have any length; Python would read no more than some thousands of digits.
+        words = [int(word.lstrip(b"0") or b"0") for word in re.sub(rb"#[^\r\n]*", b" ", file[2:]).split()]
+        self.columns, self.rows, maxval = words[:3]
+        exact = list(zip(words[3::3], words[4::3], words[5::3]))
+        self.palette = {triple: nonobench.colour_shown(triple, maxval) for triple in dict.fromkeys([(maxval,) * 3, *exact])}
+        self.cells = [self.palette[triple] for triple in exact]
+
+    def near(self):
+        """Two colours that a solver may take for each other, where there are two; white is that of cells which stay empty."""
+        pairs = itertools.combinations(self.palette.values(), 2)
+        return next((pair for pair in pairs if nonobench.colours_too_near(*pair)), None)
+
+    def sum(self):
+        """A sum of the size and of all that is shown."""
+        return hashlib.sha256(json.dumps([self.columns, self.cells]).encode()).hexdigest()
 
 
 def puzzle_of(picture, clues, givens):
-    """What is published: clues, the colours of their letters, the givens with their colours. The letters go by first appearance."""
-    columns, maxval, exact, shown = cells_of(picture)
-    colours = {}
-    for triple, seen in zip(exact, shown):
-        if triple != (maxval,) * 3:
-            colours.setdefault(triple, seen)
+    """What is published: clues, the colours of their letters, the givens with their colours."""
     return json.dumps({
         "rows": clues.rows,
         "columns": clues.columns,
-        "colours": dict(zip("abcdefghijklmno", colours.values())),
-        "givens": [[row, column, shown[(row - 1) * columns + column - 1]] for row, column in givens],
+        "colours": dict(zip("abcdefghijklmno", list(picture.palette.values())[1:])),
+        "givens": [[row, column, picture.cells[(row - 1) * picture.columns + column - 1]] for row, column in givens],
     })
+
+
+def refuse_no_puzzle(picture, givens):
+    """Refuses what is proved, and yet no puzzle that a solver can be handed."""
+    near = picture.near()
+    if near:
+        first, second = ("white" if triple == WHITE else "rgb({}, {}, {})".format(*triple) for triple in near)
+        raise Refused(f"Two colours look alike: {first} and {second}. Make them differ more; white is the background.")
+    if len(givens) == len(picture.cells):
+        raise Refused("The certificate gives every cell, so there is nothing left to solve.")
+
+
+def title_of(text):
+    """A title that is shown as it is: without control characters, and without those that turn the direction of writing."""
+    seen = "".join(sign for sign in " ".join(text.split()) if sign in JOINERS or unicodedata.category(sign) not in UNSEEN)
+    seen = seen[:MOST_TITLE].strip()
+    return seen if any(unicodedata.category(sign)[0] in "LNPS" for sign in seen) else "Without a title"
 
 
 def reason_of(fault):
@@ -148,6 +185,12 @@ def ink_of(triple):
     red, green, blue = (int(sample) for sample in triple)
     figure = "black" if 3 * red + 6 * green + blue > 1280 else "white"
     return f"background: rgb({red}, {green}, {blue}); color: {figure}"
+
+
+def given_of(triple):
+    """How a given cell looks. Each has a frame and a mark, whatever its colour: a cross where it stays empty."""
+    is_empty = tuple(triple) == WHITE
+    return {"style": ink_of(triple), "mark": "\N{MULTIPLICATION SIGN}" if is_empty else "\N{BLACK CIRCLE}"}
 
 
 class Site:
@@ -177,19 +220,21 @@ class Site:
             while True:
                 self.workers.get_nowait().close()
 
-    def proved(self, picture, certificate):
-        """What is published of a picture whose certificate is accepted."""
+    def proved(self, file, certificate):
+        """A picture whose certificate is accepted, and what is published of it: with the cells that the certificate gives."""
         try:
             with self.worker() as worker:
-                result = worker.check(picture, certificate)
-                clues = worker.clues(picture)
+                givens = worker.check(file, certificate, published=nonobench.ANY_GIVEN).givens
+                clues = worker.clues(file)
         except nonobench.Fault as fault:
             raise Refused(reason_of(fault)) from fault
         except TimeoutError as error:
             raise Refused(f"The check took more than {self.config['SECONDS']:g} seconds.") from error
         except MemoryError as error:
             raise Refused("The check took too much memory.", 503) from error
-        return puzzle_of(picture, clues, result.givens)
+        picture = Picture(file)
+        refuse_no_puzzle(picture, givens)
+        return picture, puzzle_of(picture, clues, givens)
 
     def database(self):
         """The connection of this request."""
@@ -199,17 +244,17 @@ class Site:
             g.database.execute(TABLE)
         return g.database
 
-    def store(self, title, picture, certificate):
+    def store(self, title, file, certificate):
         """Stores a puzzle that is proved, and answers its number."""
-        puzzle = self.proved(picture, certificate)
+        picture, puzzle = self.proved(file, certificate)
         try:
             with self.database() as database:
                 return database.execute(
-                    "INSERT INTO puzzles (title, picture, certificate, puzzle) VALUES (?, ?, ?, ?)",
-                    (title, picture, certificate, puzzle),
+                    "INSERT INTO published (title, picture, certificate, puzzle, shown) VALUES (?, ?, ?, ?, ?)",
+                    (title, file, certificate, puzzle, picture.sum()),
                 ).lastrowid
         except sqlite3.IntegrityError as error:
-            raise Refused("This puzzle is there already.", 409) from error
+            raise Refused("This puzzle is there already, with these given cells or with others.", 409) from error
 
 
 def create_app(**config):
@@ -245,7 +290,7 @@ def create_app(**config):
 
     @app.get("/")
     def puzzles():
-        found = site.database().execute("SELECT id, title FROM puzzles ORDER BY id DESC LIMIT ?", (MOST_SHOWN,)).fetchall()
+        found = site.database().execute("SELECT id, title FROM published ORDER BY id DESC LIMIT ?", (MOST_SHOWN,)).fetchall()
         return render_template_string(LIST, title="Puzzles", found=found)
 
     @app.get("/new")
@@ -258,22 +303,21 @@ def create_app(**config):
         if not all(files):
             raise Refused("A picture and a certificate are wanted.")
         picture, certificate = (file.read() for file in files)
-        title = " ".join(request.form.get("title", "").split())[:MOST_TITLE] or "Without a title"
-        number = site.store(title, picture_of(picture), certificate)
+        number = site.store(title_of(request.form.get("title", "")), picture_of(picture), certificate)
         return redirect(url_for("puzzle", number=number), 303)
 
     @app.get("/puzzles/<int:number>")
     def puzzle(number):
         found = None
         if number < 1 << 63:
-            found = site.database().execute("SELECT title, puzzle FROM puzzles WHERE id = ?", (number,)).fetchone()
+            found = site.database().execute("SELECT title, puzzle FROM published WHERE id = ?", (number,)).fetchone()
         if found is None:
             abort(404)
         puzzle = json.loads(found["puzzle"])
         return render_template_string(
             PUZZLE, title=found["title"], rows=puzzle["rows"], columns=puzzle["columns"],
             inks={letter: ink_of(triple) for letter, triple in puzzle["colours"].items()},
-            givens={(row, column): ink_of(triple) for row, column, triple in puzzle["givens"]},
+            givens={(row, column): given_of(triple) for row, column, triple in puzzle["givens"]},
         )
 
     return app

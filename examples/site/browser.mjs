@@ -46,6 +46,12 @@ async function bring(page, title, picture, certificate) {
     return page.run(() => document.body.innerText);
 }
 
+// How the given cells look: mark, colour, and the colour and style of the frame. It runs in the page.
+const looks = () => [...document.querySelectorAll('td.given')].map((cell) => {
+    const { backgroundColor, outlineColor, outlineStyle } = getComputedStyle(cell);
+    return [cell.innerText, backgroundColor, outlineColor, outlineStyle];
+});
+
 const titles = (page) => page.run(() => [...document.querySelectorAll('li')].map((item) => item.innerText));
 
 const steps = {
@@ -68,13 +74,27 @@ const steps = {
     },
     async 'a pair is stored, shown and listed'(page) {
         const text = await bring(page, 'Two <b>cells</b>', example('given.ppm'), example('given.cert'));
-        assert.match(text, /Two <b>cells<\/b>[^]*It has one solution with the 1 cells that are filled in or marked/);
+        assert.match(text, /Two <b>cells<\/b>[^]*It has one solution with the 1 framed cell that is given/);
         assert.equal(await page.run(() => location.pathname), '/puzzles/1');
-        assert.equal(await page.run(() => getComputedStyle(document.querySelector('td[style]')).backgroundColor), 'rgb(0, 0, 0)');
+        assert.deepEqual(await page.run(looks), [['\u25cf', 'rgb(0, 0, 0)', 'rgb(255, 255, 255)', 'solid']]);
         await page.shot(join(folder, 'puzzle.png'));
         await page.goto(address);
         assert.deepEqual(await titles(page), ['Two <b>cells</b>']);
         await page.shot(join(folder, 'list.png'));
+    },
+    async 'a given that stays empty is marked, and one picture is stored once'(page) {
+        writeFileSync(join(work, 'cross.ppm'), 'P3 2 2 1 0 0 0 1 1 1 1 1 1 0 0 0\n');
+        writeFileSync(join(work, 'empty.cert'), 'nonocert 2\ngiven 1 2\nline r 1\nline c 1\nline r 2\ndone\n');
+        writeFileSync(join(work, 'all.cert'), 'nonocert 2\ngiven 1 1\ngiven 1 2\ngiven 2 1\ngiven 2 2\ndone\n');
+        assert.match(await bring(page, 'All', join(work, 'cross.ppm'), join(work, 'all.cert')), /The certificate gives every cell/);
+        // given.ppm is the same picture.
+        assert.match(await bring(page, 'Again', join(work, 'cross.ppm'), join(work, 'empty.cert')), /This puzzle is there already/);
+        page.faults.length = 0; // the browser notes the statuses 422 and 409
+        writeFileSync(join(work, 'other.ppm'), 'P3 2 2 1 1 1 1 0 0 0 0 0 0 1 1 1\n');
+        writeFileSync(join(work, 'empty.cert'), 'nonocert 2\ngiven 1 1\nline r 1\nline c 1\nline r 2\ndone\n');
+        await bring(page, 'Empty', join(work, 'other.ppm'), join(work, 'empty.cert'));
+        assert.deepEqual(await page.run(looks), [['\u00d7', 'rgb(255, 255, 255)', 'rgb(0, 0, 0)', 'solid']]);
+        await page.shot(join(folder, 'empty.png'));
     },
     async 'the puzzle is printed without the links'(page) {
         await page.goto(`${address}/puzzles/1`);

@@ -16,6 +16,10 @@ DIAGONAL = (EXAMPLES / "diagonal.ppm").read_bytes()
 DIAGONAL_CERT = (EXAMPLES / "diagonal.cert").read_bytes()
 GIVEN = (EXAMPLES / "given.ppm").read_bytes()
 GIVEN_CERT = (EXAMPLES / "given.cert").read_bytes()
+# Two solutions: black on one diagonal or on the other. The certificates give the cell at the top right, which stays empty, and all.
+CROSS = b"P3 2 2 1 0 0 0 1 1 1 1 1 1 0 0 0\n"
+EMPTY_CERT = b"nonocert 2\ngiven 1 2\nline r 1\nline c 1\nline r 2\ndone\n"
+ALL_CERT = b"nonocert 2\ngiven 1 1\ngiven 1 2\ngiven 2 1\ngiven 2 2\ndone\n"
 
 
 class Site(unittest.TestCase):
@@ -54,15 +58,79 @@ class Site(unittest.TestCase):
         self.assertEqual(self.bring(GIVEN, GIVEN_CERT).status_code, 303)
         page = self.client.get("/puzzles/1").text
         self.assertEqual(len(re.findall("<td>", page)), 3)
-        self.assertIn('<td style="background: rgb(0, 0, 0); color: white"></td>', page)
-        self.assertIn("with the 1 cells", page)
+        self.assertIn('<td class="given" style="background: rgb(0, 0, 0); color: white">\N{BLACK CIRCLE}</td>', page)
+        self.assertIn("with the 1 framed", page)
+
+    def test_a_given_that_stays_empty_is_shown(self):
+        self.assertEqual(self.bring(CROSS, EMPTY_CERT).status_code, 303)
+        page = self.client.get("/puzzles/1").text
+        self.assertEqual(len(re.findall("<td>", page)), 3)
+        self.assertIn('<td class="given" style="background: rgb(255, 255, 255); color: black">\N{MULTIPLICATION SIGN}</td>', page)
+
+    def test_each_given_that_is_told_is_marked(self):
+        two = EMPTY_CERT.replace(b"given 1 2\n", b"given 1 2\ngiven 2 2\n")
+        self.assertEqual(self.bring(CROSS, two).status_code, 303)
+        page = self.client.get("/puzzles/1").text
+        self.assertEqual(page.count('class="given"'), 2)
+        self.assertIn("with the 2 framed", page)
+
+    def test_a_certificate_that_gives_every_cell_is_no_puzzle(self):
+        self.assert_refused(self.bring(CROSS, ALL_CERT), "The certificate gives every cell, so there is nothing left to solve.")
+
+    def test_colours_that_look_alike_are_refused(self):
+        # Black and nearly black on the diagonal: with other letters, but both clues look the same.
+        def diagonal(maxval, first, second):
+            white = f"{maxval} {maxval} {maxval}"
+            return f"P3 2 2 {maxval} {first} {white} {white} {second}\n".encode()
+
+        for maxval, first, second, told in (
+            (65535, "0 0 0", "1 0 0", "rgb(0, 0, 0) and rgb(0, 0, 0)"),
+            (255, "0 0 0", "1 1 1", "rgb(0, 0, 0) and rgb(1, 1, 1)"),
+            (255, "9 9 9", "30 30 30", "rgb(9, 9, 9) and rgb(30, 30, 30)"),
+            (65535, "0 0 0", "65534 65535 65535", "white and white"),
+            (255, "0 0 0", "250 250 250", "white and rgb(250, 250, 250)"),
+        ):
+            with self.subTest(second):
+                self.assert_refused(self.bring(diagonal(maxval, first, second), DIAGONAL_CERT), f"Two colours look alike: {told}.")
+        self.assertEqual(self.bring(diagonal(65535, "0 0 0", "65535 0 0"), DIAGONAL_CERT).status_code, 303)
 
     def test_a_puzzle_is_stored_once(self):
         self.bring(DIAGONAL, DIAGONAL_CERT)
-        answer = self.bring(DIAGONAL + b"\n", DIAGONAL_CERT)
-        self.assertEqual(answer.status_code, 409)
-        self.assertIn("there already", answer.text)
-        self.assertEqual(self.client.get("/").text.count("<li>"), 1)
+        # The same with a comment, with finer samples that are shown as these, and with certificates that give cells.
+        finer = b"P3 2 2 65535 0 0 0 65535 65535 65535 65535 65535 65535 65500 0 0\n"
+        one = b"nonocert 2\ngiven 1 1\nline r 1\nline c 1\nline r 2\nline c 2\ndone\n"
+        two = b"nonocert 2\ngiven 1 2\ngiven 2 2\nline r 1\nline r 2\nline c 1\nline c 2\ndone\n"
+        for pair in ((DIAGONAL + b"# again\n", DIAGONAL_CERT), (finer, DIAGONAL_CERT), (DIAGONAL, one), (DIAGONAL, two)):
+            answer = self.bring(*pair)
+            self.assertEqual(answer.status_code, 409)
+            self.assertIn("there already", answer.text)
+        self.assertEqual(self.client.get("/").text.count("<li "), 1)
+        # The other picture with the clues of the cross is another puzzle.
+        other = b"P3 2 2 1 1 1 1 0 0 0 0 0 0 1 1 1\n"
+        self.assertEqual(self.bring(CROSS, EMPTY_CERT).status_code, 303)
+        self.assertEqual(self.bring(other, EMPTY_CERT).status_code, 303)
+        self.assertEqual(self.client.get("/").text.count("<li "), 3)
+
+    def test_titles_are_shown_as_they_are(self):
+        for text, title in (
+            ("Du\u202eck\u2066 \u200eone\u200f\x00\x08\x7f\x9f", "Duck one"),
+            ("two\r\n\tlines\u2028more", "two lines more"),
+            ("\ufeffE\u00adnte\u061c \U0001f986", "Ente \U0001f986"),
+            ("\u0645\u06cc\u200c\u062e\u0648\u0627\u0647\u0645", "\u0645\u06cc\u200c\u062e\u0648\u0627\u0647\u0645"),
+            ("\u202e\u2066", "Without a title"),
+            (" \u200d\u0301 ", "Without a title"),
+            ("", "Without a title"),
+            ("x" * 500, "x" * 100),
+        ):
+            with self.subTest(text):
+                self.assertEqual(site.title_of(text), title)
+        self.bring(DIAGONAL, DIAGONAL_CERT, "evil\u202eknil\x08")
+        self.assertIn(">evilknil</a>", self.client.get("/").text)
+
+    def test_numbers_of_any_length(self):
+        # Zeros before a number are lawful, and Python would not read so many digits.
+        long = DIAGONAL.replace(b"255", b"0" * 9000 + b"255", 1)
+        self.assertEqual(self.bring(long, DIAGONAL_CERT).status_code, 303)
 
     def test_what_is_refused(self):
         self.assert_refused(self.bring(b"GIF89a", DIAGONAL_CERT), "The picture is neither a PNG image nor a plain PPM text (P3).")
@@ -99,7 +167,7 @@ class Site(unittest.TestCase):
             with self.assertRaisesRegex(site.Refused, "^The check took more than 0.2 seconds.$"):
                 kept.proved(DIAGONAL, DIAGONAL_CERT)
             worker._seconds = 300
-            self.assertIn('"rows"', kept.proved(DIAGONAL, DIAGONAL_CERT))
+            self.assertIn('"rows"', kept.proved(DIAGONAL, DIAGONAL_CERT)[1])
 
     def test_a_busy_site_says_so(self):
         self.app.config["SECONDS"] = 0.01
@@ -129,7 +197,7 @@ class Site(unittest.TestCase):
         self.assert_refused(self.bring(png(image)[:60], DIAGONAL_CERT), "The image cannot be read.")
         self.assert_refused(self.bring(site.PNG, DIAGONAL_CERT), "The image cannot be read.")
         self.assertEqual(self.bring(png(image), DIAGONAL_CERT).status_code, 303)
-        self.assertEqual(site.cells_of(site.picture_of(png(image)))[2:], site.cells_of(DIAGONAL)[2:])
+        self.assertEqual(site.Picture(site.picture_of(png(image))).cells, site.Picture(DIAGONAL).cells)
 
     @unittest.skipUnless(site.Image is None, "there is Pillow")
     def test_no_images(self):

@@ -1,8 +1,10 @@
 """Checks certificates of nonograms and judges pictures.
 
-    result = nonobench.check(picture, certificate)   # raises CertificateFault or PictureFault where it is refused
+    result = nonobench.check(picture, certificate, published=[(1, 1)])   # raises CertificateFault or PictureFault
     clues = nonobench.clues(picture)
     verdict = nonobench.verdict(picture, allowance=1000)
+    certificate = nonobench.certify(picture)                             # None where it has several solutions
+    audit = nonobench.audit(picture, allowance=1000)                     # both, of one opened picture
 
 A picture is the bytes of a plain PPM text (P3), of at most 120 by 120 cells in 16 colours with the background. The calls are
 those of libnonobench, which is proved (docs/PROMISES.md); this package hands bytes over and reads the texts that come back, and
@@ -15,6 +17,7 @@ An image of Pillow goes in by one line, a cell for each pixel:
 """
 
 from ._answers import (
+    Audit,
     Block,
     CertificateFault,
     Clues,
@@ -24,15 +27,19 @@ from ._answers import (
     PictureFault,
     Result,
     Ruling,
+    UnpublishedGiven,
     Verdict,
 )
-from ._calls import check, clues, picture_of, verdict
+from ._calls import ANY_GIVEN, audit, certify, check, clues, picture_of, verdict
+from ._colours import colour_shown, colours_too_near
 from ._library import version
 from .worker import Worker
 
 __version__ = version()
 
 __all__ = [
+    "ANY_GIVEN",
+    "Audit",
     "Block",
     "CertificateFault",
     "Clues",
@@ -42,10 +49,15 @@ __all__ = [
     "PictureFault",
     "Result",
     "Ruling",
+    "UnpublishedGiven",
     "Verdict",
     "Worker",
+    "audit",
+    "certify",
     "check",
     "clues",
+    "colour_shown",
+    "colours_too_near",
     "picture_of",
     "verdict",
     "version",

@@ -39,6 +39,17 @@ class CertificateFault(Fault):
         return self._place
 
 
+class UnpublishedGiven(CertificateFault):
+    """The certificate gives a cell that is not published, at a line that is counted from 1. Its proof holds. `givens` has all cells
+    that it gives. The program has no such fault.
+    """
+
+    def __init__(self, line: int, givens: tuple[Given, ...]) -> None:
+        super().__init__("UnpublishedGiven", line, f"certificate UnpublishedGiven at line {line}")
+        self.args = (line, givens)
+        self.givens = givens
+
+
 class LengthFault(Fault):
     """A picture or a certificate has more than 16,777,216 bytes."""
 
@@ -61,10 +72,7 @@ class Given(NamedTuple):
 
 @dataclass(frozen=True)
 class Result:
-    """A certificate was accepted: no other picture of that size has the clues, and these cells' colours.
-
-    A certificate may give every cell. So compare the givens with those that you publish.
-    """
+    """A certificate was accepted: no other picture of that size has the clues, and these cells' colours."""
 
     givens: tuple[Given, ...]
 
@@ -75,11 +83,12 @@ class Result:
 def result_of(text: str, certificate: bytes) -> Result:
     """What was accepted, by the line that tells it. The givens stand directly below the certificate's first line."""
     givens = []
-    for line in certificate.split(b"\n")[1:]:
-        words = line.split(b" ")
-        if words[0] != b"given":
-            break
-        givens.append(Given(int(words[1]), int(words[2])))
+    at = certificate.find(b"\n") + 1
+    while certificate.startswith(b"given ", at):
+        end = certificate.find(b"\n", at)
+        _, row, column = certificate[at:end].split(b" ")
+        givens.append(Given(int(row), int(column)))
+        at = end + 1
     result = Result(tuple(givens))
     if str(result) != text:
         raise RuntimeError(f"the library tells other givens: {text!r}")
@@ -133,6 +142,14 @@ class Verdict:
 
     ruling: Ruling
     other: Optional[tuple[str, ...]] = None
+
+
+@dataclass(frozen=True)
+class Audit:
+    """Verdict and certificate of a picture. There is a certificate where the ruling is UNIQUE."""
+
+    verdict: Verdict
+    certificate: Optional[bytes] = None
 
 
 def verdict_of(text: str) -> Verdict:

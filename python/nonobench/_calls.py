@@ -2,10 +2,25 @@
 
 from __future__ import annotations
 
+import operator
 from typing import Iterable, Optional, Union
 
-from ._answers import Clues, Fault, LengthFault, Result, Verdict, clues_of, fault_of, result_of, verdict_of
-from ._library import DONE, MEMORY, OPTIONS, Desk
+from ._answers import (
+    Audit,
+    Clues,
+    Fault,
+    LengthFault,
+    Result,
+    Ruling,
+    UnpublishedGiven,
+    Verdict,
+    clues_of,
+    fault_of,
+    result_of,
+    verdict_of,
+)
+from ._library import DONE, MEMORY, OPTIONS
+from ._serve import CHECK, SESSION, answer
 
 Bytes = Union[bytes, bytearray, memoryview]
 Colour = tuple[int, int, int]
@@ -15,39 +30,100 @@ MOST_BYTES = 16_777_216
 MOST_ALLOWANCE = 99_999
 
 
-def check(picture: Bytes, certificate: Bytes, background: Optional[Colour] = None) -> Result:
-    """Checks a certificate of a picture, a P3 text, whose background is a triple, or white where none is given.
+class AnyGiven:
+    """The type of ANY_GIVEN."""
 
-    Raises PictureFault, CertificateFault, LengthFault or MemoryError where it is not accepted, and ValueError for a background
-    that is no triple of numbers from 0 to 65,535.
+    def __repr__(self) -> str:
+        return "nonobench.ANY_GIVEN"
+
+
+# Published are the cells that a certificate gives, whichever they are.
+ANY_GIVEN = AnyGiven()
+Published = Union[Iterable[tuple[int, int]], AnyGiven]
+
+
+class Questions:
+    """The questions, wherever they are answered. Each raises PictureFault, LengthFault or MemoryError where a picture is refused,
+    and ValueError for a background that is no triple of numbers from 0 to 65,535. Without one the background is white.
     """
-    picture, certificate = bytes_of(picture), bytes_of(certificate)
-    with Desk() as desk:
-        _look(desk, desk.check(picture, certificate, _word(background)))
-        return result_of(desk.text(), certificate)
+
+    def check(
+        self, picture: Bytes, certificate: Bytes, background: Optional[Colour] = None, published: Published = ()
+    ) -> Result:
+        """Checks a certificate of a picture, a P3 text. Raises CertificateFault where it is not accepted.
+
+        A puzzle has one solution with the cells that its certificate gives, and these may be all. So a certificate is accepted
+        only where each cell that it gives is among `published`, pairs of row and column that count from 1: the cells that you
+        publish with their colours, none where nothing is said. Else it raises UnpublishedGiven, whose `givens` are the cells
+        that the certificate gives. `published=ANY_GIVEN` is for who publishes just those.
+        """
+        picture, certificate, places = bytes_of(picture), bytes_of(certificate), _places(published)
+        (text,) = self._ask(CHECK, picture, background, certificate)
+        result = result_of(text, certificate)
+        if places is not None:
+            for line, given in enumerate(result.givens, 2):
+                if given not in places:
+                    raise UnpublishedGiven(line, result.givens)
+        return result
+
+    def clues(self, picture: Bytes, background: Optional[Colour] = None) -> Clues:
+        """The clues of a picture."""
+        return clues_of(self._say(picture, background, "clues\n")[-1])
+
+    def verdict(self, picture: Bytes, allowance: Optional[int] = None, background: Optional[Colour] = None) -> Verdict:
+        """Whether another picture has the clues of this one.
+
+        The allowance, 0 to 99,999, is how many splits the search of a part may make. Without one the search goes on to its end,
+        which may take very long; `Worker` bounds the time. Raises ValueError for another allowance.
+        """
+        return verdict_of(self._say(picture, background, _allow(allowance), "verdict\n")[-1])
+
+    def certify(self, picture: Bytes, background: Optional[Colour] = None) -> Optional[bytes]:
+        """A certificate of a picture, which gives no cell, or None where another picture has its clues. It may take very long."""
+        text = self._say(picture, background, "certify\n")[-1]
+        return None if text == "ambiguous\n" else text.encode("ascii")
+
+    def audit(self, picture: Bytes, allowance: Optional[int] = None, background: Optional[Colour] = None) -> Audit:
+        """Verdict and certificate of a picture that is opened once. There is a certificate where the ruling is UNIQUE.
+
+        The allowance is that of `verdict`; to make a certificate has no bound of its own.
+        """
+        texts = self._say(picture, background, _allow(allowance), "verdict\n", "certify\n")
+        is_unique = texts[-1].startswith("nonocert ")
+        verdict = verdict_of(texts[-2 if is_unique else -1])
+        return Audit(verdict, texts[-1].encode("ascii") if is_unique else None)
+
+    def _say(self, picture: Bytes, background: Optional[Colour], *lines: str) -> list[str]:
+        """What a bench on a picture answers to each line, until one is refused or tells that there is no certificate.
+
+        All that is asked here is lawful, so a refusal is one of memory.
+        """
+        texts = self._ask(SESSION, bytes_of(picture), background, "".join(lines).encode("ascii"))
+        if texts[-1].startswith("refused: "):
+            if texts[-1] == "refused: Memory\n":
+                raise MemoryError("nonobench: memory")
+            raise Fault(texts[-1][9:-1], 0, texts[-1][:-1])
+        return texts
+
+    def _ask(self, kind: int, picture: bytes, background: Optional[Colour], rest: bytes) -> list[str]:
+        """The texts of an answer. Raises what its status tells."""
+        status, held = self._answer(kind, picture, _word(background), rest)
+        texts = [text.decode("ascii") for text in held]
+        if status == MEMORY:
+            raise MemoryError("nonobench: memory")
+        if status == OPTIONS:
+            raise ValueError("background must be a triple of numbers from 0 to 65535")
+        if status != DONE:
+            raise fault_of(texts[-1])
+        return texts
+
+    def _answer(self, kind: int, picture: bytes, background: bytes, rest: bytes) -> tuple[int, list[bytes]]:
+        """The status and the texts of an answer."""
+        return answer(kind, picture, background, rest)
 
 
-def clues(picture: Bytes, background: Optional[Colour] = None) -> Clues:
-    """The clues of a picture. Raises as `check` does."""
-    picture = bytes_of(picture)
-    with Desk() as desk:
-        return clues_of(_ask(desk, _open(desk, picture, background), "clues"))
-
-
-def verdict(picture: Bytes, allowance: Optional[int] = None, background: Optional[Colour] = None) -> Verdict:
-    """Whether another picture has the clues of this one.
-
-    The allowance, 0 to 99,999, is how many splits the search of a part may make. Without one the search goes on to its end,
-    which may take very long; `Worker` bounds the time. Raises as `check` does, and ValueError for another allowance.
-    """
-    if allowance is not None and not 0 <= allowance <= MOST_ALLOWANCE:
-        raise ValueError("allowance must be 0 to 99999")
-    picture = bytes_of(picture)
-    with Desk() as desk:
-        handle = _open(desk, picture, background)
-        if allowance is not None:
-            _ask(desk, handle, f"allow {allowance:d}")
-        return verdict_of(_ask(desk, handle, "verdict"))
+_here = Questions()
+check, clues, verdict, certify, audit = _here.check, _here.clues, _here.verdict, _here.certify, _here.audit
 
 
 def picture_of(columns: int, rows: int, triples: Iterable[Colour], maxval: int = 255) -> bytes:
@@ -69,37 +145,25 @@ def bytes_of(file: Bytes) -> bytes:
     return held
 
 
+def _places(published: Published) -> Optional[set[tuple[int, int]]]:
+    """The cells that are published; None for whichever are given."""
+    if isinstance(published, AnyGiven):
+        return None
+    return {(operator.index(row), operator.index(column)) for row, column in published}
+
+
+def _allow(allowance: Optional[int]) -> str:
+    """The line that sets an allowance; none where there is none."""
+    if allowance is None:
+        return ""
+    if not 0 <= allowance <= MOST_ALLOWANCE:
+        raise ValueError("allowance must be 0 to 99999")
+    return f"allow {allowance:d}\n"
+
+
 def _word(background: Optional[Colour]) -> bytes:
     """The background as the library takes it: empty where there is none."""
     if background is None:
         return b""
     red, green, blue = background
     return f"{red:d},{green:d},{blue:d}".encode("ascii")
-
-
-def _look(desk: Desk, status: int) -> None:
-    """Raises what a status tells."""
-    if status == MEMORY:
-        raise MemoryError("nonobench: memory")
-    if status == OPTIONS:
-        raise ValueError("background must be a triple of numbers from 0 to 65535")
-    if status != DONE:
-        raise fault_of(desk.text())
-
-
-def _open(desk: Desk, picture: bytes, background: Optional[Colour]) -> int:
-    """Opens a bench on a picture: its handle."""
-    status, handle = desk.open(picture, _word(background))
-    _look(desk, status)
-    return handle
-
-
-def _ask(desk: Desk, handle: int, command: str) -> str:
-    """What a bench answers to one command. All that is asked here is lawful, so a refusal is one of memory."""
-    _look(desk, desk.say(handle, command.encode("ascii") + b"\n"))
-    text = desk.text()
-    if text == "refused: Memory\n":
-        raise MemoryError("nonobench: memory")
-    if text.startswith("refused: "):
-        raise Fault(text[9:-1], 0, text[:-1])
-    return text

@@ -1,15 +1,23 @@
-"""The calls of libnonobench, and a desk to ask them on. c/nonobench.h has what each does."""
+"""The calls of libnonobench, and a desk to ask them on. c/nonobench.h has what each does.
+
+The process of `Worker` loads this too, so it imports little: what it imports takes longer than a check.
+"""
 
 from __future__ import annotations
 
 import ctypes
 import os
-from pathlib import Path
-from types import TracebackType
-from typing import Callable
+
+TYPE_CHECKING = False
+if TYPE_CHECKING:
+    from types import TracebackType
+    from typing import Callable
 
 DONE, REFUSED, MEMORY, CLOSED, OPTIONS = 0, 1, 4, 5, 6
 NAME = "libnonobench.so"
+
+# The folder of the package.
+FOLDER = os.path.dirname(os.path.abspath(__file__))
 
 # The room that a text is first taken in.
 ROOM = 4096
@@ -19,16 +27,16 @@ def _path() -> str:
     """Where the library is: as NONOBENCH_LIBRARY says, else beside the package, in the checkout, or where the system looks."""
     named = os.environ.get("NONOBENCH_LIBRARY")
     if named:
-        return named
-    here = Path(__file__).resolve().parent
-    for place in (here / NAME, here.parent.parent / "c" / "out" / NAME):
-        if place.is_file():
-            return str(place)
+        # A name without a slash is looked for by the system.
+        return os.path.abspath(named) if os.sep in named else named
+    checkout = os.path.dirname(os.path.dirname(FOLDER))
+    for place in (os.path.join(FOLDER, NAME), os.path.join(checkout, "c", "out", NAME)):
+        if os.path.isfile(place):
+            return place
     return NAME
 
 
-def _load() -> ctypes.CDLL:
-    path = _path()
+def _load(path: str) -> ctypes.CDLL:
     try:
         library = ctypes.CDLL(path)
     except OSError as error:
@@ -52,22 +60,24 @@ def _load() -> ctypes.CDLL:
     return library
 
 
-_calls = _load()
+# The library that is loaded: from here on it is this file, whatever folder becomes the current one.
+PATH = _path()
+_calls = _load(PATH)
 
 
 def version() -> str:
     """The version of the library, as `nonobench --version` prints it behind the name."""
-    return _text(_calls.nonobench_version)
+    return _text(_calls.nonobench_version).decode("ascii")
 
 
-def _text(put: Callable[[ctypes.Array[ctypes.c_char], int], int]) -> str:
+def _text(put: Callable[[ctypes.Array[ctypes.c_char], int], int]) -> bytes:
     """The text that a call puts out, as far as there is room, and answers how many bytes it has."""
     room = ROOM
     while True:
         buffer = ctypes.create_string_buffer(room)
         size = put(buffer, room)
         if size <= room:
-            return buffer.raw[:size].decode("ascii")
+            return ctypes.string_at(buffer, size)
         room = size
 
 
@@ -76,7 +86,8 @@ class Desk:
 
     def __enter__(self) -> Desk:
         self._cell = ctypes.c_void_p()
-        if _calls.nonobench_start(ctypes.byref(self._cell)) != DONE:
+        self._at = ctypes.byref(self._cell)
+        if _calls.nonobench_start(self._at) != DONE:
             raise MemoryError("nonobench: memory")
         return self
 
@@ -85,22 +96,24 @@ class Desk:
 
     def check(self, picture: bytes, certificate: bytes, background: bytes) -> int:
         """Checks a certificate of a picture, and answers the status."""
-        return _calls.nonobench_check(
-            ctypes.byref(self._cell), picture, len(picture), certificate, len(certificate), background, len(background)
+        status: int = _calls.nonobench_check(
+            self._at, picture, len(picture), certificate, len(certificate), background, len(background)
         )
+        return status
 
     def open(self, picture: bytes, background: bytes) -> tuple[int, int]:
         """Opens a bench on a picture: the status and the handle."""
         handle = ctypes.c_uint32()
         status = _calls.nonobench_open(
-            ctypes.byref(self._cell), picture, len(picture), False, background, len(background), 1, ctypes.byref(handle)
+            self._at, picture, len(picture), False, background, len(background), 1, ctypes.byref(handle)
         )
         return status, handle.value
 
     def say(self, handle: int, lines: bytes) -> int:
         """Says lines of commands to a bench, and answers the status."""
-        return _calls.nonobench_say(ctypes.byref(self._cell), handle, lines, len(lines))
+        status: int = _calls.nonobench_say(self._at, handle, lines, len(lines))
+        return status
 
-    def text(self) -> str:
+    def text(self) -> bytes:
         """The text of the last call."""
-        return _text(lambda buffer, room: _calls.nonobench_take(ctypes.byref(self._cell), buffer, room))
+        return _text(lambda buffer, room: int(_calls.nonobench_take(self._at, buffer, room)))

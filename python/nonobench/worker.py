@@ -2,35 +2,68 @@
 
 from __future__ import annotations
 
-import pickle
-import struct
+import math
+import operator
+import os
+import socket
 import subprocess
 import sys
 import threading
-from pathlib import Path
+import time
+import weakref
 from types import TracebackType
-from typing import Any, BinaryIO, Optional
+from typing import Optional
 
-from . import _calls
-from ._answers import Clues, Result, Verdict
-from ._calls import Bytes, Colour
+from ._calls import Questions
+from ._library import FOLDER, PATH
+from ._serve import ANSWER, QUESTION
 
-_HEAD = struct.Struct("!Q")
-_START = "import sys; sys.path.insert(0, {!r}); from nonobench.worker import serve; serve({})"
+# The process loads the modules that it needs from the package's folder, under the package's name, and looks nowhere else but in
+# Python's own library: `-I` leaves out the current folder and PYTHONPATH, and `-S` what is installed.
+_FLAGS = ("-I", "-S", "-B")
+_START = """import sys
+package = sys.modules["nonobench"] = type(sys)("nonobench")
+package.__path__ = [sys.argv[1]]
+from nonobench._serve import serve
+serve(int(sys.argv[2]), int(sys.argv[3]))"""
+
+# After so many seconds more than it may take, a question ends the process by itself, should nobody be there to end it.
+_GRACE = 2
+_MOST_ALARM = 2**31 - 1
+
+# A write to a process that has ended is an error, and no signal.
+_NO_SIGNAL = getattr(socket, "MSG_NOSIGNAL", 0)
 
 
-class Worker:
+class Worker(Questions):
     """Asks in another process. A call raises TimeoutError where the answer takes more seconds, and the next one starts anew.
 
+        with nonobench.Worker(seconds=5) as worker:
+            worker.check(picture, certificate)
+
     Threads may share a worker: their calls come one after another. `memory` bounds the process, in bytes; where that is not
-    enough the call raises MemoryError. The process is started by the first call, and ended by `close` or with this program.
+    enough the call raises MemoryError. The process is started by the first call. It is ended by `close`, with the `with`, with
+    the last reference to the worker, and with this program; and where any exception is raised while a call waits, as by Ctrl-C
+    or a task queue's limit: an answer that is still to come is never taken for that of a later question.
     """
 
     def __init__(self, seconds: float = 10.0, memory: int = 1 << 30) -> None:
-        self._seconds = seconds
-        self._memory = memory
+        if not isinstance(seconds, (int, float)):
+            raise TypeError(f"seconds must be a number, and not {type(seconds).__name__}")
+        if not 0 < seconds <= threading.TIMEOUT_MAX:
+            raise ValueError("seconds must be above 0, and have an end")
+        self._seconds = float(seconds)
+        self._memory = operator.index(memory)
+        if self._memory <= 0:
+            raise ValueError("memory must be above 0")
+        self._number = 0
+        self._begin()
+
+    def _begin(self) -> None:
+        """Begins without a process: also in a child that was forked, which must neither ask nor end its parent's."""
+        self._owner = os.getpid()
         self._lock = threading.Lock()
-        self._process: Optional[subprocess.Popen[bytes]] = None
+        self._process: Optional[_Process] = None
 
     def __enter__(self) -> Worker:
         return self
@@ -38,104 +71,116 @@ class Worker:
     def __exit__(self, kind: type[BaseException] | None, error: BaseException | None, at: TracebackType | None) -> None:
         self.close()
 
-    def check(self, picture: Bytes, certificate: Bytes, background: Optional[Colour] = None) -> Result:
-        """As `nonobench.check`."""
-        return self._ask("check", _calls.bytes_of(picture), _calls.bytes_of(certificate), background)
-
-    def clues(self, picture: Bytes, background: Optional[Colour] = None) -> Clues:
-        """As `nonobench.clues`."""
-        return self._ask("clues", _calls.bytes_of(picture), background)
-
-    def verdict(self, picture: Bytes, allowance: Optional[int] = None, background: Optional[Colour] = None) -> Verdict:
-        """As `nonobench.verdict`."""
-        return self._ask("verdict", _calls.bytes_of(picture), allowance, background)
-
     def close(self) -> None:
         """Ends the process. The next call starts another one."""
+        if self._owner != os.getpid():
+            self._begin()
         with self._lock:
-            self._end()
+            process, self._process = self._process, None
+            if process:
+                process.end()
 
-    def _ask(self, name: str, *words: Any) -> Any:
+    def _answer(self, kind: int, picture: bytes, background: bytes, rest: bytes) -> tuple[int, list[bytes]]:
+        if self._owner != os.getpid():
+            self._begin()
         with self._lock:
-            process = self._process if self._process and self._process.poll() is None else self._start()
-            late = threading.Event()
-
-            def stop() -> None:
-                late.set()
-                process.kill()
-
-            timer = threading.Timer(self._seconds, stop)
-            timer.daemon = True
-            timer.start()
+            # The process is this call's alone until its answer has been read whole. Whatever is raised before, it never goes back.
+            process, self._process = self._process, None
             try:
-                _send(process.stdin, (name, words))
-                is_done, answer = _receive(process.stdout)
-            except (EOFError, OSError) as error:
-                self._end()
-                if late.is_set():
+                if not process or process.has_ended():
+                    process = _started(self._memory)
+                self._number += 1
+                answer = process.ask(self._number, kind, (picture, background, rest), self._seconds)
+            except BaseException as error:
+                if process:
+                    process.end()
+                if isinstance(error, socket.timeout):
                     raise TimeoutError(f"no answer within {self._seconds:g} seconds") from None
-                raise MemoryError("the worker ended") from error
-            finally:
-                timer.cancel()
-                timer.join()
-            if late.is_set():
-                self._end()
-        if is_done:
+                if isinstance(error, (EOFError, ConnectionError)):
+                    raise MemoryError("the worker ended") from error
+                raise
+            self._process = process
             return answer
-        raise answer
-
-    def _start(self) -> subprocess.Popen[bytes]:
-        self._end()
-        package = str(Path(__file__).resolve().parent.parent)
-        self._process = subprocess.Popen(
-            [sys.executable, "-c", _START.format(package, self._memory)], stdin=subprocess.PIPE, stdout=subprocess.PIPE
-        )
-        return self._process
-
-    def _end(self) -> None:
-        if self._process is None:
-            return
-        self._process.kill()
-        self._process.wait()
-        for stream in (self._process.stdin, self._process.stdout):
-            try:
-                stream.close()
-            except OSError:
-                pass
-        self._process = None
 
 
-def _send(stream: BinaryIO, value: Any) -> None:
-    packed = pickle.dumps(value)
-    stream.write(_HEAD.pack(len(packed)) + packed)
-    stream.flush()
+def _started(memory: int) -> _Process:
+    """A process that was started in a thread of its own, since what a signal raises is raised in the main thread alone: there it
+    might be raised while a process is there that nothing knows yet.
+    """
+    made: list[_Process] = []
+    raised: list[Exception] = []
 
-
-def _receive(stream: BinaryIO) -> Any:
-    head = stream.read(_HEAD.size)
-    if len(head) < _HEAD.size:
-        raise EOFError
-    size = _HEAD.unpack(head)[0]
-    packed = stream.read(size)
-    if len(packed) < size:
-        raise EOFError
-    return pickle.loads(packed)
-
-
-def serve(memory: int) -> None:
-    """What the process does: it answers questions until their end."""
-    import resource
-
-    resource.setrlimit(resource.RLIMIT_AS, (memory, memory))
-    # What prints must not stand between the answers.
-    questions, answers, sys.stdout = sys.stdin.buffer, sys.stdout.buffer, sys.stderr
-    while True:
+    def start() -> None:
         try:
-            name, words = _receive(questions)
-        except (EOFError, MemoryError):
-            return
-        try:
-            answer = (True, getattr(_calls, name)(*words))
-        except Exception as fault:
-            answer = (False, fault)
-        _send(answers, answer)
+            made.append(_Process(memory))
+        except Exception as error:
+            raised.append(error)
+
+    thread = threading.Thread(target=start, daemon=True)
+    thread.start()
+    thread.join()
+    if raised:
+        raise raised[0]
+    return made[0]
+
+
+class _Process:
+    """A process that answers, and the stream to it. It is ended with this object."""
+
+    def __init__(self, memory: int) -> None:
+        self._stream, theirs = socket.socketpair()
+        with theirs:
+            words = [FOLDER, str(theirs.fileno()), str(memory)]
+            self._process = subprocess.Popen(
+                [sys.executable, *_FLAGS, "-c", _START, *words], stdin=subprocess.DEVNULL, stdout=subprocess.DEVNULL,
+                pass_fds=[theirs.fileno()], cwd="/", env={**os.environ, "NONOBENCH_LIBRARY": PATH}, start_new_session=True,
+            )
+        self._memory = memory
+        self.end = weakref.finalize(self, _end, self._process, self._stream, os.getpid())
+
+    @property
+    def pid(self) -> int:
+        """The process's number."""
+        return self._process.pid
+
+    def has_ended(self) -> bool:
+        """Whether it ended by itself."""
+        return self._process.poll() is not None
+
+    def ask(self, number: int, kind: int, files: tuple[bytes, ...], seconds: float) -> tuple[int, list[bytes]]:
+        """The status and the texts that come for a question. Raises socket.timeout, EOFError or ConnectionError where none come."""
+        deadline = time.monotonic() + seconds
+        limit = min(math.ceil(seconds) + _GRACE, _MOST_ALARM)
+        self._wait(deadline)
+        self._stream.sendall(b"".join((QUESTION.pack(number, kind, limit, *map(len, files)), *files)), _NO_SIGNAL)
+        answered, status, *sizes = ANSWER.unpack(self._read(ANSWER.size, deadline))
+        if answered != number:
+            raise RuntimeError(f"the worker answered question {answered} in place of {number}")
+        if sum(sizes) > self._memory:
+            raise RuntimeError("the worker answers more than it has memory for")
+        return status, [self._read(size, deadline) for size in sizes if size]
+
+    def _read(self, size: int, deadline: float) -> bytes:
+        parts = []
+        while size > 0:
+            self._wait(deadline)
+            parts.append(self._stream.recv(min(size, 1 << 20)))
+            if not parts[-1]:
+                raise EOFError
+            size -= len(parts[-1])
+        return b"".join(parts)
+
+    def _wait(self, deadline: float) -> None:
+        """Lets the next call on the stream wait until a time."""
+        left = deadline - time.monotonic()
+        if left <= 0:
+            raise socket.timeout
+        self._stream.settimeout(left)
+
+
+def _end(process: subprocess.Popen[bytes], stream: socket.socket, owner: int) -> None:
+    """Ends a process. In a child that was forked, this closes the child's end of the stream, and the process goes on."""
+    stream.close()
+    if os.getpid() == owner:
+        process.kill()
+        process.wait()

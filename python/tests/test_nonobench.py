@@ -1,13 +1,13 @@
-"""Tests of the package: cd python && python3 -m unittest tests/test_nonobench.py
+"""Tests of the package: cd python && python3 -m unittest tests/test_nonobench.py. Those of `Worker` are in test_worker.py.
 
 What is expected stands in tests/cases/, or follows from docs/FORMATS.md by hand. With NONOBENCH=program, 1,000 cases by chance
 (CASES=number) are compared with what the program prints; the seed is 1 (SEED=number).
 """
 
 import os
+import pickle
 import random
 import re
-import signal
 import subprocess
 import tempfile
 import threading
@@ -15,7 +15,7 @@ import unittest
 from pathlib import Path
 
 import nonobench
-from nonobench import Block, CertificateFault, Given, LengthFault, PictureFault, Ruling
+from nonobench import ANY_GIVEN, Block, CertificateFault, Given, LengthFault, PictureFault, Ruling, UnpublishedGiven
 
 ROOT = Path(__file__).resolve().parent.parent.parent
 # Two rows, black and white, white and black: another picture has the clues, and a given decides it.
@@ -47,6 +47,11 @@ def cases(name):
             yield asked, answer
 
 
+def places_of(word):
+    """The cells of a word of cases, which may be - for none."""
+    return tuple(Given(*map(int, place.split(","))) for place in word.split(";") if place != "-")
+
+
 def picture_of(rows):
     """The picture of a shorthand: its rows, with / between them."""
     lines = rows.split("/")
@@ -59,6 +64,16 @@ def told(call):
         return str(call()), "", 0
     except nonobench.Fault as fault:
         return "", f"nonobench: {fault.text}\n", 1
+
+
+def givens_of(call):
+    """The givens that an answer names, whether they are published or not."""
+    try:
+        return call().givens
+    except UnpublishedGiven as fault:
+        return fault.givens
+    except nonobench.Fault:
+        return ()
 
 
 class Cases(unittest.TestCase):
@@ -78,18 +93,36 @@ class Cases(unittest.TestCase):
         count = 0
         for asked, answer in cases("certificates"):
             rows, _, text = asked.partition(" ")
-            self.compare(asked, answer, lambda pair=(picture_of(rows), bytes_of(text)): nonobench.check(*pair))
+            self.compare(asked, answer, lambda pair=(picture_of(rows), bytes_of(text)): nonobench.check(*pair, published=ANY_GIVEN))
             count += 1
         self.assertGreater(count, 40)
+
+    def test_published(self):
+        count = 0
+        for asked, answer in cases("published"):
+            (rows, published, text), (givens, _, answer) = asked.split(" ", 2), answer.partition(" ")
+            pair = picture_of(rows), bytes_of(text)
+            places = ANY_GIVEN if published == "any" else places_of(published)
+            self.compare(asked, answer, lambda: nonobench.check(*pair, published=places))
+            with self.subTest(asked):
+                self.assertEqual(givens_of(lambda: nonobench.check(*pair, published=places)), places_of(givens))
+            count += 1
+        self.assertGreater(count, 20)
 
 
 class Answers(unittest.TestCase):
     """Rows that were worked by hand."""
 
     def test_check(self):
-        result = nonobench.check(DIAGONAL, GIVEN)
+        result = nonobench.check(DIAGONAL, GIVEN, published=[(1, 1)])
         self.assertEqual(result.givens, (Given(1, 1),))
-        self.assertEqual(str(nonobench.check(bytearray(DIAGONAL), memoryview(GIVEN))), "certificate accepted, givens 1\n")
+        said = nonobench.check(bytearray(DIAGONAL), memoryview(GIVEN), published=iter([(2, 2), [1, 1]]))
+        self.assertEqual(str(said), "certificate accepted, givens 1\n")
+        with self.assertRaises(UnpublishedGiven) as caught:
+            nonobench.check(DIAGONAL, GIVEN)
+        self.assertEqual((caught.exception.name, caught.exception.line), ("UnpublishedGiven", 2))
+        again = pickle.loads(pickle.dumps(caught.exception))
+        self.assertEqual((again.givens, str(again)), (((1, 1),), "certificate UnpublishedGiven at line 2"))
         with self.assertRaises(CertificateFault) as caught:
             nonobench.check(DIAGONAL, b"nonocert 1\nline r 3\n")
         self.assertEqual((caught.exception.name, caught.exception.line), ("Place", 2))
@@ -110,6 +143,31 @@ class Answers(unittest.TestCase):
         self.assertEqual(nonobench.verdict(b"P3 1 1 1 0 0 0", allowance=0).ruling, Ruling.UNIQUE)
         self.assertEqual(nonobench.verdict(DIAGONAL, 99999, (0, 0, 0)).ruling, Ruling.AMBIGUOUS)
 
+    def test_certify_and_audit(self):
+        tile, pair = b"P3 1 1 1 0 0 0", picture_of("ab/.b")
+        for picture in (tile, pair):
+            certificate = nonobench.certify(picture)
+            self.assertEqual(nonobench.check(picture, certificate).givens, ())
+            audit = nonobench.audit(picture, allowance=5)
+            self.assertEqual((audit.verdict, audit.certificate), (nonobench.Verdict(Ruling.UNIQUE), certificate))
+        self.assertIsNone(nonobench.certify(DIAGONAL))
+        audit = nonobench.audit(DIAGONAL)
+        self.assertEqual((audit.verdict.ruling, audit.verdict.other, audit.certificate), (Ruling.AMBIGUOUS, (".a", "a."), None))
+        # By its background this picture has no cell that is filled in.
+        self.assertEqual(nonobench.audit(tile, background=(0, 0, 0)).verdict.ruling, Ruling.UNIQUE)
+        for call in (nonobench.certify, nonobench.audit):
+            with self.assertRaisesRegex(PictureFault, "^ppm NotP3 at byte 0$"):
+                call(b"P4")
+        with self.assertRaises(ValueError):
+            nonobench.audit(tile, -1)
+
+    def test_undecided(self):
+        # As in tests/sessions/allowance.out.
+        for call in (nonobench.verdict, lambda *asked: nonobench.audit(*asked).verdict):
+            self.assertEqual(call(DIAGONAL, 0).ruling, Ruling.UNDECIDED)
+            self.assertEqual(call(DIAGONAL, 1).ruling, Ruling.AMBIGUOUS)
+        self.assertIsNone(nonobench.audit(DIAGONAL, 0).certificate)
+
     def test_bad_input(self):
         for file in (None, "P3", 5, ["P3"]):
             with self.assertRaises(TypeError):
@@ -117,6 +175,9 @@ class Answers(unittest.TestCase):
         for background in ((-1, 0, 0), (0, 0, 65536), (1, 2), (1, 2, 3, 4)):
             with self.assertRaises(ValueError):
                 nonobench.check(DIAGONAL, GIVEN, background)
+        for published in ("1,1", [1, 1], [(1,)], [(1, 1, 1)], 5, [(1, "1")], [(1.0, 1)]):
+            with self.assertRaises((TypeError, ValueError)):
+                nonobench.check(DIAGONAL, GIVEN, published=published)
         for allowance in (-1, 100000):
             with self.assertRaises(ValueError):
                 nonobench.verdict(DIAGONAL, allowance)
@@ -139,7 +200,7 @@ class Answers(unittest.TestCase):
             noise = source.randbytes(source.randrange(200))
             near = bytearray(DIAGONAL)
             near[source.randrange(len(near))] = source.randrange(256)
-            for call in (lambda: nonobench.check(near, noise), lambda: nonobench.verdict(noise, 10), lambda: nonobench.clues(near)):
+            for call in (lambda: nonobench.check(near, noise, published=ANY_GIVEN), lambda: nonobench.verdict(noise, 10), lambda: nonobench.clues(near)):
                 try:
                     call()
                 except nonobench.Fault as fault:
@@ -147,7 +208,7 @@ class Answers(unittest.TestCase):
 
     def test_threads(self):
         answers = []
-        threads = [threading.Thread(target=lambda: answers.extend(str(nonobench.check(DIAGONAL, GIVEN)) for _ in range(500)))
+        threads = [threading.Thread(target=lambda: answers.extend(str(nonobench.check(DIAGONAL, GIVEN, published=ANY_GIVEN)) for _ in range(500)))
                    for _ in range(4)]
         for thread in threads:
             thread.start()
@@ -155,44 +216,26 @@ class Answers(unittest.TestCase):
             thread.join()
         self.assertEqual(answers, ["certificate accepted, givens 1\n"] * 2000)
 
+    def test_near_colours(self):
+        count = 0
+        for line in (ROOT / "tests" / "cases" / "near_colours.txt").read_text(encoding="utf-8").splitlines():
+            if line and not line.startswith("#"):
+                one, other, answer = line.split(" ")
+                pair = [tuple(map(int, colour.split(","))) for colour in (one, other)]
+                with self.subTest(line):
+                    self.assertEqual(nonobench.colours_too_near(*pair), answer == "near")
+                    self.assertEqual(nonobench.colours_too_near(*pair[::-1]), answer == "near")
+                count += 1
+        self.assertGreater(count, 20)
+        # Half of a step is rounded up, whatever the number above it.
+        self.assertEqual(nonobench.colour_shown((1, 3, 5), 510), (1, 2, 3))
+        self.assertEqual(nonobench.colour_shown((0, 32767, 65535), 65535), (0, 127, 255))
+        self.assertEqual(nonobench.colour_shown((0, 1, 1), 1), (0, 255, 255))
+
     def test_version(self):
         header = (ROOT / "c" / "nonobench.h").read_text(encoding="utf-8")
         self.assertIn(f'#define NONOBENCH_VERSION "{nonobench.__version__}"', header)
         self.assertIn(f'version = "{nonobench.__version__}"', (ROOT / "python" / "pyproject.toml").read_text(encoding="utf-8"))
-
-
-class Workers(unittest.TestCase):
-    """Questions to another process."""
-
-    def test_answers_and_faults(self):
-        with nonobench.Worker(seconds=300) as worker:
-            self.assertEqual(worker.check(DIAGONAL, GIVEN).givens, (Given(1, 1),))
-            self.assertEqual(worker.clues(DIAGONAL), nonobench.clues(DIAGONAL))
-            self.assertEqual(worker.verdict(DIAGONAL, 5), nonobench.verdict(DIAGONAL))
-            with self.assertRaises(CertificateFault) as caught:
-                worker.check(DIAGONAL, b"")
-            self.assertEqual((caught.exception.name, caught.exception.line), ("NotCert", 1))
-            with self.assertRaises(ValueError):
-                worker.verdict(DIAGONAL, -1)
-
-    def test_time(self):
-        # A process that is stopped never answers, however fast the machine.
-        with nonobench.Worker(seconds=300) as worker:
-            worker.clues(DIAGONAL)
-            worker._seconds = 0.2
-            os.kill(worker._process.pid, signal.SIGSTOP)
-            with self.assertRaises(TimeoutError):
-                worker.clues(DIAGONAL)
-            worker._seconds = 300
-            self.assertEqual(worker.clues(DIAGONAL), nonobench.clues(DIAGONAL))
-
-    def test_memory(self):
-        # The question alone takes more than is left beside the interpreter.
-        with nonobench.Worker(seconds=300, memory=40 << 20) as worker:
-            with self.assertRaises(MemoryError):
-                worker.check(DIAGONAL, b" " * 16777216)
-        with nonobench.Worker(seconds=300) as worker, self.assertRaises(CertificateFault):
-            worker.check(DIAGONAL, b" " * 16777216)
 
 
 @unittest.skipUnless(os.environ.get("NONOBENCH"), "no program is named by NONOBENCH")
@@ -231,7 +274,7 @@ class Chance(unittest.TestCase):
                 certificate = marred(certificate, source, 3)
                 self.put("cert", certificate)
                 answer = self.run_program(["check", "picture", "cert", *words])
-                self.assertEqual(told(lambda: nonobench.check(picture, certificate, background)), answer)
+                self.assertEqual(told(lambda: nonobench.check(picture, certificate, background, ANY_GIVEN)), answer)
                 accepted += answer[2] == 0
         self.assertGreater(min(accepted, refused, ambiguous), 20 if accepted + refused + ambiguous > 500 else 0)
 

@@ -1,0 +1,313 @@
+"""Tests of `Worker`: cd python && python3 -m unittest tests/test_worker.py
+
+INTERRUPTS=number is how many calls are interrupted, else 200; the seed is 1 (SEED=number).
+"""
+
+import gc
+import os
+import random
+import signal
+import subprocess
+import sys
+import tempfile
+import textwrap
+import threading
+import time
+import unittest
+from pathlib import Path
+
+import nonobench
+from nonobench import CertificateFault, Given, PictureFault, UnpublishedGiven
+
+PACKAGE = Path(nonobench.__file__).resolve().parent.parent
+# Two rows, black and white, white and black: another picture has the clues, and a given decides it.
+DIAGONAL = b"P3 2 2 255 0 0 0 255 255 255 255 255 255 0 0 0\n"
+GIVEN = b"nonocert 2\ngiven 1 1\nline r 1\nline c 1\nline r 2\ndone\n"
+TILE = b"P3 1 1 1 0 0 0"
+
+
+def children():
+    """The processes of this one, those too that have ended and were not waited for."""
+    found = subprocess.run(["ps", "--ppid", str(os.getpid()), "-o", "pid=,args="], capture_output=True, text=True, check=False)
+    return [line for line in found.stdout.splitlines() if "ps --ppid" not in line]
+
+
+def is_alive(pid):
+    """Whether a process is there."""
+    try:
+        os.kill(pid, 0)
+    except ProcessLookupError:
+        return False
+    return True
+
+
+class Workers(unittest.TestCase):
+    """Questions to another process."""
+
+    def test_answers_and_faults(self):
+        with nonobench.Worker(seconds=300) as worker:
+            self.assertEqual(worker.check(DIAGONAL, GIVEN, published=[(1, 1)]).givens, (Given(1, 1),))
+            with self.assertRaises(UnpublishedGiven) as caught:
+                worker.check(DIAGONAL, GIVEN)
+            self.assertEqual(caught.exception.givens, (Given(1, 1),))
+            self.assertEqual(worker.clues(DIAGONAL), nonobench.clues(DIAGONAL))
+            self.assertEqual(worker.verdict(DIAGONAL, 5), nonobench.verdict(DIAGONAL))
+            self.assertEqual(worker.certify(TILE), nonobench.certify(TILE))
+            self.assertEqual(worker.audit(TILE, 9), nonobench.audit(TILE))
+            self.assertEqual(worker.audit(DIAGONAL), nonobench.audit(DIAGONAL))
+            with self.assertRaises(CertificateFault) as caught:
+                worker.check(DIAGONAL, b"")
+            self.assertEqual((caught.exception.name, caught.exception.line), ("NotCert", 1))
+            with self.assertRaisesRegex(PictureFault, "^ppm NotP3 at byte 0$"):
+                worker.clues(b"")
+            with self.assertRaises(ValueError):
+                worker.verdict(DIAGONAL, -1)
+            with self.assertRaises(ValueError):
+                worker.clues(DIAGONAL, (1, 2, 65536))
+
+    def test_time(self):
+        # A process that is stopped never answers, however fast the machine.
+        with nonobench.Worker(seconds=300) as worker:
+            worker.clues(DIAGONAL)
+            worker._seconds = 0.2
+            os.kill(worker._process.pid, signal.SIGSTOP)
+            with self.assertRaisesRegex(TimeoutError, "^no answer within 0.2 seconds$"):
+                worker.clues(DIAGONAL)
+            # A question that finds no room in the stream.
+            worker._seconds = 300
+            worker.clues(DIAGONAL)
+            worker._seconds = 0.2
+            os.kill(worker._process.pid, signal.SIGSTOP)
+            with self.assertRaises(TimeoutError):
+                worker.check(DIAGONAL, b" " * 16777216)
+            worker._seconds = 300
+            self.assertEqual(worker.clues(DIAGONAL), nonobench.clues(DIAGONAL))
+
+    def test_memory(self):
+        # The question alone takes more than is left beside the interpreter.
+        with nonobench.Worker(seconds=300, memory=40 << 20) as worker:
+            with self.assertRaises(MemoryError):
+                worker.check(DIAGONAL, b" " * 16777216)
+        with nonobench.Worker(seconds=300) as worker, self.assertRaises(CertificateFault):
+            worker.check(DIAGONAL, b" " * 16777216)
+
+    def test_bounds(self):
+        for bounds in ({"memory": "x"}, {"memory": 1.5}, {"memory": None}, {"seconds": "5"}, {"seconds": None}):
+            with self.assertRaises(TypeError):
+                nonobench.Worker(**bounds)
+        for bounds in ({"memory": 0}, {"memory": -1}, {"seconds": 0}, {"seconds": -1}, {"seconds": float("nan")}, {"seconds": 1e300}):
+            with self.assertRaises(ValueError):
+                nonobench.Worker(**bounds)
+
+    def test_a_process_that_ended_is_replaced(self):
+        with nonobench.Worker(seconds=300) as worker:
+            worker.clues(DIAGONAL)
+            os.kill(worker._process.pid, signal.SIGKILL)
+            worker._process._process.wait()
+            self.assertEqual(worker.clues(DIAGONAL), nonobench.clues(DIAGONAL))
+
+    def test_threads(self):
+        answers = []
+        with nonobench.Worker(seconds=300) as worker:
+            threads = [threading.Thread(target=lambda: answers.extend((at, worker.verdict(*asked)) for _ in range(50)))
+                       for at, asked in enumerate([(DIAGONAL, 0), (DIAGONAL, 1), (TILE,)]) for at, asked in [(at, asked)]]
+            for thread in threads:
+                thread.start()
+            for thread in threads:
+                thread.join()
+        self.assertEqual(len(answers), 150)
+        wanted = [nonobench.verdict(DIAGONAL, 0), nonobench.verdict(DIAGONAL, 1), nonobench.verdict(TILE)]
+        for at, verdict in answers:
+            self.assertEqual(verdict, wanted[at])
+
+
+class Interrupt(BaseException):
+    """What the alarm raises."""
+
+
+# Questions of many answers, so that an answer to another one is seen.
+QUESTIONS = (
+    ("check", TILE, b"junk"),
+    ("check", TILE, b"nonocert 1\nline r 1\ndone\n"),
+    ("check", DIAGONAL, GIVEN),
+    ("clues", DIAGONAL),
+    ("verdict", DIAGONAL, 0),
+    ("verdict", DIAGONAL, 1),
+    ("verdict", TILE),
+    ("certify", TILE),
+    ("audit", DIAGONAL),
+)
+
+
+def told(asked, name, *words):
+    """What somebody answers to a question, or the fault."""
+    try:
+        return getattr(asked, name)(*words)
+    except nonobench.Fault as fault:
+        return str(fault)
+
+
+class Interrupts(unittest.TestCase):
+    """Exceptions while a call waits."""
+
+    def setUp(self):
+        def strike(*_):
+            raise Interrupt
+
+        kept = signal.signal(signal.SIGALRM, strike)
+        self.addCleanup(signal.signal, signal.SIGALRM, kept)
+
+    def test_no_answer_is_that_of_another_question(self):
+        source = random.Random(int(os.environ.get("SEED", "1")))
+        most = int(os.environ.get("INTERRUPTS", "200"))
+        wanted = {question: told(nonobench, *question) for question in QUESTIONS}
+        struck = compared = 0
+        with nonobench.Worker(seconds=300) as worker:
+            begun = time.perf_counter()
+            told(worker, *QUESTIONS[0])
+            usual = time.perf_counter() - begun
+            while struck < most:
+                # Half of the moments lie in the time of an answer, the others in that of a process that starts.
+                moment = source.random() * source.choice([0.001, usual])
+                try:
+                    signal.setitimer(signal.ITIMER_REAL, moment + 1e-6)
+                    while True:
+                        question = source.choice(QUESTIONS)
+                        answer = told(worker, *question)
+                        self.assertEqual(answer, wanted[question])
+                        compared += 1
+                except Interrupt:
+                    struck += 1
+                if source.random() < 0.5:
+                    question = source.choice(QUESTIONS)
+                    self.assertEqual(told(worker, *question), wanted[question])
+                    compared += 1
+        self.assertGreater(compared, most / 3)
+        print(f"{struck} calls interrupted, {compared} answers compared")
+        until = time.monotonic() + 60
+        while children() and time.monotonic() < until:
+            gc.collect()
+            time.sleep(0.1)
+        self.assertEqual(children(), [])
+
+    def test_an_answer_with_another_number_is_refused(self):
+        with nonobench.Worker(seconds=300) as worker:
+            worker.clues(DIAGONAL)
+            # A question whose answer nobody takes.
+            worker._process._stream.sendall(nonobench.worker.QUESTION.pack(77, 1, 300, len(DIAGONAL), 0, len(GIVEN)) + DIAGONAL + GIVEN)
+            with self.assertRaisesRegex(RuntimeError, "^the worker answered question 77 in place of 2$"):
+                worker.check(TILE, b"junk", published=nonobench.ANY_GIVEN)
+            with self.assertRaisesRegex(CertificateFault, "NotCert"):
+                worker.check(TILE, b"junk", published=nonobench.ANY_GIVEN)
+
+    def test_an_interrupted_process_is_ended(self):
+        with nonobench.Worker(seconds=300) as worker:
+            worker.clues(DIAGONAL)
+            pid = worker._process.pid
+            os.kill(pid, signal.SIGSTOP)
+            signal.setitimer(signal.ITIMER_REAL, 0.2)
+            with self.assertRaises(Interrupt):
+                worker.clues(DIAGONAL)
+            self.assertFalse(is_alive(pid))
+            self.assertEqual(worker.clues(DIAGONAL), nonobench.clues(DIAGONAL))
+
+    def test_a_child_that_is_forked_asks_a_process_of_its_own(self):
+        with nonobench.Worker(seconds=300) as worker:
+            worker.clues(DIAGONAL)
+            pid = worker._process.pid
+            with worker._lock:  # as a thread holds it while another one forks
+                child = os.fork()
+                if child == 0:
+                    try:
+                        worker.verdict(TILE)
+                        is_good = worker._process.pid != pid and worker.clues(DIAGONAL) == nonobench.clues(DIAGONAL)
+                        worker.close()
+                        os._exit(0 if is_good else 1)
+                    finally:
+                        os._exit(2)
+            self.assertEqual(os.waitpid(child, 0)[1], 0)
+            self.assertEqual(worker.clues(DIAGONAL), nonobench.clues(DIAGONAL))
+            self.assertEqual(worker._process.pid, pid)
+
+
+class Ends(unittest.TestCase):
+    """Processes do not outlive who may ask them."""
+
+    def test_a_worker_that_is_dropped(self):
+        pids = []
+        before = len(os.listdir("/proc/self/fd"))
+        for _ in range(10):
+            worker = nonobench.Worker(seconds=300)
+            worker.clues(DIAGONAL)
+            pids.append(worker._process.pid)
+            worker.me = worker  # a cycle, so that only the collector finds it
+            del worker
+        gc.collect()
+        self.assertEqual([pid for pid in pids if is_alive(pid)], [])
+        self.assertEqual(len(os.listdir("/proc/self/fd")), before)
+
+    def test_a_program_that_ends(self):
+        program = "import nonobench\nworker = nonobench.Worker(seconds=300)\nworker.clues(%r)\nprint(worker._process.pid)\n" % DIAGONAL
+        for end in ("", "import os, signal; os.kill(os.getpid(), signal.SIGKILL)"):
+            run = subprocess.run([sys.executable, "-c", program.replace("print(", "print(flush=True, *(") .replace("pid)\n", "pid,))\n") + end],
+                                 env={**os.environ, "PYTHONPATH": str(PACKAGE)}, capture_output=True, text=True, check=False)
+            pid = int(run.stdout)
+            until = time.monotonic() + 60
+            while is_alive(pid) and time.monotonic() < until:
+                time.sleep(0.05)
+            self.assertFalse(is_alive(pid), end)
+
+
+# What a stranger may have put into the current folder, or into one of PYTHONPATH. Each file says that it was run.
+HOSTILE = ("resource", "struct", "pickle", "ctypes", "os", "socket", "types", "json", "sitecustomize", "usercustomize", "encodings")
+
+
+class Folders(unittest.TestCase):
+    """Nothing is loaded from the current folder."""
+
+    def test_a_hostile_folder(self):
+        with tempfile.TemporaryDirectory() as folder:
+            mark = Path(folder, "ran")
+            text = f"open({str(mark)!r}, 'a').write(__name__ + '\\n')\nRLIMIT_AS = 9\nsetrlimit = lambda *a: 0\n"
+            for name in HOSTILE:
+                Path(folder, f"{name}.py").write_text(text, encoding="utf-8")
+            for name in ("nonobench/__init__.py", "nonobench/_serve.py", "nonobench/_library.py", "ctypes/__init__.py"):
+                Path(folder, name).parent.mkdir(exist_ok=True)
+                Path(folder, name).write_text(text, encoding="utf-8")
+            Path(folder, "libnonobench.so").write_bytes(b"no library")
+            # The program itself looks nowhere there; its worker must not either, though it inherits folder and variables.
+            program = textwrap.dedent(f"""
+                import os, sys
+                sys.path.append({str(PACKAGE)!r})
+                os.environ.update(PYTHONPATH={folder!r}, PYTHONSTARTUP={folder + "/os.py"!r}, PYTHONHOME='')
+                import nonobench
+                os.chdir({folder!r})
+                with nonobench.Worker(seconds=300, memory=1 << 30) as worker:
+                    print(worker.clues({DIAGONAL!r}), end="")
+                    limits = open(f"/proc/{{worker._process.pid}}/limits").read()
+                print([line for line in limits.splitlines() if "address space" in line][0].split()[3])
+            """)
+            run = subprocess.run([sys.executable, "-I", "-c", program], cwd="/", capture_output=True, text=True, check=False)
+            self.assertEqual((run.stdout, run.stderr), (f"{nonobench.clues(DIAGONAL)}{1 << 30}\n", ""))
+            self.assertFalse(mark.exists(), mark.exists() and mark.read_text(encoding="utf-8"))
+
+    def test_a_library_that_is_named_from_the_current_folder(self):
+        library = nonobench._library.PATH
+        with tempfile.TemporaryDirectory() as folder, tempfile.TemporaryDirectory() as other:
+            Path(folder, "named.so").symlink_to(library)
+            Path(other, "named.so").write_bytes(b"no library")
+            program = textwrap.dedent(f"""
+                import os, sys
+                sys.path.append({str(PACKAGE)!r})
+                import nonobench
+                os.chdir({other!r})
+                with nonobench.Worker(seconds=300) as worker:
+                    print(worker.clues({DIAGONAL!r}), end="")
+            """)
+            run = subprocess.run([sys.executable, "-I", "-c", program], cwd=folder, capture_output=True, text=True, check=False,
+                                 env={**os.environ, "NONOBENCH_LIBRARY": "./named.so"})
+            self.assertEqual((run.stdout, run.stderr), (str(nonobench.clues(DIAGONAL)), ""))
+
+
+if __name__ == "__main__":
+    unittest.main()
