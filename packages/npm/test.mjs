@@ -1,0 +1,177 @@
+// Tests of the package for npm by node's own runner: PACKAGE=folder NONOBENCH=program node --test packages/npm/test.mjs. The folder is
+// as packages/npm/stage makes it. The arguments are compared with those of the native program; .ci/cases and .ci/examples run both.
+import assert from 'node:assert/strict';
+import { spawn, spawnSync } from 'node:child_process';
+import { constants, closeSync, mkdtempSync, openSync, readFileSync, rmSync, symlinkSync, mkdirSync, writeFileSync, writeSync } from 'node:fs';
+import { tmpdir } from 'node:os';
+import { dirname, join, resolve } from 'node:path';
+import test from 'node:test';
+import { fileURLToPath, pathToFileURL } from 'node:url';
+import { Chance } from '../../web/chance.mjs';
+
+const root = join(dirname(fileURLToPath(import.meta.url)), '..', '..');
+const folder = resolve(process.env.PACKAGE);
+const native = resolve(process.env.NONOBENCH);
+const program = join(folder, 'program.mjs');
+const { readWords } = await import(pathToFileURL(join(folder, 'words.mjs')));
+const help = JSON.parse(readFileSync(join(folder, 'help.json'), 'utf8'));
+const example = (name) => join(root, 'examples', name);
+
+// A folder of a test's own, which goes when the test ends.
+function ownFolder(t) {
+  const made = mkdtempSync(join(tmpdir(), 'nonobench-npm-'));
+  t.after(() => rmSync(made, { recursive: true, force: true }));
+  return made;
+}
+
+// What the native program does with arguments, where no file has a name that is used here: its status and what it prints or says.
+function done(args) {
+  const { status, stdout, stderr } = spawnSync(native, args, { input: '', encoding: 'utf8', cwd: '/' });
+  return { status, wrote: stdout, said: stderr };
+}
+
+// What the package's program would do.
+function asked(args) {
+  try {
+    const { task, page } = readWords(args);
+    if (task === 'help') return { status: 0, wrote: help[page], said: '' };
+    if (task === 'version') return { status: 0, wrote: done(['--version']).wrote, said: '' };
+    if (task === 'clues') return done([]);
+    return { status: 3, wrote: '', said: 'nonobench: read failed\n' };
+  } catch ({ status, message }) {
+    return { status, wrote: '', said: message };
+  }
+}
+
+const PIECES = ['work', 'check', 'help', '--help', '-h', '--version', '-V', '--', '-', '', 'one', 'two', '-x', '-1', '--other', '--help=1', '-hV', '-Vh', '-xh',
+  '--history', '--history=5', '--history=', '5', '+5', '007', '0', '1000', '1001', '5x', '--format', '--format=non', '--format=gif', 'non', 'ppm',
+  '--background', '--background=1,2,3', '--background=', '1,2,3', '1,2', '0,0,65536', '00001,2,3', '--no-help', '---', '--=x', '-=', '-h=1', '--histor'];
+
+test('arguments are taken and refused as by the native program', () => {
+  const chance = new Chance(20);
+  for (let time = 0; time < 2000; time += 1) {
+    const front = chance.below(4) === 0 ? [] : [['work', 'check', 'help'][chance.below(3)]];
+    const args = front.concat(Array.from({ length: chance.below(5) }, () => PIECES[chance.below(PIECES.length)]));
+    const here = asked(args), there = done(args);
+    // What a parser says of arguments is its own.
+    if (there.said.startsWith('error: ') && here.said.startsWith('error: ')) here.said = there.said;
+    assert.deepEqual(here, there, JSON.stringify(args));
+  }
+});
+
+test('a word of the program is no name of an object', () => {
+  for (const word of ['constructor', '__proto__', 'toString', '--constructor', '--__proto__=x']) {
+    assert.equal(asked([word]).status, 2, word);
+    assert.equal(asked(['work', 'one', word]).status, 2, word);
+    assert.equal(asked(['help', word]).status, 2, word);
+  }
+});
+
+// Starts the program, and gathers what it prints.
+function started(args, options = {}) {
+  const child = spawn(process.execPath, [program, ...args], { stdio: ['pipe', 'pipe', 'pipe'], ...options });
+  const said = { out: '', err: '' };
+  child.stdout.on('data', (bytes) => { said.out += bytes; });
+  child.stderr.on('data', (bytes) => { said.err += bytes; });
+  child.ended = new Promise((done) => child.on('close', (status, signal) => done({ status, signal, ...said })));
+  child.printed = (text) => new Promise((done, failed) => {
+    const look = () => (said.out === text ? done() : !text.startsWith(said.out) && failed(new Error(said.out)));
+    child.stdout.on('data', look);
+    look();
+  });
+  return child;
+}
+
+test('each line is answered before the next one comes', { timeout: 60000 }, async () => {
+  const child = started(['work', example('diagonal.ppm')]);
+  child.stdin.write('verdict\npai');
+  await child.printed('unique\n');
+  child.stdin.write('nt 1 1 .\n');
+  await child.printed('unique\nok\n');
+  child.stdin.end('undo');
+  assert.deepEqual(await child.ended, { status: 0, signal: null, out: 'unique\nok\nok\n', err: '' });
+});
+
+test('a stream that does not wait is waited for', { timeout: 60000 }, async (t) => {
+  const pipe = join(ownFolder(t), 'pipe');
+  assert.equal(spawnSync('mkfifo', [pipe]).status, 0);
+  const end = openSync(pipe, constants.O_RDWR | constants.O_NONBLOCK);
+  const child = started(['work', example('diagonal.ppm')], { stdio: [end, 'pipe', 'pipe'] });
+  await new Promise((done) => { setTimeout(done, 700); });
+  writeSync(end, 'verdict\n');
+  await child.printed('unique\n');
+  child.kill('SIGTERM');
+  assert.deepEqual(await child.ended, { status: null, signal: 'SIGTERM', out: 'unique\n', err: '' });
+  closeSync(end);
+});
+
+// A board of squares of two by two cells, whose verdict takes longer than anybody waits.
+function chequered() {
+  const cells = Array.from({ length: 120 * 120 }, (_, at) => ((Math.floor(at / 240) + Math.floor((at % 120) / 2)) % 2 ? '0 0 0' : '1 1 1'));
+  return `P3 120 120 1\n${cells.join('\n')}\n`;
+}
+
+test('Ctrl-C ends a search', { timeout: 60000 }, async (t) => {
+  const picture = join(ownFolder(t), 'board.ppm');
+  writeFileSync(picture, chequered());
+  const child = started(['work', picture]);
+  child.stdin.write('undo\nverdict\n');
+  await child.printed('refused: UndoEmpty\n');
+  await new Promise((done) => { setTimeout(done, 1000); });
+  child.kill('SIGINT');
+  assert.deepEqual(await child.ended, { status: null, signal: 'SIGINT', out: 'refused: UndoEmpty\n', err: '' });
+});
+
+test('a line without an end takes no memory', { timeout: 120000 }, async () => {
+  const child = started(['work', example('diagonal.ppm')]);
+  const piece = Buffer.alloc(1 << 20, 'x');
+  for (let time = 0; time < 200; time += 1) {
+    if (!child.stdin.write(piece)) await new Promise((done) => { child.stdin.once('drain', done); });
+  }
+  const peak = Number(/VmHWM:\s+(\d+)/.exec(readFileSync(`/proc/${child.pid}/status`, 'utf8'))?.[1]);
+  child.stdin.end('\nverdict\n');
+  assert.deepEqual(await child.ended, { status: 0, signal: null, out: 'refused: LongLine\nunique\n', err: '' });
+  assert.ok(peak < 200 * 1024, `${peak} KiB`);
+});
+
+test('lines of 200 bytes and more are cut as by the native program', () => {
+  const lines = [198, 199, 200, 201, 202, 1023, 1024, 1025, 4095, 4096, 4097].flatMap((size) => ['', '\r', '\r\r'].map((end) => `${' '.repeat(size)}x${end}`));
+  for (const input of [lines.join('\n'), `${lines.join('\n')}\n`, '\r', 'undo\r', '\n\n', 'undo']) {
+    const args = ['work', example('diagonal.ppm')];
+    const here = spawnSync(process.execPath, [program, ...args], { input, encoding: 'utf8' });
+    const there = spawnSync(native, args, { input, encoding: 'utf8' });
+    assert.deepEqual([here.status, here.stdout, here.stderr], [there.status, there.stdout, there.stderr]);
+  }
+});
+
+test('the package is imported by its name, and brings its module', async (t) => {
+  const place = ownFolder(t);
+  mkdirSync(join(place, 'node_modules'));
+  symlinkSync(folder, join(place, 'node_modules', 'nonobench'));
+  writeFileSync(join(place, 'ask.mjs'), `
+    import { readFile } from 'node:fs/promises';
+    import { createRequire } from 'node:module';
+    import { Fault, load } from 'nonobench';
+    const engine = await load();
+    const other = await load(await readFile(createRequire(import.meta.url).resolve('nonobench/nonobench.wasm')));
+    const [picture, certificate] = await Promise.all(process.argv.slice(2).map((name) => readFile(name)));
+    for (const { check, version } of [engine, other].map((it) => ({ check: it.check(picture, certificate), version: it.version }))) {
+      console.log(check.accepted, check.text.trim(), version);
+    }
+    try { engine.open('P6'); } catch (fault) { console.log(fault instanceof Fault, fault.text); }
+  `);
+  const { stdout, stderr } = spawnSync(process.execPath, ['ask.mjs', example('diagonal.ppm'), example('diagonal.cert')], { cwd: place, encoding: 'utf8' });
+  const version = done(['--version']).wrote.trim().split(' ')[1];
+  assert.equal(stdout, `true certificate accepted ${version}\n`.repeat(2) + 'true ppm NotP3 at byte 0\n', stderr);
+});
+
+test('a module that fails is told, with a status', (t) => {
+  const place = ownFolder(t);
+  assert.equal(spawnSync('cp', ['-r', `${folder}/.`, place]).status, 0);
+  writeFileSync(join(place, 'nonobench.mjs'), `
+    export class Fault extends Error { constructor(kind, text) { super(text); this.kind = kind; this.text = text; } }
+    export const load = async () => ({ clues() { throw new Fault('ended', 'the module has ended: unreachable'); } });
+  `);
+  const { status, stdout, stderr } = spawnSync(process.execPath, [join(place, 'program.mjs')], { input: '', encoding: 'utf8' });
+  assert.deepEqual([status, stdout, stderr], [1, '', 'nonobench: the module has ended: unreachable\n']);
+});

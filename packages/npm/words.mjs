@@ -1,0 +1,92 @@
+// The arguments of the program: what they ask for, or why they are refused. Node's parseArgs cuts them, and they are taken from the
+// left, as the native program takes them: of two mistakes the first is told, and help is given unless a mistake stands before it.
+import { parseArgs } from 'node:util';
+import { Ending, ended } from './ending.mjs';
+
+const HELP = { help: { type: 'boolean', short: 'h' } };
+const BACKGROUND = { background: { type: 'string' } };
+const TOP = { ...HELP, version: { type: 'boolean', short: 'V' } };
+const COMMANDS = {
+  work: { files: 1, options: { ...HELP, ...BACKGROUND, format: { type: 'string' }, history: { type: 'string' } } },
+  check: { files: 2, options: { ...HELP, ...BACKGROUND } },
+};
+const MOST_SAMPLE = 65535;
+const MOST_HISTORY = 1000;
+
+function refuse(why) {
+  throw new Ending(2, `error: ${why}\n\nFor more information, try 'nonobench --help'.\n`);
+}
+
+const tokensOf = (args, options) => parseArgs({ args, options, strict: false, allowPositionals: true, tokens: true }).tokens;
+
+// What is wrong with the value of an option, if anything. A background is looked at later, when all else is known to be right.
+function wrongValue(name, value) {
+  if (name === 'format' && value !== 'ppm' && value !== 'non') return 'it must be ppm or non';
+  if (name !== 'history') return undefined;
+  if (!/^\+?[0-9]+$/.test(value)) return 'it must be a number';
+  return Number(value) >= 1 && Number(value) <= MOST_HISTORY ? undefined : `it must be 1 to ${MOST_HISTORY}`;
+}
+
+// Takes the value of an option.
+function takeOption(found, { name, rawName, value, inlineValue }, options) {
+  if (!Object.hasOwn(options, name) || options[name].type === 'boolean') refuse(`unexpected argument '${rawName}' found`);
+  if (value === undefined || (!inlineValue && /^-./.test(value))) refuse(`a value is required for '${rawName}'`);
+  const wrong = wrongValue(name, value);
+  if (wrong) refuse(`invalid value '${value}' for '${rawName}': ${wrong}`);
+  if (Object.hasOwn(found, name)) refuse(`the argument '${rawName}' cannot be used multiple times`);
+  found[name] = value;
+}
+
+// The background that is asked for, where one is: three samples with commas between them.
+function backgroundOf({ background, format }) {
+  if (background === undefined) return undefined;
+  const samples = background.split(',');
+  if (samples.length !== 3 || !samples.every((word) => /^[0-9]{1,5}$/.test(word) && Number(word) <= MOST_SAMPLE)) {
+    throw ended(2, 'background must be R,G,B');
+  }
+  if (format === 'non') throw ended(2, 'background goes with ppm');
+  return background;
+}
+
+// What the arguments of a command ask for.
+function commandOf(command, args) {
+  const { files: wanted, options } = COMMANDS[command];
+  const files = [], found = {};
+  for (const token of tokensOf(args, options)) {
+    if (token.kind === 'option' && token.name === 'help' && token.value === undefined) return { task: 'help', page: command };
+    if (token.kind === 'option') takeOption(found, token, options);
+    if (token.kind === 'positional' && files.push(token.value) > wanted) refuse(`unexpected argument '${token.value}' found`);
+  }
+  if (files.length < wanted) refuse(`${command} needs ${wanted === 1 ? 'a file' : 'a picture and a certificate'}`);
+  const { format = 'ppm', history = '100' } = found;
+  return { task: command, files, options: { format, history: Number(history), background: backgroundOf(found) } };
+}
+
+// What `help` and the command behind it ask for.
+function helpOf(args) {
+  const [page = 'nonobench', more] = args;
+  if (args.length > 0 && page !== 'help' && !Object.hasOwn(COMMANDS, page)) refuse(`unrecognized subcommand '${page}'`);
+  if (more !== undefined) refuse(`unrecognized subcommand '${more}'`);
+  return { task: 'help', page };
+}
+
+// What the arguments ask for that begin with no command.
+function topOf(args) {
+  const [first] = tokensOf(args, TOP);
+  if (first.kind === 'positional') refuse(`unrecognized subcommand '${first.value}'`);
+  if (first.kind !== 'option') refuse("'nonobench' requires a subcommand but one was not provided");
+  if (!Object.hasOwn(TOP, first.name) || first.value !== undefined) refuse(`unexpected argument '${first.rawName}' found`);
+  return first.name === 'help' ? { task: 'help', page: 'nonobench' } : { task: 'version' };
+}
+
+/**
+ * What the arguments ask for: {task}, which is 'clues', 'work', 'check', 'help' or 'version', with {files, options} or {page}.
+ * Throws an Ending where they are refused. Node puts U+FFFD for bytes that are not UTF-8, so an argument with it is refused too.
+ */
+export function readWords(args) {
+  if (args.some((word) => word.includes('\ufffd'))) throw ended(2, 'a word is not UTF-8');
+  if (args.length === 0) return { task: 'clues', options: { format: 'ppm' } };
+  const [first, ...others] = args;
+  if (Object.hasOwn(COMMANDS, first)) return commandOf(first, others);
+  return first === 'help' ? helpOf(others) : topOf(args);
+}
