@@ -1,6 +1,34 @@
-// Starts the page: after all other scripts.
+// Starts the page.
+
+import { $, say } from './base/elements.js';
+import { on } from './base/events.js';
+import { sheet, startSheet } from './draw/sheet.js';
+import { showExportPanel, startExporting } from './export/exporting.js';
+import { hearFiles } from './import/taking.js';
+import { keep } from './library/keep.js';
+import { startSaving } from './library/saving.js';
+import { startPlay } from './play/play.js';
+import { showStart, startStart } from './start/start.js';
+import { actionButton, actions, hearKeys, makeMenus } from './view/actions.js';
+import { addEditActions, addKeys, addPictureActions, addViewActions } from './view/commands.js';
+import { cursor, gridCell, makeGrid } from './view/grid.js';
+import { makeMinimap } from './view/minimap.js';
+import { makePalette } from './view/palette.js';
+import { makeCellPanel, makeLinesPanel, makeToolBar } from './view/panels.js';
+import { hearPointers } from './view/pointer.js';
+import { startSelection } from './view/select.js';
+import { showVerdictPanel, startVerdict } from './view/verdict.js';
+import { showWhyPanel, startWhy } from './view/why.js';
 
 document.body.classList.add('starting');
+startSheet();
+startSelection();
+startVerdict();
+startPlay();
+startWhy();
+startSaving();
+startStart();
+startExporting();
 makeMenus();
 makeToolBar();
 makePalette();
@@ -12,32 +40,44 @@ addEditActions();
 addPictureActions();
 addViewActions();
 addKeys();
-for (const [id, name, short] of [['undo', 'Undo', '↶'], ['redo', 'Redo', '↷'], ['zoom-out', '−'], ['fit', 'Fit'], ['zoom-in', '+']]) {
-  const button = actionButton(actions.get(id), { 'aria-label': actions.get(id).name, title: `${actions.get(id).name} (${actions.get(id).key.split(' ')[0]})`, 'data-short': short });
-  button.textContent = name;
-  $('quick').append(button);
-}
+makeQuickButtons();
 hearKeys();
 hearPointers();
 $('said').addEventListener('click', () => say(''));
+hearBench();
+showVerdictPanel();
+showWhyPanel();
+keep.ready();
+hearFiles();
+showStart();
+showExportPanel();
 
-on('opened', () => {
-  document.body.classList.remove('starting');
-  $('start').hidden = true;
-  Object.assign(cursor, { row: 0, col: 0 });
-  gridCell().focus({ preventScroll: true }); // what was used on the start screen is gone: the arrows go on here
-});
-on('closed', () => {
-  document.body.classList.add('starting');
-  $('work').hidden = true;
-  $('start').hidden = false;
-});
-on('shown', () => {
-  for (const id of ['undo', 'redo']) $('quick').querySelector(`[data-action="${id}"]`).disabled = !actions.get(id).can();
-});
-on('busy', (is) => sheet.stage.setAttribute('aria-busy', is));
-on('recovered', () => say('The engine had to be started again. Nothing of the picture is lost.'));
-on('lost', (fault) => say(`The engine does not start (${fault.text ?? fault.message}). Save the picture and reload the page.`, 'alarm'));
+// ---- what the whole page does with the bench
 
+function makeQuickButtons() {
+  for (const [id, name, short] of [['undo', 'Undo', '↶'], ['redo', 'Redo', '↷'], ['zoom-out', '−'], ['fit', 'Fit'], ['zoom-in', '+']]) {
+    const button = actionButton(actions.get(id), { 'aria-label': actions.get(id).name, title: `${actions.get(id).name} (${actions.get(id).key.split(' ')[0]})`, 'data-short': short });
+    button.textContent = name;
+    $('quick').append(button);
+  }
+}
 
-tell('ready', null);
+function hearBench() {
+  on('opened', () => {
+    document.body.classList.remove('starting');
+    $('start').hidden = true;
+    Object.assign(cursor, { row: 0, col: 0 });
+    gridCell().focus({ preventScroll: true }); // what was used on the start screen is gone: the arrows go on here
+  });
+  on('closed', () => {
+    document.body.classList.add('starting');
+    $('work').hidden = true;
+    $('start').hidden = false;
+  });
+  on('shown', () => {
+    for (const id of ['undo', 'redo']) $('quick').querySelector(`[data-action="${id}"]`).disabled = !actions.get(id).can();
+  });
+  on('busy', (is) => sheet.stage.setAttribute('aria-busy', is));
+  on('recovered', () => say('The engine had to be started again. Nothing of the picture is lost.'));
+  on('lost', (fault) => say(`The engine does not start (${fault.text ?? fault.message}). Save the picture and reload the page.`, 'alarm'));
+}

@@ -2,9 +2,7 @@
 // Run: node --test tests/page_answers.mjs
 import assert from 'node:assert/strict';
 import { test } from 'node:test';
-import { load } from '../page/test/load.mjs';
-
-const { TextFault, answersTo } = load(['answers.js'], ['TextFault', 'answersTo']);
+import { TextFault, answersTo } from '../page/engine/answers.js';
 
 const REPORT = `size 2 2
 colours 2 maxval 255

@@ -2,11 +2,12 @@
 // what is kept. The worker is the page's own over an engine that solves nothing. Run: node --test tests/page_bench.mjs
 import assert from 'node:assert/strict';
 import { test } from 'node:test';
-import { load, scripts } from '../page/test/load.mjs';
+import { on } from '../page/base/events.js';
+import { baseOf, docOf, sameDoc } from '../page/document/mirror.js';
+import { Bench } from '../page/engine/bench.js';
+import { Client } from '../page/engine/client.js';
 import { workers } from '../page/test/worker.mjs';
 
-const FILES = ['answers.js', 'hub.js', 'mirror.js', 'client.js', 'opening.js', 'bench.js'];
-const { Bench, Client, baseOf, sameDoc, docOf, on } = load(FILES, ['Bench', 'Client', 'baseOf', 'sameDoc', 'docOf', 'on'], { URL, Blob });
 const COLOURS = [[255, 255, 255], [0, 0, 0], [200, 30, 30]];
 const empty = (rows, columns) => ({ rows, columns, maxval: 255, colours: COLOURS, picture: Array(rows).fill('.'.repeat(columns)), givens: new Set() });
 
@@ -17,11 +18,6 @@ async function opened(doc = empty(3, 4), options = {}) {
   return { bench, made };
 }
 const words = (answers) => answers.map((answer) => answer.name ?? answer.kind);
-
-test('the scripts that are tested are those of the page', () => {
-  for (const file of FILES) assert.ok(scripts().includes(file), file);
-  assert.deepEqual(scripts('worker'), ['worker.js']);
-});
 
 test('an undo takes back a stroke, not a command', async () => {
   const { bench } = await opened();

@@ -2,12 +2,13 @@
 // are made by hand after Netpbm's ppm page and webpbn.com/pbn_fmt.html. Run: node --test tests/page_files.mjs
 import assert from 'node:assert/strict';
 import { test } from 'node:test';
-import { load } from '../page/test/load.mjs';
+import { docOfImage, docOfNotes, emptyDoc, packedDoc, ppmTextOf, unpackedDoc } from '../page/document/docs.js';
+import { FileFault } from '../page/document/limits.js';
+import { readPpm } from '../page/formats/ppm.js';
+import { cluesOfRows, readWebpbn, webpbnText } from '../page/formats/webpbn.js';
+import { readXml } from '../page/formats/xml.js';
+import { kindOfFile } from '../page/import/images.js';
 
-const { readPpm, FileFault, ppmTextOf, docOfNotes, docOfImage, emptyDoc, unpackedDoc, packedDoc, readXml, webpbnText, readWebpbn, cluesOfRows, kindOfFile } = load(
-    ['answers.js', 'hub.js', 'mirror.js', 'ppm.js', 'images.js', 'docs.js', 'xml.js', 'webpbn.js'],
-    ['readPpm', 'FileFault', 'ppmTextOf', 'docOfNotes', 'docOfImage', 'emptyDoc', 'unpackedDoc', 'packedDoc', 'readXml', 'webpbnText', 'readWebpbn', 'cluesOfRows', 'kindOfFile'],
-);
 const bytes = (text) => Uint8Array.from(text, (sign) => sign.charCodeAt(0));
 const plain = (value) => JSON.parse(JSON.stringify(value));
 const pixels = (image) => Array.from({ length: image.width * image.height }, (_, at) => [...image.data.subarray(at * 4, at * 4 + 3)]);

@@ -1,12 +1,11 @@
 // Tests of how the page makes few colours and cells of an image. Pictures are made by hand. Run: node --test tests/page_images.mjs
 import assert from 'node:assert/strict';
 import { test } from 'node:test';
-import { load } from '../page/test/load.mjs';
+import { oklabOf } from '../page/document/colours.js';
+import { dotSize, scaledTo, sizeOfImage } from '../page/import/images.js';
+import { withoutMargin } from '../page/import/proposing.js';
+import { docOfCells, flatColours, paletteFor, thresholdFor } from '../page/import/quantise.js';
 
-const { scaledTo, dotSize, sizeOfImage, flatColours, paletteFor, docOfCells, thresholdFor, oklabOf, withoutMargin } = load(
-    ['answers.js', 'hub.js', 'mirror.js', 'ppm.js', 'images.js', 'docs.js', 'quantise.js', 'proposing.js'],
-    ['scaledTo', 'dotSize', 'sizeOfImage', 'flatColours', 'paletteFor', 'docOfCells', 'thresholdFor', 'oklabOf', 'withoutMargin'],
-);
 // An image of rows of signs; '-' is transparent.
 function imageOf(rows, colours) {
     const [width, height] = [rows[0].length, rows.length];

@@ -2,11 +2,11 @@
 // tab is told. Run: node --test tests/page_keep.mjs
 import assert from 'node:assert/strict';
 import { test } from 'node:test';
-import { load } from '../page/test/load.mjs';
+import { emptyDoc, packedDoc } from '../page/document/docs.js';
+import { baseOf, mirrored } from '../page/document/mirror.js';
+import { Keeper, MOST_KEPT, recordOf, soundRecord } from '../page/library/keep.js';
+import { claim, localShelf, memoryShelf, openShelf } from '../page/library/shelf.js';
 
-const FILES = ['answers.js', 'hub.js', 'mirror.js', 'ppm.js', 'docs.js', 'shelf.js', 'keep.js'];
-const NAMES = ['memoryShelf', 'localShelf', 'openShelf', 'claim', 'Keeper', 'recordOf', 'soundRecord', 'emptyDoc', 'packedDoc', 'mirrored', 'baseOf', 'keep', 'MOST_KEPT'];
-const { memoryShelf, localShelf, openShelf, claim, Keeper, recordOf, soundRecord, emptyDoc, packedDoc, mirrored, baseOf, MOST_KEPT } = load(FILES, NAMES);
 
 class Full extends Error {
     name = 'QuotaExceededError';

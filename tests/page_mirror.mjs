@@ -2,9 +2,8 @@
 // opened again. Expected values were worked out by hand from docs/FORMATS.md. Run: node --test tests/page_mirror.mjs
 import assert from 'node:assert/strict';
 import { test } from 'node:test';
-import { load } from '../page/test/load.mjs';
+import { baseOf, coverOf, linesTo, mirrored, repaintLines, sameDoc } from '../page/document/mirror.js';
 
-const { mirrored, coverOf, linesTo, repaintLines, baseOf, sameDoc } = load(['answers.js', 'mirror.js'], ['mirrored', 'coverOf', 'linesTo', 'repaintLines', 'baseOf', 'sameDoc']);
 const COLOURS = [[255, 255, 255], [0, 0, 0], [200, 30, 30]];
 const docOf = (picture, givens = [], colours = COLOURS) => ({ rows: picture.length, columns: picture[0].length, maxval: 255, colours, picture, givens: new Set(givens) });
 const after = (doc, ...lines) => lines.reduce(mirrored, doc);

@@ -1,39 +1,58 @@
-// Tests of the page's scripts as a whole: they share one scope, so no two have a name in common, each says what it is, and
-// none is long. Run: node --test tests/page_scope.mjs
+// Tests of the page's modules as a house: each says what it is and is short, rooms ask only rooms below them, and nothing is
+// taken as HTML or fetched. Run: node --test tests/page_scope.mjs
 import assert from 'node:assert/strict';
 import { readFileSync, readdirSync } from 'node:fs';
+import { dirname, join, relative, resolve } from 'node:path';
 import { test } from 'node:test';
-import vm from 'node:vm';
-import { scripts } from '../page/test/load.mjs';
+import { fileURLToPath } from 'node:url';
 
-const page = new URL('../page/', import.meta.url);
-const read = (file) => readFileSync(new URL(file, page), 'utf8');
+const page = fileURLToPath(new URL('../page/', import.meta.url));
+const ROOMS = ['base', 'document', 'formats', 'engine', 'draw', 'view', 'play', 'library', 'import', 'export', 'start']; // from below
+const modules = readdirSync(page, { recursive: true }).filter((file) => file.endsWith('.js') && !file.startsWith('test/')).sort();
+const read = (file) => readFileSync(join(page, file), 'utf8');
+const importsOf = (file) => [...read(file).matchAll(/^(?:import|export)\b[^;]*?from '([^']+)';$|^import '([^']+)';$/gm)].map((found) => found[1] ?? found[2]);
+const fileOf = (from, to) => relative(page, resolve(page, dirname(from), to));
 
-test('the scripts of the page stand in one scope', () => {
-    for (const of of ['page', 'worker']) {
-        const all = scripts(of).map(read).join('\n');
-        new vm.Script(`(function () { 'use strict';\n${all}\n})`, { filename: of });
-    }
+test('there are modules in rooms', () => {
+    assert.ok(modules.length > 40);
+    for (const file of modules) assert.ok(file === 'main.js' || ROOMS.includes(dirname(file)), file);
 });
 
-test('each script is listed once, says what it is, and is short', () => {
-    const listed = [...scripts('page'), ...scripts('worker')];
-    assert.equal(new Set(listed).size, listed.length);
-    assert.deepEqual(readdirSync(page).filter((file) => file.endsWith('.js')).sort(), [...listed].sort());
-    for (const file of listed) {
+test('each module says what it is, and is short', () => {
+    for (const file of modules) {
         const lines = read(file).split('\n');
         assert.match(lines[0], /^\/\/ [A-Z]/, `${file} says what it is`);
-        assert.ok(lines.length <= 301, `${file} has ${lines.length} lines`);
-        assert.ok(!/^\s*(import|export)\b/m.test(lines.join('\n')), `${file} is a plain script`);
+        assert.ok(lines.length <= 321, `${file} has ${lines.length} lines`);
     }
 });
 
-test('no text goes over several lines, so that blanks before lines may go', () => {
-    for (const file of [...scripts('page'), ...scripts('worker'), '../web/nonobench.mjs']) {
-        for (const [at, line] of read(file).split('\n').entries()) assert.equal((line.replace(/^\s*(\/\/|\*|\/\*\*).*/, '').match(/`/g) ?? []).length % 2, 0, `${file}:${at + 1}`);
+test('a room asks only rooms below it, and only modules that are there', () => {
+    for (const file of modules.filter((one) => one !== 'main.js')) {
+        for (const other of importsOf(file).map((one) => fileOf(file, one))) {
+            if (other === '../web/nonobench.mjs') continue;
+            assert.ok(modules.includes(other), `${file} imports ${other}`);
+            assert.ok(ROOMS.indexOf(dirname(other)) <= ROOMS.indexOf(dirname(file)), `${file} asks ${other}, which is above it`);
+        }
+    }
+});
+
+test('each module is reached from main or the worker', () => {
+    const reached = new Set();
+    const go = (file) => {
+        if (reached.has(file) || file.startsWith('..')) return;
+        reached.add(file);
+        for (const other of importsOf(file)) go(fileOf(file, other));
+    };
+    for (const first of ['main.js', 'engine/worker.js']) go(first);
+    assert.deepEqual(modules.filter((file) => !reached.has(file)), []);
+});
+
+test('what is worked out without a document is imported without one', async () => {
+    for (const file of modules.filter((one) => ['base', 'document', 'formats', 'engine', 'library', 'import'].includes(dirname(one)) && one !== 'engine/worker.js')) {
+        await import(join(page, file));
     }
 });
 
 test('nothing is taken as HTML and nothing is fetched', () => {
-    for (const file of [...scripts('page'), ...scripts('worker')]) assert.doesNotMatch(read(file), /innerHTML|outerHTML|insertAdjacentHTML|document\.write|\bfetch\(|XMLHttpRequest|WebSocket|\beval\(/, file);
+    for (const file of modules) assert.doesNotMatch(read(file), /innerHTML|outerHTML|insertAdjacentHTML|document\.write|\bfetch\(|XMLHttpRequest|WebSocket|\beval\(/, file);
 });

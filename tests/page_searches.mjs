@@ -2,13 +2,9 @@
 // off. The pictures are worked by hand. Run: node --test tests/page_searches.mjs
 import assert from 'node:assert/strict';
 import { test } from 'node:test';
-import { load } from '../page/test/load.mjs';
-
-const many = (count, what) => `${count} ${what}${count === 1 ? '' : 's'}`;
-const number = (count) => count.toLocaleString('en');
-const SCRIPTS = ['answers.js', 'mirror.js', 'searches.js', 'fix.js', 'crossing.js'];
-const NAMES = ['Searches', 'cellsThatDiffer', 'givensFor', 'repaintsFor', 'crossedOff', 'isMet', 'marksOf'];
-const { Searches, cellsThatDiffer, givensFor, repaintsFor, crossedOff, isMet, marksOf } = load(SCRIPTS, NAMES, { many, number });
+import { cellsThatDiffer, givensFor, repaintsFor } from '../page/engine/fix.js';
+import { Searches } from '../page/engine/searches.js';
+import { crossedOff, isMet, marksOf } from '../page/play/crossing.js';
 
 const COLOURS = [[255, 255, 255], [0, 0, 0], [255, 0, 0], [0, 0, 255]];
 const stateOf = (picture, givens = []) => ({

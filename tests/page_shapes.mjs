@@ -2,10 +2,9 @@
 // hand. Run: node --test tests/page_shapes.mjs
 import assert from 'node:assert/strict';
 import { test } from 'node:test';
-import { load } from '../page/test/load.mjs';
+import { bucketCells, boxCells, boxOf, cutOut, lineCells, reordered, resized, rowsOfText, shifted, stamped, turned } from '../page/document/shapes.js';
+import { Geometry } from '../page/draw/geometry.js';
 
-const NAMES = ['lineCells', 'boxOf', 'boxCells', 'bucketCells', 'turned', 'shifted', 'resized', 'cutOut', 'stamped', 'rowsOfText', 'reordered', 'Geometry'];
-const { lineCells, boxOf, boxCells, bucketCells, turned, shifted, resized, cutOut, stamped, rowsOfText, reordered, Geometry } = load(['answers.js', 'hub.js', 'geometry.js', 'shapes.js'], NAMES);
 const docOf = (picture, givens = []) => ({ rows: picture.length, columns: picture[0].length, maxval: 255, colours: [[255, 255, 255], [0, 0, 0], [9, 9, 9]], picture, givens: new Set(givens) });
 const drawn = (cells, rows, columns) => [...Array(rows).keys()].map((row) => [...Array(columns).keys()].map((col) => (cells.some((cell) => cell.row === row && cell.col === col) ? 'a' : '.')).join(''));
 const shows = (doc, picture, givens) => assert.deepEqual([doc.picture, [...doc.givens].sort((a, b) => a - b), doc.rows, doc.columns], [picture, givens, picture.length, picture[0].length]);

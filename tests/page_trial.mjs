@@ -4,25 +4,30 @@ import assert from 'node:assert/strict';
 import { spawnSync } from 'node:child_process';
 import { mkdirSync, readFileSync, writeFileSync } from 'node:fs';
 import { join } from 'node:path';
-import { pathToFileURL } from 'node:url';
+import { fileURLToPath, pathToFileURL } from 'node:url';
+import { gunzipSync } from 'node:zlib';
 
 export const SLACK = Number(process.env.SLACK ?? 1);
 export const SIZES = { small: { width: 1280, height: 800 }, large: { width: 1920, height: 1080 }, phone: { width: 390, height: 844, touch: true } };
-const HOOKS = 'Object.assign(window, { bench, sheet, searches, tools, play, keep, takeFile, actions, runAction, useColour, certificateText, selection, showSelection, resized, cursor, openDoc, setHatching, setSeconds, saving });';
 // Notes each worker, so that a test can end one.
 const NOTE_WORKERS = `window.workers = []; const PlainWorker = window.Worker;
 window.Worker = class extends PlainWorker { constructor(...words) { super(...words); window.workers.push(this); } terminate() { this.isEnded = true; super.terminate(); } };`;
 
-/** The built page with the page's objects handed out by name, written to a folder; gives its address. */
+const ROOT = fileURLToPath(new URL('..', import.meta.url));
+
+/**
+ * The page of this tree with its objects in the window by name, and the module of WebAssembly of a built page, written to a
+ * folder; gives its address.
+ */
 export function hookedPage(built, folder) {
-    const html = readFileSync(built, 'utf8');
-    const last = html.lastIndexOf("tell('ready', null);");
-    assert.ok(last > 0, `${built} is not the built page`);
-    mkdirSync(folder, { recursive: true });
-    const path = join(folder, 'hooked.html');
-    const open = html.slice(0, last) + HOOKS + html.slice(last);
-    writeFileSync(path, open);
-    return pathToFileURL(path).href;
+    const found = /<script type="application\/json" id="built">([^<]*)<\/script>/.exec(readFileSync(built, 'utf8'));
+    assert.ok(found, `${built} is not the built page`);
+    const own = join(folder, 'hooked');
+    mkdirSync(own, { recursive: true });
+    writeFileSync(join(own, 'nonobench.wasm'), gunzipSync(Buffer.from(JSON.parse(found[1]).module, 'base64')));
+    const done = spawnSync(process.execPath, [join(ROOT, 'web', 'join.mjs'), ROOT, own, join(ROOT, 'page', 'test', 'hooked.js')], { encoding: 'utf8' });
+    assert.equal(done.status, 0, done.stdout + done.stderr);
+    return pathToFileURL(join(own, 'nonobench.html')).href;
 }
 
 /** What `nonobench work` answers to lines on a picture; null where there is no program. */

@@ -1,14 +1,15 @@
-// Joins the page's files and the module into one HTML file, and lays the same out as a folder for a site: join.mjs ROOT FOLDER.
-// FOLDER has nonobench.wasm. Nothing of the time or of paths goes in, so two builds of one commit have the same bytes.
-import { execFileSync } from 'node:child_process';
-import { existsSync, mkdirSync, readFileSync, readdirSync, writeFileSync, copyFileSync, rmSync } from 'node:fs';
+// Joins the page's modules and the module of WebAssembly into one HTML file, and lays the same out as a folder for a site:
+// join.mjs ROOT FOLDER [ENTRY]. FOLDER has nonobench.wasm; ENTRY is the page's first module, page/main.js where none is named.
+// Nothing of the time or of paths goes in, so two builds of one commit by one esbuild have the same bytes. Without esbuild it
+// ends with 77.
+import { execFileSync, spawnSync } from 'node:child_process';
+import { createHash } from 'node:crypto';
+import { existsSync, mkdirSync, readFileSync, writeFileSync, copyFileSync, rmSync } from 'node:fs';
 import { join } from 'node:path';
 import { gzipSync } from 'node:zlib';
 
-const [root, folder] = process.argv.slice(2);
+const [root, folder, entry = join(root, 'page', 'main.js')] = process.argv.slice(2);
 const EXAMPLES = ['heart', 'mushroom', 'boat'];
-const POLICY = "default-src 'none'; script-src 'unsafe-inline' 'wasm-unsafe-eval' blob:; worker-src blob:; style-src 'unsafe-inline'; "
-  + "img-src data: blob:; connect-src blob: data:; base-uri 'none'; form-action 'none'";
 
 const read = (...parts) => readFileSync(join(root, ...parts), 'utf8');
 
@@ -21,53 +22,38 @@ function commitOf() {
   }
 }
 
-// What must not stand in a script within HTML.
-const inScript = (text) => text.replaceAll('</script', '<\\/script').replaceAll('<!--', '<\\!--');
-
-// The scripts of the page and those of the worker, in their order.
-function scripts() {
-  const lines = read('page', 'scripts.txt').split('\n').map((line) => line.trim()).filter((line) => line && !line.startsWith('#'));
-  const at = lines.indexOf('worker');
-  return { page: lines.slice(0, at), worker: lines.slice(at + 1) };
+// What a module comes to with all that it imports. What esbuild warns of is an error.
+function bundled(file, ...words) {
+  const { stdout, stderr, status } = spawnSync('esbuild', [file, '--bundle', '--minify', '--charset=utf8', '--target=es2022', '--log-level=warning', ...words], { encoding: 'utf8', maxBuffer: 1 << 26 });
+  if (status !== 0 || stderr) throw new Error(`esbuild ${file}: ${stderr}`);
+  return stdout.trimEnd();
 }
 
-// A source without the lines that are comments alone, blank lines and indents. A text over several lines would lose its own.
-function bare(source) {
-  const lines = source.replace(/^[ \t]*\/\*[^]*?\*\/[ \t]*\n/gm, '').replace(/^[ \t]*\/\/.*\n/gm, '').replace(/^\s+/gm, '');
-  const open = lines.split('\n').find((line) => line.split('`').length % 2 === 0);
-  if (open !== undefined) throw new Error(`a text goes on over the end of a line: ${open}`);
-  return lines;
-}
+const script = (file) => bundled(file, '--format=iife');
+const hashOf = (text) => `'sha256-${createHash('sha256').update(text).digest('base64')}'`;
 
-const sources = (names) => names.map((name) => bare(read('page', name))).join('\n');
-
-// The page's styles: page.css first, then the others by name.
-function styles() {
-  const others = readdirSync(join(root, 'page')).filter((name) => name.endsWith('.css') && name !== 'page.css').sort();
-  return sources(['page.css', ...others]);
-}
+// What the page may do: it runs its own script and style alone, known by their hashes, and fetches nothing.
+const policyOf = (code, style) => [
+  "default-src 'none'", `script-src ${hashOf(code)} 'wasm-unsafe-eval'`, 'worker-src blob:', `style-src ${hashOf(style)}`,
+  'img-src data: blob:', 'connect-src blob: data:', "base-uri 'none'", "form-action 'none'",
+].join('; ');
 
 function pageText(version) {
-  const { page, worker } = scripts();
   const packed = gzipSync(readFileSync(join(folder, 'nonobench.wasm')), { level: 9 });
   packed[9] = 255; // the system that packed it
-  const engine = bare(read('web', 'nonobench.mjs')).replace(/^export /gm, '');
-  const built = {
-    module: packed.toString('base64'),
-    packed: 'gzip',
-    worker: `'use strict';\n${engine}\n${sources(worker)}`,
-    version,
-    commit: commitOf(),
-  };
+  const built = { module: packed.toString('base64'), packed: 'gzip', worker: script(join(root, 'page', 'engine', 'worker.js')), version, commit: commitOf() };
   const icon = Buffer.from(read('page', 'icon.svg')).toString('base64');
+  // What must not stand in a script within HTML; esbuild takes care of the end of the script.
+  const code = `\n${script(entry).replaceAll('<!--', '<\\!--')}\n`;
+  const style = `\n${bundled(join(root, 'page', 'styles', 'index.css'))}\n`;
   const parts = {
-    '<!-- head: policy, icon -->': `<meta http-equiv="Content-Security-Policy" content="${POLICY}">\n<link rel="icon" href="data:image/svg+xml;base64,${icon}">`,
-    '<!-- style -->': `<style>\n${styles()}</style>`,
+    '<!-- head: policy, icon -->': `<meta http-equiv="Content-Security-Policy" content="${policyOf(code, style)}">\n<link rel="icon" href="data:image/svg+xml;base64,${icon}">`,
+    '<!-- style -->': `<style>${style}</style>`,
     '<!-- built -->': [
       ...EXAMPLES.map((name) => `<script type="text/plain" data-example="${name}">${read('examples', `${name}.ppm`)}</script>`),
       `<script type="application/json" id="built">${JSON.stringify(built).replaceAll('<', '\\u003c')}</script>`,
     ].join('\n'),
-    '<!-- script -->': `<script>\n(() => {\n'use strict';\n${inScript(sources(page))}\n})();\n</script>`,
+    '<!-- script -->': `<script>${code}</script>`,
   };
   let text = read('page', 'index.html');
   for (const [place, part] of Object.entries(parts)) {
@@ -78,14 +64,14 @@ function pageText(version) {
   return text;
 }
 
+if (spawnSync('esbuild', ['--version']).error) {
+  console.log('web/join.mjs: skipped: no esbuild');
+  process.exit(77);
+}
+const [, version] = /VERSION: &str = "([^"]+)"/.exec(read('crates', 'program_options', 'src', 'version.rt'));
+writeFileSync(join(folder, 'nonobench.html'), pageText(version));
 const site = join(folder, 'site');
 rmSync(site, { recursive: true, force: true });
 mkdirSync(site, { recursive: true });
-for (const name of ['nonobench.wasm', 'nonobench.mjs', 'nonobench.d.ts']) copyFileSync(join(folder, name), join(site, name));
-if (existsSync(join(root, 'page', 'scripts.txt'))) {
-  const [, version] = /VERSION: &str = "([^"]+)"/.exec(read('crates', 'program_options', 'src', 'version.rt'));
-  writeFileSync(join(folder, 'nonobench.html'), pageText(version));
-  copyFileSync(join(folder, 'nonobench.html'), join(site, 'index.html'));
-} else {
-  console.log('web/build: no page/scripts.txt, so the module alone is built');
-}
+for (const name of ['nonobench.wasm', 'nonobench.mjs', 'nonobench.d.ts']) if (existsSync(join(folder, name))) copyFileSync(join(folder, name), join(site, name));
+copyFileSync(join(folder, 'nonobench.html'), join(site, 'index.html'));

@@ -1,0 +1,8 @@
+// Numbers and file names as texts, and a bound for numbers.
+
+export const number = (count) => count.toLocaleString('en');
+export const many = (count, what) => `${number(count)} ${what}${count === 1 ? '' : 's'}`;
+export const clamp = (value, least, most) => Math.max(least, Math.min(most, value));
+
+/** A file's name without its ending and without what no file name may have. */
+export const bareName = (name) => (name ?? '').replace(/\.[A-Za-z0-9]{1,5}$/, '').replace(/[\u0000-\u001f\\/:*?"<>|]/g, ' ').trim().slice(0, 80) || 'picture';

@@ -1,0 +1,52 @@
+// Colours as the screen has them, and plain names for those who do not see them.
+
+/** A triple as eight-bit samples. */
+export const eightBits = (triple, maxval) => triple.map((sample) => Math.round((sample * 255) / maxval));
+export const cssOf = (triple, maxval) => `rgb(${eightBits(triple, maxval).join(' ')})`;
+export const hexOf = (triple, maxval) => '#' + eightBits(triple, maxval).map((sample) => sample.toString(16).padStart(2, '0')).join('');
+export const tripleOf = (hex) => [1, 3, 5].map((at) => parseInt(hex.slice(at, at + 2), 16));
+
+/** Black or white, whichever is read more easily on a colour. */
+export function inkOn(triple, maxval) {
+  const [red, green, blue] = triple.map((sample) => {
+    const part = sample / maxval;
+    return part <= 0.04 ? part / 12.92 : ((part + 0.055) / 1.055) ** 2.4;
+  });
+  return 0.2126 * red + 0.7152 * green + 0.0722 * blue > 0.18 ? '#000' : '#fff';
+}
+
+/** A plain name for a colour. */
+export function nameOf(triple, maxval) {
+  const [red, green, blue] = eightBits(triple, maxval);
+  const [most, least] = [Math.max(red, green, blue), Math.min(red, green, blue)];
+  const light = (most + least) / 510;
+  if (most - least < 24) return light > 0.93 ? 'white' : light < 0.12 ? 'black' : light > 0.6 ? 'light grey' : light < 0.35 ? 'dark grey' : 'grey';
+  const turn = most === red ? (green - blue) / (most - least) : most === green ? 2 + (blue - red) / (most - least) : 4 + (red - green) / (most - least);
+  const hue = (turn * 60 + 360) % 360;
+  const names = [[14, 'red'], [42, light < 0.42 ? 'brown' : 'orange'], [68, 'yellow'], [165, 'green'], [200, 'cyan'], [258, 'blue'], [292, 'purple'], [344, 'pink'], [361, 'red']];
+  return (light > 0.75 ? 'light ' : light < 0.28 ? 'dark ' : '') + names.find(([end]) => hue < end)[1];
+}
+
+export const plainHexOf = (triple) => triple.map((sample) => sample.toString(16).padStart(2, '0')).join('');
+
+// Light of a sample from 0 to 1, and back (IEC 61966-2-1, sRGB).
+export const LIGHT_OF = Float64Array.from({ length: 256 }, (_, sample) => {
+  const value = sample / 255;
+  return value <= 0.04045 ? value / 12.92 : ((value + 0.055) / 1.055) ** 2.4;
+});
+
+/** A triple of eight bits in Oklab (Ottosson, 2020), where equal steps look equal. */
+export function oklabOf(red, green, blue) {
+  const [r, g, b] = [LIGHT_OF[red], LIGHT_OF[green], LIGHT_OF[blue]];
+  const l = Math.cbrt(0.4122214708 * r + 0.5363325363 * g + 0.0514459929 * b);
+  const m = Math.cbrt(0.2119034982 * r + 0.6806995451 * g + 0.1073969566 * b);
+  const s = Math.cbrt(0.0883024619 * r + 0.2817188376 * g + 0.6299787005 * b);
+  return [
+    0.2104542553 * l + 0.793617785 * m - 0.0040720468 * s,
+    1.9779984951 * l - 2.428592205 * m + 0.4505937099 * s,
+    0.0259040371 * l + 0.7827717662 * m - 0.8086757660 * s,
+  ];
+}
+
+/** How light a triple looks, from 0 to 255. */
+export const lightness = ([red, green, blue]) => 255 * oklabOf(red, green, blue)[0];

@@ -1,0 +1,119 @@
+// Shapes and turns, worked out on rows of letters: what a line, a rectangle or a bucket touches, and what becomes of a picture
+// that is mirrored, turned, shifted or made larger or smaller.
+
+import { LETTERS } from './limits.js';
+
+/** The places (row, column) on the way from one cell to another. */
+export function lineCells(from, to) {
+  const steps = Math.max(Math.abs(to.row - from.row), Math.abs(to.col - from.col), 1);
+  const cells = [];
+  for (let step = 0; step <= steps; step++) {
+    cells.push({ row: Math.round(from.row + ((to.row - from.row) * step) / steps), col: Math.round(from.col + ((to.col - from.col) * step) / steps) });
+  }
+  return cells;
+}
+
+/** A rectangle with its edges in order. */
+export function boxOf(from, to) {
+  return { top: Math.min(from.row, to.row), left: Math.min(from.col, to.col), bottom: Math.max(from.row, to.row), right: Math.max(from.col, to.col) };
+}
+
+/** The places in a rectangle, or on its outline alone. */
+export function boxCells({ top, left, bottom, right }, isOutline = false) {
+  const cells = [];
+  for (let row = top; row <= bottom; row++) {
+    for (let col = left; col <= right; col++) {
+      if (!isOutline || row === top || row === bottom || col === left || col === right) cells.push({ row, col });
+    }
+  }
+  return cells;
+}
+
+/** The cells of one colour that hang together, by their sides, with one cell. */
+export function bucketCells(picture, start) {
+  const [rows, columns] = [picture.length, picture[0].length];
+  const letter = picture[start.row][start.col];
+  const met = new Set([start.row * columns + start.col]);
+  const waiting = [start];
+  const cells = [];
+  while (waiting.length) {
+    const cell = waiting.pop();
+    cells.push(cell);
+    for (const [down, across] of [[-1, 0], [1, 0], [0, -1], [0, 1]]) {
+      const [row, col] = [cell.row + down, cell.col + across];
+      if (row < 0 || col < 0 || row >= rows || col >= columns || picture[row][col] !== letter || met.has(row * columns + col)) continue;
+      met.add(row * columns + col);
+      waiting.push({ row, col });
+    }
+  }
+  return cells;
+}
+
+// A document whose cell at (row, column) is the one that `from(row, column)` names in the old one, or background.
+function remade(doc, rows, columns, from) {
+  const picture = [];
+  const givens = new Set();
+  for (let row = 0; row < rows; row++) {
+    let text = '';
+    for (let col = 0; col < columns; col++) {
+      const [r, c] = from(row, col);
+      const isInside = r >= 0 && c >= 0 && r < doc.rows && c < doc.columns;
+      text += isInside ? doc.picture[r][c] : '.';
+      if (isInside && doc.givens.has(r * doc.columns + c)) givens.add(row * columns + col);
+    }
+    picture.push(text);
+  }
+  return { ...doc, rows, columns, picture, givens };
+}
+
+const TURNS = {
+  across: (doc) => remade(doc, doc.rows, doc.columns, (row, col) => [row, doc.columns - 1 - col]),
+  down: (doc) => remade(doc, doc.rows, doc.columns, (row, col) => [doc.rows - 1 - row, col]),
+  right: (doc) => remade(doc, doc.columns, doc.rows, (row, col) => [doc.rows - 1 - col, row]),
+  left: (doc) => remade(doc, doc.columns, doc.rows, (row, col) => [col, doc.columns - 1 - row]),
+};
+
+/** A document mirrored ('across', 'down') or turned ('right', 'left'). */
+export const turned = (doc, way) => TURNS[way](doc);
+
+/** A document moved by rows and columns; what leaves at one edge comes in at the other. */
+export function shifted(doc, down, across) {
+  const from = (at, by, count) => (((at - by) % count) + count) % count;
+  return remade(doc, doc.rows, doc.columns, (row, col) => [from(row, down, doc.rows), from(col, across, doc.columns)]);
+}
+
+/** A document of another size. `anchor` says where the old one lies: {down, across}, 0 for top and left, 1 for bottom and right. */
+export function resized(doc, rows, columns, anchor) {
+  const [top, left] = [Math.round((rows - doc.rows) * anchor.down), Math.round((columns - doc.columns) * anchor.across)];
+  return remade(doc, rows, columns, (row, col) => [row - top, col - left]);
+}
+
+/** A rectangle of a document as a small document. */
+export const cutOut = (doc, { top, left, bottom, right }) => remade(doc, bottom - top + 1, right - left + 1, (row, col) => [row + top, col + left]);
+
+/** Rows of letters put over a picture at a place; what lies outside is left out. */
+export function stamped(picture, rows, top, left) {
+  return picture.map((row, at) => {
+    const piece = rows[at - top];
+    if (piece === undefined) return row;
+    let text = '';
+    for (let col = 0; col < row.length; col++) text += piece[col - left] ?? row[col];
+    return text;
+  });
+}
+
+/** Rows of letters in a text that was pasted, or null. */
+export function rowsOfText(text, colours) {
+  const rows = text.replaceAll('\r', '').split('\n').map((row) => row.trimEnd().replaceAll(' ', '.')).filter((row) => row !== '');
+  const known = LETTERS.slice(0, colours);
+  if (!rows.length || rows.length > 120 || rows.some((row) => row.length > 120 || [...row].some((letter) => !known.includes(letter)))) return null;
+  const columns = Math.max(...rows.map((row) => row.length));
+  return rows.map((row) => row.padEnd(columns, '.'));
+}
+
+/** A document whose colours stand in another order: `order` has the old numbers; a number that is missing becomes `into`. */
+export function reordered(doc, order, into = 0) {
+  const to = doc.colours.map((_, at) => (order.includes(at) ? order.indexOf(at) : order.indexOf(into)));
+  const letters = to.map((at) => LETTERS[at]);
+  return { ...doc, colours: order.map((at) => doc.colours[at]), picture: doc.picture.map((row) => [...row].map((letter) => letters[LETTERS.indexOf(letter)]).join('')) };
+}

@@ -1,0 +1,215 @@
+// The cells on their canvas: only those are drawn whose look has changed. A cell's look is a number: its letter, whether it
+// is hatched, the other picture's letter, whether it is given. The lines between cells lie beside them and stay.
+
+import { clamp } from '../base/words.js';
+import { cssOf, inkOn } from '../document/colours.js';
+import { LETTERS } from '../document/limits.js';
+
+export const RIVAL = 1 << 8;
+export const HATCHED = 1 << 4;
+export const GIVEN = 1 << 16;
+
+export class Cells {
+  constructor(canvas) {
+    this.canvas = canvas;
+    this.pen = canvas.getContext('2d', { alpha: false });
+    this.drawn = new Int32Array(0);
+    this.tile = null;
+  }
+
+  /** Draws all that is seen anew. */
+  all(sheet) {
+    const { pen } = this;
+    const { geometry: at } = sheet;
+    pen.fillStyle = sheet.inks.paper;
+    pen.fillRect(0, 0, at.width, at.height);
+    this.drawn = new Int32Array(at.rows * at.columns).fill(-1);
+    this.prepare(sheet);
+    pen.save();
+    pen.beginPath();
+    pen.rect(at.originX - 1, at.originY - 1, at.width, at.height);
+    pen.clip();
+    this.rules(sheet);
+    this.changed(sheet, true);
+    pen.restore();
+  }
+
+  /** Draws the cells whose look is another one; `clipped` where the room is set already. */
+  changed(sheet, clipped = false) {
+    if (!this.fills) return;
+    const { top, left, bottom, right } = sheet.geometry.seen();
+    const { columns } = sheet.geometry;
+    if (!clipped) this.clip(sheet);
+    for (let row = top; row <= bottom; row++) {
+      for (let col = left; col <= right; col++) {
+        const look = sheet.lookOf(row, col);
+        if (look === this.drawn[row * columns + col]) continue;
+        let end = col + 1;
+        if (look < HATCHED || this.isSmall) while (end <= right && sheet.lookOf(row, end) === look) end++;
+        this.span(sheet, row, col, end, look);
+        this.drawn.fill(look, row * columns + col, row * columns + end);
+        col = end - 1;
+      }
+    }
+    if (!clipped) this.pen.restore();
+  }
+
+  /** Draws some cells, given by their places. */
+  some(sheet, places) {
+    if (!this.fills) return;
+    const { top, left, bottom, right } = sheet.geometry.seen();
+    const { columns } = sheet.geometry;
+    this.clip(sheet);
+    for (const index of places) {
+      const [row, col] = [Math.floor(index / columns), index % columns];
+      if (row < top || row > bottom || col < left || col > right) continue;
+      const look = sheet.lookOf(row, col);
+      if (look === this.drawn[index]) continue;
+      this.span(sheet, row, col, col + 1, look);
+      this.drawn[index] = look;
+    }
+    this.pen.restore();
+  }
+
+  clip(sheet) {
+    const { geometry: at } = sheet;
+    this.pen.save();
+    this.pen.beginPath();
+    this.pen.rect(at.originX - 1, at.originY - 1, at.width, at.height);
+    this.pen.clip();
+  }
+
+  // What holds for all cells of one size.
+  prepare(sheet) {
+    const { geometry: at, doc } = sheet;
+    this.fills = doc.colours.map((triple) => cssOf(triple, doc.maxval));
+    this.isSmall = at.cell < 6 * at.scale;
+    this.hasLetters = at.letters && at.cell >= 10 * at.scale;
+    this.thin = this.isSmall ? 0 : 1;
+    this.wide = at.cell < 2 ? 0 : at.cell < 14 * at.scale ? 1 : 2; // of heavy lines: none where they would hide cells
+    this.hatching = this.pen.createPattern(this.tileFor(at.scale), 'repeat');
+    this.hatching.setTransform(new DOMMatrix().translate(at.x(0), at.y(0)));
+  }
+
+  // Dark and light strokes side by side, so that the hatching is seen on any colour.
+  tileFor(scale) {
+    const side = Math.round(6 * scale);
+    if (this.tile?.width === side) return this.tile;
+    this.tile = new OffscreenCanvas(side, side);
+    const pen = this.tile.getContext('2d');
+    pen.scale(side / 6, side / 6);
+    for (const { ink, shift } of [{ ink: 'rgb(255 255 255 / 75%)', shift: 1.4 }, { ink: 'rgb(0 0 0 / 60%)', shift: 0 }]) {
+      pen.strokeStyle = ink;
+      pen.lineWidth = 1.1;
+      pen.beginPath();
+      for (const from of [-6, 0, 6]) {
+        pen.moveTo(from + shift - 1, 7);
+        pen.lineTo(from + shift + 7, -1);
+      }
+      pen.stroke();
+    }
+    return this.tile;
+  }
+
+  /**
+   * Left edge and width of columns, or upper edge and height of rows, between the lines.
+   * @returns {[number, number]}
+   */
+  edges(from, end, first, cell, count) {
+    const isHeavy = (at) => at % 5 === 0 || at === count;
+    const begin = first + from * cell + (isHeavy(from) ? Math.min(1, this.wide) : this.thin);
+    const stop = first + end * cell - (isHeavy(end) && this.wide > 1 ? 1 : 0);
+    return [begin, stop - begin];
+  }
+
+  span(sheet, row, col, end, look) {
+    const { geometry: at } = sheet;
+    const [y, high] = this.edges(row, row + 1, at.y(0), at.cell, at.rows);
+    // A run of one look is filled at once where no lines stand between; else cell by cell.
+    const step = this.isSmall ? 5 - (col % 5) : 1;
+    for (let from = col, next = Math.min(end, col + step); from < end; from = next, next = Math.min(end, next + (this.isSmall ? 5 : 1))) {
+      const [x, wide] = this.edges(from, next, at.x(0), at.cell, at.columns);
+      this.pen.fillStyle = this.fills[look & 15] ?? '#888';
+      this.pen.fillRect(x, y, wide, high);
+      if (look < HATCHED && !this.hasLetters) continue;
+      if (look & HATCHED) {
+        this.pen.fillStyle = this.hatching;
+        this.pen.fillRect(x, y, wide, high);
+      }
+      for (let one = from; one < next; one++) this.more(sheet, row, one, look, [this.edges(one, one + 1, at.x(0), at.cell, at.columns), [y, high]]);
+    }
+  }
+
+  more(sheet, row, col, look, [[x, wide], [y, high]]) {
+    const rival = look & RIVAL ? (look >> 9) & 15 : -1;
+    if (rival >= 0) this.rival(sheet, rival, x, y, wide, high);
+    if (this.hasLetters) this.letter(sheet, look & 15, rival, x, y, wide, high);
+    if (look & GIVEN) this.given(sheet, x, y, wide, high);
+  }
+
+  // The other picture's colour in the lower corner, and a frame.
+  rival(sheet, letter, x, y, wide, high) {
+    const { pen } = this;
+    const { scale } = sheet.geometry;
+    pen.beginPath();
+    pen.moveTo(x + wide, y + high * 0.12);
+    pen.lineTo(x + wide, y + high);
+    pen.lineTo(x + wide * 0.12, y + high);
+    pen.closePath();
+    pen.fillStyle = this.fills[letter];
+    pen.fill();
+    const line = (wide < 16 * scale ? 1.4 : 2.4) * scale;
+    pen.strokeStyle = sheet.inks.alarm;
+    pen.lineWidth = line;
+    pen.strokeRect(x + line / 2, y + line / 2, wide - line, high - line);
+  }
+
+  letter(sheet, at, rival, x, y, wide, high) {
+    const { doc, geometry } = sheet;
+    const size = Math.min(14 * geometry.scale, Math.floor(geometry.cell * (rival >= 0 ? 0.42 : 0.62)));
+    const write = (one, left, top) => {
+      const { pen } = this;
+      pen.font = `600 ${size}px ${sheet.family}`;
+      pen.textAlign = 'center';
+      pen.textBaseline = 'middle';
+      pen.fillStyle = inkOn(doc.colours[one], doc.maxval);
+      pen.fillText(LETTERS[one], left, top);
+    };
+    if (rival < 0) {
+      if (at > 0) write(at, x + wide / 2, y + high / 2);
+      return;
+    }
+    write(at, x + wide * 0.3, y + high * 0.33);
+    write(rival, x + wide * 0.7, y + high * 0.68);
+  }
+
+  given(sheet, x, y, wide, high) {
+    const { pen } = this;
+    const { scale } = sheet.geometry;
+    const size = clamp(wide * 0.17, 1.5 * scale, 5 * scale);
+    pen.strokeStyle = sheet.inks.accent;
+    pen.lineWidth = 1.4 * scale;
+    pen.strokeRect(x + 1.2 * scale, y + 1.2 * scale, wide - 2.4 * scale, high - 2.4 * scale);
+    pen.beginPath();
+    pen.arc(x + wide / 2, y + high / 2, size, 0, 7);
+    pen.fillStyle = sheet.inks.accent;
+    pen.fill();
+    pen.lineWidth = scale;
+    pen.strokeStyle = '#fff';
+    pen.stroke();
+  }
+
+  rules(sheet) {
+    const { geometry: at } = sheet;
+    const { top, left, bottom, right } = at.seen();
+    const [west, north] = [at.x(left), at.y(top)];
+    const [wide, high] = [(right - left + 1) * at.cell, (bottom - top + 1) * at.cell];
+    const isHeavy = (one, count) => one % 5 === 0 || one === count;
+    for (const strong of this.thin ? [false, true] : [true]) {
+      this.pen.fillStyle = strong ? sheet.inks.heavy : sheet.inks.light;
+      const breadth = strong ? this.wide : 1;
+      for (let col = left; col <= right + 1; col++) if (isHeavy(col, at.columns) === strong) this.pen.fillRect(at.x(col) - (breadth > 1 ? 1 : 0), north, breadth, high);
+      for (let row = top; row <= bottom + 1; row++) if (isHeavy(row, at.rows) === strong) this.pen.fillRect(west, at.y(row) - (breadth > 1 ? 1 : 0), wide, breadth);
+    }
+  }
+}

@@ -1,0 +1,225 @@
+// Where cells and clues lie: the size of a cell, how far the picture is moved, and how much room clues take. All lengths are
+// pixels of the screen (not of the page), so that lines fall on whole pixels. Where a picture does not fit beside its clues, Fit
+// folds these to edges.
+
+import { clamp } from '../base/words.js';
+
+const SMALLEST = 3; // a cell's side in the page's pixels
+const LARGEST = 64;
+const MARGIN = 6;
+const AROUND = 14; // the page's pixels around the blocks of a clue: some more than the strips leave free
+const EDGES = { left: 23, top: 17 }; // the page's pixels of clues that are folded: room for the numbers of lines
+
+export class Geometry {
+  constructor() {
+    this.scale = 1; // pixels of the screen for one of the page
+    this.width = this.height = 0;
+    this.rows = this.columns = 1;
+    this.cell = 16;
+    this.left = this.top = 40; // room for the clues
+    this.panX = this.panY = 0; // how far the picture is moved to the left and up
+    this.isFitted = true;
+    this.isFolded = false; // whether clues are edges with numbers of lines alone
+    this.letters = false;
+    this.rowSizes = []; // of each clue: {signs, blocks}, measured once it changes
+    this.columnSizes = [];
+  }
+
+  measure(clues, changed = null) {
+    const sizes = (blocks) => ({ blocks: blocks.length, signs: blocks.reduce((sum, block) => sum + (block.length > 99 ? 3 : block.length > 9 ? 2 : 1), 0) });
+    if (!changed) {
+      this.rowSizes = clues.rows.map(sizes);
+      this.columnSizes = clues.columns.map(sizes);
+      return;
+    }
+    for (const row of changed.rows) this.rowSizes[row] = sizes(clues.rows[row]);
+    for (const col of changed.columns) this.columnSizes[col] = sizes(clues.columns[col]);
+  }
+
+  // The text of clues for a cell of this size.
+  fontFor(cell) {
+    const side = cell / this.scale;
+    return Math.round(clamp(Math.floor(side * 0.6), 7, 15) * this.scale);
+  }
+
+  pitchFor(cell) {
+    const font = this.fontFor(cell);
+    return Math.round(cell < 10 * this.scale ? Math.max(cell, font + 1) : font + (cell < 18 * this.scale ? 2 : 5) * this.scale);
+  }
+
+  chipWidth(signs, font) {
+    return Math.round((signs + (this.letters ? 1 : 0)) * font * 0.62 + font / 2);
+  }
+
+  // How much room all clues want with a cell of this size, at most a part of what there is. `spare` blocks more may come.
+  room(cell, spare = 1) {
+    const font = this.fontFor(cell);
+    const isTiny = cell < 7 * this.scale;
+    const tick = 4 * this.scale;
+    const one = (size) => (isTiny ? size.blocks * (tick + 2) : size.signs * font * 0.62 + size.blocks * ((this.letters ? 0.62 : 0) * font + font / 2 + 2.5)); // a block's width is rounded
+    const most = Math.max(0, ...this.rowSizes.map(one)) + spare * one({ blocks: 1, signs: 1 });
+    const tall = (Math.max(0, ...this.columnSizes.map((size) => size.blocks)) + spare) * ((isTiny ? tick : this.pitchFor(cell)) + 1);
+    const bound = isTiny ? 0.2 : this.width < 600 * this.scale ? 0.28 : 0.34;
+    return {
+      left: Math.ceil(clamp(most + AROUND * this.scale, 26 * this.scale, this.width * bound)),
+      top: Math.ceil(clamp(tall + AROUND * this.scale, 22 * this.scale, this.height * bound)),
+    };
+  }
+
+  // The smallest cell beside whole strips of clues.
+  get least() {
+    return Math.round(SMALLEST * this.scale);
+  }
+
+  // How much room the edges take that clues are folded to.
+  edges() {
+    return { left: Math.round(EDGES.left * this.scale), top: Math.round(EDGES.top * this.scale) };
+  }
+
+  /** The largest cell with which all is seen, and whether the clues are folded for it: only where three pixels are too many else. */
+  fitting() {
+    for (let side = LARGEST; side >= SMALLEST; side--) {
+      const cell = Math.round(side * this.scale);
+      const { left, top } = this.room(cell);
+      if (left + this.columns * cell + MARGIN <= this.width && top + this.rows * cell + MARGIN <= this.height) return { cell, isFolded: false };
+    }
+    const { left, top } = this.edges();
+    const margin = MARGIN * this.scale;
+    const most = Math.min((this.width - left - margin) / this.columns, (this.height - top - margin) / this.rows);
+    return { cell: Math.floor(clamp(most, 1, this.least)), isFolded: true };
+  }
+
+  resize(width, height, scale) {
+    [this.width, this.height, this.scale] = [Math.round(width * scale), Math.round(height * scale), scale];
+  }
+
+  /** Shows the whole picture. */
+  fit() {
+    this.isFitted = true;
+    Object.assign(this, this.fitting());
+    this.spread();
+    this.panX = this.panY = 0;
+    this.clamp();
+  }
+
+  spread() {
+    Object.assign(this, this.isFolded ? this.edges() : this.room(this.cell));
+    this.font = this.fontFor(this.cell);
+    this.pitch = this.pitchFor(this.cell);
+  }
+
+  /** Makes room where clues have grown; what was there stays, or the picture would move under the pointer. */
+  grow() {
+    if (this.isFolded) return false;
+    const { left, top } = this.room(this.cell, 0);
+    const grows = left > this.left || top > this.top;
+    if (!grows) return false;
+    if (this.isFitted) this.fit();
+    else {
+      [this.left, this.top] = [Math.max(left, this.left), Math.max(top, this.top)];
+      this.clamp();
+    }
+    return true;
+  }
+
+  /** The size of a cell one step larger or smaller: by a share of it, at least by a pixel. */
+  step(way, share) {
+    const next = this.cell + way * Math.max(1, Math.round(this.cell / share));
+    return next >= this.least ? next : way > 0 ? this.least : 1;
+  }
+
+  /** Zooms so that the place under a point of the view stays there; further out than that goes, to Fit where it folds the clues. */
+  zoom(cell, x = (this.width + this.left) / 2, y = (this.height + this.top) / 2) {
+    const [before, was] = [this.cell, this.isFolded];
+    const fit = cell < this.least ? this.fitting() : { isFolded: false };
+    if (fit.isFolded && cell - fit.cell < this.least - cell) {
+      this.fit();
+      return !was;
+    }
+    const [across, down] = [(x - this.x(0)) / before, (y - this.y(0)) / before];
+    this.cell = Math.round(clamp(cell, this.least, LARGEST * this.scale));
+    this.isFitted = this.isFolded = false;
+    this.spread();
+    this.panX = this.panY = 0;
+    this.panX = this.x(0) + across * this.cell - x;
+    this.panY = this.y(0) + down * this.cell - y;
+    this.clamp();
+    return was || this.cell !== before;
+  }
+
+  pan(dx, dy) {
+    this.panX += dx;
+    this.panY += dy;
+    this.clamp();
+  }
+
+  // Where the picture is smaller than its room it stands in the middle; else an edge comes no further than its margin.
+  clamp() {
+    const over = (length, room) => Math.max(0, length + MARGIN * this.scale - room);
+    this.panX = Math.round(clamp(this.panX, 0, over(this.columns * this.cell, this.width - this.left)));
+    this.panY = Math.round(clamp(this.panY, 0, over(this.rows * this.cell, this.height - this.top)));
+  }
+
+  slackX() {
+    return Math.max(0, Math.floor((this.width - this.left - this.columns * this.cell - MARGIN) / 2));
+  }
+
+  slackY() {
+    return Math.max(0, Math.floor((this.height - this.top - this.rows * this.cell - MARGIN) / 3));
+  }
+
+  // The edges of the room of the cells.
+  get originX() {
+    return this.left + this.slackX();
+  }
+
+  get originY() {
+    return this.top + this.slackY();
+  }
+
+  x(col) {
+    return this.originX - this.panX + col * this.cell;
+  }
+
+  y(row) {
+    return this.originY - this.panY + row * this.cell;
+  }
+
+  /** The rows and columns that are seen, in part or whole. */
+  seen() {
+    return {
+      top: clamp(Math.floor(this.panY / this.cell), 0, this.rows - 1),
+      left: clamp(Math.floor(this.panX / this.cell), 0, this.columns - 1),
+      bottom: clamp(Math.floor((this.height - this.y(0)) / this.cell), 0, this.rows - 1),
+      right: clamp(Math.floor((this.width - this.x(0)) / this.cell), 0, this.columns - 1),
+    };
+  }
+
+  /** What lies at a point: a cell, the clue of a row or a column, or nothing; with the nearest cell. */
+  at(x, y) {
+    const [down, across] = [Math.floor((y - this.y(0)) / this.cell), Math.floor((x - this.x(0)) / this.cell)];
+    const [row, col] = [clamp(down, 0, this.rows - 1), clamp(across, 0, this.columns - 1)];
+    const [overLeft, overTop] = [x < this.originX, y < this.originY];
+    const [inRows, inColumns] = [down === row, across === col];
+    const part = !overLeft && !overTop && inRows && inColumns ? 'cell' : overLeft && !overTop && inRows ? 'row' : overTop && !overLeft && inColumns ? 'column' : 'none';
+    return { part, row, col };
+  }
+
+  /** Moves the picture until a cell is seen whole. */
+  reveal(row, col) {
+    const [x, y, room] = [this.x(col), this.y(row), this.cell];
+    let [dx, dy] = [0, 0];
+    if (x < this.originX + room) dx = x - this.originX - room;
+    else if (x + 2 * room > this.width) dx = x + 2 * room - this.width;
+    if (y < this.originY + room) dy = y - this.originY - room;
+    else if (y + 2 * room > this.height) dy = y + 2 * room - this.height;
+    const [beforeX, beforeY] = [this.panX, this.panY];
+    this.pan(dx, dy);
+    return this.panX !== beforeX || this.panY !== beforeY;
+  }
+
+  /** Brings a cell to the middle. */
+  centre(row, col) {
+    this.pan(this.x(col) - (this.width + this.left) / 2, this.y(row) - (this.height + this.top) / 2);
+  }
+}

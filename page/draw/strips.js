@@ -1,0 +1,204 @@
+// The clues beside and above the cells. Blocks are drawn once for each length and colour and copied from there; a line is
+// drawn again only when its clue, its mark or its place changes. Where Fit folds the clues, edges with the numbers of some lines
+// stand there.
+
+import { cssOf, inkOn } from '../document/colours.js';
+import { LETTERS } from '../document/limits.js';
+
+const MOST_SPRITES = 600;
+const EDGE = 5; // the page's pixels of the marks of lines where the clues are folded
+
+export class Strips {
+  constructor(rowCanvas, columnCanvas) {
+    this.canvases = { r: rowCanvas, c: columnCanvas };
+    this.pens = { r: rowCanvas.getContext('2d', { alpha: false }), c: columnCanvas.getContext('2d', { alpha: false }) };
+    this.sprites = new Map();
+  }
+
+  /** Draws all lines that are seen. */
+  all(sheet) {
+    const { geometry: at } = sheet;
+    const key = [at.cell, at.font, at.pitch, at.letters, at.scale, sheet.doc.maxval, ...sheet.doc.colours].join();
+    if (key !== this.key || this.sprites.size > MOST_SPRITES) this.sprites.clear();
+    this.key = key;
+    for (const axis of ['r', 'c']) {
+      const pen = this.pens[axis];
+      pen.fillStyle = sheet.inks.paper;
+      pen.fillRect(0, 0, this.canvases[axis].width, this.canvases[axis].height);
+    }
+    const { top, left, bottom, right } = at.seen();
+    for (let row = top; row <= bottom; row++) this.row(sheet, row, false);
+    for (let col = left; col <= right; col++) this.column(sheet, col, false);
+    if (at.isFolded) this.numbers(sheet);
+  }
+
+  // The numbers of each tenth line, or where these would touch of each twentieth, beside the marks.
+  numbers(sheet) {
+    const { geometry: at } = sheet;
+    const size = Math.round(8 * at.scale);
+    const step = at.cell * 10 < 2 * size ? 20 : 10;
+    const away = Math.round((EDGE + 4) * at.scale);
+    for (const [axis, count] of [['r', at.rows], ['c', at.columns]]) {
+      const pen = this.pens[axis];
+      pen.font = `${size}px ${sheet.family}`;
+      pen.fillStyle = sheet.inks.faint;
+      pen.textAlign = axis === 'r' ? 'right' : 'center';
+      pen.textBaseline = axis === 'r' ? 'middle' : 'bottom';
+      for (let line = step; line <= count; line += step) {
+        const middle = (line - 0.5) * at.cell;
+        if (axis === 'r') pen.fillText(line, at.originX - away, at.y(0) + middle);
+        else pen.fillText(line, at.x(0) + middle, at.originY - away + Math.round(2 * at.scale));
+      }
+    }
+  }
+
+  /** Draws some lines again. */
+  some(sheet, rows, columns) {
+    if (!this.key) return;
+    const { top, left, bottom, right } = sheet.geometry.seen();
+    for (const row of rows) if (row >= top && row <= bottom) this.row(sheet, row, true);
+    for (const col of columns) if (col >= left && col <= right) this.column(sheet, col, true);
+  }
+
+  // The band of a line: its ground, tinted where its clue has changed, it is dragged, or a reason names it.
+  band(sheet, axis, at, x, y, width, height, anew) {
+    const pen = this.pens[axis];
+    const isMarked = sheet.isMarked(axis, at);
+    const isChanged = sheet.isChanged(axis, at);
+    if (anew || isMarked || isChanged) {
+      pen.fillStyle = isMarked || isChanged ? sheet.inks.tint : sheet.inks.paper;
+      pen.fillRect(x, y, width, height);
+    }
+    const edge = Math.round(3 * sheet.geometry.scale);
+    if (isMarked) {
+      pen.fillStyle = sheet.inks.accent;
+      pen.fillRect(x, y, axis === 'r' ? edge : width, axis === 'r' ? height : edge);
+    }
+    if (!isChanged) return;
+    pen.fillStyle = sheet.inks.alarm;
+    if (axis === 'r') pen.fillRect(x + width - edge, y + 1, edge, Math.max(1, height - 2));
+    else pen.fillRect(x + 1, y + height - edge, Math.max(1, width - 2), edge);
+  }
+
+  // The band of a line where the clues are folded: its marks alone, beside the cells.
+  edge(sheet, axis, line, anew) {
+    const { geometry: at } = sheet;
+    const [wide, gap] = [Math.round(EDGE * at.scale), Math.round(2 * at.scale)];
+    if (axis === 'r') this.band(sheet, 'r', line, at.originX - gap - wide, at.y(line), wide, at.cell, anew);
+    else this.band(sheet, 'c', line, at.x(line), at.originY - gap - wide, at.cell, wide, anew);
+  }
+
+  row(sheet, row, anew) {
+    const { geometry: at } = sheet;
+    if (at.isFolded) return this.edge(sheet, 'r', row, anew);
+    const [y, gap] = [at.y(row), Math.round(3 * at.scale)];
+    const pen = this.pens.r;
+    pen.save();
+    pen.beginPath();
+    pen.rect(0, Math.max(at.originY, y), at.originX, at.cell);
+    pen.clip();
+    this.band(sheet, 'r', row, at.slackX(), y, at.left - gap / 2, at.cell, anew);
+    const blocks = sheet.clues.rows[row];
+    const height = Math.min(at.cell - 1, at.font + Math.round(6 * at.scale));
+    const top = y + Math.floor((at.cell - height) / 2);
+    let x = at.originX - gap - Math.round(4 * at.scale);
+    if (!blocks.length) this.none(sheet, 'r', x - at.font / 2, y + at.cell / 2);
+    for (let one = blocks.length - 1; one >= 0; one--) {
+      const width = this.rowWidth(at, blocks[one]);
+      if (x - width < at.slackX() + 6 * at.scale) {
+        pen.fillStyle = sheet.inks.ink;
+        pen.fillRect(at.slackX() + 1, y + at.cell / 2 - at.scale, 4 * at.scale, 2 * at.scale);
+        break;
+      }
+      this.copy(pen, sheet, blocks[one], width, height, x - width, top);
+      x -= width + 2;
+    }
+    pen.restore();
+  }
+
+  rowWidth(at, block) {
+    return at.cell < 7 * at.scale ? Math.round(4 * at.scale) : at.chipWidth(String(block.length).length, at.font);
+  }
+
+  column(sheet, col, anew) {
+    const { geometry: at } = sheet;
+    if (at.isFolded) return this.edge(sheet, 'c', col, anew);
+    const [x, gap] = [at.x(col), Math.round(3 * at.scale)];
+    const pen = this.pens.c;
+    pen.save();
+    pen.beginPath();
+    pen.rect(Math.max(at.originX, x), 0, at.cell, at.originY);
+    pen.clip();
+    this.band(sheet, 'c', col, x, at.slackY(), at.cell, at.top - gap / 2, anew);
+    const blocks = sheet.clues.columns[col];
+    const width = Math.min(at.cell - 1, Math.round(at.font * 2.6));
+    const height = at.cell < 7 * at.scale ? Math.round(4 * at.scale) : at.pitch;
+    const left = x + Math.floor((at.cell - width) / 2);
+    let y = at.originY - gap - Math.round(4 * at.scale);
+    if (!blocks.length) this.none(sheet, 'c', x + at.cell / 2, y - at.font / 2);
+    for (let one = blocks.length - 1; one >= 0; one--) {
+      if (y - height < at.slackY() + 6 * at.scale) {
+        pen.fillStyle = sheet.inks.ink;
+        pen.fillRect(x + at.cell / 2 - at.scale, at.slackY() + 1, 2 * at.scale, 4 * at.scale);
+        break;
+      }
+      this.copy(pen, sheet, blocks[one], width, height, left, y - height);
+      y -= height + 1;
+    }
+    pen.restore();
+  }
+
+  none(sheet, axis, x, y) {
+    if (sheet.geometry.cell < 7 * sheet.geometry.scale) return;
+    const pen = this.pens[axis];
+    pen.font = `${sheet.geometry.font}px ${sheet.family}`;
+    pen.textAlign = 'center';
+    pen.textBaseline = 'middle';
+    pen.fillStyle = sheet.inks.faint;
+    pen.fillText('0', x, y);
+  }
+
+  copy(pen, sheet, block, width, height, x, y) {
+    const key = `${block.length}${block.letter} ${width} ${height}`;
+    let sprite = this.sprites.get(key);
+    if (!sprite) {
+      sprite = this.sprite(sheet, block, width, height);
+      this.sprites.set(key, sprite);
+    }
+    pen.drawImage(sprite, x, y);
+  }
+
+  // One block as a chip in its colour.
+  sprite(sheet, block, width, height) {
+    const { geometry: at, doc } = sheet;
+    const image = new OffscreenCanvas(Math.max(1, width), Math.max(1, height));
+    const pen = image.getContext('2d');
+    const triple = doc.colours[LETTERS.indexOf(block.letter)] ?? [0, 0, 0];
+    pen.beginPath();
+    pen.roundRect(0.5, 0.5, width - 1, height - 1, height < 14 * at.scale ? 1 : 4 * at.scale);
+    pen.fillStyle = cssOf(triple, doc.maxval);
+    pen.fill();
+    pen.lineWidth = 1;
+    pen.strokeStyle = 'rgb(128 130 134 / 55%)';
+    if (height > 4) pen.stroke();
+    const text = block.length + (at.letters ? block.letter : '');
+    const font = Math.min(at.font, height, Math.floor((width / text.length) * 1.72));
+    if (font < 6 * at.scale || at.cell < 7 * at.scale) return image;
+    pen.font = `${font}px ${sheet.family}`;
+    pen.textAlign = 'center';
+    pen.textBaseline = 'middle';
+    pen.fillStyle = inkOn(triple, doc.maxval);
+    pen.fillText(text, width / 2, height / 2 + 0.5);
+    return image;
+  }
+
+  /** Whether a clue is drawn in part only, or without its numbers. */
+  isCut(sheet, axis, at) {
+    const { geometry } = sheet;
+    if (geometry.cell < 10 * geometry.scale) return true;
+    const blocks = sheet.clues[axis === 'r' ? 'rows' : 'columns'][at];
+    const spare = 13 * geometry.scale;
+    if (axis === 'c') return blocks.length * (geometry.pitch + 1) > geometry.top - spare;
+    return blocks.reduce((sum, block) => sum + this.rowWidth(geometry, block) + 2, 0) > geometry.left - spare;
+  }
+}

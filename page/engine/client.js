@@ -1,0 +1,98 @@
+// Engines in workers. What the build put into the page: the module, the worker's source, examples.
+
+let read = null;
+
+/** What the build put into the page: `module` (packed), `worker`, `version`, `commit`. Empty where there is no page. */
+const built = () => (read ??= JSON.parse(globalThis.document?.getElementById('built')?.textContent.trim() || '{}'));
+let moduleBytes = null; // a promise of the module's bytes
+let workerUrl = null;
+
+async function unpacked(base64, packed) {
+  const bytes = Uint8Array.from(atob(base64), (sign) => sign.charCodeAt(0));
+  if (packed !== 'gzip') return bytes;
+  const stream = new Blob([bytes]).stream().pipeThrough(new DecompressionStream('gzip'));
+  return new Uint8Array(await new Response(stream).arrayBuffer());
+}
+
+/** A fault of an engine: kind 'open', 'memory', 'closed', or 'ended' where the worker is of no use any more. */
+export class EngineFault extends Error {
+  constructor({ kind, text }) {
+    super(text);
+    this.kind = kind;
+    this.text = text;
+  }
+}
+
+/**
+ * A worker with an engine: `call(name, fields)` gives a promise of the value and rejects with an EngineFault; `end()` ends
+ * the worker at once, and what waits is rejected as 'ended'. A worker that fails by itself is ended, too.
+ */
+export class Client {
+  constructor(make = () => new Worker(workerUrl)) {
+    workerUrl ??= built().worker ? URL.createObjectURL(new Blob([built().worker], { type: 'text/javascript' })) : null;
+    this.waiting = new Map();
+    this.last = 0;
+    this.isEnded = false;
+    this.worker = make();
+    this.worker.onmessage = ({ data }) => this.hear(data);
+    this.worker.onerror = (event) => {
+      event.preventDefault?.();
+      this.end(event.message || 'the worker failed');
+    };
+    this.worker.onmessageerror = () => this.end('the worker failed');
+    this.ready = this.load();
+    this.ready.catch(() => {});
+  }
+
+  async load() {
+    moduleBytes ??= unpacked(built().module ?? '', built().packed);
+    return this.post('load', { module: await moduleBytes });
+  }
+
+  hear(data) {
+    const item = this.waiting.get(data?.id);
+    if (!item) return;
+    this.waiting.delete(data.id);
+    if (!data.fault) return item.resolve(data.ok);
+    const fault = new EngineFault({ kind: String(data.fault.kind), text: String(data.fault.text) });
+    item.reject(fault);
+    if (fault.kind === 'ended') this.end(fault.text);
+  }
+
+  post(call, fields) {
+    if (this.isEnded) return Promise.reject(new EngineFault({ kind: 'ended', text: 'the worker has ended' }));
+    const id = ++this.last;
+    return new Promise((resolve, reject) => {
+      this.waiting.set(id, { resolve, reject });
+      this.worker.postMessage({ id, call, ...fields });
+    });
+  }
+
+  async call(name, fields = {}) {
+    await this.ready;
+    return this.post(name, fields);
+  }
+
+  open(file, options) {
+    return this.call('open', { file, ...options });
+  }
+
+  say(lines) {
+    return this.call('say', { lines: Array.isArray(lines) ? lines.map((line) => `${line}\n`).join('') : lines });
+  }
+
+  check(picture, certificate, background) {
+    return this.call('check', { picture, certificate, background });
+  }
+
+  end(text = 'the worker was ended') {
+    if (this.isEnded) return;
+    this.isEnded = true;
+    this.worker.terminate();
+    for (const item of this.waiting.values()) item.reject(new EngineFault({ kind: 'ended', text }));
+    this.waiting.clear();
+  }
+}
+
+/** A new worker with an engine of its own. */
+export const startEngine = () => new Client();

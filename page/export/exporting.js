@@ -1,0 +1,142 @@
+// Out of the page: Web Paint-by-Number's XML, PNG of the picture and of the empty puzzle, a printed sheet, P3, .non and the
+// certificate. Each is a download, or the browser's print.
+
+import { $, make, say } from '../base/elements.js';
+import { bareName, clamp, many } from '../base/words.js';
+import { nameOf, plainHexOf } from '../document/colours.js';
+import { eightBitDoc } from '../document/docs.js';
+import { LETTERS } from '../document/limits.js';
+import { docOf, sameDoc } from '../document/mirror.js';
+import { canvasOfPaper, paperOf, svgOfPaper, svgPart } from '../draw/papers.js';
+import { drawSmall } from '../draw/small.js';
+import { bench } from '../engine/bench.js';
+import { keep } from '../library/keep.js';
+import { SAVE_TYPES, exportAs, saved, saving, showFileName, textAs } from '../library/saving.js';
+import { addAction, runAction } from '../view/actions.js';
+import { openDialog } from '../view/dialogs.js';
+import { asSeen } from '../view/tools.js';
+import { certificateText } from '../view/verdict.js';
+
+const PNG_SIDE = 1600; // pixels that the longer side of a PNG comes near to
+const puzzleAtHand = () => ({ doc: docOf(bench.state), clues: bench.state.clues });
+const pngCell = ({ rows, columns }) => clamp(Math.floor(PNG_SIDE / Math.max(rows, columns)), 8, 32);
+
+function exportPng(canvas, suffix) {
+  canvas.toBlob((blob) => (blob ? exportAs('png', blob, suffix) : say('The browser made no PNG of it.', 'alarm')), 'image/png');
+}
+
+/** The picture, some pixels a cell, without lines. */
+async function exportPicture(side) {
+  await asSeen();
+  const { doc } = puzzleAtHand();
+  const canvas = make('canvas');
+  drawSmall(canvas, doc, side * Math.max(doc.rows, doc.columns));
+  exportPng(canvas, side === 1 ? '-cells' : '-picture');
+}
+
+async function exportEmpty() {
+  await asSeen();
+  const { doc, clues } = puzzleAtHand();
+  exportPng(canvasOfPaper(paperOf({ doc, clues }, { cell: pngCell(doc) })), '-puzzle');
+}
+
+async function exportText(form) {
+  await asSeen();
+  const doc = docOf(bench.state);
+  const text = await textAs(form);
+  if (text === null) return;
+  exportAs(form, text);
+  if (form !== 'non') saved(doc, bench.name + SAVE_TYPES[form].ending); // it holds all of the document
+}
+
+async function exportCertificate() {
+  await asSeen();
+  const before = docOf(bench.state);
+  const text = await certificateText();
+  if (text && bench.state && sameDoc(before, bench.state)) exportAs('cert', text);
+}
+
+// ---- the printed sheet
+
+// The colours that are drawn, with their letters on wish, and the background where it is not white.
+function printedLegend(doc, letters) {
+  const { colours } = eightBitDoc(doc);
+  const isWhite = colours[0].join() === '255,255,255';
+  const item = (triple, text) => {
+    const swatch = svgPart('svg', { viewBox: '0 0 10 10', width: '0.9em', height: '0.9em' });
+    swatch.append(svgPart('rect', { x: 0, y: 0, width: 10, height: 10, fill: `#${plainHexOf(triple)}`, stroke: '#555', 'stroke-width': 0.5 }));
+    return [make('span', {}, swatch, ` ${text}`), ' '];
+  };
+  const drawn = colours.slice(1).map((triple, at) => [LETTERS[at + 1], triple]).filter(([letter]) => doc.picture.some((row) => row.includes(letter)));
+  const inks = drawn.flatMap(([letter, triple]) => item(triple, `${letters ? `${letter}: ` : ''}${nameOf(triple, 255)}`));
+  return make('p', { class: 'legend' }, ...inks, ...(isWhite ? [] : item(colours[0], `background: ${nameOf(colours[0], 255)}`)));
+}
+
+/** Fills the part of the page that is printed: the puzzle, and on wish the solution on a second sheet. */
+function fillPrint({ title, letters, solution }) {
+  const { doc, clues } = puzzleAtHand();
+  const by = keep.about.author ? `, by ${keep.about.author}` : '';
+  const facts = `${doc.columns} by ${doc.rows}${doc.givens.size ? `, ${many(doc.givens.size, 'cell')} given` : ''}${by}`;
+  const sheets = [make('section', { class: 'printed' }, make('h1', {}, title), make('p', {}, facts), svgOfPaper(paperOf({ doc, clues }, { letters })), printedLegend(doc, letters))];
+  if (solution) sheets.push(make('section', { class: 'printed' }, make('h1', {}, `${title}: solution`), svgOfPaper(paperOf({ doc, clues }, { letters, solution: true, clues: false }))));
+  $('print').replaceChildren(...sheets);
+}
+
+// What somebody who solves the sheet should not be left to find out.
+const PRINT_WARNINGS = {
+  ambiguous: 'Another picture has the same clues. “Fix it” in the menu Check makes this one the only solution.',
+  undecided: 'It is not known yet whether this picture is the only solution.',
+};
+
+async function printPuzzle() {
+  await asSeen();
+  const title = make('input', { type: 'text', value: keep.about.title || bench.name, maxlength: '200' });
+  const letters = make('input', { type: 'checkbox' });
+  const solution = make('input', { type: 'checkbox', checked: true });
+  const content = make('div', { class: 'rows' }, make('label', {}, 'Title', title), make('label', {}, letters, 'Letters in place of colours, for black and white'), make('label', {}, solution, 'The solution on a second sheet'));
+  const warning = PRINT_WARNINGS[bench.state.verdict.word];
+  if (warning) content.append(make('p', { class: 'wrong' }, warning));
+  const go = await openDialog({ title: 'Print', content, buttons: [{ name: 'Print …', value: true, main: true }] });
+  if (!go) return;
+  fillPrint({ title: title.value || bench.name, letters: letters.checked, solution: solution.checked });
+  globalThis.print();
+}
+
+/** Asks for the title and the author, which go into the XML and on the printed sheet. */
+async function askAbout() {
+  const fields = ['title', 'author', 'copyright', 'description'].map((name) => [name, make('input', { type: 'text', value: keep.about[name] ?? '', maxlength: '500' })]);
+  const content = make('div', { class: 'rows' }, ...fields.map(([name, input]) => make('label', {}, name[0].toUpperCase() + name.slice(1), input)));
+  const file = make('input', { type: 'text', value: bench.name, maxlength: '80' });
+  content.append(make('label', {}, 'Name of the file', file));
+  if (!(await openDialog({ title: 'About the puzzle', content, buttons: [{ name: 'OK', value: true, main: true }] }))) return;
+  keep.about = Object.fromEntries(fields.map(([name, input]) => [name, input.value.trim()]));
+  if (bareName(file.value) !== bench.name) saving.handle = null;
+  bench.name = bareName(file.value);
+  keep.now();
+  showFileName();
+}
+
+/** What the menu File exports and prints. */
+export function startExporting() {
+  addAction({ id: 'about', name: 'Title and author …', place: 'file', group: 'save', run: askAbout });
+  addAction({ id: 'export-xml', name: 'Export XML (Web Paint-by-Number)', place: 'file', group: 'export', run: () => exportText('xml') });
+  addAction({ id: 'export-picture', name: 'Export the picture as PNG', place: 'file', group: 'export', run: () => exportPicture(pngCell(bench.state)) });
+  addAction({ id: 'export-cells', name: 'Export as PNG, a pixel a cell', place: 'file', group: 'export', run: () => exportPicture(1) });
+  addAction({ id: 'export-empty', name: 'Export the empty puzzle as PNG', place: 'file', group: 'export', run: exportEmpty });
+  addAction({ id: 'export-ppm', name: 'Export plain PPM', place: 'file', group: 'export', run: () => exportText('ppm') });
+  addAction({ id: 'export-non', name: 'Export .non (two colours)', place: 'file', group: 'export', can: () => bench.state.colours.length <= 2 || !/[b-o]/.test(bench.state.picture.join('')), run: () => exportText('non') });
+  addAction({ id: 'certificate', name: 'Export the certificate', place: 'file', group: 'export', run: exportCertificate });
+  addAction({ id: 'print', name: 'Print …', key: 'Ctrl+P', place: 'file', group: 'print', run: printPuzzle });
+  // What is opened by the browser's own print, without the dialog, is a sheet too.
+  addEventListener('beforeprint', () => {
+    if (bench.state && !$('print').children.length) fillPrint({ title: keep.about.title || bench.name, letters: false, solution: true });
+  });
+  addEventListener('afterprint', () => $('print').replaceChildren());
+}
+
+/** The panel that saves and exports. */
+export function showExportPanel() {
+  const button = (id, name) => make('button', { type: 'button', 'data-action': id, onclick: (event) => runAction(id, event) }, name);
+  $('out').replaceChildren(make('h2', {}, 'Save and export'), make('p', { class: 'group' },
+    button('save', 'Save'), button('export-xml', 'XML'), button('export-empty', 'Puzzle PNG'), button('export-picture', 'Picture PNG'), button('print', 'Print …'), button('certificate', 'Certificate')));
+}

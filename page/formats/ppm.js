@@ -1,0 +1,86 @@
+// Plain and raw PPM pictures (P3 and P6), read as images of 8-bit samples whatever their maxval is.
+
+import { number } from '../base/words.js';
+import { FileFault } from '../document/limits.js';
+
+export const MOST_BYTES_READ = 16 * 1024 * 1024; // of a file
+const MOST_PIXELS = 4096; // of an image, a side
+
+export const isBlankByte = (byte) => byte === 32 || (byte >= 9 && byte <= 13);
+const PPM_COMMENT = 35;
+
+// Tokens of a PPM's text from a place: runs that are neither white space nor comments.
+class PpmTokens {
+  constructor(bytes) {
+    this.bytes = bytes;
+    this.at = 2;
+  }
+
+  skip() {
+    const { bytes } = this;
+    while (this.at < bytes.length) {
+      if (isBlankByte(bytes[this.at])) this.at++;
+      else if (bytes[this.at] === PPM_COMMENT) while (this.at < bytes.length && bytes[this.at] !== 10 && bytes[this.at] !== 13) this.at++;
+      else return;
+    }
+  }
+
+  number(what) {
+    this.skip();
+    const { bytes } = this;
+    const from = this.at;
+    let value = 0;
+    for (; this.at < bytes.length && !isBlankByte(bytes[this.at]) && bytes[this.at] !== PPM_COMMENT; this.at++) {
+      const digit = bytes[this.at] - 48;
+      if (digit < 0 || digit > 9) throw new FileFault(`The picture's ${what} at byte ${from} is no number.`);
+      value = Math.min(value * 10 + digit, 1e9);
+    }
+    if (this.at === from) throw new FileFault(`The picture ends before its ${what}.`);
+    return value;
+  }
+}
+
+/** Refuses sides that no image here may have. */
+export function boundSides(width, height) {
+  if (width < 1 || height < 1) throw new FileFault('The picture has no pixels.');
+  if (width > MOST_PIXELS || height > MOST_PIXELS) {
+    throw new FileFault(`The picture is ${width} by ${height} pixels; at most ${number(MOST_PIXELS)} a side are read.`);
+  }
+}
+
+/** An image `{ width, height, data }` of 8-bit red, green, blue and alpha, from the bytes of a P3 or P6 picture. */
+export function readPpm(bytes) {
+  const raw = bytes[1] === 54; // P6
+  const tokens = new PpmTokens(bytes);
+  const [width, height] = [tokens.number('width'), tokens.number('height')];
+  boundSides(width, height);
+  const maxval = tokens.number('maxval');
+  if (maxval < 1 || maxval > 65535) throw new FileFault('The picture\'s maxval is not from 1 to 65,535.');
+  const data = new Uint8ClampedArray(width * height * 4);
+  const next = raw ? rawSamples(tokens, maxval, width * height * 3) : () => tokens.number('samples');
+  for (let at = 0; at < data.length; at++) {
+    if (at % 4 === 3) {
+      data[at] = 255;
+      continue;
+    }
+    const sample = next();
+    if (sample > maxval) throw new FileFault(`A sample is ${sample}, above the maxval ${maxval}.`);
+    data[at] = Math.round((sample * 255) / maxval);
+  }
+  tokens.skip();
+  if (!raw && tokens.at < bytes.length) throw new FileFault('There is more behind the last sample of the picture.');
+  return { width, height, data };
+}
+
+// One white space stands behind the maxval of a raw picture, and then come its samples, of two bytes where maxval is above 255.
+function rawSamples(tokens, maxval, count) {
+  const { bytes } = tokens;
+  const size = maxval > 255 ? 2 : 1;
+  let at = tokens.at + 1;
+  if (bytes.length < at + count * size) throw new FileFault('The picture ends before its last sample.');
+  return () => {
+    const sample = size === 1 ? bytes[at] : bytes[at] * 256 + bytes[at + 1];
+    at += size;
+    return sample;
+  };
+}

@@ -1,0 +1,133 @@
+// Images of pixels, as `{ width, height, data }` with 8-bit red, green, blue and alpha: what a file is by its first bytes, the
+// size that its head tells, and an image cropped and scaled to cells. Samples are averaged as light, not as numbers.
+
+import { LIGHT_OF } from '../document/colours.js';
+import { isBlankByte } from '../formats/ppm.js';
+
+const bytesBegin = (bytes, text, from = 0) => [...text].every((sign, at) => bytes[from + at] === sign.charCodeAt(0));
+
+/** What a file is, by its bytes alone: 'ppm', 'png', 'jpeg', 'gif', 'webp', 'xml', 'non' or null. */
+export function kindOfFile(bytes) {
+  if (bytesBegin(bytes, 'P3') || bytesBegin(bytes, 'P6')) return 'ppm';
+  if (bytesBegin(bytes, '\u0089PNG\r\n\u001a\n')) return 'png';
+  if (bytes[0] === 0xff && bytes[1] === 0xd8 && bytes[2] === 0xff) return 'jpeg';
+  if (bytesBegin(bytes, 'GIF8')) return 'gif';
+  if (bytesBegin(bytes, 'RIFF') && bytesBegin(bytes, 'WEBP', 8)) return 'webp';
+  let at = bytesBegin(bytes, '\u00ef\u00bb\u00bf') ? 3 : 0;
+  while (at < bytes.length && isBlankByte(bytes[at])) at++;
+  if (bytes[at] === 60) return 'xml'; // <
+  return bytes.length && bytes.subarray(0, 4096).every((byte) => byte >= 32 || isBlankByte(byte)) ? 'non' : null;
+}
+
+const pairAt = (bytes, at, low) => (low ? bytes[at] + bytes[at + 1] * 256 : bytes[at] * 256 + bytes[at + 1]);
+
+// The size in the frame header of a JPEG: markers follow one another, each with its length.
+function sizeOfJpeg(bytes) {
+  for (let at = 2; at + 8 < bytes.length;) {
+    if (bytes[at] !== 0xff) return null;
+    const marker = bytes[at + 1];
+    if (marker === 0xff) at++;
+    else if (marker >= 0xc0 && marker <= 0xcf && marker !== 0xc4 && marker !== 0xc8 && marker !== 0xcc) return [pairAt(bytes, at + 7), pairAt(bytes, at + 5)];
+    else at += 2 + pairAt(bytes, at + 2);
+  }
+  return null;
+}
+
+function sizeOfWebp(bytes) {
+  const three = (at) => pairAt(bytes, at, true) + bytes[at + 2] * 65536;
+  if (bytesBegin(bytes, 'VP8X', 12)) return [three(24) + 1, three(27) + 1];
+  if (bytesBegin(bytes, 'VP8 ', 12)) return [pairAt(bytes, 26, true) & 0x3fff, pairAt(bytes, 28, true) & 0x3fff];
+  if (!bytesBegin(bytes, 'VP8L', 12)) return null;
+  const bits = (bytes[21] | (bytes[22] << 8) | (bytes[23] << 16) | (bytes[24] << 24)) >>> 0;
+  return [(bits & 0x3fff) + 1, ((bits >>> 14) & 0x3fff) + 1];
+}
+
+/** Width and height that the head of a PNG, GIF, JPEG or WebP tells, before anything is unpacked; null where it tells none. */
+export function sizeOfImage(bytes, kind) {
+  if (bytes.length < 26) return null;
+  if (kind === 'png') return [pairAt(bytes, 16) * 65536 + pairAt(bytes, 18), pairAt(bytes, 20) * 65536 + pairAt(bytes, 22)];
+  if (kind === 'gif') return [pairAt(bytes, 6, true), pairAt(bytes, 8, true)];
+  if (kind === 'jpeg') return sizeOfJpeg(bytes);
+  return kind === 'webp' && bytes.length >= 30 ? sizeOfWebp(bytes) : null;
+}
+
+const LIGHT_STEPS = 16384; // fine enough that the light of each sample gives that sample back
+const SAMPLE_OF = Uint8Array.from({ length: LIGHT_STEPS + 1 }, (_, step) => {
+  const light = step / LIGHT_STEPS;
+  return Math.round(255 * (light <= 0.0031308 ? light * 12.92 : 1.055 * light ** (1 / 2.4) - 0.055));
+});
+const sampleOf = (light) => SAMPLE_OF[Math.min(LIGHT_STEPS, Math.round(light * LIGHT_STEPS))];
+
+// For each target place: the first source place, and the share of each one from there.
+function sharesOf(from, length, count) {
+  return Array.from({ length: count }, (_, at) => {
+    const [low, high] = [from + (at * length) / count, from + ((at + 1) * length) / count];
+    const first = Math.floor(low);
+    const parts = [];
+    for (let place = first; place < high; place++) parts.push(Math.min(high, place + 1) - Math.max(low, place));
+    return { first, parts };
+  });
+}
+
+/**
+ * A part of an image, `{ x, y, width, height }` in whole pixels, scaled to cells: each is the mean of the light that falls on
+ * it, or, where `sharp`, the pixel in its middle. Transparent parts count by what they cover.
+ */
+export function scaledTo(image, crop, columns, rows, sharp = false) {
+  const out = { width: columns, height: rows, data: new Uint8ClampedArray(columns * rows * 4) };
+  const { data, width } = image;
+  if (sharp) {
+    for (let row = 0, to = 0; row < rows; row++) {
+      const y = Math.min(crop.y + crop.height - 1, Math.floor(crop.y + ((row + 0.5) * crop.height) / rows));
+      for (let col = 0; col < columns; col++, to += 4) {
+        const x = Math.min(crop.x + crop.width - 1, Math.floor(crop.x + ((col + 0.5) * crop.width) / columns));
+        out.data.set(data.subarray((y * width + x) * 4, (y * width + x) * 4 + 4), to);
+      }
+    }
+    return out;
+  }
+  const [across, down] = [sharesOf(crop.x, crop.width, columns), sharesOf(crop.y, crop.height, rows)];
+  const cover = (crop.width / columns) * (crop.height / rows);
+  for (let row = 0, to = 0; row < rows; row++) {
+    for (let col = 0; col < columns; col++, to += 4) meanInto(out.data, to, data, width, across[col], down[row], cover);
+  }
+  return out;
+}
+
+function meanInto(target, to, data, width, across, down, cover) {
+  let [red, green, blue, sum] = [0, 0, 0, 0];
+  for (let dy = 0; dy < down.parts.length; dy++) {
+    let at = ((down.first + dy) * width + across.first) * 4;
+    for (let dx = 0; dx < across.parts.length; dx++, at += 4) {
+      const share = across.parts[dx] * down.parts[dy] * data[at + 3];
+      red += share * LIGHT_OF[data[at]];
+      green += share * LIGHT_OF[data[at + 1]];
+      blue += share * LIGHT_OF[data[at + 2]];
+      sum += share;
+    }
+  }
+  if (sum > 0) {
+    target[to] = sampleOf(red / sum);
+    target[to + 1] = sampleOf(green / sum);
+    target[to + 2] = sampleOf(blue / sum);
+  }
+  target[to + 3] = Math.round(sum / cover);
+}
+
+/** How many pixels a side each dot of an enlarged pixel picture has: the largest number for which all dots are of one colour. */
+export function dotSize({ width, height, data }) {
+  const pixels = new Uint32Array(data.buffer, data.byteOffset, width * height);
+  const common = (a, b) => (b ? common(b, a % b) : a);
+  let side = common(width, height);
+  for (let row = 0; row < height && side > 1; row++) {
+    for (let col = 1; col < width; col++) if (pixels[row * width + col] !== pixels[row * width + col - 1]) side = common(side, col);
+  }
+  for (let row = 1; row < height && side > 1; row++) {
+    for (let col = 0; col < width; col++) {
+      if (pixels[row * width + col] === pixels[(row - 1) * width + col]) continue;
+      side = common(side, row);
+      break;
+    }
+  }
+  return side;
+}

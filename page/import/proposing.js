@@ -1,0 +1,43 @@
+// What the dialog for pictures proposes of an image: its size in cells, how many colours, and the part without a margin.
+
+import { isTransparent } from '../document/docs.js';
+import { MOST_CELLS, MOST_COLOURS } from '../document/limits.js';
+import { dotSize, scaledTo } from './images.js';
+import { MOST_POINTS } from './importing.js';
+import { flatColours, hasClear, hasFewColours, spotsOf } from './quantise.js';
+
+/** How many colours an image has with a background: all where each pixel counts and they are few, its flat ones, or some. */
+function coloursFor(image, { isExact, some }) {
+  const clear = Number(hasClear(image));
+  const most = MOST_COLOURS - clear;
+  const own = isExact && hasFewColours(image, most) ? spotsOf(image) : flatColours(image, most);
+  return own.length ? Math.max(2, own.length + clear) : some;
+}
+
+/** What the dialog proposes for an image: one cell a dot of a pixel picture, else 40 cells on the longer side. */
+export function proposalFor(image) {
+  const dot = dotSize(image);
+  const [columns, rows] = [image.width / dot, image.height / dot];
+  const sampled = (wide, high) => scaledTo(image, { x: 0, y: 0, ...image }, wide, high, true);
+  if (columns <= MOST_CELLS && rows <= MOST_CELLS && columns * rows > 1) return { columns, rows, dot, sharp: true, colours: coloursFor(sampled(columns, rows), { isExact: true, some: MOST_COLOURS }) };
+  const scale = 40 / Math.max(image.width, image.height);
+  const colours = coloursFor(sampled(Math.min(MOST_POINTS, image.width), Math.min(MOST_POINTS, image.height)), { isExact: false, some: 6 });
+  return { columns: Math.max(1, Math.round(image.width * scale)), rows: Math.max(1, Math.round(image.height * scale)), dot: null, sharp: false, colours };
+}
+
+/** The part of an image without the lines at its edges that are transparent, or of the colour of its corner, all along. */
+export function withoutMargin({ width, height, data }) {
+  const pixels = new Uint32Array(data.buffer, data.byteOffset, width * height);
+  const isMargin = (at) => (isTransparent(data, 0) ? isTransparent(data, at * 4) : pixels[at] === pixels[0]);
+  let [left, top, right, bottom] = [width, height, -1, -1];
+  for (let row = 0, at = 0; row < height; row++) {
+    for (let col = 0; col < width; col++, at++) {
+      if (isMargin(at)) continue;
+      if (col < left) left = col;
+      if (col > right) right = col;
+      if (row < top) top = row;
+      bottom = row;
+    }
+  }
+  return right < 0 ? { x: 0, y: 0, width, height } : { x: left, y: top, width: right - left + 1, height: bottom - top + 1 };
+}

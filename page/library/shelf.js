@@ -1,0 +1,123 @@
+// Where the browser keeps things: a shelf of named values, over IndexedDB, else localStorage, else memory alone.
+// Each shelf has `get`, `put`, `drop` and `keys`, which answer promises; `lasts` tells whether a reload finds it again.
+
+const SHELF_NAME = 'nonobench';
+const SHELF_WAIT = 3000; // milliseconds for a database that does not open
+
+const settledRequest = (request) => new Promise((resolve, reject) => {
+  request.onsuccess = () => resolve(request.result);
+  request.onerror = () => reject(request.error);
+});
+
+function openDatabase(factory) {
+  return new Promise((resolve, reject) => {
+    const request = factory.open(SHELF_NAME, 1);
+    const timer = setTimeout(() => reject(new Error('the database does not open')), SHELF_WAIT);
+    request.onupgradeneeded = () => request.result.createObjectStore('kept');
+    request.onsuccess = () => {
+      clearTimeout(timer);
+      resolve(request.result);
+    };
+    request.onerror = request.onblocked = () => {
+      clearTimeout(timer);
+      reject(request.error ?? new Error('the database is blocked'));
+    };
+  });
+}
+
+async function indexedShelf(factory) {
+  const database = await openDatabase(factory);
+  database.onversionchange = () => database.close();
+  const store = (mode) => database.transaction('kept', mode).objectStore('kept');
+  // A write is kept once its transaction is complete.
+  const write = (act) => new Promise((resolve, reject) => {
+    const transaction = database.transaction('kept', 'readwrite', { durability: 'relaxed' });
+    transaction.oncomplete = () => resolve();
+    transaction.onabort = transaction.onerror = () => reject(transaction.error ?? new Error('not kept'));
+    act(transaction.objectStore('kept'));
+  });
+  return {
+    lasts: true,
+    get: (key) => settledRequest(store('readonly').get(key)),
+    put: (key, value) => write((kept) => kept.put(value, key)),
+    drop: (key) => write((kept) => kept.delete(key)),
+    keys: () => settledRequest(store('readonly').getAllKeys()),
+  };
+}
+
+export function localShelf(storage) {
+  const probe = `${SHELF_NAME}:probe`;
+  storage.setItem(probe, '1');
+  storage.removeItem(probe);
+  const own = (key) => `${SHELF_NAME}:${key}`;
+  return {
+    lasts: true,
+    get: async (key) => {
+      const text = storage.getItem(own(key));
+      return text === null ? undefined : JSON.parse(text);
+    },
+    put: async (key, value) => storage.setItem(own(key), JSON.stringify(value)),
+    drop: async (key) => storage.removeItem(own(key)),
+    keys: async () => Array.from({ length: storage.length }, (_, at) => storage.key(at)).filter((key) => key.startsWith(own(''))).map((key) => key.slice(own('').length)),
+  };
+}
+
+export function memoryShelf() {
+  const kept = new Map();
+  return {
+    lasts: false,
+    get: async (key) => (kept.has(key) ? JSON.parse(kept.get(key)) : undefined),
+    put: async (key, value) => { kept.set(key, JSON.stringify(value)); },
+    drop: async (key) => { kept.delete(key); },
+    keys: async () => [...kept.keys()],
+  };
+}
+
+/** The best shelf that the browser has; `home` is the window. Never fails. */
+export async function openShelf(home) {
+  try {
+    return await indexedShelf(home.indexedDB);
+  } catch {
+    try {
+      return localShelf(home.localStorage);
+    } catch {
+      return memoryShelf();
+    }
+  }
+}
+
+/** Whether a shelf refused because it is full. */
+export const isFull = (fault) => fault?.name === 'QuotaExceededError' || fault?.name === 'NS_ERROR_DOM_QUOTA_REACHED';
+
+/**
+ * Takes a name for this tab alone: resolves to what gives it back, or to null where another tab has it. By the browser's
+ * locks, which end with the tab; where it has none, by a channel on which the tab that has it answers.
+ */
+export async function claim(name, home) {
+  const whole = `${SHELF_NAME}:${name}`;
+  try {
+    return await new Promise((resolve, reject) => {
+      home.navigator.locks.request(whole, { ifAvailable: true }, (lock) => {
+        if (!lock) return resolve(null);
+        return new Promise((free) => resolve(free));
+      }).catch(reject);
+    });
+  } catch {
+    return claimByChannel(whole, home);
+  }
+}
+
+async function claimByChannel(whole, home) {
+  if (!home.BroadcastChannel) return () => {};
+  const channel = new home.BroadcastChannel(whole);
+  let taken = false;
+  channel.onmessage = ({ data }) => { if (data === 'mine') taken = true; };
+  channel.postMessage('whose');
+  await new Promise((go) => setTimeout(go, 200));
+  if (taken) {
+    channel.close();
+    return null;
+  }
+  channel.onmessage = ({ data }) => { if (data === 'whose') channel.postMessage('mine'); };
+  return () => channel.close();
+}

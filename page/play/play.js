@@ -1,0 +1,238 @@
+// Play: the empty puzzle as a solver gets it. Marks are the player's own and change nothing of the picture.
+
+import { $, make, withoutGestures } from '../base/elements.js';
+import { clamp, many } from '../base/words.js';
+import { cssOf, inkOn, nameOf } from '../document/colours.js';
+import { LETTERS } from '../document/limits.js';
+import { bench } from '../engine/bench.js';
+import { addAction } from '../view/actions.js';
+import { selection } from '../view/select.js';
+import { asSeen } from '../view/tools.js';
+import { searches } from '../view/verdict.js';
+import { isMet, marksOf } from './crossing.js';
+import { drawPlay, fitPlay, movePlay, zoomPlay } from './playdraw.js';
+
+export const play = { state: null, marks: [], letter: 'a', past: [], future: [], wrong: new Set(), at: { row: 0, col: 0 }, side: 24, drag: null, isSolved: false };
+
+async function openPlay() {
+  if (selection.rows || bench.queue.length) await asSeen();
+  const { state } = bench;
+  Object.assign(play, { state, marks: marksOf(state), letter: state.colours.length > 1 ? 'a' : '.', past: [], future: [], wrong: new Set(), at: { row: 0, col: 0 }, drag: null, isSolved: false });
+  searches.stop();
+  const dialog = make('dialog', { id: 'play-room', 'aria-label': 'Play' });
+  dialog.append(playBar(), make('p', { id: 'play-said', role: 'status' }), playBoard(), make('div', { id: 'play-palette', role: 'radiogroup', 'aria-label': 'Colour' }));
+  dialog.addEventListener('close', () => dialog.remove());
+  dialog.addEventListener('keydown', playKey);
+  $('dialogs').append(dialog);
+  dialog.showModal();
+  playPalette();
+  fitPlay();
+  $('play-field').focus();
+  const { word } = state.verdict;
+  const told = word === 'unique' ? 'One solution. Good luck.' : word === 'ambiguous' ? 'This puzzle has more than one solution.' : 'It is not known whether this puzzle has one solution.';
+  playSays(`${told}${state.givens.size ? ' Cells with a square are given.' : ''}`);
+}
+
+const playSays = (text) => { $('play-said').textContent = text; };
+const playButton = (id, name, run, more = {}) => make('button', { type: 'button', id, onclick: run, ...more }, name);
+
+function playBar() {
+  return make('div', { class: 'group', id: 'play-bar' },
+    make('h2', {}, 'Play'),
+    playButton('play-undo', 'Undo', () => playTurn('past', 'future')), playButton('play-redo', 'Redo', () => playTurn('future', 'past')),
+    playButton('play-check', 'Check', checkPlay, { title: 'Marks the cells that are wrong' }),
+    playButton('play-clear', 'Begin again', clearPlay),
+    playButton('play-smaller', '−', () => zoomPlay(-1), { 'aria-label': 'Smaller cells' }), playButton('play-larger', '+', () => zoomPlay(1), { 'aria-label': 'Larger cells' }),
+    playButton('play-close', 'Back to the picture', () => $('play-room').close()));
+}
+
+function playBoard() {
+  const field = make('canvas', { id: 'play-field', tabindex: '0', role: 'application', 'aria-roledescription': 'puzzle', 'aria-label': 'Puzzle', 'aria-describedby': 'play-cell' });
+  withoutGestures(field);
+  field.addEventListener('contextmenu', (event) => event.preventDefault());
+  for (const [type, hear] of Object.entries(playPointer)) field.addEventListener(type, hear);
+  return make('div', { id: 'play-board' },
+    make('canvas', { id: 'play-corner', 'aria-hidden': 'true' }), make('canvas', { id: 'play-top', 'aria-hidden': 'true' }),
+    make('canvas', { id: 'play-left', 'aria-hidden': 'true' }), field, make('p', { id: 'play-cell', class: 'unseen', 'aria-live': 'polite' }));
+}
+
+// Colours, the mark of a background cell, and the wipe.
+function playPalette() {
+  const { colours, maxval } = play.state;
+  const choices = [...LETTERS.slice(1, colours.length), '.', '?'];
+  $('play-palette').replaceChildren(...choices.map((letter) => {
+    const name = letter === '.' ? 'background' : letter === '?' ? 'wipe' : nameOf(colours[LETTERS.indexOf(letter)], maxval);
+    const sign = { '.': '×', '?': '⌫' }[letter] ?? letter;
+    const button = playButton(null, sign, () => choosePlay(letter), { role: 'radio', 'data-letter': letter, 'aria-label': name, title: name });
+    if (letter !== '?') {
+      const triple = colours[LETTERS.indexOf(letter)];
+      button.style.background = cssOf(triple, maxval);
+      button.style.color = inkOn(triple, maxval);
+    }
+    return button;
+  }));
+  choosePlay(play.letter);
+}
+
+function choosePlay(letter) {
+  if (letter !== '?' && LETTERS.indexOf(letter) >= play.state.colours.length) return;
+  play.letter = letter;
+  for (const button of $('play-palette').children) {
+    button.setAttribute('aria-checked', button.dataset.letter === letter);
+    button.tabIndex = button.dataset.letter === letter ? 0 : -1;
+  }
+}
+
+// ---- marks
+
+const playPlace = (index) => [Math.floor(index / play.state.columns), index % play.state.columns];
+
+// A stroke of marks: cells with what stood there before.
+function markPlay(cells, mark) {
+  const stroke = [];
+  for (const index of cells) {
+    const [row, col] = playPlace(index);
+    if (play.state.givens.has(index) || play.marks[row][col] === mark) continue;
+    stroke.push({ index, before: play.marks[row][col], after: mark });
+    play.marks[row][col] = mark;
+    play.wrong.delete(index);
+  }
+  return stroke;
+}
+
+function keepPlay(stroke) {
+  if (!stroke.length) return;
+  play.past.push(stroke);
+  play.future = [];
+  afterPlay();
+}
+
+function playTurn(from, to) {
+  const stroke = play[from].pop();
+  if (!stroke) return;
+  for (const { index, before, after } of stroke) {
+    const [row, col] = playPlace(index);
+    play.marks[row][col] = from === 'past' ? before : after;
+    play.wrong.delete(index);
+  }
+  play[to].push(stroke);
+  afterPlay();
+}
+
+export const playColumn = (col) => play.marks.map((row) => row[col]);
+
+export function afterPlay() {
+  const { clues } = play.state;
+  const solved = clues.rows.every((blocks, row) => isMet(blocks, play.marks[row])) && clues.columns.every((blocks, col) => isMet(blocks, playColumn(col)));
+  if (solved && !play.isSolved) {
+    const other = play.marks.some((row, at) => row.some((mark, col) => (mark === '?' ? '.' : mark) !== play.state.picture[at][col]));
+    playSays(other ? 'Solved, with another picture than yours.' : 'Solved.');
+  } else if (!solved) playSays('');
+  play.isSolved = solved;
+  $('play-undo').disabled = !play.past.length;
+  $('play-redo').disabled = !play.future.length;
+  drawPlay();
+}
+
+function checkPlay() {
+  play.wrong = new Set();
+  play.marks.forEach((row, at) => row.forEach((mark, col) => {
+    if (mark !== '?' && mark !== play.state.picture[at][col]) play.wrong.add(at * play.state.columns + col);
+  }));
+  playSays(play.wrong.size ? `${many(play.wrong.size, 'cell')} wrong.` : 'Nothing is wrong so far.');
+  drawPlay();
+}
+
+function clearPlay() {
+  play.wrong = new Set();
+  keepPlay(markPlay(play.marks.flatMap((row, at) => row.map((_, col) => at * play.state.columns + col)), '?'));
+}
+
+// ---- pointer and keys
+
+function playCellAt(event) {
+  const box = $('play-field').getBoundingClientRect();
+  const [row, col] = [Math.floor((event.clientY - box.top) / play.side), Math.floor((event.clientX - box.left) / play.side)];
+  return row >= 0 && col >= 0 && row < play.state.rows && col < play.state.columns ? { row, col } : null;
+}
+
+// Where the first cell has the mark already, the stroke wipes.
+function beginPlay(at, letter) {
+  const mark = play.marks[at.row][at.col] === letter ? '?' : letter;
+  play.drag = { mark, to: at, stroke: [] };
+  alongPlay(at);
+}
+
+function alongPlay(at) {
+  const { drag } = play;
+  const steps = Math.max(Math.abs(at.row - drag.to.row), Math.abs(at.col - drag.to.col), 1);
+  for (let step = 0; step <= steps; step++) {
+    const row = Math.round(drag.to.row + ((at.row - drag.to.row) * step) / steps);
+    const col = Math.round(drag.to.col + ((at.col - drag.to.col) * step) / steps);
+    drag.stroke.push(...markPlay([row * play.state.columns + col], drag.mark));
+  }
+  drag.to = at;
+  movePlay(at);
+}
+
+function endPlay() {
+  const { drag } = play;
+  play.drag = null;
+  if (drag) keepPlay(drag.stroke);
+}
+
+const playFingers = new Map();
+const playPointer = {
+  pointerdown(event) {
+    event.preventDefault();
+    $('play-field').setPointerCapture(event.pointerId);
+    $('play-field').focus({ preventScroll: true });
+    playFingers.set(event.pointerId, event);
+    if (playFingers.size > 1) {
+      const { drag } = play;
+      endPlay();
+      if (drag?.stroke.length) playTurn('past', 'future');
+      return;
+    }
+    const at = playCellAt(event);
+    if (at) beginPlay(at, event.button === 2 ? '.' : play.letter);
+  },
+  pointermove(event) {
+    const before = playFingers.get(event.pointerId);
+    if (before && playFingers.size > 1) {
+      $('play-board').scrollBy((before.clientX - event.clientX) / playFingers.size, (before.clientY - event.clientY) / playFingers.size);
+      playFingers.set(event.pointerId, event);
+      return;
+    }
+    const at = playCellAt(event);
+    if (at && play.drag) alongPlay(at);
+  },
+  pointerup(event) {
+    playFingers.delete(event.pointerId);
+    endPlay();
+  },
+  pointercancel(event) {
+    playFingers.delete(event.pointerId);
+    endPlay();
+  },
+};
+
+const PLAY_STEPS = { ArrowUp: [-1, 0], ArrowDown: [1, 0], ArrowLeft: [0, -1], ArrowRight: [0, 1], PageUp: [-10, 0], PageDown: [10, 0], Home: [0, -120], End: [0, 120] };
+function playKey(event) {
+  const step = event.target === $('play-field') ? PLAY_STEPS[event.key] : null;
+  const way = event.ctrlKey || event.metaKey ? { z: event.shiftKey ? 'redo' : 'undo', y: 'redo' }[event.key.toLowerCase()] : null;
+  if (!way && (event.ctrlKey || event.metaKey || event.altKey)) return;
+  if (way) playTurn(...(way === 'undo' ? ['past', 'future'] : ['future', 'past']));
+  else if (step) movePlay({ row: clamp(play.at.row + step[0], 0, play.state.rows - 1), col: clamp(play.at.col + step[1], 0, play.state.columns - 1) }, true);
+  else if (event.target === $('play-field') && (event.key === ' ' || event.key === 'Enter')) { beginPlay(play.at, play.letter); endPlay(); }
+  else if (event.key === 'Backspace' || event.key === 'Delete') keepPlay(markPlay([play.at.row * play.state.columns + play.at.col], '?'));
+  else if (event.key === 'x') { beginPlay(play.at, '.'); endPlay(); }
+  else if (event.key.length === 1 && LETTERS.includes(event.key)) choosePlay(event.key);
+  else return;
+  event.preventDefault();
+}
+
+/** Adds Play to the menu Check. */
+export function startPlay() {
+  addAction({ id: 'play', name: 'Play', place: 'check', run: openPlay });
+}

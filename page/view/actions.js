@@ -1,0 +1,113 @@
+// Actions: what can be done, each with a name, a key and a place in a menu or panel. Keys work where no field is typed in.
+
+import { $, make } from '../base/elements.js';
+import { bench } from '../engine/bench.js';
+
+export const actions = new Map();
+const MENUS = { file: 'File', edit: 'Edit', picture: 'Picture', view: 'View', check: 'Check', help: 'Help' };
+
+/**
+ * Adds an action. `id` names it; `name` is what the user reads; `key` as in 'Ctrl+Z', 'n' or 'Shift+ArrowUp'; `place` is a
+ * menu ('file', 'edit', 'picture', 'view', 'check', 'help'), the id of an element that takes a button, or null for a key
+ * alone; `run(event)` does it; `can()` says whether it can be done now; `needs` is false where no picture must be open.
+ */
+export function addAction({ id, name, key = null, place = null, run, can = () => true, needs = true, group = '' }) {
+  const action = { id: id ?? name, name, key, place, run, group, needs, can: () => (!needs || bench.state !== null) && can() };
+  actions.set(action.id, action);
+  if (place && !MENUS[place]) $(place)?.append(actionButton(action));
+  return action;
+}
+
+export const isCovered = () => document.body.classList.contains('starting'); // by the start screen
+
+// Whether an action can be done now. A picture that the start screen covers is saved and exported, and no more is done to it.
+const isFree = (action) => action.can() && !(action.needs && action.place !== 'file' && isCovered());
+
+/** Runs an action by its id, where it can be done. */
+export function runAction(id, event) {
+  const action = actions.get(id);
+  if (action && isFree(action)) action.run(event);
+}
+
+export function actionButton(action, attributes = {}) {
+  const button = make('button', { type: 'button', 'data-action': action.id, 'aria-keyshortcuts': action.key ? ariaKey(action.key) : null, ...attributes }, action.name);
+  button.addEventListener('click', (event) => runAction(action.id, event));
+  return button;
+}
+
+const ariaKey = (key) => key.replace('Ctrl', 'Control');
+
+/** The name of a pressed key, as actions have it. */
+function keyName(event) {
+  const key = event.key === ' ' ? 'Space' : event.key.length === 1 ? (event.ctrlKey || event.metaKey ? event.key.toUpperCase() : event.key) : event.key;
+  const modified = key.length > 1 || event.ctrlKey || event.metaKey;
+  return [(event.ctrlKey || event.metaKey) && 'Ctrl', event.altKey && 'Alt', event.shiftKey && modified && 'Shift', key].filter(Boolean).join('+');
+}
+
+export const isTyping = (target) => target?.matches?.('input:not([type=checkbox]):not([type=radio]):not([type=button]):not([type=range]), textarea, select, [contenteditable]') ?? false;
+
+function actionOfKey(event) {
+  const name = keyName(event);
+  for (const action of actions.values()) if (action.key && action.key.split(' ').includes(name)) return action;
+  return null;
+}
+
+/** Makes the menus of the header, filled anew each time that one is opened. */
+export function makeMenus() {
+  for (const [place, name] of Object.entries(MENUS)) {
+    const list = make('div', { id: `menu-${place}`, role: 'menu', class: 'menu', 'aria-label': name, popover: 'auto' });
+    const button = make('button', { type: 'button', 'aria-haspopup': 'menu', popovertarget: list.id, 'aria-expanded': 'false' }, name);
+    list.addEventListener('beforetoggle', (event) => {
+      button.setAttribute('aria-expanded', event.newState === 'open');
+      if (event.newState === 'open') fillMenu(list, place, button);
+    });
+    list.addEventListener('toggle', (event) => {
+      if (event.newState === 'open') list.querySelector('button:not(:disabled)')?.focus();
+    });
+    list.addEventListener('keydown', (event) => menuKey(event, list, button));
+    $('menus').append(button, list);
+  }
+}
+
+function fillMenu(list, place, button) {
+  const items = [];
+  let group = null;
+  for (const action of actions.values()) {
+    if (action.place !== place) continue;
+    if (group !== null && group !== action.group) items.push(make('hr', { role: 'separator' }));
+    ({ group } = action);
+    const item = actionButton(action, { role: 'menuitem', tabindex: '-1' });
+    item.disabled = !isFree(action);
+    item.append(make('kbd', {}, (action.key ?? '').split(' ')[0]));
+    item.addEventListener('click', () => list.hidePopover());
+    items.push(item);
+  }
+  list.replaceChildren(...items);
+  const box = button.getBoundingClientRect();
+  list.style.left = `${Math.max(4, Math.min(box.left, innerWidth - 260))}px`;
+  list.style.top = `${box.bottom + 4}px`;
+}
+
+function menuKey(event, list, button) {
+  const way = { ArrowDown: 1, ArrowUp: -1 }[event.key];
+  if (event.key === 'Escape' || event.key === 'Tab') {
+    list.hidePopover();
+    if (event.key === 'Escape') button.focus();
+  }
+  if (!way) return;
+  event.preventDefault();
+  const items = [...list.querySelectorAll('button:not(:disabled)')];
+  items.at((items.indexOf(document.activeElement) + way) % items.length)?.focus();
+}
+
+/** Hears keys everywhere but in fields and open dialogs. */
+export function hearKeys() {
+  addEventListener('keydown', (event) => {
+    if (document.querySelector('dialog[open]') || event.defaultPrevented) return;
+    const action = actionOfKey(event);
+    if (!action || (isTyping(event.target) && !/^(Ctrl\+S|Escape)$/.test(keyName(event)))) return;
+    if (!isFree(action)) return;
+    event.preventDefault();
+    action.run(event);
+  });
+}

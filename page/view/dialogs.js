@@ -1,0 +1,54 @@
+// Dialogs: a title, content and buttons in the browser's own dialog, which keeps the focus and closes by Escape.
+
+import { $, make } from '../base/elements.js';
+
+/**
+ * Opens a dialog and resolves to the value of the button that closed it, or to null for Escape or Cancel.
+ * `content` is an element or a text; `buttons` are {name, value, main, test}: where `test` gives a text, that is shown
+ * and the dialog stays.
+ * @param {{title: string, content?: any, wide?: boolean, buttons?: {name: string, value: any, main?: boolean, test?: () => any}[]}} what
+ */
+export function openDialog({ title, content = '', buttons = [{ name: 'OK', value: true, main: true }], wide = false }) {
+  const heading = make('h2', { id: 'dialog-title' }, title);
+  const wrong = make('p', { class: 'wrong', role: 'alert' });
+  const form = make('form', { method: 'dialog', novalidate: true });
+  const dialog = make('dialog', { 'aria-labelledby': 'dialog-title', class: wide ? 'wide' : null }, form);
+  const row = make('div', { class: 'buttons' });
+  form.append(heading, make('div', { class: 'content' }, content), wrong, row);
+  return new Promise((resolve) => {
+    let chosen = null;
+    const press = async (button) => {
+      wrong.textContent = '';
+      const fault = await button.test?.();
+      if (fault) {
+        wrong.textContent = fault;
+        return;
+      }
+      chosen = typeof button.value === 'function' ? button.value() : button.value;
+      dialog.close();
+    };
+    if (!buttons.some((button) => button.value === null)) row.append(make('button', { type: 'button', onclick: () => dialog.close() }, 'Cancel'));
+    for (const button of buttons) {
+      row.append(make('button', { type: button.main ? 'submit' : 'button', class: button.main ? 'main' : null, onclick: button.main ? null : () => press(button) }, button.name));
+    }
+    form.addEventListener('submit', (event) => {
+      event.preventDefault();
+      const main = buttons.find((button) => button.main);
+      if (main) press(main);
+    });
+    dialog.addEventListener('close', () => {
+      dialog.remove();
+      resolve(chosen);
+    });
+    $('dialogs').append(dialog);
+    dialog.showModal();
+  });
+}
+
+/** The dialogs that are open. */
+export const openDialogs = () => [...document.querySelectorAll('dialog')].filter((dialog) => dialog.open);
+
+/** Asks yes or no. */
+export async function confirmDialog(title, text, yes = 'OK') {
+  return (await openDialog({ title, content: text, buttons: [{ name: yes, value: true, main: true }] })) === true;
+}

@@ -1,0 +1,170 @@
+// The palette: choosing, adding, changing, merging, removing and ordering colours. The session can add and change a colour and
+// take one for another; what it cannot (removing, ordering, another background) opens the picture anew, and undo takes it back.
+
+import { $, make, say } from '../base/elements.js';
+import { on } from '../base/events.js';
+import { many } from '../base/words.js';
+import { eightBits, hexOf, tripleOf } from '../document/colours.js';
+import { LETTERS } from '../document/limits.js';
+import { reordered } from '../document/shapes.js';
+import { bench } from '../engine/bench.js';
+import { addAction } from './actions.js';
+import { openDialog } from './dialogs.js';
+import { colourText, dress } from './dress.js';
+import { setDown } from './select.js';
+import { heard, sendStroke, tools, useColour } from './tools.js';
+
+const palette = {
+  row: make('div', { id: 'palette', role: 'radiogroup', 'aria-label': 'Colour' }),
+  text: make('p', { id: 'colour-text', class: 'faint' }),
+  picker: make('input', { id: 'picker', type: 'color', 'aria-label': 'The chosen colour' }),
+};
+
+function showPalette() {
+  const { colours, maxval } = bench.state;
+  const letters = [...LETTERS.slice(0, colours.length)];
+  if (!letters.includes(tools.colour)) tools.colour = letters.at(-1);
+  palette.row.replaceChildren(...letters.map((letter, at) => {
+    const button = make('button', { type: 'button', role: 'radio', 'data-letter': letter, 'aria-label': colourText(letter), title: `${colourText(letter)}${at < 10 ? ` (key ${at})` : ''}` }, letter);
+    dress(button, letter);
+    return button;
+  }));
+  markColour();
+  const added = palette.row.parentElement.querySelector('[data-action="colour-add"]');
+  if (added) added.disabled = colours.length >= 16 || maxval < 1;
+}
+
+function markColour() {
+  if (!bench.state) return;
+  const { colours, maxval } = bench.state;
+  for (const button of palette.row.children) {
+    const is = button.dataset.letter === tools.colour;
+    button.setAttribute('aria-checked', is);
+    button.tabIndex = is ? 0 : -1;
+  }
+  palette.picker.value = hexOf(colours[LETTERS.indexOf(tools.colour)], maxval);
+  const count = bench.state.picture.reduce((sum, row) => sum + row.split(tools.colour).length - 1, 0);
+  palette.text.textContent = `${colourText(tools.colour)}: ${many(count, 'cell')}`;
+}
+
+// A colour picked with eight bits in the picture's own samples; a picture with coarser ones is opened anew with eight bits.
+function withEightBits(doc) {
+  return doc.maxval === 255 ? doc : { ...doc, maxval: 255, colours: doc.colours.map((triple) => eightBits(triple, doc.maxval)) };
+}
+
+const hasColour = (doc, triple) => doc.colours.some((one) => one.join() === triple.join());
+
+// Some colour near to this one that the palette does not have.
+function freeColour(doc, triple) {
+  let found = [...triple];
+  for (let step = 1; hasColour(doc, found); step++) found = triple.map((sample) => (sample + 37 * step) % 256);
+  return found;
+}
+
+async function addColour() {
+  setDown();
+  const old = bench.expected();
+  const doc = withEightBits(old);
+  const triple = freeColour(doc, [[34, 59, 104], [196, 69, 54], [233, 180, 76], [83, 141, 110], [120, 81, 145]][doc.colours.length % 5]);
+  const done = old === doc || old.maxval === 255 ? sendStroke([`colour add ${triple.join(' ')}`])
+    : heard(bench.become({ ...doc, colours: [...doc.colours, triple] }));
+  if (await done) useColour(LETTERS[bench.state.colours.length - 1]);
+}
+
+async function changeColour() {
+  setDown();
+  const old = bench.expected();
+  const doc = withEightBits(old);
+  const at = LETTERS.indexOf(tools.colour);
+  const triple = tripleOf(palette.picker.value);
+  if (doc.colours[at].join() === triple.join()) return;
+  if (hasColour(doc, triple)) return void say('The palette has this colour already. To make two colours one, use Merge.', 'alarm');
+  if (old.maxval === 255 && at > 0) return sendStroke([`colour set ${tools.colour} ${triple.join(' ')}`]);
+  return heard(bench.become({ ...doc, colours: doc.colours.map((one, other) => (other === at ? triple : one)) }));
+}
+
+// Asks for one of the other colours.
+async function askColour(title, text) {
+  const letters = [...LETTERS.slice(0, bench.state.colours.length)].filter((letter) => letter !== tools.colour);
+  const choice = make('select', { 'aria-label': 'Colour' }, ...letters.map((letter) => make('option', { value: letter }, `${LETTERS.indexOf(letter)}: ${colourText(letter)}`)));
+  return openDialog({ title, content: make('div', {}, make('p', {}, text), choice), buttons: [{ name: title.split(' ')[0], value: () => choice.value, main: true }] });
+}
+
+async function mergeColour() {
+  const from = tools.colour;
+  if (from === '.') return say('The background cannot be merged into another colour.', 'alarm');
+  const into = await askColour('Merge this colour', `All cells of ${colourText(from)} become another colour, and it leaves the palette.`);
+  if (into) removeColour(from, into);
+}
+
+/** Takes a colour out of the palette; its cells get another one. */
+function removeColour(letter, into = '.') {
+  setDown();
+  const at = LETTERS.indexOf(letter);
+  const order = bench.state.colours.map((_, one) => one).filter((one) => one !== at);
+  return becomeOpened(reordered(bench.expected(), order, LETTERS.indexOf(into)), 'The colour left the palette, and those behind it have other letters now. Undo takes it back.');
+}
+
+function deleteColour() {
+  if (tools.colour === '.') return say('The background stays: every picture has one.', 'alarm');
+  return removeColour(tools.colour);
+}
+
+function moveColour(by) {
+  const at = LETTERS.indexOf(tools.colour);
+  const to = at + by;
+  if (at < 1 || to < 1 || to >= bench.state.colours.length) return;
+  setDown();
+  const order = bench.state.colours.map((_, one) => one);
+  [order[at], order[to]] = [order[to], order[at]];
+  tools.colour = LETTERS[to];
+  return becomeOpened(reordered(bench.expected(), order), 'The colours stand in another order now. Undo takes it back.');
+}
+
+async function becomeOpened(doc, text) {
+  if (await heard(bench.become(doc))) say(text);
+}
+
+/** Makes the panel of colours. */
+export function makePalette() {
+  const more = make('div', { class: 'group' });
+  const opens = make('button', { type: 'button', id: 'colours-open', 'aria-expanded': 'false', onclick: () => opens.setAttribute('aria-expanded', $('colours').classList.toggle('open')) }, 'Edit');
+  opens.setAttribute('aria-label', 'Edit the colours');
+  $('colours').append(make('h2', {}, 'Colours'), palette.row, opens, palette.text, make('div', { class: 'group' }, make('label', {}, 'Change ', palette.picker)), more);
+  more.id = 'colour-more';
+  const add = (id, name, run, can) => addAction({ id, name, place: 'colour-more', run, can });
+  add('colour-add', 'Add', addColour, () => bench.state.colours.length < 16);
+  add('colour-merge', 'Merge…', mergeColour);
+  add('colour-delete', 'Delete', deleteColour);
+  add('colour-earlier', '◂ Earlier', () => moveColour(-1));
+  add('colour-later', 'Later ▸', () => moveColour(1));
+  palette.picker.addEventListener('change', changeColour);
+  radioGroup(palette.row, (button) => useColour(button.dataset.letter));
+  let shown = '';
+  on('shown', (state) => {
+    const key = [state.maxval, ...state.colours].join(';');
+    if (key !== shown) showPalette();
+    else markColour();
+    shown = key;
+  });
+  on('opened', () => { shown = ''; });
+  on('colour', markColour);
+}
+
+/** A group of radio buttons: a click or an arrow chooses. */
+export function radioGroup(group, pick) {
+  group.addEventListener('click', (event) => {
+    const button = event.target.closest('button');
+    if (button) pick(button);
+  });
+  group.addEventListener('keydown', (event) => {
+    const way = { ArrowDown: 1, ArrowRight: 1, ArrowUp: -1, ArrowLeft: -1 }[event.key];
+    if (!way) return;
+    const buttons = [...group.querySelectorAll('button')];
+    event.preventDefault();
+    event.stopPropagation();
+    const next = buttons.at((buttons.indexOf(event.target.closest('button')) + way) % buttons.length);
+    pick(next);
+    next.focus();
+  });
+}

@@ -1,0 +1,99 @@
+// The tool bar, and the panels for the cell that is pointed at and for its row and column.
+
+import { $, make, say } from '../base/elements.js';
+import { on } from '../base/events.js';
+import { sheet } from '../draw/sheet.js';
+import { bench } from '../engine/bench.js';
+import { clueText } from '../engine/opening.js';
+import { addAction } from './actions.js';
+import { cellText, clueInto, cursor } from './grid.js';
+import { radioGroup } from './palette.js';
+import { setDown } from './select.js';
+import { TOOLS, sendStroke, tools, useTool } from './tools.js';
+
+const bar = { row: make('div', { id: 'tool-row', role: 'radiogroup', 'aria-label': 'Tool' }), hint: make('p', { id: 'hint', class: 'faint' }) };
+
+export function makeToolBar() {
+  for (const [name, tool] of Object.entries(TOOLS)) {
+    bar.row.append(make('button', { type: 'button', role: 'radio', 'data-tool': name, title: tool.hint, 'aria-keyshortcuts': tool.key }, make('span', {}, tool.name), make('kbd', { 'aria-hidden': 'true' }, tool.key)));
+    addAction({ id: `tool-${name}`, name: tool.name, key: tool.key, run: () => useTool(name) });
+  }
+  $('tools').append(bar.row, bar.hint);
+  radioGroup(bar.row, (button) => useTool(button.dataset.tool));
+  on('tool', showTool);
+  showTool();
+}
+
+function showTool() {
+  for (const button of bar.row.children) {
+    const is = button.dataset.tool === tools.name;
+    button.setAttribute('aria-checked', is);
+    button.tabIndex = is ? 0 : -1;
+  }
+  bar.hint.textContent = TOOLS[tools.name].hint;
+  sheet.stage.dataset.tool = tools.name;
+}
+
+const panel = {
+  text: make('p', { id: 'cell-text' }), row: make('p', { id: 'row-clue', class: 'clue' }), column: make('p', { id: 'column-clue', class: 'clue' }),
+  asked: 0, at: null,
+};
+
+export function makeCellPanel() {
+  $('cell').append(make('h2', {}, 'Cell'), panel.text, panel.row, panel.column);
+  on('cursor', showCell);
+  on('shown', () => showCell());
+  on('pointed', (at) => showCell(at ?? cursor));
+}
+
+// At most once a frame: pointers move more often.
+export function showCell(at = cursor) {
+  panel.at = at;
+  if (panel.asked) return;
+  panel.asked = requestAnimationFrame(() => {
+    panel.asked = 0;
+    const { state } = bench;
+    if (!state) return;
+    const [row, col] = [Math.min(panel.at.row, state.rows - 1), Math.min(panel.at.col, state.columns - 1)];
+    panel.text.textContent = cellText(row, col);
+    fillClue(panel.row, `Row ${row + 1}`, state.clues.rows[row]);
+    fillClue(panel.column, `Column ${col + 1}`, state.clues.columns[col]);
+    showLineNames();
+  });
+}
+
+export function fillClue(element, name, blocks) {
+  const key = `${name} ${clueText(blocks)} ${sheet.geometry.letters} ${bench.state.colours.join(';')}`;
+  if (element.dataset.key === key) return;
+  element.dataset.key = key;
+  clueInto(element, name, blocks);
+}
+
+export function makeLinesPanel() {
+  const names = { row: ['above', 'below'], column: ['on the left', 'on the right'] };
+  $('lines').append(make('h2', {}, 'Rows and columns'));
+  for (const word of ['row', 'column']) {
+    const other = make('input', { type: 'number', min: 1, max: 120, 'aria-label': `The other ${word}` });
+    const at = () => (word === 'row' ? cursor.row : cursor.col) + 1;
+    const button = (text, label, lines) => make('button', { type: 'button', 'aria-label': label, onclick: () => { setDown(); sendStroke([lines()]); } }, text);
+    $('lines').append(make('div', { class: 'lines', role: 'group', 'aria-label': word === 'row' ? 'Row' : 'Column' },
+      make('b', { id: `${word}-name` }, word),
+      button(word === 'row' ? '+ above' : '+ left', `Insert a ${word} ${names[word][0]}`, () => `insert ${word} ${at()}`),
+      button(word === 'row' ? '+ below' : '+ right', `Insert a ${word} ${names[word][1]}`, () => `insert ${word} ${at() + 1}`),
+      button('Delete', `Delete this ${word}`, () => `delete ${word} ${at()}`),
+      make('span', {}, make('button', { type: 'button', onclick: () => swapLines(word, at(), Number(other.value)) }, 'Swap with'), ' ', other)));
+  }
+}
+
+function swapLines(word, at, other) {
+  const count = word === 'row' ? bench.state.rows : bench.state.columns;
+  if (!other || other > count) return say(`There are ${count} ${word}s: give the number of another one.`, 'alarm');
+  if (other === at) return null;
+  setDown();
+  return sendStroke([`swap ${word} ${at} ${other}`]);
+}
+
+function showLineNames() {
+  $('row-name').textContent = `Row ${cursor.row + 1}`;
+  $('column-name').textContent = `Column ${cursor.col + 1}`;
+}

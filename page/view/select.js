@@ -1,0 +1,185 @@
+// The selection: a rectangle of cells that is copied, cut, moved, mirrored, turned. What is moved floats over the picture until
+// it is set down; then all of it is one stroke.
+
+import { say } from '../base/elements.js';
+import { on, tell } from '../base/events.js';
+import { boxCells, boxOf, rowsOfText, stamped } from '../document/shapes.js';
+import { sheet } from '../draw/sheet.js';
+import { bench } from '../engine/bench.js';
+import { isCovered, isTyping } from './actions.js';
+import { heard, paintCells, tools, useTool } from './tools.js';
+
+// `box` is where it lies; `rows` are its letters where it floats; `under` is the picture below it.
+export const selection = { box: null, rows: null, under: null, grip: null, copied: null };
+
+const isOfSize = (picture, { rows, columns }) => picture.length === rows && picture[0].length === columns;
+export const selectionBoxes = () => (selection.box ? [selection.box] : []);
+const isIn = (box, { row, col }) => box !== null && row >= box.top && row <= box.bottom && col >= box.left && col <= box.right;
+
+export function showSelection() {
+  sheet.boxes = selectionBoxes();
+  if (selection.rows && bench.state && isOfSize(selection.under, sheet.doc)) {
+    const floated = stamped(selection.under, selection.rows, selection.box.top, selection.box.left);
+    const cells = new Map();
+    floated.forEach((row, at) => { for (let col = 0; col < row.length; col++) if (row[col] !== sheet.doc.picture[at][col]) cells.set(at * row.length + col, row[col]); });
+    sheet.preview(cells);
+  }
+  sheet.drawMarks();
+  tell('selected', selection.box);
+}
+
+export function beginSelect(at) {
+  if (isIn(selection.box, at)) {
+    lift();
+    selection.grip = { row: at.row - selection.box.top, col: at.col - selection.box.left };
+    tools.drag = { tool: 'select', moves: true, from: at };
+    return;
+  }
+  const hadOne = selection.box !== null;
+  setDown();
+  selection.box = boxOf(at, at);
+  tools.drag = { tool: 'select', moves: false, from: at, hadOne };
+  showSelection();
+}
+
+export function alongSelect(at) {
+  const { drag } = tools;
+  if (!drag.moves) selection.box = boxOf(drag.from, at);
+  else moveFloat(at.row - selection.grip.row - selection.box.top, at.col - selection.grip.col - selection.box.left);
+  showSelection();
+}
+
+export function endSelect() {
+  const { drag } = tools;
+  tools.drag = null;
+  const { box } = selection;
+  // A click beside a selection takes it away; it does not select one cell.
+  if (!drag.moves && box.top === box.bottom && box.left === box.right && drag.hadOne) selection.box = null;
+  showSelection();
+}
+
+// Takes the selected cells up: below them is background.
+export function lift() {
+  if (selection.rows) return;
+  const { box } = selection;
+  const { picture } = bench.expected();
+  selection.rows = picture.slice(box.top, box.bottom + 1).map((row) => row.slice(box.left, box.right + 1));
+  selection.under = stamped(picture, selection.rows.map((row) => '.'.repeat(row.length)), box.top, box.left);
+}
+
+export function moveFloat(down, across) {
+  const { box } = selection;
+  selection.box = { top: box.top + down, left: box.left + across, bottom: box.bottom + down, right: box.right + across };
+}
+
+/** Sets down what floats: one stroke. */
+export function setDown() {
+  const { rows, under, box } = selection;
+  if (!rows) return;
+  const picture = stamped(under, rows, box.top, box.left);
+  Object.assign(selection, { rows: null, under: null });
+  const doc = bench.expected();
+  sheet.overlay = new Map();
+  if (isOfSize(picture, doc) && picture.some((row, at) => row !== doc.picture[at])) heard(bench.become({ ...doc, picture }));
+  sheet.update();
+  sheet.redraw();
+  selection.box = clipBox(box, doc);
+  showSelection();
+}
+
+function clipBox(box, doc) {
+  const clipped = { top: Math.max(0, box.top), left: Math.max(0, box.left), bottom: Math.min(doc.rows - 1, box.bottom), right: Math.min(doc.columns - 1, box.right) };
+  return clipped.top > clipped.bottom || clipped.left > clipped.right ? null : clipped;
+}
+
+// Behind a stroke to another size what is selected lies in the picture still, and what floats is shown on it.
+function keepSelection() {
+  const { box, rows } = selection;
+  if (!box || !bench.state) return;
+  if (!rows) selection.box = clipBox(box, bench.expected());
+  if (rows || String(Object.values(selection.box ?? {})) !== String(Object.values(box))) showSelection();
+}
+
+/** Takes a move back, or the selection away. */
+export function dropSelection() {
+  if (selection.rows) Object.assign(selection, { rows: null, under: null });
+  else if (!selection.box) return false;
+  selection.box = null;
+  sheet.preview(null);
+  showSelection();
+  return true;
+}
+
+/** The letters of what is selected, or null. */
+function selectedRows() {
+  const { box, rows } = selection;
+  if (!box) return null;
+  return rows ?? bench.expected().picture.slice(box.top, box.bottom + 1).map((row) => row.slice(box.left, box.right + 1));
+}
+
+/** Clears what is selected to the background. */
+export function clearSelected() {
+  if (!selection.box) return null;
+  if (selection.rows) {
+    selection.rows = selection.rows.map((row) => '.'.repeat(row.length));
+    return setDown();
+  }
+  return paintCells(boxCells(selection.box), '.');
+}
+
+/** Lets rows of letters float over the picture, where the selection or the view begins. */
+export function pasteRows(rows) {
+  setDown();
+  const seen = sheet.geometry.seen();
+  const at = selection.box ?? { top: seen.top, left: seen.left };
+  useTool('select');
+  selection.rows = rows;
+  selection.under = bench.expected().picture;
+  selection.box = { top: at.top, left: at.left, bottom: at.top + rows.length - 1, right: at.left + rows[0].length - 1 };
+  showSelection();
+  say('Drag it where it belongs; Enter sets it down, Escape drops it.');
+}
+
+// Does something to what is selected, which floats from then on.
+function changeSelected(change) {
+  lift();
+  const { box, rows } = selection;
+  const doc = { ...bench.expected(), rows: rows.length, columns: rows[0].length, picture: rows, givens: new Set() };
+  const { picture } = change(doc);
+  selection.rows = picture;
+  selection.box = { ...box, bottom: box.top + picture.length - 1, right: box.left + picture[0].length - 1 };
+  showSelection();
+}
+
+/** Mirrors, turns or shifts what is selected, or else the whole picture. */
+export function transform(change) {
+  if (selection.box) return changeSelected(change);
+  return heard(bench.become(change(bench.expected())));
+}
+
+// The browser's own copy, cut and paste, so that text goes to other programs and comes from them without being asked for.
+function copySelected(event, cuts) {
+  if (isTyping(event.target) || !bench.state || isCovered() || document.querySelector('dialog[open]')) return;
+  if (String(getSelection()) && !cuts && !selection.box) return;
+  const rows = selectedRows() ?? bench.expected().picture;
+  event.preventDefault();
+  event.clipboardData.setData('text/plain', `${rows.join('\n')}\n`);
+  if (cuts && selection.box) clearSelected();
+  say(`${cuts && selection.box ? 'Cut' : 'Copied'}: ${rows.length} rows of ${rows[0].length} cells.`);
+}
+
+/** Hears the browser's copy, cut and paste, and keeps the selection in the picture. */
+export function startSelection() {
+  addEventListener('copy', (event) => copySelected(event, false));
+  addEventListener('cut', (event) => copySelected(event, true));
+  addEventListener('paste', (/** @type {any} */ event) => {
+    if (isTyping(event.target) || !bench.state || isCovered() || event.defaultPrevented || document.querySelector('dialog[open]')) return;
+    const rows = rowsOfText(event.clipboardData.getData('text/plain'), bench.state.colours.length);
+    if (!rows) return;
+    event.preventDefault();
+    pasteRows(rows);
+  });
+  on('stroke', keepSelection);
+  on('shown', keepSelection);
+  on('opened', () => Object.assign(selection, { box: null, rows: null, under: null }));
+}

@@ -1,0 +1,252 @@
+// The panel that tells the verdict: its words, the second picture, hatching with its legend, the time of searches, and the
+// line that tells what is searched.
+
+import { $, make, say } from '../base/elements.js';
+import { on } from '../base/events.js';
+import { many, number } from '../base/words.js';
+import { sheet } from '../draw/sheet.js';
+import { bench } from '../engine/bench.js';
+import { startEngine } from '../engine/client.js';
+import { cellsThatDiffer } from '../engine/fix.js';
+import { Searches } from '../engine/searches.js';
+import { actionButton, actions, addAction } from './actions.js';
+import { closeFix, openFix } from './fixing.js';
+
+const TIMES = [['5', '5 s'], ['30', '30 s'], ['', 'until stopped']];
+const HATCHINGS = [['off', 'off'], ['differing', 'cells that differ'], ['open', 'open cells']];
+
+// A choice that the browser keeps where it can.
+function keptChoice(name, values, first) {
+  try {
+    const value = localStorage.getItem(name);
+    return values.some(([one]) => one === value) ? value : first;
+  } catch {
+    return first;
+  }
+}
+function keepChoice(name, value) {
+  try {
+    localStorage.setItem(name, value);
+  } catch { /* it holds until the page is closed */ }
+}
+
+export const verdictView = { seconds: keptChoice('nonobench-seconds', TIMES, '5'), hatching: null, ended: null };
+export const secondsChosen = () => Number(verdictView.seconds) || Infinity;
+
+export const searches = new Searches({
+  start: startEngine,
+  seconds: secondsChosen,
+  told: showTask,
+  judged: (verdict) => bench.judged(bench.state, verdict),
+  ended(name, why) {
+    verdictView.ended = why;
+    if (why === 'time' || why === 'stopped') showVerdict(bench.state);
+  },
+  failed(name, fault) {
+    say(`${name} ended: ${fault.text ?? fault.message}.`, 'alarm');
+    showVerdict(bench.state);
+  },
+});
+
+// ---- the panel
+
+const option = ([value, name]) => make('option', { value }, name);
+const choiceOf = (id, values, change) => make('select', { id, onchange: (event) => change(event.target.value) }, ...values.map(option));
+
+function makeVerdictPanel() {
+  $('audit').append(
+    make('div', { id: 'verdict-line' }, make('h2', { id: 'verdict' }, '…'), make('span', { id: 'verdict-short' }),
+      make('button', { type: 'button', id: 'verdict-open', 'aria-expanded': 'false', 'aria-controls': 'verdict-more', onclick: turnVerdictMore }, 'More')),
+    make('div', { id: 'verdict-more' },
+      make('p', { id: 'verdict-why' }),
+      make('div', { id: 'verdict-do', class: 'group' }),
+      make('div', { id: 'fix', hidden: true }),
+      make('dl', {}, make('dt', {}, 'Need guessing'), make('dd', { id: 'open' }), make('dt', {}, 'Clues that changed'), make('dd', { id: 'changed' })),
+      make('p', {}, make('label', {}, 'Hatching ', choiceOf('hatching', HATCHINGS, (value) => setHatching(value)))),
+      make('p', { id: 'legend', class: 'faint' }),
+      make('p', {}, make('label', {}, 'Search after a stroke ', choiceOf('seconds', TIMES, setSeconds)))),
+  );
+  $('audit').append(make('p', { id: 'verdict-heard', class: 'unseen', role: 'status' }));
+  $('seconds').value = verdictView.seconds;
+  const stop = make('button', { type: 'button', id: 'stop', title: 'Stop the search (.)', onclick: () => searches.stop() }, 'Stop');
+  $('task').append(make('span', { id: 'task-name' }), make('span', { id: 'task-time', 'aria-hidden': 'true' }), stop);
+}
+
+// On small screens the verdict stands in one line; the rest opens below it.
+function turnVerdictMore() {
+  const isOpen = $('audit').classList.toggle('open');
+  $('verdict-open').setAttribute('aria-expanded', isOpen);
+  $('verdict-open').textContent = isOpen ? 'Less' : 'More';
+}
+
+export function setSeconds(value) {
+  verdictView.seconds = value;
+  keepChoice('nonobench-seconds', value);
+  if (bench.state?.verdict.word === 'undecided') searches.judge();
+}
+
+/** What is hatched: 'off', 'differing' or 'open'; null for what fits the verdict. */
+export function setHatching(value) {
+  verdictView.hatching = value;
+  showHatching(bench.state);
+}
+
+function showHatching(state) {
+  if (!state) return;
+  const fitting = { unique: 'off', ambiguous: 'differing', undecided: 'open' }[state.verdict.word];
+  sheet.hatching = verdictView.hatching ?? fitting;
+  $('hatching').value = sheet.hatching;
+  $('legend').textContent = {
+    off: '',
+    differing: state.verdict.other ? 'framed: the other picture has the colour in the corner' : 'no other picture is known',
+    open: 'hatched: not settled line by line, a solver has to guess',
+  }[sheet.hatching];
+  sheet.redraw();
+}
+
+const numbersOf = (letter, set) => {
+  const spans = [];
+  for (const at of [...set].sort((a, b) => a - b)) {
+    if (spans.length && spans.at(-1)[1] === at) spans.at(-1)[1]++;
+    else spans.push([at + 1, at + 1]);
+  }
+  return spans.map(([from, to]) => `${letter} ${from === to ? from : `${from}–${to}`}`).join(', ');
+};
+
+const differCount = ({ verdict, picture }) => (verdict.other ? cellsThatDiffer(picture, verdict.other).length : 0);
+
+// The verdict in a few words beside its title.
+function verdictShort(state) {
+  const { word } = state.verdict;
+  if (word === 'ambiguous') return `${many(differCount(state), 'cell')} differ${differCount(state) === 1 ? 's' : ''}`;
+  if (word === 'unique') return state.open ? `${number(state.open)} of ${number(state.rows * state.columns)} cells need guessing` : 'no guessing';
+  return '';
+}
+
+// The verdict as a title and a sentence.
+function verdictTexts(state) {
+  const { verdict, givens, open } = state;
+  const size = state.rows * state.columns;
+  if (verdict.word === 'unique') {
+    const with_ = givens.size ? ` and the ${givens.size === 1 ? 'given cell' : `${number(givens.size)} given cells`}` : '';
+    return ['✓ Unique', `No other picture has these clues${with_}. ${open ? `${number(open)} of ${number(size)} cells need guessing.` : 'It is solved line by line, without guessing.'}`];
+  }
+  if (verdict.word === 'ambiguous') return ['≠ Ambiguous', `Another picture has these clues too. It differs in ${many(differCount(state), 'cell')}.`];
+  if (searches.running?.judges) return ['… Searching', 'No other picture is found so far.'];
+  const why = { time: `within ${number(secondsChosen())} s`, stopped: 'before it was stopped' }[verdictView.ended];
+  return ['? Undecided', why ? `Neither another picture nor a proof was found ${why}.` : 'Neither another picture nor a proof is found yet.'];
+}
+
+function showVerdict(state) {
+  if (!state) return;
+  const [title, told] = verdictTexts(state);
+  const { word } = state.verdict;
+  $('audit').dataset.word = word;
+  $('verdict').textContent = title;
+  $('verdict-why').textContent = told;
+  $('verdict-short').textContent = verdictShort(state);
+  $('open').textContent = `${number(state.open)} of ${many(state.rows * state.columns, 'cell')}`;
+  $('changed').textContent = [numbersOf('row', state.changed.rows), numbersOf('column', state.changed.columns)].filter(Boolean).join('; ') || 'none';
+  if (word !== 'ambiguous') sheet.other = false;
+  showVerdictButtons(word);
+}
+
+function showVerdictButtons(word) {
+  for (const button of $('verdict-do').children) {
+    const action = actions.get(button.dataset.action);
+    button.hidden = !action.can();
+    if (action.id === 'other') {
+      button.textContent = sheet.other ? 'Back to your picture' : 'Show the other picture';
+      button.setAttribute('aria-pressed', sheet.other === true);
+    }
+    if (action.id === 'search') button.textContent = verdictView.seconds === '' ? 'Search until stopped' : `Search for ${verdictView.seconds} s`;
+  }
+  if (word !== 'ambiguous') closeFix();
+}
+
+// ---- what runs
+
+function showTask(task) {
+  $('task').hidden = task === null;
+  if (task === null) {
+    showVerdict(bench.state);
+    return;
+  }
+  if ($('task-name').textContent !== task.name) $('task-name').textContent = task.name;
+  const of = Number.isFinite(task.seconds) ? ` of ${number(task.seconds)}` : '';
+  $('task-time').textContent = `${Math.floor(task.elapsed)}${of} s${task.note ? ` · ${task.note}` : ''}`;
+  if (task.elapsed < 0.01) showVerdict(bench.state);
+}
+
+function showOther(other) {
+  sheet.other = other;
+  showVerdict(bench.state);
+  sheet.redraw();
+}
+
+/** A certificate of the present picture as a text, or null; what its search finds is told as the verdict. */
+export async function certificateText() {
+  if (bench.state?.verdict.word === 'ambiguous') {
+    say('There is no certificate: another picture has these clues.', 'alarm');
+    return null;
+  }
+  verdictView.ended = null;
+  const text = await searches.certify();
+  const why = {
+    time: `No certificate was found within ${number(secondsChosen())} s. A longer time can be chosen at “Search after a stroke”.`,
+    stopped: 'The search for a certificate was stopped.',
+    stroke: 'The search for a certificate was ended by a stroke.',
+  }[verdictView.ended];
+  if (text === null && why) say(why);
+  return text;
+}
+
+const isWord = (word) => bench.state?.verdict.word === word;
+function nextHatching() {
+  const names = HATCHINGS.map(([value]) => value);
+  setHatching(names[(names.indexOf(sheet.hatching) + 1) % names.length]);
+  say(`Hatching: ${HATCHINGS.find(([value]) => value === sheet.hatching)[1]}.`);
+}
+
+// For those who hear the page: the verdict, where it is another one. Those who see it read it in the panel, and what the line
+// at the top says stays there.
+let saidVerdict = '';
+function sayVerdict(state) {
+  const [title] = verdictTexts(state);
+  if (title === saidVerdict || searches.running) return;
+  saidVerdict = title;
+  $('verdict-heard').textContent = `${title.slice(2)}.`;
+}
+
+/** The actions of the menu Check, and the listeners that keep the panel. */
+export function startVerdict() {
+  for (const action of [
+    { id: 'other', name: 'Show the other picture', key: 'x', run: () => showOther(!sheet.other), can: () => isWord('ambiguous') },
+    { id: 'fix', name: 'Fix it …', run: () => openFix(), can: () => isWord('ambiguous') },
+    { id: 'search', name: 'Search for another picture', run: () => searches.judge(), can: () => isWord('undecided') && !searches.running },
+    { id: 'stop', name: 'Stop the search', key: '.', run: () => searches.stop(), can: () => searches.running !== null },
+    { id: 'hatching', name: 'Hatching: off, differing, open', key: 'h', run: nextHatching },
+  ]) addAction({ place: 'check', ...action });
+  on('stroke', () => searches.strokeBegun());
+  on('closed', () => searches.shown(null));
+  on('opened', () => { verdictView.hatching = null; });
+  on('shown', (state) => {
+    verdictView.ended = null;
+    searches.shown(state);
+    showVerdict(state);
+    showHatching(state);
+    sayVerdict(state);
+  });
+  on('judged', (state) => {
+    searches.judged(state);
+    showVerdict(state);
+    showHatching(state);
+    sayVerdict(state);
+  });
+}
+
+/** Fills the panel. */
+export function showVerdictPanel() {
+  makeVerdictPanel();
+  for (const id of ['other', 'fix', 'search', 'play']) $('verdict-do').append(actionButton(actions.get(id)));
+}
