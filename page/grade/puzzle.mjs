@@ -20,9 +20,10 @@ const isSettled = (mask) => (mask & (mask - 1)) === 0;
 
 /** The clues of a picture, rows from the top and then columns from the left, its size, its cells and its givens by index. */
 export class Puzzle {
-  constructor(rows, columns, cells, givens = []) {
+  /** `clues` are those of the lines, where they are known already. */
+  constructor(rows, columns, cells, givens = [], clues = null) {
     Object.assign(this, { rows, columns, cells, givens: [...givens], lines: rows + columns });
-    this.clues = Array.from({ length: this.lines }, (_, line) => this.clueAt(line));
+    this.clues = clues ?? Array.from({ length: this.lines }, (_, line) => this.clueAt(line));
   }
 
   static of(picture, givens = []) {
