@@ -138,13 +138,22 @@ for (const [name, all, seed] of [['two colours', small, 3], ['three colours', th
             const least = leastByBruteForce(all, board, (one) => all.isUnique(one));
             if (least !== null) assert.equal(result.best, least, rowsOf(all, cells).join('/'));
             else assert.ok(result.best === null || result.best > 3);
-            assert.ok(result.best === null || result.proved < result.best);
+            assert.ok(result.proved < Math.min(least ?? 4, result.best ?? 4) || least === null, 'what is said of smaller ones holds');
             if (least === null) none++;
             else mended++;
         }
         assert.ok(mended > 20, `${mended} mended, ${none} not`);
     });
 }
+
+test('one cell may end two witnesses that share no line', async () => {
+    // Of each of these some second pictures differ from it in cells whose lines are all different; one cell ends them all.
+    for (const rows of [['a.a.', '...a', '.a..', 'a...'], ['..a.', '.aaa', '.a..', 'a...'], ['.aa.', '...a', '..a.', 'a...']]) {
+        const { result, board } = await repairsOf(small, cellsOf(rows), 'unique', { rule: false });
+        assert.equal(leastByBruteForce(small, board, (one) => small.isUnique(one)), 1);
+        assert.equal(result.best, 1, rows.join('/'));
+    }
+});
 
 test('for line logic, too', async () => {
     const next = random(8);
@@ -154,6 +163,7 @@ test('for line logic, too', async () => {
         for (const changes of found) assert.ok(small.isByLines(painted(cells, changes)) && small.isUnique(painted(cells, changes)));
         const least = leastByBruteForce(small, board, (one) => small.isByLines(one));
         if (least !== null && least <= 2) assert.equal(result.best, least, rowsOf(small, cells).join('/'));
+        assert.ok(result.proved < (least ?? 4) || least === null, 'what is said of smaller ones holds');
     }
 });
 
