@@ -1,0 +1,182 @@
+// Few cells to be given until a puzzle has one solution, or until line logic solves it.
+//
+// Each second picture is a set of cells one of which must be given. The fewest cells that meet all sets so far are asked for, and
+// a further picture is a further set: so what has one solution at last has the fewest cells, and that is known.
+import { Narrowing, Puzzle } from '../grade/puzzle.mjs';
+import { settle } from './search.mjs';
+
+const FEW = 3; // so many given cells for line logic are looked for by trying all
+const MOST_TRIED = 40; // open cells that are tried where no second picture is known
+
+/** The open cells of the plain solver's end, where `given` are given besides the board's own. */
+export function openWith(board, given) {
+  const puzzle = new Puzzle(board.rows, board.columns, board.cells, [...board.givens, ...given], board.clues);
+  const narrowing = settle(new Narrowing(puzzle, puzzle.candidates(board.all)));
+  const found = [];
+  narrowing.masks.forEach((mask, index) => { if (mask & (mask - 1)) found.push(index); });
+  return found;
+}
+
+// The cells in which two pictures differ, in parts that share no line: each part alone is a second picture.
+function partsOf(board, other) {
+  const differing = [];
+  for (let index = 0; index < other.length; index++) if (other[index] !== board.cells[index]) differing.push(index);
+  const parts = [];
+  while (differing.length > 0) {
+    const part = [differing.pop()];
+    const lines = new Set();
+    for (let at = 0; at < part.length; at++) {
+      for (const line of board.linesOf(part[at])) lines.add(line);
+      for (let to = differing.length - 1; to >= 0; to--) {
+        if (board.linesOf(differing[to]).some((line) => lines.has(line))) part.push(...differing.splice(to, 1));
+      }
+    }
+    parts.push(part);
+  }
+  return parts;
+}
+
+const isMet = (set, given) => set.some((index) => given.has(index));
+
+// How often each cell is in a set that is not met yet.
+function weights(sets, given) {
+  const count = new Map();
+  for (const set of sets) {
+    if (isMet(set, given)) continue;
+    for (const index of set) count.set(index, (count.get(index) ?? 0) + 1);
+  }
+  return count;
+}
+
+// At most so many cells more that meet all sets, or null.
+function meeting(sets, given, left, check) {
+  check();
+  const open = sets.filter((set) => !isMet(set, given));
+  if (open.length === 0) return new Set(given);
+  const used = new Set();
+  let apart = 0;
+  for (const set of open) {
+    if (isMet(set, used)) continue;
+    apart++;
+    for (const index of set) used.add(index);
+  }
+  if (apart > left) return null;
+  const count = weights(open, given);
+  const least = open.reduce((best, set) => (set.length < best.length ? set : best));
+  for (const index of [...least].sort((one, other) => count.get(other) - count.get(one))) {
+    given.add(index);
+    const found = meeting(sets, given, left - 1, check);
+    given.delete(index);
+    if (found) return found;
+  }
+  return null;
+}
+
+// The cell that meets most of the sets that are not met.
+function heaviest(sets, given) {
+  let best = [0, -1];
+  for (const [index, count] of weights(sets, given)) if (count > best[0]) best = [count, index];
+  return best[1];
+}
+
+/** The search for the fewest cells to be given until the verdict is unique. `hooks.found({ given, isLeast })` hears what suffices. */
+export class Giving {
+  constructor(board, asker, limit, hooks) {
+    Object.assign(this, { board, asker, hooks, sets: [], check: () => limit.check(asker.questions) });
+  }
+
+  // The verdict's word where these cells are given. A second picture is a further set.
+  async #word(given) {
+    this.check();
+    const { word, other } = await this.asker.ask(this.board.cells, given);
+    if (other) this.sets.push(...partsOf(this.board, other));
+    return word;
+  }
+
+  async run() {
+    const enough = await this.#greedy();
+    this.hooks.found({ given: [...enough], isLeast: enough.size < 2 });
+    await this.#leaveOut(enough);
+    for (let most = 1; most < enough.size;) {
+      const given = meeting(this.sets, new Set(), most, this.check);
+      if (given === null) most++;
+      else {
+        const word = await this.#word(given);
+        if (word === 'undecided') return;
+        if (word === 'unique') return void this.hooks.found({ given: [...given], isLeast: true });
+      }
+    }
+    this.hooks.found({ given: [...enough], isLeast: true });
+  }
+
+  // Cells, one after the other, until they suffice: that which meets most sets, or where nothing is known an open one.
+  async #greedy() {
+    const given = new Set();
+    for (;;) {
+      const word = await this.#word(given);
+      if (word === 'unique') return given;
+      given.add(word === 'ambiguous' ? heaviest(this.sets, given) : settling(this.board, given, this.check));
+    }
+  }
+
+  async #leaveOut(given) {
+    for (const index of [...given]) {
+      given.delete(index);
+      if ((await this.#word(given)) !== 'unique') given.add(index);
+      else this.hooks.found({ given: [...given], isLeast: given.size < 2 });
+    }
+  }
+}
+
+// Of some open cells, all along the puzzle, the one that settles most.
+function settling(board, given, check) {
+  const open = openWith(board, [...given]);
+  const step = Math.ceil(open.length / MOST_TRIED);
+  let best = null;
+  for (let at = 0; at < open.length; at += step) {
+    check();
+    const left = openWith(board, [...given, open[at]]).length;
+    if (!best || left < best.left) best = { index: open[at], left };
+  }
+  return best.index;
+}
+
+/** Few cells to be given until line logic solves the puzzle: the cell that settles most, again and again; then by trying all few. */
+export async function givensForLines(board, asker, limit, hooks) {
+  const check = () => limit.check(asker.questions);
+  const first = openWith(board, []);
+  const chosen = [];
+  for (let open = first; open.length > 0;) {
+    let best = null;
+    for (const index of open) {
+      check();
+      const rest = openWith(board, [...chosen, index]);
+      if (!best || rest.length < best.rest.length) best = { index, rest };
+    }
+    chosen.push(best.index);
+    open = best.rest;
+  }
+  if (!(await isProved(board, asker, chosen))) return;
+  hooks.found({ given: chosen, isLeast: chosen.length < 2 });
+  for (let count = 1; count < chosen.length && count <= FEW; count++) {
+    const given = anyOf(board, first, count, check);
+    if (given && (await isProved(board, asker, given))) return void hooks.found({ given, isLeast: true });
+  }
+  if (chosen.length <= FEW + 1) hooks.found({ given: chosen, isLeast: true });
+}
+
+async function isProved(board, asker, given) {
+  const { word, open } = await asker.ask(board.cells, new Set(given));
+  return word === 'unique' && open === 0;
+}
+
+// So many of the open cells that suffice, or null.
+function anyOf(board, open, count, check, given = []) {
+  check();
+  if (count === 0) return openWith(board, given).length === 0 ? given : null;
+  for (let at = 0; at < open.length; at++) {
+    const found = anyOf(board, open.slice(at + 1), count - 1, check, [...given, open[at]]);
+    if (found) return found;
+  }
+  return null;
+}

@@ -1,0 +1,257 @@
+// Tests of repairs on small pictures, against brute force over all pictures of their size. The session they ask is a stand-in that
+// answers by brute force, too. Run: node --test tests/repair_small.mjs
+import assert from 'node:assert/strict';
+import { test } from 'node:test';
+import { clueOf } from '../page/grade/lines.mjs';
+import { Narrowing, Puzzle, cellsOf, mapOf } from '../page/grade/puzzle.mjs';
+import { Board } from '../page/repair/board.mjs';
+import { give, repair } from '../page/repair/repair.mjs';
+import { settle } from '../page/repair/search.mjs';
+import { haveSameClue } from '../page/repair/witness.mjs';
+
+const LETTERS = '.abc';
+function random(seed) {
+    let state = seed;
+    return (below) => (state = (state * 48271) % 2147483647) % below;
+}
+
+/** All pictures of a size over so many colours, by the text of their clues. */
+class AllPictures {
+    constructor(rows, columns, colours) {
+        Object.assign(this, { rows, columns, colours, count: colours ** (rows * columns), byClues: new Map() });
+        for (let code = 0; code < this.count; code++) {
+            const key = this.cluesOf(this.cells(code));
+            if (!this.byClues.has(key)) this.byClues.set(key, []);
+            this.byClues.get(key).push(code);
+        }
+    }
+
+    cells(code) {
+        return Uint8Array.from({ length: this.rows * this.columns }, (_, at) => Math.floor(code / this.colours ** at) % this.colours);
+    }
+
+    cluesOf(cells) {
+        const lines = [];
+        for (let row = 0; row < this.rows; row++) lines.push(clueOf(cells.subarray(row * this.columns, (row + 1) * this.columns)));
+        for (let column = 0; column < this.columns; column++) lines.push(clueOf(cells.filter((_, at) => at % this.columns === column)));
+        return JSON.stringify(lines);
+    }
+
+    /** The other pictures with a picture's clues and the colours of its given cells. */
+    others(cells, givens = []) {
+        return this.byClues.get(this.cluesOf(cells)).map((code) => this.cells(code))
+            .filter((other) => other.some((colour, at) => colour !== cells[at]) && givens.every((at) => other[at] === cells[at]));
+    }
+
+    isUnique(cells, givens) {
+        return this.others(cells, givens).length === 0;
+    }
+
+    isByLines(cells, givens = []) {
+        return settle(new Narrowing(new Puzzle(this.rows, this.columns, cells, givens))).open === 0;
+    }
+}
+
+const rowsOf = ({ columns }, cells) => [...cells].map((colour) => LETTERS[colour]).join('').match(new RegExp(`.{${columns}}`, 'g'));
+
+/** A session's texts, by brute force. */
+function sessionOf(all, cells) {
+    const shown = cells.slice();
+    const pins = new Set();
+    const index = (words) => (Number(words[1]) - 1) * all.columns + Number(words[2]) - 1;
+    const calls = {
+        paint: (words) => { shown[index(words)] = LETTERS.indexOf(words[3]); return 'ok'; },
+        pin: (words) => { pins.add(index(words)); return 'ok'; },
+        unpin: (words) => { pins.delete(index(words)); return 'ok'; },
+        allow: () => 'ok',
+        map: () => mapOf(settle(new Narrowing(new Puzzle(all.rows, all.columns, shown, pins)))).join('\n'),
+        verdict: () => {
+            const far = (one) => one.reduce((count, colour, at) => count + (colour === shown[at] ? 0 : 1), 0);
+            const [other] = all.others(shown, [...pins]).sort((one, two) => far(two) - far(one));
+            return other ? ['ambiguous', ...rowsOf(all, other)].join('\n') : 'unique';
+        },
+    };
+    const session = (lines) => lines.map((line) => `${calls[line.split(' ')[0]](line.split(' '))}\n`).join('');
+    session.shown = shown;
+    return session;
+}
+
+const small = new AllPictures(4, 4, 2);
+const three = new AllPictures(3, 3, 3);
+const BOUNDS = { seconds: 60, questions: 100000 };
+
+function boardOf(all, cells, more = {}) {
+    return new Board({ rows: all.rows, columns: all.columns, cells, ...more });
+}
+
+async function repairsOf(all, cells, goal, more = {}) {
+    const found = [];
+    const board = boardOf(all, cells, more);
+    const result = await repair({ board, goal, say: sessionOf(all, cells), ...BOUNDS }, { found: (one) => found.push(one.cells) });
+    return { found, result, board };
+}
+
+function painted(cells, changes) {
+    const other = cells.slice();
+    for (const { index, colour } of changes) other[index] = colour;
+    return other;
+}
+
+// All sets of at most `most` changes of different cells that the board allows and that keep the damage rule.
+function* changesOf(board, most, from = 0, taken = []) {
+    if (taken.length > 0) yield taken;
+    if (taken.length === most) return;
+    for (let at = from; at < board.moves.length; at++) {
+        const [code] = board.moves[at].codes;
+        if (taken.some(({ index }) => index === code >> 4)) continue;
+        yield* changesOf(board, most, at + 1, [...taken, { index: code >> 4, colour: code & 15 }]);
+    }
+}
+
+// The least number of changes up to three by which brute force reaches the goal, or null.
+function leastByBruteForce(all, board, isGoal) {
+    let least = null;
+    for (const changes of changesOf(board, 3)) {
+        if (least !== null && changes.length >= least) continue;
+        const cells = painted(board.cells, changes);
+        const isNeat = !board.rule || changes.every(({ index }) => !board.makesLone(cells, index));
+        if (isNeat && isGoal(cells)) least = changes.length;
+    }
+    return least;
+}
+
+function someCells(all, next, isWanted) {
+    for (;;) {
+        const cells = all.cells(next(all.count));
+        if (isWanted(cells)) return cells;
+    }
+}
+
+for (const [name, all, seed] of [['two colours', small, 3], ['three colours', three, 4]]) {
+    test(`${name}: the smallest repair is brute force's, and each one is unique`, async () => {
+        const next = random(seed);
+        let [mended, none] = [0, 0];
+        for (let turn = 0; turn < 150; turn++) {
+            const cells = someCells(all, next, (one) => !all.isUnique(one));
+            const rule = turn % 2 === 0;
+            const { found, result, board } = await repairsOf(all, cells, 'unique', { rule });
+            for (const changes of found) assert.ok(all.isUnique(painted(cells, changes)));
+            const least = leastByBruteForce(all, board, (one) => all.isUnique(one));
+            if (least !== null) assert.equal(result.best, least, rowsOf(all, cells).join('/'));
+            else assert.ok(result.best === null || result.best > 3);
+            assert.ok(result.proved < Math.min(least ?? 4, result.best ?? 4) || least === null, 'what is said of smaller ones holds');
+            if (least === null) none++;
+            else mended++;
+        }
+        assert.ok(mended > 20, `${mended} mended, ${none} not`);
+    });
+}
+
+test('one cell may end two witnesses that share no line', async () => {
+    // Of each of these some second pictures differ from it in cells whose lines are all different; one cell ends them all.
+    for (const rows of [['a.a.', '...a', '.a..', 'a...'], ['..a.', '.aaa', '.a..', 'a...'], ['.aa.', '...a', '..a.', 'a...']]) {
+        const { result, board } = await repairsOf(small, cellsOf(rows), 'unique', { rule: false });
+        assert.equal(leastByBruteForce(small, board, (one) => small.isUnique(one)), 1);
+        assert.deepEqual([result.best, result.proved], [1, 0], rows.join('/'));
+    }
+});
+
+test('for line logic, too', async () => {
+    const next = random(8);
+    for (let turn = 0; turn < 25; turn++) {
+        const cells = someCells(small, next, (one) => !small.isByLines(one));
+        const { found, result, board } = await repairsOf(small, cells, 'lines');
+        for (const changes of found) assert.ok(small.isByLines(painted(cells, changes)) && small.isUnique(painted(cells, changes)));
+        const least = leastByBruteForce(small, board, (one) => small.isByLines(one));
+        if (least !== null && least <= 2) assert.equal(result.best, least, rowsOf(small, cells).join('/'));
+        assert.ok(result.proved < (least ?? 4) || least === null, 'what is said of smaller ones holds');
+    }
+});
+
+test('the fewest cells to be given are brute force\'s', async () => {
+    const next = random(21);
+    for (const goal of ['unique', 'lines']) {
+        const isGoal = (cells, givens) => (goal === 'lines' ? small.isByLines(cells, givens) : small.isUnique(cells, givens));
+        for (let turn = 0; turn < 25; turn++) {
+            const cells = someCells(small, next, (one) => !isGoal(one, []));
+            const { given, isLeast } = await give({ board: boardOf(small, cells), goal, say: sessionOf(small, cells), ...BOUNDS });
+            assert.ok(isGoal(cells, given));
+            const fewer = sets(16, given.length - 1).some((some) => isGoal(cells, some));
+            if (isLeast) assert.equal(fewer, false, rowsOf(small, cells).join('/'));
+            if (given.length <= 3) assert.equal(isLeast, true);
+        }
+    }
+});
+
+// All sets of so many of the first numbers.
+function sets(below, count, from = 0) {
+    if (count === 0) return [[]];
+    const found = [];
+    for (let at = from; at < below; at++) for (const rest of sets(below, count - 1, at + 1)) found.push([at, ...rest]);
+    return found;
+}
+
+test('locked cells and colours, and givens, are left as they are', async () => {
+    const next = random(31);
+    for (let turn = 0; turn < 20; turn++) {
+        const cells = someCells(three, next, (one) => !three.isUnique(one) && new Set(one).size === 3);
+        const lockedCells = [next(9), next(9)];
+        const { found } = await repairsOf(three, cells, 'unique', { lockedCells, lockedColours: [2], rule: false });
+        for (const changes of found) {
+            for (const { index, colour } of changes) assert.ok(!lockedCells.includes(index) && colour !== 2 && cells[index] !== 2);
+        }
+    }
+});
+
+test('a symmetric picture stays so where that is asked', async () => {
+    const cells = cellsOf(['a..a', '.aa.', '.aa.', 'a..a']);
+    for (const mirror of ['x', 'y']) {
+        const { found, result } = await repairsOf(small, cells, 'unique', { mirror, rule: false });
+        assert.ok(found.length > 0 && result.best !== null);
+        for (const changes of found) {
+            const rows = rowsOf(small, painted(cells, changes));
+            const turned = mirror === 'x' ? rows.map((row) => [...row].reverse().join('')) : [...rows].reverse();
+            assert.deepEqual(turned, rows);
+        }
+    }
+});
+
+test('the damage rule: the colour of a neighbour, and no new lone pixel', () => {
+    const board = boardOf(small, cellsOf(['aa..', 'aa..', '....', '...a']));
+    const allowed = new Set(board.moves.map(({ codes: [code] }) => `${code >> 4}=${code & 15}`));
+    assert.ok(allowed.has('2=1') && !allowed.has('3=1') && !allowed.has('9=0'), [...allowed].join(' '));
+    assert.equal(board.makesLone(cellsOf(['aa..', 'aa..', '....', '....']), 15), false);
+    assert.equal(board.makesLone(cellsOf(['aa..', '.a..', '....', '...a']), 4), false);
+    assert.equal(board.makesLone(cellsOf(['.a..', '.a..', 'a...', '...a']), 0), false);
+    assert.equal(board.makesLone(cellsOf(['a...', '....', '....', '...a']), 1), true, 'the corner is alone now');
+});
+
+test('a search ends with its questions, and what was found stays', async () => {
+    const cells = cellsOf(['a.a.', '.a.a', 'a.a.', '.a.a']);
+    const found = [];
+    const result = await repair({ board: boardOf(small, cells), goal: 'unique', say: sessionOf(small, cells), seconds: 60, questions: 3 }, { found: (one) => found.push(one) });
+    assert.equal(result.isThrough, false);
+    assert.ok(result.questions <= 3);
+});
+
+test('what is nearer to the goal is told, each time nearer', async () => {
+    const cells = cellsOf(['a.a.', '.a.a', 'a.a.', '.a.a']);
+    const near = [];
+    await repair({ board: boardOf(small, cells), goal: 'unique', say: sessionOf(small, cells), ...BOUNDS }, { nearer: (one) => near.push(one.differing) });
+    assert.ok(near.length > 0);
+    for (let at = 1; at < near.length; at++) assert.ok(near[at] < near[at - 1]);
+});
+
+test('a session that refuses a line ends the search with an error', async () => {
+    const board = boardOf(small, cellsOf(['a.a.', '.a.a', 'a.a.', '.a.a']));
+    await assert.rejects(repair({ board, goal: 'unique', say: () => 'refused: Memory\n', ...BOUNDS }), /refused: Memory/);
+});
+
+test('two lines have the same clue exactly where their runs are equal', () => {
+    const next = random(77);
+    for (let turn = 0; turn < 3000; turn++) {
+        const size = 1 + next(7);
+        const [one, two] = [0, 1].map(() => Uint8Array.from({ length: size }, () => next(3)));
+        assert.equal(haveSameClue(one, two, size), JSON.stringify(clueOf(one)) === JSON.stringify(clueOf(two)));
+    }
+});
