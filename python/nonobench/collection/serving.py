@@ -142,17 +142,20 @@ class Judging:
     def answer(self, task: Task) -> None:
         """Answers the puzzles of a file."""
         begun = time.perf_counter()
-        content = ""
         try:
             data, givens, background = (_bytes(file) for file in (task.file, task.givens, task.background))
             certificates = {number: _bytes(file) for number, file in task.certificates}
-            content = _content(data, givens, background, *certificates.values())
-            if content == task.before:
-                self._answers.put(task.number, "same", "")
-                return
+        except Unreadable as error:
+            self._answers.put(task.number, "last", "error", unread(task.name, error, self._settings.has_times))
+            return
+        content = _content(data, givens, background, *certificates.values())
+        if content == task.before:
+            self._answers.put(task.number, "same", "")
+            return
+        try:
             puzzles = numbered(self._puzzles(task.name, data, givens, background))
         except Unreadable as error:
-            puzzles, certificates = iter([(1, False, error)]), {}
+            puzzles = iter([(1, False, error)])
         number = 0
         for number, has_more, puzzle in puzzles:
             if number < task.start:
@@ -205,8 +208,7 @@ class Judging:
         front, _, content, begun = about
         if self._settings.has_times:
             row["seconds"] = round(time.perf_counter() - begun, 6)
-        if content:
-            row["content"], row["made"] = content, self._settings.made
+        row["content"], row["made"] = content, self._settings.made
         if row["verdict"] == "undecided":
             row["limit"] = self._settings.limit
         self._answers.put(task.number, kind, row["verdict"], text_of({**front, **row}), certificate)
@@ -238,6 +240,12 @@ class Judging:
             return row, certificates.packed(judged.certificate)
         note = certificates.write(f"{name}.cert", judged.certificate)
         return ({**row, "note": note} if note else row), ""
+
+
+def unread(name: str, error: Unreadable, has_times: bool) -> str:
+    """The row of a file that cannot be read."""
+    row: Row = {"file": name, "verdict": "error", "error": str(error)}
+    return text_of({**row, "seconds": 0.0} if has_times else row)
 
 
 def numbered(puzzles: Iterator[Union[Puzzle, Unreadable]]) -> Iterator[tuple[int, bool, Union[Puzzle, Unreadable]]]:
