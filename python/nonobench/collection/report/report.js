@@ -6,7 +6,7 @@ const SHOWN = ['one solution', 'ambiguous', 'undecided', 'error'];
 const GRADES = ['easy', 'medium', 'hard', 'very hard', 'expert'];
 const FIGURES = ['rounds', 'evaluations', 'longest wait', 'splits', 'depth'];
 const LETTERS = '.abcdefghijklmno';
-const CARD = { width: 216, height: 212, gap: 10, shot: 132, pair: 92 };
+const CARD = { width: 208, height: 226, gap: 10, shot: 128, pair: 90 };
 const LARGE = 430; // pixels of a picture in the dialog
 
 const byId = (id) => document.getElementById(id);
@@ -125,17 +125,24 @@ function toldOf(puzzle) {
   return puzzle.differ.length ? `${puzzle.differ.length} cells differ` : '';
 }
 
-function cardOf(index) {
+function sizesOf(puzzle) {
+  const guess = puzzle.open ? `${number.format(puzzle.open)} open` : '';
+  return [sizeOf(puzzle), puzzle.colours.length && `${puzzle.colours.length} colours`, guess].filter(Boolean).join(', ');
+}
+
+function cardOf(index, width) {
   const puzzle = puzzleOf(index);
   const verdict = make('span', { className: `verdict ${VERDICTS[puzzle.verdict]}` }, make('span', { className: 'sign', 'aria-hidden': 'true' }), SHOWN[puzzle.verdict]);
   const shots = shotsOf(puzzle, puzzle.others ? CARD.pair : CARD.shot, false);
   if (!shots.length) shots.push(make('p', { className: 'why' }, puzzle.words));
   const under = make('div', {},
-    make('div', { className: 'name', title: puzzle.name }, make('bdi', {}, puzzle.name)),
-    make('div', { className: 'told' }, verdict, make('span', { className: 'faint' }, [sizeOf(puzzle), toldOf(puzzle)].filter(Boolean).join(', '))));
+    make('div', { className: 'name', title: puzzle.name }, puzzle.title || puzzle.name.split('/').at(-1)),
+    make('div', { className: 'told' }, verdict, make('span', {}, toldOf(puzzle))),
+    make('div', { className: 'told faint' }, make('span', {}, sizesOf(puzzle))));
   const card = make('div', { className: 'card', role: 'listitem', tabIndex: -1 }, make('div', { className: 'shots' }, ...shots), under);
-  card.setAttribute('aria-label', [puzzle.name, SHOWN[puzzle.verdict], sizeOf(puzzle), toldOf(puzzle), puzzle.words].filter(Boolean).join(', '));
-  Object.assign(card.style, { width: `${CARD.width}px`, height: `${CARD.height}px` });
+  const words = [puzzle.name, puzzle.title, SHOWN[puzzle.verdict], toldOf(puzzle), sizesOf(puzzle), puzzle.words];
+  card.setAttribute('aria-label', words.filter(Boolean).join(', '));
+  Object.assign(card.style, { width: `${width}px`, height: `${CARD.height}px` });
   return card;
 }
 
@@ -148,6 +155,7 @@ class List {
     this.order = new Uint32Array(0);
     this.current = 0; // the place that the keyboard is at
     this.across = 1;
+    this.width = 0; // of a card
     window.addEventListener('scroll', () => this.draw(), { passive: true });
     new ResizeObserver(() => this.layout()).observe(this.element);
     this.element.addEventListener('keydown', (event) => this.press(event));
@@ -174,8 +182,9 @@ class List {
   layout() {
     const width = this.element.clientWidth;
     const across = Math.max(1, Math.floor((width + CARD.gap) / (CARD.width + CARD.gap)));
-    if (across !== this.across) this.clear();
-    this.across = across;
+    const each = Math.floor((width + CARD.gap) / across) - CARD.gap;
+    if (across !== this.across || each !== this.width) this.clear();
+    Object.assign(this, { across, width: each });
     this.element.style.height = `${Math.ceil(this.order.length / across) * (CARD.height + CARD.gap)}px`;
     this.draw();
   }
@@ -195,12 +204,12 @@ class List {
   }
 
   put(place) {
-    const card = cardOf(this.order[place]);
+    const card = cardOf(this.order[place], this.width);
     card.dataset.place = place;
     card.tabIndex = place === this.current ? 0 : -1;
     card.setAttribute('aria-setsize', this.order.length);
     card.setAttribute('aria-posinset', place + 1);
-    card.style.left = `${(place % this.across) * (CARD.width + CARD.gap)}px`;
+    card.style.left = `${(place % this.across) * (this.width + CARD.gap)}px`;
     card.style.top = `${Math.floor(place / this.across) * (CARD.height + CARD.gap)}px`;
     const next = [...this.shown.entries()].filter(([other]) => other > place).sort(([a], [b]) => a - b)[0];
     this.element.insertBefore(card, next ? next[1] : null);
