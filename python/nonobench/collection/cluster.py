@@ -60,7 +60,7 @@ class Cluster:
         try:
             from distributed import Client
         except ImportError:
-            raise Failure(str(Missing("distributed", "reaches Dask's workers"))) from None
+            raise Failure(str(Missing("distributed", "reaches Dask's workers", "cluster"))) from None
         try:
             self._client = Client(self._address, timeout=CONNECTING, set_as_default=False)
         except (OSError, ValueError, asyncio.TimeoutError) as error:
