@@ -9,6 +9,8 @@ from pathlib import Path
 
 HERE = Path(__file__).resolve().parent
 LIBRARY = "libnonobench.so"
+# What the package has: code, and the parts of the report that an audit makes.
+CARRIED = (".py", ".html", ".css", ".js")
 TAGS = "Wheel-Version: 1.0\nGenerator: nonobench\nRoot-Is-Purelib: {}\nTag: {}\n"
 METADATA = "Metadata-Version: 2.1\nName: {name}\nVersion: {version}\nSummary: {description}\nRequires-Python: {python}\n"
 
@@ -21,7 +23,9 @@ def build_wheel(wheel_directory, config_settings=None, metadata_directory=None):
     tag = "py3-none-" + ("any" if is_pure else re.sub(r"\W", "_", sysconfig.get_platform()))
     title = "{name}-{version}".format(**project)
     readme = (HERE / "README.md").read_text(encoding="utf-8")
-    files[f"{title}.dist-info/METADATA"] = f"{METADATA.format(**project)}Description-Content-Type: text/markdown\n\n{readme}".encode()
+    more = "".join(_extra_lines(project["extras"])) + "Description-Content-Type: text/markdown\n\n"
+    files[f"{title}.dist-info/METADATA"] = f"{METADATA.format(**project)}{more}{readme}".encode()
+    files[f"{title}.dist-info/entry_points.txt"] = f"[console_scripts]\n{project['scripts']}\n".encode()
     files[f"{title}.dist-info/WHEEL"] = TAGS.format(str(is_pure).lower(), tag).encode()
     record = f"{title}.dist-info/RECORD"
     files[record] = "".join([*map(_line, files, files.values()), f"{record},,\n"]).encode()
@@ -36,15 +40,32 @@ def _project():
     """What pyproject.toml says of the package. Python reads that format from 3.11 on, so its lines are looked for."""
     text = (HERE / "pyproject.toml").read_text(encoding="utf-8")
     project = dict(re.findall(r'^(name|version|description|requires-python) = "(.*)"$', text, re.MULTILINE))
-    return {**project, "python": project["requires-python"]}
+    tables = dict(re.findall(r"^\[([\w.-]+)\]\n((?:(?!\[).+\n)*)", text, re.MULTILINE))
+    extras = re.findall(r"^([\w-]+) = \[(.*)\]$", tables.get("project.optional-dependencies", ""), re.MULTILINE)
+    scripts = re.findall(r'^([\w-]+) = "(.*)"$', tables.get("project.scripts", ""), re.MULTILINE)
+    return {
+        **project,
+        "python": project["requires-python"],
+        "extras": {name: re.findall(r'"([^"]+)"', words) for name, words in extras},
+        "scripts": "\n".join(f"{name} = {call}" for name, call in scripts),
+    }
+
+
+def _extra_lines(extras):
+    """The lines of the metadata for the libraries that only some ways of use want."""
+    for name, libraries in extras.items():
+        yield f"Provides-Extra: {name}\n"
+        for library in libraries:
+            yield f'Requires-Dist: {library}; extra == "{name}"\n'
 
 
 def _package():
     """The package's files by their places: the library is beside them, or c/build left it, or the system has it."""
     sources = HERE / "nonobench"
-    files = [*sorted(sources.glob("*.py")), sources / "py.typed"]
-    files += [place for place in (sources / LIBRARY, HERE.parent / "c" / "out" / LIBRARY) if place.is_file()][:1]
-    return {f"nonobench/{file.name}": file.read_bytes() for file in files}
+    files = [file for file in sorted(sources.rglob("*")) if file.suffix in CARRIED or file.name == "py.typed"]
+    packed = {file.relative_to(HERE).as_posix(): file.read_bytes() for file in files}
+    libraries = [place for place in (sources / LIBRARY, HERE.parent / "c" / "out" / LIBRARY) if place.is_file()][:1]
+    return {**packed, **{f"nonobench/{LIBRARY}": place.read_bytes() for place in libraries}}
 
 
 def _line(place, content):

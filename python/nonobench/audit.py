@@ -1,0 +1,17 @@
+"""Runs nonobench-audit: python3 -m nonobench.audit PATH.. The code is in nonobench.collection."""
+
+import os
+import sys
+
+
+def _leave_current_folder() -> None:
+    """Files of the current folder are not to be taken for libraries, unless the package itself lies there."""
+    here, package = os.getcwd(), os.path.dirname(os.path.dirname(os.path.abspath(__file__)))
+    sys.path[:] = [path for path in sys.path if os.path.abspath(path or ".") != here or here == package]
+
+
+if __name__ == "__main__":
+    _leave_current_folder()
+    from nonobench.collection import main
+
+    sys.exit(main())

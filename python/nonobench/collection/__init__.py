@@ -1,0 +1,12 @@
+"""Audits a collection of puzzles: which of them have exactly one solution.
+
+`nonobench-audit PATH..`, or `python3 -m nonobench.audit PATH..`, is the program; --help tells its options.
+
+The verdicts and the certificates are those of libnonobench, which is proved (docs/PROMISES.md). What reads files, hands them out
+and writes rows is plain Python, and tested. Beside Python it takes Pillow for images, defusedxml for XML, jinja2 for the report,
+tqdm for the bar, distributed for more machines; each is asked for only where it is needed.
+"""
+
+from .running import main
+
+__all__ = ["main"]

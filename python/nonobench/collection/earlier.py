@@ -1,0 +1,69 @@
+"""Rows of an earlier run, of which those are kept that nothing has changed."""
+
+from __future__ import annotations
+
+import hashlib
+import os
+from typing import BinaryIO, Optional
+
+from .outputs import Failure, lines_of
+from .rows import Row, row_of
+
+
+class Earlier:
+    """Where the rows of a file of rows are."""
+
+    def __init__(self, file: BinaryIO, name: str) -> None:
+        self._places: dict[int, int] = {}
+        self._lines = os.fdopen(os.dup(file.fileno()), "rb")
+        self._lines.seek(0)
+        for number, (place, line) in enumerate(lines_of(self._lines), 1):
+            try:
+                row = row_of(line)
+                self._places[_key(row["file"], row.get("puzzle", 1))] = place
+            except (ValueError, KeyError, TypeError):
+                raise Failure(f"{name}: line {number} is no row of an audit") from None
+
+    def rows(self, name: str) -> list[tuple[int, Row]]:
+        """The rows of a file, each with its place; none where some are missing."""
+        found: list[tuple[int, Row]] = []
+        while True:
+            place = self._places.get(_key(name, len(found) + 1))
+            if place is None:
+                return []
+            self._lines.seek(place)
+            row = row_of(self._lines.readline())
+            if row["file"] != name or row.get("puzzle", 1) != len(found) + 1:
+                return []
+            found.append((place, row))
+            if not row.get("more"):
+                return found
+
+    def text(self, place: int) -> str:
+        """The row at a place."""
+        self._lines.seek(place)
+        return self._lines.readline().decode("ascii").rstrip("\n")
+
+    def close(self) -> None:
+        """Lets the file go."""
+        self._lines.close()
+
+
+def content_before(rows: list[tuple[int, Row]], made: str, limit: str, to: Optional[str]) -> str:
+    """What the content of a file was when its rows were made; empty where they are to be made again."""
+    for _, row in rows:
+        if row.get("made") != made or "note" in row or "missing" in row:
+            return ""
+        if row["verdict"] == "undecided" and row.get("limit") != limit:
+            return ""
+        if row.get("error", "").startswith("out of memory"):
+            return ""
+        number = row.get("puzzle", 1)
+        if to is not None and "lines" in row and not os.path.exists(f"{to if number == 1 else f'{to}.{number}'}.cert"):
+            return ""
+    return rows[0][1].get("content", "") if rows else ""
+
+
+def _key(name: str, puzzle: int) -> int:
+    digest = hashlib.blake2b(f"{puzzle}\n{name}".encode("utf-8", "surrogatepass"), digest_size=8)
+    return int.from_bytes(digest.digest(), "big")

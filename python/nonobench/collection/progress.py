@@ -1,0 +1,85 @@
+"""What is said while an audit runs, on standard error: a bar on a terminal, else a line now and then."""
+
+from __future__ import annotations
+
+import contextlib
+import sys
+import time
+from collections import Counter
+from typing import Iterator, Optional
+
+from .rows import VERDICTS
+
+EVERY = 10.0  # seconds between lines where there is no terminal
+
+
+class Progress:
+    """How far an audit is."""
+
+    def __init__(self, is_quiet: bool) -> None:
+        self._is_quiet = is_quiet
+        self._begun = self._told = time.monotonic()
+        self._files = 0
+        self._total: Optional[int] = None
+        self._kept = 0
+        self.verdicts: Counter = Counter()
+        self._bar = None if is_quiet or not sys.stderr.isatty() else _bar()
+
+    def expect(self, total: int) -> None:
+        """Tells how many files there are."""
+        self._total = total
+        if self._bar is not None:
+            self._bar.total = total
+
+    def file(self) -> None:
+        """Counts a file."""
+        self._files += 1
+
+    def row(self, verdict: str) -> None:
+        """Counts a puzzle."""
+        self.verdicts[verdict] += 1
+
+    def tick(self) -> None:
+        """Shows how far it is, where it is time."""
+        if self._bar is not None:
+            self._bar.set_postfix_str(self.counts(), refresh=False)
+            self._bar.update(self._files - self._bar.n)
+        elif not self._is_quiet and time.monotonic() - self._told >= EVERY:
+            self._told = time.monotonic()
+            print(f"nonobench-audit: {self._line()}", file=sys.stderr, flush=True)
+
+    def _line(self) -> str:
+        spent = time.monotonic() - self._begun
+        line = f"{self._files}{'' if self._total is None else f' of {self._total}'} files, {self._files / spent:.0f} a second"
+        if self._total is not None and self._files:
+            line += f", {(self._total - self._files) * spent / self._files:.0f} s left"
+        return f"{line}; {self.counts()}"
+
+    def counts(self) -> str:
+        """How many puzzles have each verdict."""
+        return ", ".join(f"{verdict} {self.verdicts[verdict]}" for verdict in VERDICTS if self.verdicts[verdict]) or "none yet"
+
+    @contextlib.contextmanager
+    def aside(self) -> Iterator[None]:
+        """Takes the bar away while lines are printed."""
+        if self._bar is not None and sys.stdout.isatty():
+            self._bar.clear()
+            yield
+            self._bar.refresh()
+        else:
+            yield
+
+    def close(self) -> None:
+        """Shows the end."""
+        if self._bar is not None:
+            self.tick()
+            self._bar.close()
+
+
+def _bar():
+    try:
+        from tqdm import tqdm
+    except ImportError:
+        print("nonobench-audit: tqdm is not installed, which draws a bar (pip install nonobench[audit])", file=sys.stderr)
+        return None
+    return tqdm(unit=" files", dynamic_ncols=True, smoothing=0.1, mininterval=0.2)

@@ -1,0 +1,94 @@
+"""Files as puzzles: told by their first bytes, and bounded before they are read."""
+
+from __future__ import annotations
+
+import os
+import re
+import stat
+from typing import Iterator, NamedTuple, Optional, Union
+
+from . import images, webpbn
+from .puzzles import MOST_BYTES, Puzzle, Triple, Unreadable, one_line
+
+MOST_BESIDE = 200_000  # bytes of a file of givens
+
+
+class Ground(NamedTuple):
+    """What is taken for background where a file does not tell: a triple, else the first pixel or white."""
+
+    triple: Optional[Triple] = None
+    is_corner: bool = False
+
+
+def ground_of(word: str) -> Ground:
+    """The background of an option's word: `white`, `corner` or R,G,B. Anything else is a ValueError."""
+    if word in ("white", "corner"):
+        return Ground(is_corner=word == "corner")
+    if not re.fullmatch(r"[0-9]{1,5}(,[0-9]{1,5}){2}", word) or max(map(int, word.split(","))) > 65535:
+        raise ValueError("must be white, corner, or R,G,B of numbers up to 65535")
+    red, green, blue = map(int, word.split(","))
+    return Ground((red, green, blue))
+
+
+def bytes_of(path: str, most: int = MOST_BYTES) -> bytes:
+    """The bytes of a file. Pipes, devices and folders are none, and nothing waits for one."""
+    try:
+        handle = os.open(path, os.O_RDONLY | os.O_NONBLOCK | os.O_CLOEXEC)
+        try:
+            found = os.fstat(handle)
+            if not stat.S_ISREG(found.st_mode):
+                raise Unreadable("this is no file" if not stat.S_ISDIR(found.st_mode) else "this folder is not read")
+            if found.st_size > most:
+                raise Unreadable(f"more than {most} bytes")
+            data = os.read(handle, most + 1)
+            while len(data) < found.st_size:
+                more = os.read(handle, most + 1 - len(data))
+                if not more:
+                    break
+                data += more
+        finally:
+            os.close(handle)
+    except (OSError, ValueError) as error:
+        raise Unreadable(one_line(getattr(error, "strerror", None) or str(error))) from error
+    return data
+
+
+def puzzles_of(data: bytes, is_non: bool, ground: Ground, givens: bytes = b"") -> Iterator[Union[Puzzle, Unreadable]]:
+    """Each puzzle of a file, or why it is none. What is wrong with the whole file is raised."""
+    kind = images.format_of(data)
+    if kind is not None:
+        puzzle = images.puzzle_of_image(data, kind, ground.triple, ground.is_corner)
+    elif data.startswith(b"P3") or not (is_non or _is_xml(data)):
+        puzzle = Puzzle(data, background=first_triple(data) if ground.is_corner else ground.triple)
+    elif _is_xml(data):
+        yield from webpbn.puzzles_of_xml(data)
+        return
+    else:
+        puzzle = Puzzle(data, is_non=True)
+    if givens:
+        puzzle = Puzzle(puzzle.text, puzzle.is_non, puzzle.background, givens_of(givens), puzzle.title)
+    yield puzzle
+
+
+def _is_xml(data: bytes) -> bool:
+    """Whether a text begins as XML does, in whichever coding."""
+    front = data[:4].lstrip(b"\xef\xbb\xbf")
+    return data.startswith((b"\xff\xfe", b"\xfe\xff", b"<\0", b"\0<")) or (front or data).lstrip()[:1] == b"<" or data.lstrip()[:1] == b"<"
+
+
+def first_triple(data: bytes) -> Optional[Triple]:
+    """The first pixel of a P3 text, where it has one."""
+    numbers = re.match(rb"P3(?:(?:\s|#[^\r\n]*(?:[\r\n]|$))+([0-9]{1,9})){6}", data)
+    if numbers is None:
+        return None
+    words = re.sub(rb"#[^\r\n]*", b" ", data[: numbers.end()]).split()
+    red, green, blue = (int(word) for word in words[-3:])
+    return red, green, blue
+
+
+def givens_of(text: bytes) -> tuple[tuple[int, int], ...]:
+    """The cells of a file of givens, a line `given R C` each."""
+    found = re.findall(rb"given ([0-9]{1,3}) ([0-9]{1,3})", text)
+    if b"".join(b"given %s %s\n" % pair for pair in found) != text.rstrip(b"\n") + b"\n":
+        raise Unreadable("the file of givens has a line that is not `given R C`")
+    return tuple(sorted({(int(row), int(column)) for row, column in found}))

@@ -1,0 +1,305 @@
+"""A run: files are found, handed out, and their rows put in order into what is written."""
+
+from __future__ import annotations
+
+import os
+import signal
+import sys
+import threading
+from collections import Counter
+from typing import Any, Callable, Iterator, NamedTuple, Optional
+
+from .._library import version
+from . import certificates
+from .arguments import Options, options_of
+from .earlier import Earlier, content_before
+from .finding import find, order_of
+from .outputs import Failure, Lines, Sheet, Table, kept_folder, lines_of
+from .progress import Progress
+from .rows import GRADES, VERDICTS, is_proper, row_of
+from .serving import FULL, Settings, Task
+from .workers import Answer, Broken, Pool
+
+MOST_WAITING = 64 << 20  # bytes of rows that wait for one before them
+
+
+class Stopped(Exception):
+    """The run is to end: by Ctrl-C, or since the machine wants it to."""
+
+    def __init__(self, number: int) -> None:
+        super().__init__(number)
+        self.status = 128 + number
+
+
+class Kept(NamedTuple):
+    """Rows of an earlier run, and what is to be done about the file they are of."""
+
+    places: tuple[int, ...]
+    to: Optional[str]
+
+
+def main(words: Optional[list[str]] = None) -> int:
+    """Runs nonobench-audit, and answers its status."""
+    options = options_of(sys.argv[1:] if words is None else words)
+    for number in (signal.SIGINT, signal.SIGTERM):
+        signal.signal(number, _stop)
+    try:
+        return Run(options).merge() if options.is_merge else Run(options).audit()
+    except (Failure, Broken) as error:
+        print(f"nonobench-audit: {error}", file=sys.stderr)
+        return 3
+    except Stopped as error:
+        return error.status
+
+
+def _stop(number: int, _frame: Any) -> None:
+    signal.signal(number, signal.SIG_DFL)
+    raise Stopped(number)
+
+
+def settings_of(options: Options) -> Settings:
+    """What holds for all puzzles of a run, as its rows tell it too."""
+    limit = f"{options.seconds:g} s" if options.allowance is None else f"{options.allowance} splits"
+    made = f"{version()} {options.ground}{'' if options.has_grades else ' no-grade'}{'' if options.allowance is None else ' no-times'}"
+    return Settings(
+        made, limit, options.memory, options.allowance, options.ground, options.has_grades, options.allowance is None,
+        options.scheduler is not None,
+    )
+
+
+class Run:
+    """One run of the program."""
+
+    def __init__(self, options: Options) -> None:
+        self._options = options
+        self._progress = Progress(options.is_quiet or options.is_merge)
+        self._lines: Optional[Lines] = None
+        self._sinks: list[Any] = []
+        self._earlier: Optional[Earlier] = None
+        self._kept: dict[int, Kept] = {}
+        self._waiting: dict[int, list[Answer]] = {}
+        self._complete: set[int] = set()
+        self._size = 0
+        self._next = 0
+        self._missing: Counter = Counter()
+        self._grades: Counter = Counter()
+        self._improper = 0
+
+    def audit(self) -> int:
+        """Audits a collection."""
+        options = self._options
+        settings = settings_of(options)
+        folder = None if options.certify is None else kept_folder(options.certify, options.shard != (1, 1))
+        source = self._source(settings)
+        try:
+            source.start()
+            self._open()
+            if options.is_resumed:
+                self._earlier = Earlier(self._lines.file, options.jsonl)
+            self._count_files()
+            tasks = self._tasks(settings)
+            return self._guarded(lambda: self._take_all(source.answers(tasks, lambda: self._size > MOST_WAITING)))
+        finally:
+            source.close()
+            if folder is not None:
+                os.close(folder)
+
+    def merge(self) -> int:
+        """Joins the rows of several runs."""
+        rows: dict[tuple[str, int], tuple[int, int]] = {}
+        files = []
+        for at, path in enumerate(self._options.paths):
+            try:
+                files.append(open(path, "rb"))
+            except OSError as error:
+                raise Failure(f"{path}: {error.strerror}") from error
+            for number, (place, line) in enumerate(lines_of(files[-1]), 1):
+                try:
+                    row = row_of(line)
+                    rows[order_of(row["file"]), row.get("puzzle", 1)] = (at, place)
+                except (ValueError, KeyError, TypeError):
+                    raise Failure(f"{path}: line {number} is no row of an audit") from None
+        self._open()
+        return self._guarded(lambda: self._join(files, rows))
+
+    def _join(self, files: list[Any], rows: dict[tuple[str, int], tuple[int, int]]) -> None:
+        for key in sorted(rows):
+            at, place = rows[key]
+            files[at].seek(place)
+            text = files[at].readline().decode("ascii").rstrip("\n")
+            self._deliver(row_of(text)["verdict"], text)
+
+    def _source(self, settings: Settings) -> Any:
+        options = self._options
+        if options.scheduler is None:
+            return Pool(settings, options.jobs, options.seconds)
+        from .cluster import Cluster
+
+        return Cluster(options.scheduler, settings, options.seconds)
+
+    def _open(self) -> None:
+        """Opens what is written, so that what cannot be is told before anything is done."""
+        options = self._options
+        if options.jsonl is not None:
+            self._lines = Lines(options.jsonl, options.is_resumed)
+            self._sinks.append(self._lines)
+        if options.csv is not None:
+            self._sinks.append(Sheet(options.csv))
+        if options.html is not None:
+            from .report import Report
+
+            self._sinks.append(Report(options.html, options.title))
+        if not self._sinks and not options.is_quiet:
+            self._sinks.append(Table(self._progress.aside))
+
+    def _count_files(self) -> None:
+        """Counts the files beside the run, so that it can be told how long it takes."""
+        options = self._options
+
+        def count() -> None:
+            number = sum(1 for _ in find(options.paths, None))
+            self._progress.expect((number - options.shard[0]) // options.shard[1] + 1)
+
+        if not options.is_quiet:
+            threading.Thread(target=count, daemon=True).start()
+
+    def _tasks(self, settings: Settings) -> Iterator[Task]:
+        options = self._options
+        part, parts = options.shard
+        number = -1
+        for at, found in enumerate(find(options.paths, options.certificates)):
+            if at % parts != part - 1:
+                continue
+            number += 1
+            to = None if options.certify is None else os.path.join(options.certify, found.stem)
+            before = ""
+            if self._earlier is not None:
+                rows = self._earlier.rows(found.name)
+                before = content_before(rows, settings.made, settings.limit, to)
+                self._kept[number] = Kept(tuple(place for place, _ in rows) if before else (), to)
+            elif to is not None:
+                self._kept[number] = Kept((), to)
+            yield Task(number, found.name, found.path, found.certificates, found.givens, found.background, to, before, 1, FULL)
+
+    def _guarded(self, work: Callable[[], None]) -> int:
+        """Does the work, and ends what is written whatever comes: what is done is kept."""
+        is_whole, status = False, 0
+        try:
+            work()
+            is_whole = True
+        except Stopped as error:
+            status = error.status
+            for number in sorted(self._complete):
+                self._release(number)
+        finally:
+            failures = self._close(is_whole)
+        self._progress.close()
+        for error in failures:
+            print(f"nonobench-audit: {error}", file=sys.stderr)
+        self._summary(is_whole)
+        return status or (3 if failures else self._status())
+
+    def _close(self, is_whole: bool) -> list[Failure]:
+        failures = []
+        for sink in self._sinks:
+            if not isinstance(sink, Table):
+                try:
+                    sink.close(is_whole)
+                except Failure as error:
+                    failures.append(error)
+        return failures
+
+    def _take_all(self, answers: Iterator[Optional[Answer]]) -> None:
+        for answer in answers:
+            if answer is None:
+                self._tick()
+                continue
+            self._waiting.setdefault(answer.number, []).append(answer)
+            self._size += len(answer.text) + len(answer.certificate)
+            if answer.is_last:
+                self._complete.add(answer.number)
+            while self._next in self._complete:
+                self._release(self._next)
+                self._next += 1
+
+    def _tick(self) -> None:
+        """Does what is done now and then: rows of the file that comes next are shown before it is complete."""
+        for answer in self._waiting.pop(self._next, ()):
+            self._deliver_answer(answer)
+        for sink in self._sinks:
+            sink.flush()
+        self._progress.tick()
+        if len(self._sinks) == 1 and getattr(self._sinks[0], "is_closed", False):
+            raise Failure("standard output was closed")
+
+    def _release(self, number: int) -> None:
+        """Delivers the rows of a file."""
+        for answer in self._waiting.pop(number, ()):
+            self._deliver_answer(answer)
+        self._complete.discard(number)
+        self._kept.pop(number, None)
+        self._progress.file()
+
+    def _deliver_answer(self, answer: Answer) -> None:
+        self._size -= len(answer.text) + len(answer.certificate)
+        if answer.verdict == "same":
+            for place in self._kept[answer.number].places:
+                self._keep(place)
+        elif answer.verdict != "none":
+            text = answer.text
+            if answer.certificate:
+                text = certificates.delivered(answer, self._kept[answer.number].to)
+            self._deliver(answer.verdict, text)
+
+    def _keep(self, place: int) -> None:
+        text = self._earlier.text(place)
+        self._lines.keep(place)
+        self._tell(row_of(text)["verdict"], text)
+        for sink in self._sinks:
+            if sink is not self._lines:
+                sink.put(text)
+
+    def _deliver(self, verdict: str, text: str) -> None:
+        self._tell(verdict, text)
+        for sink in self._sinks:
+            sink.put(text)
+
+    def _tell(self, verdict: str, text: str) -> None:
+        """Counts a row. A text cannot hold the marks that are looked for: quotes in it stand behind a backslash."""
+        self._progress.row(verdict)
+        if verdict == "error":
+            self._missing.update(name for name in [row_of(text).get("missing")] if name)
+        elif '"certificate":{' in text and not is_proper(row_of(text)):
+            self._improper += 1
+        at = text.find('"grade":"')
+        if at >= 0:
+            self._grades[text[at + 9 : text.index('"', at + 9)]] += 1
+
+    def _status(self) -> int:
+        counts = self._progress.verdicts
+        if counts["error"] or (not counts.total() if hasattr(counts, "total") else not sum(counts.values())):
+            return 3
+        return 1 if self._improper or counts["ambiguous"] or counts["undecided"] else 0
+
+    def _summary(self, is_whole: bool) -> None:
+        counts, options = self._progress.verdicts, self._options
+        for name, number in sorted(self._missing.items()):
+            print(f"nonobench-audit: {number} were not read, since {name} is not installed (pip install nonobench[audit])", file=sys.stderr)
+        if not sum(counts.values()) and is_whole:
+            print(f"nonobench-audit: no puzzles in {', '.join(options.paths)}", file=sys.stderr)
+        if not is_whole:
+            again = " (--resume goes on)" if options.jsonl not in (None, "-") else ""
+            print(f"nonobench-audit: stopped after {sum(counts.values())} puzzles{again}", file=sys.stderr)
+        if options.is_quiet or "-" in (options.jsonl, options.csv):
+            return
+        told = [f"{sum(counts.values())} puzzles: {self._progress.counts()}"]
+        if self._grades:
+            told.append("grades: " + ", ".join(f"{grade} {self._grades[grade]}" for grade in GRADES if self._grades[grade]))
+        if self._improper:
+            told.append(f"certificates not accepted, or with unpublished givens: {self._improper}")
+        table = next((sink for sink in self._sinks if isinstance(sink, Table)), None)
+        if table is not None:
+            table.say("\n" + "\n".join(told))
+            table.close(is_whole)
+        else:
+            print("\n".join(told))

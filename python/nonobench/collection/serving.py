@@ -1,0 +1,286 @@
+"""What a worker's process does: it judges the puzzles of files, one after the other, and answers a line for each.
+
+The process that asks ends this one where a puzzle takes too long, so every line goes out within a moment, by a thread of its own.
+"""
+
+from __future__ import annotations
+
+import ctypes
+import hashlib
+import marshal
+import os
+import resource
+import signal
+import struct
+import sys
+import threading
+import time
+from typing import Any, BinaryIO, Iterator, NamedTuple, Optional, Union
+
+try:
+    from .._grade import NoGrade, grade_of
+except ImportError:  # until docs/GRADE.md is there
+    NoGrade, grade_of = ValueError, None
+from . import certificates, readers
+from .judging import Desk, judge
+from .puzzles import Missing, Puzzle, Unreadable, one_line
+from .rows import FIGURES, Row, judged_row, map_of, text_of
+
+HEAD = struct.Struct("!I")
+MOMENT = 0.03  # seconds until a line goes out
+LONG = 0.02  # seconds after which a verdict goes out before its certificate is made
+FULL, GLANCE = 0, 1
+FEW_SPLITS = 100  # of a puzzle that took too long, to tell at least its size and what line logic leaves open
+DIES_WITH_PARENT = 1  # of prctl: PR_SET_PDEATHSIG
+
+File = Union[str, bytes]
+
+
+class Settings(NamedTuple):
+    """What holds for all puzzles of a run."""
+
+    made: str  # the version and the options that the rows depend on
+    limit: str  # the bound of time or splits, for what is undecided
+    memory: int  # MiB
+    allowance: Optional[int]
+    ground: str
+    has_grades: bool
+    has_times: bool
+    is_inline: bool  # certificates go back, and are written where the run was begun
+
+
+class Task(NamedTuple):
+    """A file to be judged."""
+
+    number: int
+    name: str
+    file: File
+    certificates: tuple[tuple[int, File], ...]  # those that lie beside it, each with the number of its puzzle
+    givens: Optional[File]
+    background: Optional[File]
+    to: Optional[str]  # where its certificate is written, without the ending
+    before: str  # what its content was when it was judged before
+    start: int  # the first puzzle that is wanted
+    mode: int
+
+
+def serve() -> None:
+    """Answers packs of tasks until there are no more."""
+    signal.signal(signal.SIGINT, signal.SIG_IGN)
+    ctypes.CDLL(None).prctl(DIES_WITH_PARENT, signal.SIGKILL)
+    questions = sys.stdin.buffer
+    answers = Answers(os.dup(1))
+    os.dup2(2, 1)  # what prints must not stand between the answers
+    settings = Settings(*_receive(questions))
+    resource.setrlimit(resource.RLIMIT_AS, (settings.memory << 20, settings.memory << 20))
+    resource.setrlimit(resource.RLIMIT_CORE, (0, 0))
+    judging = Judging(settings, answers)
+    answers.put(0, "ready", "")
+    while True:
+        pack = _receive(questions)
+        if pack is None:
+            break
+        for task in pack:
+            judging.answer(Task(*task))
+        answers.flush()
+    answers.flush()
+
+
+def _receive(stream: BinaryIO) -> Any:
+    head = stream.read(HEAD.size)
+    if len(head) < HEAD.size:
+        return None
+    return marshal.loads(stream.read(HEAD.unpack(head)[0]))
+
+
+class Answers:
+    """Lines that go out together: within a moment, and at the latest with the last one of a pack."""
+
+    def __init__(self, handle: int) -> None:
+        self._handle = handle
+        self._lines: list[str] = []
+        self._lock = threading.Lock()
+        self._some = threading.Event()
+        threading.Thread(target=self._run, daemon=True).start()
+
+    def put(self, number: int, kind: str, verdict: str, text: str = "", certificate: str = "") -> None:
+        """Puts a line of a kind.
+
+        `more` and `last` are rows of a file; `same` and `none` say that its rows are as they were, or that there are no more.
+        `known` is a row before its certificate is made, `at` the puzzle that is begun where a file has several, `bye` that the
+        process ends and has begun no other task, `ready` that it begins.
+        """
+        self._lines.append(f"{number}\t{kind}\t{verdict}\t{text}\t{certificate}\n")
+        if not self._some.is_set():
+            self._some.set()
+
+    def flush(self) -> None:
+        """Sends what there is."""
+        with self._lock:
+            lines, self._lines = self._lines, []
+            data = memoryview("".join(lines).encode("ascii"))
+            while data:
+                data = data[os.write(self._handle, data) :]
+
+    def _run(self) -> None:
+        while True:
+            self._some.wait()
+            time.sleep(MOMENT)
+            self._some.clear()
+            self.flush()
+
+
+class Judging:
+    """Judges files with one desk."""
+
+    def __init__(self, settings: Settings, answers: Answers) -> None:
+        self._settings = settings
+        self._answers = answers
+        self._ground = readers.ground_of(settings.ground)
+        self._desk = Desk()
+
+    def answer(self, task: Task) -> None:
+        """Answers the puzzles of a file."""
+        begun = time.perf_counter()
+        try:
+            data, givens, background = (_bytes(file) for file in (task.file, task.givens, task.background))
+            certificates = {number: _bytes(file) for number, file in task.certificates}
+        except Unreadable as error:
+            self._answers.put(task.number, "last", "error", unread(task.name, error, self._settings.has_times))
+            return
+        content = _content(data, givens, background, *certificates.values())
+        if content == task.before:
+            self._answers.put(task.number, "same", "")
+            return
+        try:
+            puzzles = numbered(self._puzzles(task.name, data, givens, background))
+        except Unreadable as error:
+            puzzles = iter([(1, False, error)])
+        number = 0
+        for number, has_more, puzzle in puzzles:
+            if number < task.start:
+                continue
+            if has_more or number > 1:
+                self._answers.put(task.number, "at", str(number))
+            front: Row = {"file": task.name}
+            if number > 1 or has_more:
+                front["puzzle"] = number
+            if has_more:
+                front["more"] = True
+            kind = "more" if has_more else "last"
+            self._judge(task, (front, kind, content, begun), puzzle, certificates.get(number))
+            if task.mode == GLANCE:
+                return
+            begun = time.perf_counter()
+        if number < task.start:
+            self._answers.put(task.number, "none", "")
+
+    def _puzzles(self, name: str, data: bytes, givens: bytes, background: bytes) -> Iterator[Union[Puzzle, Unreadable]]:
+        ground = self._ground
+        if background:
+            try:
+                ground = readers.ground_of(background.decode("ascii", "replace").strip())
+            except ValueError as error:
+                raise Unreadable(f"the file of its background {error}") from error
+        return readers.puzzles_of(data, name.lower().endswith(".non"), ground, givens)
+
+    def _judge(self, task: Task, about: tuple, puzzle: Union[Puzzle, Unreadable], certificate: Optional[bytes]) -> None:
+        """Puts the row of one puzzle."""
+        front, kind, content, begun = about
+        made = ""
+        try:
+            if isinstance(puzzle, Unreadable):
+                raise puzzle
+            row, made = self._row(task, about, puzzle, certificate)
+        except Unreadable as error:
+            row = {"verdict": "error", "error": str(error)}
+            if isinstance(error, Missing):
+                row["missing"] = error.library
+        except MemoryError:
+            row = {"verdict": "error", "error": f"out of memory: more than {self._settings.memory} MiB"}
+        self._put(task, about, row, kind, made)
+        if row.get("error", "").startswith("out of memory"):
+            self._answers.put(task.number, "bye", "")
+            self._answers.flush()
+            os._exit(0)
+
+    def _put(self, task: Task, about: tuple, row: Row, kind: str, certificate: str = "") -> None:
+        front, _, content, begun = about
+        if self._settings.has_times:
+            row["seconds"] = round(time.perf_counter() - begun, 6)
+        row["content"], row["made"] = content, self._settings.made
+        if row["verdict"] == "undecided":
+            row["limit"] = self._settings.limit
+        self._answers.put(task.number, kind, row["verdict"], text_of({**front, **row}), certificate)
+
+    def _row(self, task: Task, about: tuple, puzzle: Puzzle, beside: Optional[bytes]) -> tuple[Row, str]:
+        """The row of a puzzle, and its certificate where that goes back."""
+        settings, desk = self._settings, self._desk
+
+        def tell(known) -> None:
+            if time.perf_counter() - about[3] > LONG:
+                self._put(task, about, judged_row(puzzle, known), "known", about[1])
+                self._answers.flush()
+
+        judged = judge(desk, puzzle, FEW_SPLITS if task.mode == GLANCE else settings.allowance, tell, task.mode == FULL)
+        row = judged_row(puzzle, judged)
+        if task.mode == GLANCE and judged.verdict == "unique":
+            row["note"] = f"no certificate within {settings.limit}"
+        if judged.certificate:
+            row["lines"] = judged.certificate.count("\n")
+            if settings.has_grades and grade_of is not None:
+                row.update(_grade(puzzle, row, judged))
+        if beside is not None:
+            text = desk.say(b"write ppm\n").encode() if puzzle.is_non else puzzle.text
+            row["certificate"] = certificates.told(desk, text, puzzle, beside)
+        if task.to is None or not judged.certificate:
+            return row, ""
+        name = task.to if about[0].get("puzzle", 1) == 1 else f"{task.to}.{about[0]['puzzle']}"
+        if settings.is_inline:
+            return row, certificates.packed(judged.certificate)
+        note = certificates.write(f"{name}.cert", judged.certificate)
+        return ({**row, "note": note} if note else row), ""
+
+
+def unread(name: str, error: Unreadable, has_times: bool) -> str:
+    """The row of a file that cannot be read."""
+    row: Row = {"file": name, "verdict": "error", "error": str(error)}
+    return text_of({**row, "seconds": 0.0} if has_times else row)
+
+
+def numbered(puzzles: Iterator[Union[Puzzle, Unreadable]]) -> Iterator[tuple[int, bool, Union[Puzzle, Unreadable]]]:
+    """Each puzzle with its number, and whether more follow. What is wrong with the file is the last of its puzzles."""
+    number, held = 0, None
+    while True:
+        try:
+            puzzle = next(puzzles, None)
+        except Unreadable as error:
+            puzzle, puzzles = error, iter(())
+        if held is not None:
+            yield number, puzzle is not None, held
+        if puzzle is None:
+            return
+        number, held = number + 1, puzzle
+
+
+def _bytes(file: Optional[File]) -> bytes:
+    """The bytes of a file; none where there is no file."""
+    if file is None or isinstance(file, bytes):
+        return file or b""
+    return readers.bytes_of(file)
+
+
+def _content(*files: bytes) -> str:
+    """A digest of a file and of what lies beside it."""
+    front = ",".join(str(len(file)) for file in files).encode("ascii")
+    return hashlib.blake2b(b":".join((front, *files)), digest_size=16).hexdigest()
+
+
+def _grade(puzzle: Puzzle, row: Row, judged) -> Row:
+    """The grade of a puzzle with one solution. Where the plain solver ends elsewhere than the proved map, there is none."""
+    settled = map_of(judged.report, row["rows"], row["columns"])
+    try:
+        grade = grade_of(row["picture"].split("/"), puzzle.givens, judged.certificate, settled, judged.verdict)
+    except NoGrade as error:
+        return {"note": one_line(str(error))}
+    return {"grade": grade.word, "figures": {name: getattr(grade, name) for name in FIGURES}}
