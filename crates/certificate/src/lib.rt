@@ -1,4 +1,4 @@
-//! Certificates of uniqueness: texts that anyone can test, their checker and their maker.
+//! The maker of certificates of uniqueness, and beside it what reads, writes and checks them.
 #![tactic(auto)]
 
 pub mod laws;
