@@ -1,5 +1,5 @@
 -- The root of a certificate, and the base of its givens.
-use Rattle.std.proofs.Common.{◌≡◌, ℕ, ◌<◌, List, replicate, get_or, ap, ◌∙◌, arith, inl, inr}
+use Rattle.std.proofs.Common.{◌≡◌, ℕ, ◌<◌, List, [], length, replicate, get_or, ap, ◌∙◌, arith, inl, inr}
 use Rattle.std.proofs.lemmas.List.{get_or-replicate}
 use Rattle.picture.specs.Rows.{width_of, row_at, cell_at}
 use Rattle.line_settle.specs.FactSets.{Leaves}
