@@ -12,6 +12,7 @@ use Rattle.cert_check.specs.FirstFault.{FirstFaultBehind}
 pub record BaseSoFar (picture start facts : List (List ℕ)) (i : ℕ) (givens : List CellNumber) : Type 0 where
   pub goes : (lines : List CertLine) (fault : Option CertFault) → FirstFaultBehind picture facts (2 + i) (drop i givens) lines fault → FirstFaultBehind picture start 2 givens lines fault
   pub held : with_givens picture (drop i givens) facts ≡ with_givens picture givens start
+  pub inside : HasCellNumbers picture (drop i givens) → HasCellNumbers picture givens
 
 here : (cells : List CellNumber) (i : ℕ) (d : CellNumber) → i < length cells → drop i cells ≡ get_or cells i d ∷ drop (i + 1) cells
 here cells i d l = rw (add-one, drop-cons cells i d) refl

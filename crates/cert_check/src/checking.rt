@@ -31,6 +31,7 @@ pub fn set_givens(
     ensures base { GivesBase picture.now facts.old givens.now result facts.new }
     ensures facts { OnOk result (facts.new ≡ with_givens picture.now givens.now facts.old) }
     ensures outside { IfErr result (λ _. HasCellNumbers picture.now givens.now → ⊥) }
+    ensures inside { OnOk result (HasCellNumbers picture.now givens.now) }
 {
     for (i, given) in givens.iter().enumerate() {
         let Some(cell) = cell_in(picture, *given) else {
@@ -48,7 +49,8 @@ pub fn set_givens(
 ///
 /// The answer is Ok exactly where the givens lie in the picture and the lines are a tree that proves it; else it is the
 /// first fault from the top with its line, and a refused allocation is answered as `Memory`. How much memory is taken is not
-/// promised. The engine is called at most once for each line of the certificate.
+/// promised. The engine is called at most once for each line of the certificate, and not at all where a given lies outside
+/// the picture.
 pub fn check_cert<E: LineEngine>(
     alloc: Global,
     engine: &mut E,
@@ -62,6 +64,8 @@ pub fn check_cert<E: LineEngine>(
     ensures only { IsProof picture.now cert.now → IfErr result (λ e. e ≡ CertFault.Memory) }
     ensures unique { OnOk result (IsUnique picture.now cert.now.givens) }
     ensures work { E.calls engine.new ≤ E.calls engine.old + length cert.now.lines }
+    ensures idle { (HasCellNumbers picture.now cert.now.givens → ⊥)
+        → E.calls engine.new ≡ E.calls engine.old }
     ensures same_longest { E.longest engine.new ≡ E.longest engine.old }
 {
     let clues = ClueBook::of(alloc, picture)?;
