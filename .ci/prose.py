@@ -51,6 +51,8 @@ INSTEAD = {
     r"told anew|judged anew|made anew|read anew": "again",
 }
 CLEAN: set[str] = set()
+# Documents that a script makes of the sources, which says itself whether they are in order.
+MADE = {os.path.join("docs", "BASE.md")}
 # Folders in which a path that is named must exist, and commands that build, prove or serve rather than answer.
 FOLDERS = "docs|crates|measure|tests|examples|page|web|python|\\.ci"
 BUILDS = ["bash .ci/run", "(cd crates/nonobench && rt try ", "(cd crates/nonobench && rt run ", "install -D ",
@@ -61,8 +63,9 @@ def documents():
     for folder, folders, names in os.walk(ROOT):
         folders[:] = sorted(f for f in folders if f not in (".git", "out", "must-fail", "target"))
         for name in sorted(names):
-            if name.endswith(".md"):
-                yield os.path.relpath(os.path.join(folder, name), ROOT)
+            path = os.path.relpath(os.path.join(folder, name), ROOT)
+            if name.endswith(".md") and path not in MADE:
+                yield path
 
 
 def blocks(text):

@@ -1,9 +1,4 @@
 pub mod BaseLemmas
-pub mod Exactness
-pub mod GivenLemmas
 pub mod MadeLemmas
 pub mod MakeLemmas
 pub mod NumberLemmas
-pub mod ShowingLemmas
-pub mod Soundness
-pub mod WalkLemmas

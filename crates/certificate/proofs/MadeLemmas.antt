@@ -16,13 +16,13 @@ use Rattle.second_search.specs.Laws.{SoundFacts}
 use Rattle.second_search.specs.Other.{AreSound}
 use Rattle.second_search.specs.Parts.{IsScene}
 use Rattle.cert_text.specs.Cert.{Certificate, IsCert}
-use Rattle.certificate.specs.FirstFault.{CertFirstFault}
+use Rattle.cert_check.specs.FirstFault.{CertFirstFault}
 use Rattle.certificate.specs.Making.{BasesAreOne, EachExcludes, HasNoFault, HasOther, IsMade, Makes, NamesGivens, WritesTree}
-use Rattle.certificate.specs.Puzzle.{IsNamed, IsUnique, base_of, blank_for, with_givens}
-use Rattle.certificate.specs.Walk.{GivesBase}
-use Rattle.certificate.proofs.BaseLemmas.{given_left}
-use Rattle.certificate.proofs.Exactness.{none_is_proof}
-use Rattle.certificate.proofs.Soundness.{proof_is_unique}
+use Rattle.cert_check.specs.Puzzle.{IsNamed, IsUnique, base_of, blank_for, with_givens}
+use Rattle.cert_check.specs.Walk.{GivesBase}
+use Rattle.cert_check.proofs.BaseLemmas.{given_left}
+use Rattle.cert_check.proofs.Exactness.{none_is_proof}
+use Rattle.cert_check.proofs.Soundness.{proof_is_unique}
 
 pub none_made : (picture start : List (List ℕ)) (givens : List ℕ) (cells : List CellNumber) → IsPicture picture → AreInside givens picture → NamesGivens picture givens cells → SameShape picture start → start ≡ with_givens picture cells (blank_for picture) → WritesTree picture start None → Makes picture givens None
 none_made picture start givens cells is inside names shape e w =

@@ -28,10 +28,11 @@ use Rattle.second_search.specs.Trees.{IsOtherIn, Stands, Walks}
 use Rattle.second_search.proofs.FindLemmas.{held_within}
 use Rattle.line_settle.specs.Branches.{colours_of, held}
 use Rattle.cert_text.specs.Cert.{AreWritable, IsWritable}
-use Rattle.certificate.specs.FirstFault.{FirstFault, Leads}
+use Rattle.cert_check.specs.FirstFault.{FirstFault, Leads}
 use Rattle.certificate.specs.Making.{EachExcludes, Excludes, WritesTree}
-use Rattle.certificate.specs.Puzzle.{HasCellNumber, HasLineNumber, line_id}
-use Rattle.certificate.specs.Walk.{CanCheck}
+use Rattle.cert_check.specs.Puzzle.{HasCellNumber, HasLineNumber, line_id}
+use Rattle.cert_check.specs.Walk.{CanCheck}
+use Rattle.cert_check.proofs.BaseLemmas.{left_inside}
 
 -- ---- what waits excludes no less than the facts at the root
 
@@ -42,16 +43,6 @@ EachWithin start (facts ∷ others) = IsWithin start facts × EachWithin start o
 both_within : (start : List (List ℕ)) (xs ys : List (List (List ℕ))) → EachWithin start xs → EachWithin start ys → EachWithin start (xs ++ ys)
 both_within start [] ys p q = q
 both_within start (x ∷ xs) ys p q = (p.0, both_within start xs ys p.1 q)
-
--- a colour is left inside the grid alone
-pub left_inside : (facts : List (List ℕ)) (row col k : ℕ) → Leaves facts row col k → (row < length facts) × (col < length (row_at facts row))
-left_inside facts row col k l = elim (cases_lt row (length facts)) [
-  | inr p ↦ absurd (no_bit k (rw (get_or_past facts row [] p) at l))
-  | inl h ↦ elim (cases_lt col (length (row_at facts row))) [
-    | inr p ↦ absurd (no_bit k (rw (get_or_past (row_at facts row) col 0 p) at l))
-    | inl w ↦ (h, w)
-  ]
-]
 
 each_held : (start facts : List (List ℕ)) (row col : ℕ) (colours : List ℕ) → IsWithin start facts → All (λ k. eqb (bit_at (cell_at facts row col) k) 1 ≡ true) colours → EachWithin start (held facts row col colours)
 each_held start facts row col [] w a = tt

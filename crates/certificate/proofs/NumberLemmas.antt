@@ -1,5 +1,5 @@
 -- Givens by their numbers, in the order of rows.
-use Rattle.std.proofs.Common.{◌≡◌, ◌⊎◌, ℕ, ◌+◌, ◌*◌, ◌<◌, ◌≤◌, List, [], ◌∷◌, ◌++◌, append_assoc, length, refl, sym, ap, subst, arith, inl, inr}
+use Rattle.std.proofs.Common.{◌≡◌, ◌⊎◌, ℕ, ◌+◌, ◌*◌, ◌<◌, ◌≤◌, List, [], ◌∷◌, ◌++◌, append_assoc, length, refl, sym, ap, subst, ◌∙◌, arith, inl, inr}
 use Rattle.std.proofs.lemmas.Bool.{cases_lt}
 use Rattle.std.proofs.lemmas.List.{append-nil}
 use Rattle.picture.specs.CellSet.{HasCell}
@@ -8,7 +8,7 @@ use Rattle.picture.specs.Rows.{width_of}
 use Rattle.cert_text.specs.declared.tree_line.CellNumber.{CellNumber}
 use Rattle.cert_text.specs.Cert.{AreOrdered, IsShort, rank}
 use Rattle.certificate.specs.Making.{NamesGivens, NamesUpTo}
-use Rattle.certificate.specs.Puzzle.{HasCellNumber, HasCellNumbers, IsAmong, numbered}
+use Rattle.cert_check.specs.Puzzle.{HasCellNumber, HasCellNumbers, IsAmong, numbered}
 
 less_ordered : (a b : ℕ) (cells : List CellNumber) → a ≤ b → AreOrdered b cells → AreOrdered a cells
 less_ordered a b [] l o = tt
@@ -34,6 +34,11 @@ same_place r c row col e =
     let f : r + 1 ≡ row + 1 = ap (λ (cell : CellNumber). cell.row) e in
     let g : c + 1 ≡ col + 1 = ap (λ (cell : CellNumber). cell.col) e in
     ((let h : r ≡ row = omega arith in h), (let h : c ≡ col = omega arith in h))
+
+-- a cell's number, told by its parts
+pub same_number : (cell : CellNumber) (row col : ℕ) → cell.row ≡ row + 1 → cell.col ≡ col + 1 → cell ≡ numbered row col
+same_number cell row col e f =
+    ap (λ (x : ℕ). let it : CellNumber = record { row = x; col = cell.col } in it) e ∙ ap (λ (y : ℕ). let it : CellNumber = record { row = row + 1; col = y } in it) f
 
 pub none_named : (givens : List ℕ) → NamesUpTo givens 0 0 []
 none_named givens = record {

@@ -1,5 +1,5 @@
-pub mod FirstFault
 pub mod Making
-pub mod Puzzle
-pub mod Tree
-pub mod Walk
+pub use Rattle.cert_check.specs.FirstFault
+pub use Rattle.cert_check.specs.Puzzle
+pub use Rattle.cert_check.specs.Tree
+pub use Rattle.cert_check.specs.Walk

@@ -12,9 +12,9 @@ use Rattle.cert_text.specs.declared.tree_line.CertLine.{CertLine}
 use Rattle.cert_text.specs.declared.tree_line.CertLine.TheVariants.{Line, Split, Dead, Done}
 use Rattle.second_search.specs.Trees.{IsUnsettledAt}
 use Rattle.cert_text.specs.Cert.{AreOrdered, AreWritable, Certificate, IsCert}
-use Rattle.certificate.specs.FirstFault.{CertFirstFault, FirstFault, Leads}
-use Rattle.certificate.specs.Puzzle.{HasCellNumbers, IsAmong, IsForced, IsUnique, base_of, line_id, numbered}
-use Rattle.certificate.specs.Tree.{IsProof}
+use Rattle.cert_check.specs.FirstFault.{CertFirstFault, FirstFault, Leads}
+use Rattle.cert_check.specs.Puzzle.{HasCellNumbers, IsAmong, IsForced, IsUnique, base_of, line_id, numbered}
+use Rattle.cert_check.specs.Tree.{IsProof}
 
 -- ---- the lines
 

@@ -1,14 +1,9 @@
-//! Certificates of uniqueness: texts that anyone can test, their checker and their maker.
+//! The maker of certificates of uniqueness, and beside it what reads, writes and checks them.
 #![tactic(auto)]
 
-mod checking;
-mod forcing;
 pub mod laws;
 mod making;
-mod places;
-mod showing;
-mod walk;
 
+pub use cert_check::check_cert;
 pub use cert_text::{CellNumber, Cert, CertFault, CertLine, LineNumber, read_cert, write_cert};
-pub use checking::check_cert;
 pub use making::{make_cert, make_cert_within};

@@ -5,18 +5,20 @@ ghost use Rattle.picture.specs.Document.{AreInside};
 ghost use Rattle.picture.specs.Rows.{width_of};
 ghost use Rattle.cert_text.specs.Cert.{AreOrdered, AreWritable, IsCert};
 ghost use Rattle.certificate.specs.Making.{HasOther, Makes, NamesGivens, NamesUpTo, WritesTree, lines_seen};
-ghost use Rattle.certificate.specs.Walk.{CanCheck};
+ghost use Rattle.cert_check.specs.Walk.{CanCheck};
 ghost use Rattle.line_settle.specs.FactSets.{SameShape};
 ghost use Rattle.second_search.specs.Parts.{IsScene};
 
-use crate::checking::set_givens;
-use crate::places::cell_number;
+use cert_check::set_givens;
 use cert_text::{CellNumber, Cert, CertLine};
 use clues::ClueBook;
 use line_settle::{Facts, LineEngine};
 use picture::{CellSet, MAX_SIDE, Picture};
-use second_search::{BOUNDS, Bounds, Decided, Ladder, Lines, Scene, climb, find_near_other};
+use second_search::{
+    BOUNDS, Bounds, Decided, Ladder, Lines, Scene, cell_number, climb, find_near_other,
+};
 use std::alloc::{AllocError, Global};
+use trail::Cell;
 
 #[tactic(auto, using(crate::proofs::MakeLemmas::writing_trees))]
 // The lines of a tree that proves the picture of a scene from its facts on. There is none exactly where another picture fills the
@@ -63,7 +65,7 @@ fn put_row(
 {
     for col in 0..width {
         if givens.has(row, col) {
-            cells.push(cell_number(row, col))?;
+            cells.push(cell_number(Cell { row, col }))?;
         }
     }
     Ok(())

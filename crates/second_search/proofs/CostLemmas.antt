@@ -14,7 +14,7 @@ use Rattle.line_settle.specs.Branches.{branches, colours_of, held}
 use Rattle.line_settle.specs.FactSets.{IsFacts, SameShape}
 use Rattle.line_settle.specs.MaskLaws.{lowest_of_power, only_is_power}
 use Rattle.line_settle.specs.Masks.{IsOnly}
-use Rattle.split_choice.specs.declared.cell.Cell.{Cell}
+use Rattle.trail.specs.declared.cell.Cell.{Cell}
 use Rattle.second_search.specs.declared.coming.Coming.{Coming}
 use Rattle.second_search.specs.declared.coming.Coming.TheVariants.{Dies, Ends, Splits}
 use Rattle.second_search.specs.Looking.{IsFirstUnsettled, Shows}

@@ -3,7 +3,7 @@ use Rattle.std.proofs.Common.{◌≡◌, ℕ, suc, ◌+◌, ◌<◌, ◌⊎◌, 
 use Rattle.picture.specs.Rows.{cell_at}
 use Rattle.clues.specs.ClueBook.{Clues}
 use Rattle.line_settle.specs.Laws.{LeastIsUnique}
-use Rattle.split_choice.specs.declared.cell.Cell.{Cell}
+use Rattle.trail.specs.declared.cell.Cell.{Cell}
 use Rattle.second_search.specs.declared.coming.Coming.{Coming}
 use Rattle.second_search.specs.declared.coming.Coming.TheVariants.{Dies, Ends, Splits}
 use Rattle.second_search.specs.declared.counting.Budget.{Budget}

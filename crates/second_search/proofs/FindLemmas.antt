@@ -23,6 +23,7 @@ use Rattle.picture.specs.BitLaws.{bit_below, bit_is_set, power_has, set_bit, no_
 use Rattle.clues.specs.Solution.{Solves}
 use Rattle.line_settle.specs.SolutionLaws.{solved_shape}
 use Rattle.line_settle.specs.Branches.{branches, colours_of, held}
+use Rattle.trail.proofs.ColourLemmas.{Among, among_colours}
 use Rattle.trail.proofs.GridLemmas.{set_each, row_there}
 use Rattle.fixpoint.specs.Laws.{ClosingKeepsFillings}
 use Rattle.second_search.specs.Laws.{SoundFacts}
@@ -46,11 +47,6 @@ held_within facts row col k h l s = record {
       set_each facts row col (2 ^ k) h l (λ r c x. IsBitSet x j → Leaves facts r c j) (λ t. subst (λ (i : ℕ). Leaves facts row col i) (sym ((power_has k j).0 t)) s) (λ r c d t. t) r c;
 }
 
--- a number in a list of numbers
-abbrev pub Among : List ℕ → ℕ → Type 0
-Among [] x = ⊥
-Among (y ∷ ys) x = (x ≡ y) ⊎ Among ys x
-
 pub some_held : (clues : Clues) (facts picture : List (List ℕ)) (row col : ℕ) → row < length facts → col < length (row_at facts row) → Fills clues facts picture → (ks : List ℕ) → Among ks (cell_at picture row col) → FillsSome clues (held facts row col ks) picture
 some_held clues facts picture row col h l f [] a = absurd a
 some_held clues facts picture row col h l f (k ∷ ks) a = elim a [
@@ -71,23 +67,6 @@ held_some clues facts picture row col h l (k ∷ ks) a s = elim s [
 
 -- ---- the colours of a mask
 
-tested : (p : ℕ → Bool) (k n : ℕ) (b : Bool) → p k ≡ b → filter p (range_with_len k (suc n)) ≡ cond b (k ∷ filter p (range_with_len (k + 1) n)) (filter p (range_with_len (k + 1) n))
-tested p k n b e = ap (λ (t : Bool). cond t (k ∷ filter p (range_with_len (k + 1) n)) (filter p (range_with_len (k + 1) n))) e
-
-pub among_kept : (p : ℕ → Bool) (k n x : ℕ) → k ≤ x → x < k + n → p x ≡ true → Among (filter p (range_with_len k n)) x
-among_kept p k zero x l m e = absurd (omega arith)
-among_kept p k (suc n) x l m e = elim (cases_eq x k) [
-  | inl same ↦
-      rw (tested p k n true (ap p (sym same) ∙ e)) (inl same)
-  | inr d ↦
-      let rest = among_kept p (k + 1) n x (omega arith) (omega arith) e in
-      by (p k) refl rest
-]
-  where
-    by : (b : Bool) → p k ≡ b → Among (filter p (range_with_len (k + 1) n)) x → Among (filter p (range_with_len k (suc n))) x
-    by true e r = let P : List ℕ → Type 0 = λ xs. Among xs x in subst P (sym (tested p k n true e)) (inr r)
-    by false e r = let P : List ℕ → Type 0 = λ xs. Among xs x in subst P (sym (tested p k n false e)) r
-
 each_step : (p : ℕ → Bool) (P : ℕ → Type 0) (x : ℕ) (xs : List ℕ) (b : Bool) → p x ≡ b → (p x ≡ true → P x) → Each P (filter p xs) → Each P (filter p (x ∷ xs))
 each_step p P x xs true e h r = let Q : List ℕ → Type 0 = λ ys. Each P ys in subst Q (sym (ap (λ (t : Bool). cond t (x ∷ filter p xs) (filter p xs)) e)) (h e, r)
 each_step p P x xs false e h r = let Q : List ℕ → Type 0 = λ ys. Each P ys in subst Q (sym (ap (λ (t : Bool). cond t (x ∷ filter p xs) (filter p xs)) e)) r
@@ -95,10 +74,6 @@ each_step p P x xs false e h r = let Q : List ℕ → Type 0 = λ ys. Each P ys 
 each_kept : (p : ℕ → Bool) (P : ℕ → Type 0) → ((x : ℕ) → p x ≡ true → P x) → (xs : List ℕ) → Each P (filter p xs)
 each_kept p P h [] = tt
 each_kept p P h (x ∷ xs) = each_step p P x xs (p x) refl (h x) (each_kept p P h xs)
-
-among_colours : (mask x : ℕ) → mask < 2 ^ 16 → IsBitSet mask x → Among (colours_of mask) x
-unfolding colours_of
-among_colours mask x small s = among_kept (λ k. bit_at mask k == 1) 0 16 x (omega arith) (let l = bit_below mask 16 x small s in omega arith) (eq-eqb (bit_at mask x) 1 (set_bit mask x s))
 
 pub each_colour : (mask : ℕ) → Each (λ k. IsBitSet mask k) (colours_of mask)
 unfolding colours_of

@@ -21,13 +21,13 @@ use Rattle.picture.specs.BitLaws.{no_bit}
 use Rattle.line_settle.specs.Branches.{colours_of, held}
 use Rattle.fixpoint.specs.Closing.{AreClosable, EachFits, IsQuietLine, QuietOutside}
 use Rattle.fixpoint.specs.LineNames.{AreLinesOf}
-use Rattle.split_choice.specs.declared.cell.Cell.{Cell}
+use Rattle.trail.specs.declared.cell.Cell.{Cell}
 use Rattle.second_search.specs.declared.counting.Budget.{Budget}
 use Rattle.trail.specs.Trail.{GoesOn, Trailed, place, trail_of}
 use Rattle.second_search.specs.Looking.{AreRowsSettled, ShowOthers}
 use Rattle.second_search.specs.Searching.{KeepsOutside, NamesLinesOf}
 use Rattle.second_search.specs.Stepping.{Steps}
-use Rattle.split_choice.specs.Through.{CanLie, NamesLinesAt, across, down}
+use Rattle.trail.specs.Through.{CanLie, NamesLinesAt, across, down}
 use Rattle.second_search.specs.Through.{NamesBoth}
 use Rattle.second_search.proofs.LookLemmas.{others_settled}
 

@@ -16,7 +16,7 @@ use Rattle.second_search.proofs.PickLemmas.{cells_along, clue_known, off_part, o
 use Rattle.trail.proofs.GridLemmas.{same_grid}
 use Rattle.picture.specs.BitLaws.{bit_or_not}
 use Rattle.line_settle.specs.GridLaws.{same_line_length}
-use Rattle.split_choice.specs.Through.{across, down}
+use Rattle.trail.specs.Through.{across, down}
 
 in_row : (cells : List ℕ) (row col : ℕ) → HasCell cells row col → GoesThrough (across row) cells
 in_row cells row col h = record { row = row; col = col; has = h; on_line = refl }

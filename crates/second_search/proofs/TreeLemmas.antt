@@ -28,7 +28,7 @@ use Rattle.fixpoint.specs.Closing.{AreClosable, EachFits}
 use Rattle.fixpoint.specs.Filling.{Fills, only}
 use Rattle.fixpoint.specs.FillingLaws.{fills_fewer}
 use Rattle.fixpoint.specs.Laws.{ClosingKeepsFillings, OnlyIsClosed}
-use Rattle.split_choice.specs.declared.cell.Cell.{Cell}
+use Rattle.trail.specs.declared.cell.Cell.{Cell}
 use Rattle.split_choice.specs.Choosing.{IsUnsettled}
 use Rattle.cert_text.specs.declared.tree_line.CellNumber.{CellNumber}
 use Rattle.cert_text.specs.declared.tree_line.LineNumber.{LineNumber}
@@ -44,8 +44,10 @@ use Rattle.second_search.specs.Looking.{FillsSome}
 use Rattle.trail.specs.Trail.{Trailed, places, trail_of}
 use Rattle.line_settle.specs.Branches.{branches, colours_of, held}
 use Rattle.second_search.specs.Looking.{FindsFilling, Shows}
-use Rattle.second_search.specs.Trees.{Adds, Advances, AreNone, AreTree, Continues, Decides, EachFitsAlong, ForcesMore, HasCellNumber, HasLineNumber, IsComparedTo, IsDeadLine, IsOtherIn, IsUnsettledAt, Says, Settles, ShowsOnly, Stands, Turns, TurnsOn, Walks, line_id, split_at}
-use Rattle.second_search.proofs.FindLemmas.{Among, AreAlike, alike_both, among_kept, each_colour, held_alike, held_some, some_behind, some_both, some_front, some_held, left_there}
+use Rattle.cert_check.specs.Puzzle.{HasCellNumber, HasLineNumber, ShowsOnly, line_id, split_at}
+use Rattle.second_search.specs.Trees.{Adds, Advances, AreNone, AreTree, Continues, Decides, EachFitsAlong, ForcesMore, IsComparedTo, IsDeadLine, IsOtherIn, IsUnsettledAt, Says, Settles, Stands, Turns, TurnsOn, Walks}
+use Rattle.trail.proofs.ColourLemmas.{Among, among_kept}
+use Rattle.second_search.proofs.FindLemmas.{AreAlike, alike_both, each_colour, held_alike, held_some, some_behind, some_both, some_front, some_held, left_there}
 use Rattle.second_search.proofs.EndLemmas.{shown_clues}
 use Rattle.fixpoint.specs.ClosingLaws.{within_refl, within_trans}
 use Rattle.second_search.proofs.LookLemmas.{shown_fills}

@@ -7,7 +7,7 @@ use Rattle.clues.specs.ClueBook.{Clues}
 use Rattle.line_settle.specs.Masks.{IsOnly}
 use Rattle.line_settle.specs.FactSets.{SameShape}
 use Rattle.fixpoint.specs.Filling.{Fills}
-use Rattle.split_choice.specs.declared.cell.Cell.{Cell}
+use Rattle.trail.specs.declared.cell.Cell.{Cell}
 use Rattle.split_choice.specs.Choosing.{IsUnsettled}
 use Rattle.second_search.specs.Parts.{IsBefore}
 use Rattle.second_search.specs.Through.{across}

@@ -11,7 +11,7 @@ use Rattle.line_settle.specs.FactSets.{IsFacts, IsLeast, SameShape}
 use Rattle.line_settle.specs.Branches.{branches}
 use Rattle.fixpoint.specs.Closing.{EachFits, HasDeadLine, KeepsOtherLines}
 use Rattle.fixpoint.specs.Filling.{only}
-use Rattle.split_choice.specs.declared.cell.Cell.{Cell}
+use Rattle.trail.specs.declared.cell.Cell.{Cell}
 use Rattle.second_search.specs.declared.coming.Coming.{Coming}
 use Rattle.second_search.specs.declared.coming.Coming.TheVariants.{Dies, Ends, Splits}
 use Rattle.second_search.specs.declared.counting.Ending.{Ending}

@@ -5,7 +5,7 @@ use Rattle.picture.specs.CellSet.{HasCell}
 use Rattle.picture.specs.LineSet.{Lines, HasName}
 use Rattle.picture.specs.Rows.{width_of, cell_at}
 use Rattle.line_settle.specs.FactSets.{SameShape}
-pub use Rattle.split_choice.specs.Through.{across, down}
+pub use Rattle.trail.specs.Through.{across, down}
 
 -- the two lines through a cell are named
 abbrev pub NamesBoth : Lines → ℕ → ℕ → Type 0

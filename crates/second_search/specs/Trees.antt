@@ -22,35 +22,14 @@ use Rattle.second_search.specs.declared.tree_step.TreeStep.TheVariants.{Ends, Sp
 use Rattle.second_search.specs.declared.tree.Growing.{Growing}
 use Rattle.second_search.specs.declared.ladder.Decided.{Decided}
 use Rattle.second_search.specs.declared.ladder.Decided.TheVariants.{Tree, OtherPicture}
-use Rattle.line_settle.specs.Branches.{branches}
+use Rattle.cert_check.specs.Puzzle.{HasCellNumber, HasLineNumber, ShowsOnly, line_id, split_at}
 use Rattle.second_search.specs.Weighing.{load}
 
--- ---- places by number
-
--- the grid has a line with that number
-abbrev pub HasLineNumber : List (List ℕ) → LineNumber → Type 0
-HasLineNumber grid line = (0 < line.number) × (line.number ≤ lines_along line.axis grid)
-
-abbrev pub line_id : LineNumber → LineId
-line_id line = record { axis = line.axis; at = line.number - 1 }
-
--- the grid has a cell with these numbers
-abbrev pub HasCellNumber : List (List ℕ) → CellNumber → Type 0
-HasCellNumber grid cell = (0 < cell.row) × (cell.row ≤ length grid) × (0 < cell.col) × (cell.col ≤ width_of grid)
-
--- the branches of a cell: one for each colour left in it
-abbrev pub split_at : List (List ℕ) → CellNumber → List (List (List ℕ))
-split_at facts cell = branches facts (cell.row - 1) (cell.col - 1) (cell_at facts (cell.row - 1) (cell.col - 1))
-
--- no colour is left anywhere but the picture's
-abbrev pub ShowsOnly : List (List ℕ) → List (List ℕ) → Type 0
-ShowsOnly picture facts = (row col k : ℕ) → Leaves facts row col k → k ≡ cell_at picture row col
+-- ---- the next line
 
 -- not just one colour is left in a cell
 abbrev pub IsUnsettledAt : List (List ℕ) → CellNumber → Type 0
 IsUnsettledAt facts cell = (k : ℕ) → IsOnly (cell_at facts (cell.row - 1) (cell.col - 1)) k → ⊥
-
--- ---- the next line
 
 -- the facts gain all that a line forces, and that is something
 pub record ForcesMore (clues : Clues) (facts : List (List ℕ)) (line : LineId) (gained : List (List ℕ)) : Type 0 where

@@ -11,8 +11,8 @@ use crate::keeper::Answer;
 use crate::scene::Scene;
 use line_settle::Facts;
 use picture::{Axis, CellSet, LineId, LineSet, LineView, Picture};
-use split_choice::Cell;
 use std::alloc::AllocError;
+use trail::Cell;
 
 // What is known of a part, said of a scene with another picture: another filling gets that picture's colours elsewhere.
 pub(crate) fn answer_for(

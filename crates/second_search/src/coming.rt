@@ -13,8 +13,8 @@ use clues::ClueBook;
 use fixpoint::close_naming;
 use line_settle::{Facts, LineEngine, Outcome};
 use picture::{LineSet, Picture};
-use split_choice::Cell;
 use std::alloc::AllocError;
+use trail::Cell;
 use worklist::InOrder;
 
 // What facts come to: no list fits some line, or they leave one picture, or a cell is to be split.

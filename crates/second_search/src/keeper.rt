@@ -37,9 +37,9 @@ use crate::parts::Parts;
 use crate::scene::Scene;
 use line_settle::{Facts, LineEngine, Meter};
 use picture::{CellSet, LineSet, MAX_SIDE, Picture};
-use split_choice::Cell;
 use std::alloc::{AllocError, Global};
 use std::marker::Model;
+use trail::Cell;
 
 /// What is known of the other fillings of a part: nothing yet, or that there is none, or one of them. A filling is answered
 /// without a search, a part with none is passed over, and an unknown one is searched.

@@ -29,4 +29,4 @@ pub use near::find_near_other;
 pub use part_decision::decide_within;
 pub use parts::Parts;
 pub use scene::Scene;
-pub use tree_lines::Lines;
+pub use tree_lines::{Lines, cell_number};

@@ -11,9 +11,8 @@ ghost use Rattle.second_search.specs.Looking.{AreOthersSettled, AreRowsSettled, 
 use fixpoint::all_lines;
 use line_settle::Facts;
 use picture::{LineSet, Picture};
-use split_choice::Cell;
 use std::alloc::{AllocError, Global};
-use trail::has_row;
+use trail::{Cell, has_row};
 
 // The first cell in row order in which not just one colour is left, where there is none above a row or in a row that is not named.
 pub(crate) fn first_unsettled(facts: &Facts, rows: &LineSet, top: u8) -> Option<Cell>

@@ -7,7 +7,6 @@ ghost use Rattle.second_search.specs.Parts.{AreParts, part_at};
 
 use line_settle::Facts;
 use picture::{CellSet, MAX_SIDE};
-use split_choice::Cell;
 use std::alloc::{AllocError, Global};
 use std::marker::Model;
 
@@ -16,6 +15,7 @@ mod open_cells;
 
 use growth::part_of;
 use open_cells::first_open;
+use trail::Cell;
 
 /// The parts of facts. A cell is open where more than one colour is left, and two open cells are in one part where a chain
 /// of open cells joins them, each sharing a row or a column with the next. The parts stand in the order of their first

@@ -5,8 +5,8 @@ ghost use Rattle.second_search.specs.Trees.{Adds};
 
 use cert_text::{CellNumber, CertLine, LineNumber};
 use picture::LineId;
-use split_choice::Cell;
 use std::alloc::AllocError;
+use trail::Cell;
 
 /// The lines of a tree from its root: all that were written, or none, where a search needs no more than to know that they lead
 /// to its end.
@@ -40,8 +40,8 @@ pub(crate) fn line_number(line: LineId) -> LineNumber
     }
 }
 
-// A cell as a certificate names it.
-pub(crate) fn cell_number(cell: Cell) -> CellNumber
+/// A cell as a certificate names it.
+pub fn cell_number(cell: Cell) -> CellNumber
     ensures row { result.row ≡ cell.row + 1 }
     ensures col { result.col ≡ cell.col + 1 }
 {

@@ -15,8 +15,9 @@ use clues::ClueBook;
 use fixpoint::all_lines;
 use line_settle::{Facts, LineEngine, Outcome, force};
 use picture::{Axis, LineId, Picture};
-use split_choice::{Cell, Choice, Chosen, Node, Puzzle, choose, filled, fills_all, leaves};
+use split_choice::{Choice, Chosen, Node, Puzzle, choose, filled, fills_all, leaves};
 use std::alloc::{AllocError, Global};
+use trail::Cell;
 
 // What comes next: a line that ends the branch, a cell to split, or another picture than the known one.
 #[derive(Drop)]

@@ -2,7 +2,7 @@
 use Rattle.std.specs.Prelude.{ℕ, ◌<◌, List, length}
 use Rattle.picture.specs.Rows.{width_of, cell_at}
 use Rattle.line_settle.specs.Masks.{IsOnly}
-use Rattle.split_choice.specs.declared.cell.Cell.{Cell}
+use Rattle.trail.specs.declared.cell.Cell.{Cell}
 use Rattle.split_choice.specs.declared.choosing.Chosen.{Chosen}
 use Rattle.split_choice.specs.declared.choosing.Chosen.TheVariants.{Splits, Fills, Nothing}
 

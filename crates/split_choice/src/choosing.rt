@@ -3,7 +3,6 @@
 ghost use Rattle.std.specs.Prelude.{◌≡◌, ◌≤◌, IfOk};
 ghost use Rattle.split_choice.specs.Choosing.{CanSplit};
 
-use crate::cell::Cell;
 use crate::looking::{Look, look_at};
 use crate::puzzle::{Choice, Node};
 use crate::regions::{OpenCells, Region, smallest_unfilled};
@@ -11,6 +10,7 @@ use crate::telling::{Place, most_telling};
 use line_settle::{Facts, LineEngine};
 use picture::MAX_SIDE;
 use std::alloc::{AllocError, Global};
+use trail::Cell;
 
 /// What is chosen: a cell to split, or facts inside those at hand that the held picture's colours fill, or nothing.
 #[derive(Drop)]

@@ -3,13 +3,13 @@
 ghost use Rattle.std.specs.Prelude.{◌≡◌, ◌<◌, ◌≤◌, length, IsTrue};
 ghost use Rattle.picture.specs.Rows.{width_of};
 
-use crate::cell::Cell;
 use crate::filling::{fills_all, held_at, is_filled, is_there};
 use crate::puzzle::{Node, Puzzle};
 use clues::ClueBook;
 use line_settle::{Facts, LineEngine, Outcome, force_crossing};
 use picture::{LineSet, MAX_COLOURS};
 use std::alloc::AllocError;
+use trail::Cell;
 use worklist::{Agenda, InOrder};
 
 // More lines are not evaluated in one trial: each colour of each cell is excluded once at the most. No set has so many names.

@@ -2,12 +2,12 @@
 
 ghost use Rattle.std.specs.Prelude.{◌<◌, ◌≤◌};
 
-use crate::cell::Cell;
 use crate::filling::is_filled;
 use crate::puzzle::Node;
 use crate::regions::{OpenCells, Region, take_place};
 use picture::{Axis, LineId, MAX_SIDE};
 use std::alloc::{AllocError, Global};
+use trail::Cell;
 
 // How many of the most telling cells are looked at. A native model closes as many pictures with 12 of them.
 const MOST_CELLS: usize = 40;

@@ -1,2 +1,3 @@
+pub mod ColourLemmas
 pub mod GridLemmas
 pub mod NoteLemmas

@@ -7,7 +7,7 @@ use Rattle.std.proofs.lemmas.List.{reverse-append}
 use Rattle.std.proofs.lemmas.Nat.Bits.{bit_at-zero, bit_at-trailing_zeros, bit_at_clear_same, bit_at_clear_other}
 use Rattle.picture.specs.Rows.{width_of, cell_at, with_cell}
 use Rattle.line_settle.specs.FactSets.{IsFacts}
-use Rattle.split_choice.specs.declared.cell.Cell.{Cell}
+use Rattle.trail.specs.declared.cell.Cell.{Cell}
 use Rattle.trail.specs.declared.note.CellMask.{CellMask}
 use Rattle.trail.specs.declared.note.Note.{Note}
 use Rattle.trail.specs.declared.note.Note.TheVariants.{Restore, Branch}

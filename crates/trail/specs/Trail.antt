@@ -4,8 +4,8 @@ use Rattle.picture.specs.LineSet.{Lines, HasName}
 use Rattle.picture.specs.Rows.{cell_at, with_cell}
 use Rattle.line_settle.specs.FactSets.{SameShape}
 use Rattle.line_settle.specs.Branches.{branches, colours_of}
-use Rattle.split_choice.specs.declared.cell.Cell.{Cell}
-use Rattle.split_choice.specs.Through.{across}
+use Rattle.trail.specs.declared.cell.Cell.{Cell}
+use Rattle.trail.specs.Through.{across}
 use Rattle.trail.specs.declared.note.CellMask.{CellMask}
 use Rattle.trail.specs.declared.note.Note.{Note}
 use Rattle.trail.specs.declared.note.Note.TheVariants.{Restore, Branch}

@@ -1,9 +1,11 @@
-//! The trail by which searches and the checker of certificates backtrack.
+//! The trail by which searches and the checker of certificates backtrack, and the cells that they hold.
 #![tactic(auto)]
 
+mod cell;
 mod note;
 mod rows;
 mod trail;
 
+pub use cell::Cell;
 pub use rows::has_row;
 pub use trail::Trail;

@@ -2,7 +2,7 @@
 
 ghost use Rattle.std.specs.Prelude.{◌<◌, ◌↔◌, IsTrue};
 ghost use Rattle.picture.specs.LineSet.{HasName};
-ghost use Rattle.split_choice.specs.Through.{across};
+ghost use Rattle.trail.specs.Through.{across};
 
 use picture::{Axis, LineId, LineSet, MAX_SIDE};
 

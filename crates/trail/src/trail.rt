@@ -6,11 +6,11 @@ ghost use Rattle.line_settle.specs.FactSets.{IsFacts, SameShape};
 ghost use Rattle.line_settle.specs.Branches.{branches};
 ghost use Rattle.trail.specs.Trail.{place, places, trail_of, AreInside, AreOthersSame, GoesOn, IsInside, IsRowTaken, PutsBack};
 
+use crate::cell::Cell;
 use crate::note::{CellMask, Note};
 use crate::rows::has_row;
 use line_settle::Facts;
 use picture::LineSet;
-use split_choice::Cell;
 use std::alloc::{AllocError, Global};
 use std::marker::Model;
 

@@ -11,7 +11,7 @@ use crate::parts::open_cells::is_open;
 use fixpoint::all_lines;
 use line_settle::Facts;
 use picture::{Axis, CellSet, LineId, LineSet, MAX_SIDE};
-use split_choice::Cell;
+use trail::Cell;
 
 // The cells found so far, the lines through them that are still to be visited, and all lines that were not visited yet.
 #[derive(Drop)]

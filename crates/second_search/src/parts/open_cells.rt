@@ -6,7 +6,7 @@ ghost use Rattle.second_search.specs.Growing.{HasNoOpenCell, IsFirstOpen};
 ghost use Rattle.second_search.specs.Parts.{HasTwoColours, IsOpenCell};
 
 use line_settle::Facts;
-use split_choice::Cell;
+use trail::Cell;
 
 // The first open cell of a row.
 pub(crate) fn first_open(facts: &Facts, row: u8) -> Option<Cell>

@@ -1,5 +1,5 @@
 use Rattle.std.proofs.Common.{subst, sym}
-use Rattle.certificate.specs.Walk.{CanCheck}
+use Rattle.cert_check.specs.Walk.{CanCheck}
 use Rattle.certificate.proofs.MadeLemmas.{made_scene, made_shape, makes_none, makes_some}
 use Rattle.certificate.proofs.BaseLemmas.{bases_are_one}
 use Rattle.second_search.proofs.KnownLaws.{sound_facts}

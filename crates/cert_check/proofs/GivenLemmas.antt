@@ -1,0 +1,32 @@
+-- Givens held one by one.
+use Rattle.std.proofs.Common.{◌≡◌, ℕ, zero, suc, ◌+◌, ◌*◌, ◌<◌, ◌≤◌, List, [], ◌∷◌, Option, Some, length, get_or, drop, drop-cons, add-one, refl, sym, subst, inl, arith}
+use Rattle.cert_text.specs.declared.fault.CertFault.{CertFault}
+use Rattle.cert_text.specs.declared.fault.CertFault.TheVariants.{Place}
+use Rattle.cert_text.specs.declared.tree_line.CellNumber.{CellNumber}
+use Rattle.cert_text.specs.declared.tree_line.CertLine.{CertLine}
+use Rattle.cert_text.specs.Cert.{AreOrdered}
+use Rattle.cert_check.specs.Puzzle.{HasCellNumber, HasCellNumbers, with_givens}
+use Rattle.cert_check.specs.FirstFault.{FirstFaultBehind}
+
+-- the first i givens are held: what is first behind the others is first behind all
+pub record BaseSoFar (picture start facts : List (List ℕ)) (i : ℕ) (givens : List CellNumber) : Type 0 where
+  pub goes : (lines : List CertLine) (fault : Option CertFault) → FirstFaultBehind picture facts (2 + i) (drop i givens) lines fault → FirstFaultBehind picture start 2 givens lines fault
+  pub held : with_givens picture (drop i givens) facts ≡ with_givens picture givens start
+  pub inside : HasCellNumbers picture (drop i givens) → HasCellNumbers picture givens
+
+here : (cells : List CellNumber) (i : ℕ) (d : CellNumber) → i < length cells → drop i cells ≡ get_or cells i d ∷ drop (i + 1) cells
+here cells i d l = rw (add-one, drop-cons cells i d) refl
+
+-- a given that does not lie in the picture is the first fault
+pub missing : (picture start facts : List (List ℕ)) (i : ℕ) (givens : List CellNumber) (cell d : CellNumber) → BaseSoFar picture start facts i givens → i < length givens → cell ≡ get_or givens i d → (HasCellNumber picture cell → ⊥) → (lines : List CertLine) → FirstFaultBehind picture start 2 givens lines (Some (Place (2 + i)))
+missing picture start facts i givens cell d so_far l e outside lines = so_far.goes lines (Some (Place (2 + i))) (rw (here givens i d l, ← e) (inl (outside, refl)))
+
+-- each given lies in the picture where all do
+pub has_each : (picture : List (List ℕ)) (cells : List CellNumber) (i : ℕ) (cell d : CellNumber) → i < length cells → cell ≡ get_or cells i d → HasCellNumbers picture cells → HasCellNumber picture cell
+has_each picture [] i cell d l e has = absurd (omega arith)
+has_each picture (c ∷ cells) zero cell d l e has = let P : CellNumber → Type 0 = λ x. HasCellNumber picture x in subst P (sym e) has.0
+has_each picture (c ∷ cells) (suc i) cell d l e has = has_each picture cells i cell d (omega arith) e has.1
+
+pub ordered_few : (least : ℕ) (cells : List CellNumber) → least ≤ 1000000 → AreOrdered least cells → length cells + least ≤ 1000000
+ordered_few least [] l o = omega arith
+ordered_few least (cell ∷ cells) l o = let r = ordered_few (cell.row * 1000 + cell.col + 1) cells (omega arith) o.3 in omega arith

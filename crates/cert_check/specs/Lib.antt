@@ -1,0 +1,4 @@
+pub mod FirstFault
+pub mod Puzzle
+pub mod Tree
+pub mod Walk

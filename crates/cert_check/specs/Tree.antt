@@ -1,0 +1,55 @@
+-- Trees of lines, and what it is that a tree proves.
+use Rattle.std.specs.Prelude.{◌≡◌, ℕ, List, [], ◌∷◌, ◌++◌}
+use Rattle.cert_text.specs.declared.tree_line.LineNumber.{LineNumber}
+use Rattle.cert_text.specs.declared.tree_line.CellNumber.{CellNumber}
+use Rattle.cert_text.specs.declared.tree_line.CertLine.{CertLine}
+use Rattle.cert_text.specs.declared.tree_line.CertLine.TheVariants.{Line, Split, Dead, Done}
+use Rattle.cert_text.specs.Cert.{Certificate}
+use Rattle.cert_check.specs.Puzzle.{HasCellNumber, HasCellNumbers, HasLineNumber, IsDead, IsForced, ShowsOnly, base_of, line_id, split_at}
+
+mutual
+  pub data Tree : Type 0 where
+    done : Tree
+    dead : LineNumber → Tree
+    forced : LineNumber → Tree → Tree
+    split : CellNumber → Trees → Tree
+
+  pub data Trees : Type 0 where
+    none : Trees
+    more : Tree → Trees → Trees
+
+-- the lines of a tree from its root, each branch whole before the next
+abbrev mutual
+  pub written : Tree → List CertLine
+  written done = Done ∷ []
+  written (dead number) = Dead number ∷ []
+  written (forced number tree) = Line number ∷ written tree
+  written (split cell trees) = Split cell ∷ each_written trees
+
+  pub each_written : Trees → List CertLine
+  each_written none = []
+  each_written (more tree trees) = written tree ++ each_written trees
+
+-- A tree proves a picture from facts: where it ends as done, no other colour is left; where it ends as dead, no list fits
+-- the line; behind a line, it proves the picture with all that the line forces; at a split, each branch does.
+abbrev mutual
+  pub Proves : List (List ℕ) → List (List ℕ) → Tree → Type 0
+  Proves picture facts done = ShowsOnly picture facts
+  Proves picture facts (dead number) = HasLineNumber picture number × IsDead picture facts (line_id number)
+  Proves picture facts (forced number tree) =
+      HasLineNumber picture number × ((gained : List (List ℕ)) × (IsForced picture facts (line_id number) gained × Proves picture gained tree))
+  Proves picture facts (split cell trees) = HasCellNumber picture cell × EachProves picture (split_at facts cell) trees
+
+  -- as many trees as there are facts, each of which proves the picture from its own
+  pub EachProves : List (List ℕ) → List (List (List ℕ)) → Trees → Type 0
+  EachProves picture [] none = Unit {0}
+  EachProves picture [] (more tree trees) = ⊥
+  EachProves picture (facts ∷ others) none = ⊥
+  EachProves picture (facts ∷ others) (more tree trees) = Proves picture facts tree × EachProves picture others trees
+
+-- The givens lie in the picture, and the lines are a tree that proves it from what the givens say.
+pub record IsProof (picture : List (List ℕ)) (cert : Certificate) : Type 0 where
+  pub inside : HasCellNumbers picture cert.givens
+  pub tree : Tree
+  pub lines : cert.lines ≡ written tree
+  pub proves : Proves picture (base_of picture cert.givens) tree

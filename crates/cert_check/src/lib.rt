@@ -1,0 +1,10 @@
+//! The checker of certificates, apart from all that searches: whether a certificate proves that a picture is the only solution.
+#![tactic(auto)]
+
+mod checking;
+mod forcing;
+mod places;
+mod showing;
+mod walk;
+
+pub use checking::{check_cert, set_givens};

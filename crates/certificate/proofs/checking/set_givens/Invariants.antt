@@ -1,9 +1,0 @@
-use Rattle.line_settle.specs.FactSets.{SameShape}
-use Rattle.certificate.proofs.GivenLemmas.{BaseSoFar}
-use Rattle.certificate.proofs.checking.set_givens.Given as goal
-
-abbrev pub invariant-loop-i : goal.invariant-loop-i
-invariant-loop-i l = record {
-  same_shape : SameShape l.picture l.facts;
-  so_far : BaseSoFar l.picture l.initial.facts l.facts l.i l.givens;
-}

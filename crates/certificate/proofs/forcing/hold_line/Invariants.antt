@@ -1,9 +1,0 @@
-use Rattle.std.proofs.Common.{◌≡◌}
-use Rattle.line_settle.specs.AlongLaws.{Written}
-use Rattle.certificate.proofs.forcing.hold_line.Given as goal
-
-abbrev pub invariant-loop-i : goal.invariant-loop-i
-invariant-loop-i l = record {
-  written : Written l.line l.initial.trail.at_hand l.trail.at_hand l.masks l.i;
-  behind : l.trail.behind ≡ l.initial.trail.behind;
-}
