@@ -1,15 +1,18 @@
 #!/usr/bin/env bash
-# Checks many pairs of picture and certificate over several hosts, ends one of them in the middle, and goes on: each pair must be
-# answered exactly once, as one process after another answers it. The hosts are network namespaces of this machine with an sshd
-# each, so times are those of one machine's processors. Besides the namespaces and a folder of its own it makes /run/sshd alone.
+# Checks many pairs of picture and certificate over several hosts, by the scripts of examples/, ends one host in the middle, and asks
+# for each pair's answer exactly once, as one machine answers it. The hosts are network namespaces of this machine with an sshd
+# each, and with a root of their own: of this machine's files they see those of the system alone, read only. Each is bound to one
+# processor, and so is the one machine that they are compared with. Besides the namespaces and a folder of its own it makes nothing.
 #
-# Usage: tests/many_machines.sh PROGRAM [PAIRS [HOSTS [JOBS]]]: 120 pairs, 3 hosts, and 2 checks at once on each where nothing
-# is given. Needs root, iproute2, openssh-server, GNU parallel and rsync; without them it says so and ends with status 0.
+# Usage: tests/many_machines.sh PROGRAM [PAIRS [HOSTS [PACK]]]: 3000 pairs, 3 hosts and 250 pairs in a pack where nothing is given.
+# CUT=0 ends no host. Needs root, iproute2, util-linux, openssh-server, GNU parallel and rsync; it names all that is missing, and
+# ends with status 0 then.
 set -uo pipefail
 program=$(realpath "$1")
-pairs=${2:-120}
+pairs=${2:-3000}
 hosts=${3:-3}
-jobs=${4:-2}
+pack=${4:-250}
+examples=$(cd "$(dirname "$0")/../examples" && pwd)
 work=$(mktemp -d)
 chmod 755 "$work"
 tag=nb$$
@@ -20,11 +23,12 @@ leave_out() {
     rmdir "$work"
     exit 0
 }
-[ "$(id -u)" = 0 ] || leave_out 'only root makes network namespaces'
-for tool in ip ssh ssh-keygen parallel rsync; do
-    command -v "$tool" >/dev/null || leave_out "$tool is not installed"
+missing=()
+for tool in ip unshare taskset ssh ssh-keygen sshd parallel rsync; do
+    PATH=$PATH:/usr/sbin command -v "$tool" >/dev/null || missing+=("$tool")
 done
-[ -x /usr/sbin/sshd ] || leave_out 'sshd is not installed'
+[ ${#missing[@]} = 0 ] || leave_out "there is no ${missing[*]}"
+[ "$(id -u)" = 0 ] || leave_out 'only root makes namespaces'
 ip netns add "$tag" 2>/dev/null || leave_out 'no network namespace can be made'
 
 clean_up() {
@@ -41,7 +45,7 @@ clean_up() {
 trap clean_up EXIT
 
 # Makes the pairs by one session, in which each picture differs from the one before in a row: its text and its certificate. Of
-# some pairs the certificate is that of another picture, or cut off, or the picture is missing.
+# some pairs the certificate is that of another picture, or cut off, or the picture is missing. A folder has a thousand of them.
 make_pairs() {
     mkdir "$work/site"
     {
@@ -57,10 +61,11 @@ make_pairs() {
             print "fill", row, left, row, right, rand() < 0.7 ? "a" : "b"
             if (pair > 0) { print "write ppm"; print "certify" }
         } }' >"$work/commands"
+    (cd "$work/site" && seq 0 $((pairs / 1000)) | xargs mkdir)
     "$program" work "$work/blank.ppm" <"$work/commands" | awk -v pairs="$pairs" -v site="$work/site" '
         function keep(  name) {
             if (cert == "" || made == pairs) return
-            made += 1; name = sprintf("%s/%05d", site, made)
+            made += 1; name = sprintf("%s/%d/%06d", site, int(made / 1000), made)
             if (made % 29 != 0) { printf "%s", picture >(name ".ppm"); close(name ".ppm") }
             if (made % 11 == 0) { kept = cert; cert = before } else if (made % 13 == 0) { kept = cert; sub(/[^\n]*\n$/, "", cert) } else kept = cert
             printf "%s", cert >(name ".cert"); close(name ".cert")
@@ -75,33 +80,42 @@ make_pairs() {
         END { keep(); if (made != pairs) { print "only " made " pairs were made" >"/dev/stderr"; exit 1 } }'
 }
 
-# What one pair is answered: its name, the status and the line. It is the text that each host runs, too.
-cat >"$work/answer" <<END
-#!/bin/sh
-line=\$("$program" check "\$1.ppm" "\$1.cert" 2>&1)
-echo "\$1 \$? \$line"
-END
-chmod 755 "$work/answer"
+# The processor of a host, and of the one machine: 0.
+processor() {
+    echo $(($1 % $(nproc)))
+}
 
-# What a host runs on a pack: the answer to each of its pairs.
-cat >"$work/answer_pack" <<END
-#!/bin/sh
-folder=\$(mktemp -d "$work/host/XXXXXX") && tar -xf "\$1" -C "\$folder" && cd "\$folder" || exit 1
-while read -r name; do "$work/answer" "\$name"; done <names
-rm -r "\$folder"
-END
-chmod 755 "$work/answer_pack"
-mkdir "$work/host"
+# The files of a host, and its sshd. It runs in a mount namespace of its own.
+run_host() {
+    local root=$1 folder
+    mount -t tmpfs -o mode=755 host "$root"
+    for folder in usr bin sbin lib lib32 lib64 libx32 etc; do
+        if [ -L "/$folder" ]; then
+            cp -P "/$folder" "$root"
+        elif [ -d "/$folder" ]; then
+            mkdir "$root/$folder"
+            mount --bind -o ro "/$folder" "$root/$folder"
+        fi
+    done
+    mkdir -p "$root"/{dev,proc,tmp,root,run/sshd,ssh}
+    chmod 1777 "$root/tmp"
+    mount --rbind /dev "$root/dev"
+    mount --bind /proc "$root/proc"
+    cp "$work"/{key.pub,host_key,sshd_config} "$root/ssh"
+    exec chroot "$root" /usr/sbin/sshd -D -e -f /ssh/sshd_config
+}
 
 # One host: a namespace on the bridge, and an sshd in it.
 make_host() {
     local host=$1
+    mkdir -p "$work/roots/$host"
     ip netns add "$tag-$host"
     ip -n "$tag" link add "v$host" type veth peer name eth0 netns "$tag-$host"
     ip -n "$tag" link set "v$host" master bridge up
     ip -n "$tag-$host" address add "198.18.0.$((host + 1))/24" dev eth0
     ip -n "$tag-$host" link set eth0 up
-    ip netns exec "$tag-$host" /usr/sbin/sshd -D -e -f "$work/sshd_config" 2>"$work/sshd.$host" &
+    taskset -c "$(processor "$host")" ip netns exec "$tag-$host" unshare --mount --propagation private \
+        bash -c "$(declare -f run_host); work=$work; run_host $work/roots/$host" 2>"$work/sshd.$host" &
     started+=($!)
 }
 
@@ -114,8 +128,8 @@ make_network() {
     ssh-keygen -q -t ed25519 -N '' -f "$work/host_key"
     cat >"$work/sshd_config" <<END
 Port 22
-HostKey $work/host_key
-AuthorizedKeysFile $work/key.pub
+HostKey /ssh/host_key
+AuthorizedKeysFile /ssh/key.pub
 StrictModes no
 UsePAM no
 PermitRootLogin prohibit-password
@@ -131,46 +145,22 @@ Host *
     StrictHostKeyChecking no
     UserKnownHostsFile /dev/null
     LogLevel ERROR
-    ConnectTimeout 1
-    ServerAliveInterval 1
-    ServerAliveCountMax 1
 END
-    mkdir -p /run/sshd
     local host
     for host in $(seq "$hosts"); do
         make_host "$host"
-        echo "$jobs/198.18.0.$((host + 1))" >>"$work/machines"
+        echo "1/198.18.0.$((host + 1))" >>"$work/machines"
     done
     for host in $(seq "$hosts"); do
         for _ in $(seq 50); do
-            ip netns exec "$tag" ssh -F "$work/ssh_config" "198.18.0.$((host + 1))" true 2>/dev/null && continue 2
+            ip netns exec "$tag" ssh -F "$work/ssh_config" -o ConnectTimeout=1 "198.18.0.$((host + 1))" \
+                "[ ! -e $work ] && [ ! -e $program ]" 2>/dev/null && continue 2
             sleep 0.1
         done
-        echo "many machines: host $host does not answer"
+        echo "many machines: host $host does not answer, or sees the files of this machine"
+        cat "$work/sshd.$host"
         exit 1
     done
-}
-
-# Packs the pairs, some in each: a host gets a pack by one copy. The pack has the names of its pairs.
-make_packs() {
-    local size=$((pairs / 60)) pack
-    mkdir "$work/packs" "$work/lists"
-    split -d -a 5 -l $((size < 5 ? 5 : size)) "$work/names" "$work/lists/"
-    for pack in "$work"/lists/*; do
-        cp "$pack" "$work/site/names"
-        (cd "$work/site" && { echo names; sed 's/.*/&.cert\n&.ppm/' names; } |
-            while read -r file; do [ ! -f "$file" ] || echo "$file"; done | tar -cf "$work/packs/$(basename "$pack").tar" -T -)
-    done
-    rm "$work/site/names"
-    (cd "$work/packs" && ls) >"$work/handed"
-}
-
-# Hands the packs out. A pack that a host did not answer is tried on another one.
-hand_out() {
-    (cd "$work/packs" && HOME=$work ip netns exec "$tag" parallel --will-cite --sshloginfile "$work/machines" \
-        --ssh "ssh -F $work/ssh_config" --joblog "$work/statuses" --retries 4 --workdir "$work/host" --cleanup "$@" \
-        --transferfile '{}' "$work/answer_pack {}" \
-        <"$work/handed" 2>>"$work/parallel")
 }
 
 seconds_since() {
@@ -178,38 +168,44 @@ seconds_since() {
 }
 
 make_pairs || exit 1
-(cd "$work/site" && ls *.cert | sed 's/\.cert$//') >"$work/names"
+mkdir "$work/bin"
+cp "$program" "$work/bin/nonobench"
+export PATH=$work/bin:$PATH
+"$examples/make-packs" "$work/site" "$work/packs" "$pack" || exit 1
+echo "many machines: $pairs pairs in $(find "$work/packs" -name '*.tar' | wc -l) packs"
 from=$(date +%s.%N)
-(cd "$work/site" && while read -r name; do "$work/answer" "$name"; done <"$work/names") >"$work/wanted"
-echo "many machines: one check after another: $(seconds_since "$from")"
-from=$(date +%s.%N)
-(cd "$work/site" && xargs -P "$(nproc)" -n 1 "$work/answer" <"$work/names" | sort) >"$work/side"
-echo "many machines: $(nproc) side by side: $(seconds_since "$from")"
-diff "$work/wanted" "$work/side" || exit 1
+for tar in "$work"/packs/*.tar; do
+    mkdir "$work/unpacked" && tar -xf "$tar" -C "$work/unpacked" || exit 1
+    taskset -c "$(processor 0)" "$work/unpacked/answer_pack" || exit 1
+    rm -r "$work/unpacked"
+done | sort >"$work/wanted"
+echo "many machines: one machine: $(seconds_since "$from"); load $(cut -d ' ' -f 1 /proc/loadavg)"
 accepted=$(grep -c ' 0 certificate accepted' "$work/wanted")
 [ "$accepted" -gt 0 ] && [ "$accepted" -lt "$pairs" ] || { echo "many machines: $accepted of $pairs accepted"; exit 1; }
+[ "$(wc -l <"$work/wanted")" = "$pairs" ] || { echo "many machines: not every pair is answered by one machine"; exit 1; }
 
-make_packs
 make_network
 from=$(date +%s.%N)
 : >"$work/got"
-hand_out >"$work/got" &
+SSH="ssh -F $work/ssh_config" ALIVE=${ALIVE:-2} HOME=$work PARALLEL=--will-cite \
+    ip netns exec "$tag" "$examples/hand-out" "$work/machines" "$work/packs" >"$work/got" 2>"$work/parallel" &
 running=$!
 # In the middle the last host goes away without a word.
-if [ "$hosts" -gt 1 ]; then
+if [ "${CUT:-1}" = 1 ] && [ "$hosts" -gt 1 ]; then
     while kill -0 "$running" 2>/dev/null && [ "$(wc -l <"$work/got")" -lt $((pairs / 3)) ]; do sleep 0.05; done
     ip -n "$tag" link set "v$hosts" down
     echo "many machines: host $hosts is cut off after $(wc -l <"$work/got") answers"
 fi
 wait "$running"
-# What is still without an answer is handed out again, on the hosts that are left.
-sed -i "$hosts{\$!b};\$d" "$work/machines"
-hand_out --resume-failed >>"$work/got"
-echo "many machines: $hosts hosts with $jobs checks each: $(seconds_since "$from")"
-if sort "$work/got" | diff "$work/wanted" -; then
+status=$?
+echo "many machines: $hosts hosts: $(seconds_since "$from"); load $(cut -d ' ' -f 1 /proc/loadavg)"
+for host in $(seq "$hosts"); do
+    echo "many machines: host $host answered $(awk -v host="198.18.0.$((host + 1))" '$2 ~ host && $7 == 0' "$work/packs/statuses" | wc -l) packs"
+done
+if [ "$status" = 0 ] && sort "$work/got" | diff "$work/wanted" -; then
     echo "many machines: $pairs answers, each exactly once, $accepted of them accepted"
 else
     tail -n 5 "$work/parallel"
-    echo 'many machines: the answers differ (< of one machine, > of the hosts)'
+    echo "many machines: status $status, or the answers differ (< of one machine, > of the hosts)"
     exit 1
 fi
