@@ -1,5 +1,5 @@
 -- What a tree proves is true: no other picture is left by its facts.
-use Rattle.std.proofs.Common.{◌≡◌, ℕ, ◌-◌, ◌^◌, ◌<◌, ◌⊎◌, List, [], ◌∷◌, length, get_or, refl, sym, ap, subst, ◌∙◌, arith, inl, inr}
+use Rattle.std.proofs.Common.{◌≡◌, ℕ, ◌-◌, ◌^◌, ◌<◌, ◌⊎◌, List, [], ◌∷◌, length, get_or, sym, ap, subst, ◌∙◌, arith, inl, inr}
 use Rattle.std.specs.Prelude.{IsBitSet}
 use Rattle.std.proofs.lemmas.Bool.{cases_lt}
 use Rattle.std.proofs.lemmas.List.{ext_get_or, get_or_past, length-map}
@@ -22,7 +22,7 @@ use Rattle.trail.proofs.GridLemmas.{set_each}
 use Rattle.cert_text.specs.declared.tree_line.LineNumber.{LineNumber}
 use Rattle.cert_text.specs.declared.tree_line.CellNumber.{CellNumber}
 use Rattle.cert_text.specs.Cert.{Certificate}
-use Rattle.cert_check.specs.Puzzle.{HasCellNumber, HasCellNumbers, HasLineNumber, IsDead, IsNamed, IsUnique, ShowsOnly, base_of, blank_for, line_id, split_at}
+use Rattle.cert_check.specs.Puzzle.{HasCellNumber, HasCellNumbers, HasLineNumber, IsNamed, IsUnique, ShowsOnly, base_of, blank_for, line_id, split_at}
 use Rattle.cert_check.specs.Tree.{Tree, Trees, done, dead, forced, split, none, more, Proves, EachProves, IsProof}
 use Rattle.cert_check.proofs.BaseLemmas.{givens_shape, open_stays}
 

@@ -1,20 +1,18 @@
 -- The lines of a tree that a search writes are those of a certificate without fault.
-use Rattle.std.proofs.Common.{◌≡◌, ℕ, suc, ◌+◌, ◌-◌, ◌<◌, ◌≤◌, List, [], ◌∷◌, ◌++◌, true, None, Some, length, eqb, eqb-true, refl, sym, ap, ◌∙◌, arith, inl, inr}
+use Rattle.std.proofs.Common.{◌≡◌, ℕ, suc, ◌+◌, ◌-◌, ◌<◌, ◌≤◌, List, [], ◌∷◌, ◌++◌, true, None, Some, length, eqb, eqb-true, refl, sym, ap, ◌∙◌, arith, inr}
 use Rattle.std.specs.Int.{bit_at}
 use Rattle.std.specs.List.{All, range_with_len}
-use Rattle.std.proofs.lemmas.Bool.{cases_lt}
-use Rattle.std.proofs.lemmas.List.{get_or_past}
 use Rattle.std.proofs.lemmas.List.Elements.{filter_passes}
 use Rattle.picture.specs.declared.line_id.Axis.{Axis}
 use Rattle.picture.specs.declared.line_id.Axis.TheVariants.{Across, Down}
-use Rattle.picture.specs.BitLaws.{bit_is_set, no_bit}
+use Rattle.picture.specs.BitLaws.{bit_is_set}
 use Rattle.picture.specs.Picture.{IsPicture}
-use Rattle.picture.specs.Rows.{width_of, row_at, cell_at, line_of, lines_along}
+use Rattle.picture.specs.Rows.{width_of, cell_at, line_of, lines_along}
 use Rattle.clues.specs.declared.block.Block.{Block}
 use Rattle.clues.specs.ClueBook.{Clues, clue_at, clues_of}
 use Rattle.clues.specs.Laws.{CluesAreOfLines}
 use Rattle.line_settle.specs.declared.line_engine.Outcome.{Outcome}
-use Rattle.line_settle.specs.FactSets.{IsWithin, Leaves, SameShape}
+use Rattle.line_settle.specs.FactSets.{IsWithin, SameShape}
 use Rattle.line_settle.specs.Laws.{ForcingClosesALine, OneLineDecides}
 use Rattle.line_settle.specs.GridLaws.{shape_refl, shape_trans}
 use Rattle.line_settle.specs.Narrowing.{Narrows}

@@ -1,9 +1,9 @@
 -- What is searched while facts wait: nothing that fills the first facts gets lost; and sound facts.
-use Rattle.std.proofs.Common.{◌≡◌, ℕ, zero, suc, ◌+◌, ◌^◌, ◌<◌, ◌≤◌, ◌⊎◌, ◌↔◌, ◌==◌, Bool, true, false, cond, eq-eqb, eqb-true, Option, None, Some, List, [], ◌∷◌, ◌++◌, length, replicate, refl, sym, ap, subst, ◌∙◌, arith, inl, inr}
+use Rattle.std.proofs.Common.{◌≡◌, ℕ, ◌+◌, ◌^◌, ◌<◌, ◌≤◌, ◌⊎◌, ◌↔◌, ◌==◌, Bool, true, false, cond, eqb-true, Option, None, Some, List, [], ◌∷◌, ◌++◌, length, replicate, refl, sym, ap, subst, ◌∙◌, arith, inl, inr}
 use Rattle.std.specs.Prelude.{IsBitSet}
 use Rattle.std.specs.List.{filter, range_with_len}
 use Rattle.std.specs.Int.{bit_at}
-use Rattle.std.proofs.lemmas.Bool.{cases_eq, cases_lt}
+use Rattle.std.proofs.lemmas.Bool.{cases_lt}
 use Rattle.std.proofs.lemmas.List.{get_or_past, get_or-replicate, length-replicate}
 use Rattle.picture.specs.declared.line_id.Axis.{Axis}
 use Rattle.picture.specs.declared.line_id.Axis.TheVariants.{Across, Down}
@@ -19,7 +19,7 @@ use Rattle.second_search.specs.Looking.{FillsSome}
 use Rattle.second_search.specs.Looking.{FindsFilling}
 use Rattle.second_search.specs.Other.{AreSound, FindsFirst, FindsOther, HasClues}
 use Rattle.line_settle.specs.GridLaws.{shape_refl, shape_sym, shape_trans, shape_with_cell, full_shape, all_left}
-use Rattle.picture.specs.BitLaws.{bit_below, bit_is_set, power_has, set_bit, no_bit}
+use Rattle.picture.specs.BitLaws.{bit_is_set, power_has, no_bit}
 use Rattle.clues.specs.Solution.{Solves}
 use Rattle.line_settle.specs.SolutionLaws.{solved_shape}
 use Rattle.line_settle.specs.Branches.{branches, colours_of, held}
