@@ -56,7 +56,7 @@ MADE = {os.path.join("docs", "BASE.md")}
 # Folders in which a path that is named must exist, and commands that build, prove or serve rather than answer.
 FOLDERS = "docs|crates|measure|tests|examples|page|web|python|\\.ci"
 BUILDS = ["bash .ci/run", "(cd crates/nonobench && rt try ", "(cd crates/nonobench && rt run ", "install -D ",
-          "export PATH=", "web/build"]
+          "export PATH=", "web/build", "pip install dist/", "nonobench-audit "]
 
 
 def documents():
