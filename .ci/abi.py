@@ -30,8 +30,7 @@ OWN_C = "/* ---- one question each"
 RUST = {
     "Global": [], "": ["nothing"], "bool": ["bool"], "u32": ["u32"], "usize": ["u64"], "&mut u32": ["pointer u32"],
     "&[u8]": ["pointer const u8", "u64"], "&mut [u8]": ["pointer u8", "u64"],
-    "Held": ["desk"], "&mut Held": ["pointer desk"], "&mut *mut u8": ["pointer desk"],
-    "DeskCell": ["desk"], "&mut DeskCell": ["pointer desk"],
+    "&mut Held": ["pointer desk"], "&mut DeskCell": ["pointer desk"], "DeskCell": ["desk"],
 }
 C = {
     "void": "nothing", "bool": "bool", "_Bool": "bool",

@@ -3,11 +3,12 @@
  * Link with libnonobench.a or libnonobench.so (c/build). There are two layers. The proved calls answer on a desk; the functions
  * at the end of this file each make a desk, ask once and end it, and suit most programs.
  *
- * What is proved is each call of the library but start and end, from the bytes that it is handed to its status and text:
- * docs/PROMISES.md has the clauses. An accepted certificate says that no other picture of that size has the clues and the
- * colours in its givens.
+ * What is proved is each call of the library, from the bytes that it is handed to its status and text: docs/PROMISES.md has the
+ * clauses. An accepted certificate says that no other picture of that size has the clues and the colours in its givens.
  * What nothing checks is the caller's word:
- *   - a pointer leads to as many bytes as the length beside it says, and is not null in a call of the library;
+ *   - a pointer leads to as many bytes as the length beside it says. In a call of the library it is not null, even beside the
+ *     length 0; but at a null nonobench_end does nothing. The functions at the end of this file take a null beside the length 0,
+ *     and refuse one beside a length above 0;
  *   - a desk's cell holds what nonobench_start put there until nonobench_end, and calls with one desk come one after another;
  *   - what a call writes to lies apart from all else that it is handed.
  * The functions at the end of this file are C (c/pair.c), and tested, not proved.
@@ -36,9 +37,10 @@ extern "C" {
 enum {
     NONOBENCH_DONE = 0,    /* done; a certificate is accepted */
     NONOBENCH_REFUSED = 1, /* picture, puzzle or certificate is refused; the text is what the program says behind `nonobench: ` */
-    NONOBENCH_MEMORY = 4,  /* memory was refused */
+    NONOBENCH_MEMORY = 4,  /* memory was refused; of nonobench_say also: the lines have more than 4294963200 bytes */
     NONOBENCH_CLOSED = 5,  /* no bench has the handle */
-    NONOBENCH_OPTIONS = 6  /* background, history or allowance is of another form, or a null stands beside a length above 0 */
+    NONOBENCH_OPTIONS = 6  /* background, history or allowance is of another form; of the functions at the end of this file,
+                              also: a null stands beside a length above 0 */
 };
 
 /* ---- the calls of the library */
@@ -53,7 +55,7 @@ typedef struct nonobench_desk nonobench_desk;
 /* Puts a new desk in the cell: DONE or MEMORY. The calls below take the address of this cell. */
 uint32_t nonobench_start(nonobench_desk **desk);
 
-/* Ends a desk with all its benches. */
+/* Ends a desk with all its benches. At a null it does nothing. */
 void nonobench_end(nonobench_desk *desk);
 
 /* Opens a bench on a P3 picture, or a .non text where `non` is true. `background` is a word as 255,0,0, and empty for white;

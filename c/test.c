@@ -256,6 +256,16 @@ static void test_bad_input(void) {
     free(big);
 }
 
+/* A null beside a length is refused by each function that asks one question, and at a null no desk is ended. */
+static void test_nulls(void) {
+    nonobench_audited found;
+    expect(nonobench_check_pair(NULL, 1, GIVEN, strlen(GIVEN), NULL, NULL) == NONOBENCH_OPTIONS, "a null picture", "");
+    expect(nonobench_verdict(NULL, 1, NULL, 0, NULL, NULL) == NONOBENCH_OPTIONS, "a null for a verdict", "");
+    expect(nonobench_audit(NULL, 1, NULL, 0, &found, NULL) == NONOBENCH_OPTIONS, "a null for an audit", "");
+    expect(nonobench_certify(NULL, 1, NULL, &found, NULL) == NONOBENCH_OPTIONS, "a null for a certificate", "");
+    nonobench_end(NULL);
+}
+
 /* No text stands behind a handle or options that are refused. Clauses of the calls say so too. */
 static void test_no_text(void) {
     const uint8_t *picture = (const uint8_t *)DIAGONAL;
@@ -391,6 +401,7 @@ int main(int count, char **words) {
     test_answers();
     test_certificates();
     test_bad_input();
+    test_nulls();
     test_no_text();
     test_rooms();
     test_threads(times / 10 < 500 ? times / 10 : 500);

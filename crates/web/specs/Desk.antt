@@ -3,7 +3,6 @@ use Rattle.std.specs.Prelude.{◌≡◌, ◌⊎◌, ℕ, ◌+◌, ◌==◌, List
 use Rattle.picture.specs.declared.rgb.Rgb.{Rgb}
 use Rattle.live_audit.specs.Bench.{Seen}
 use Rattle.command_text.specs.declared.session_fault.SessionFault.{SessionFault}
-use Rattle.command_text.specs.declared.session_fault.SessionFault.TheVariants as session
 use Rattle.session.specs.Session.{Runs}
 use Rattle.program_options.specs.declared.fault.ProgramFault.{ProgramFault}
 use Rattle.program_options.specs.declared.options.Options.{Options}
@@ -32,11 +31,10 @@ IsClosed old new status = (status ≡ 5) × ((new.text.items ≡ []) × IsKept o
 
 -- ---- lines
 
--- the number that tells how a session ended
+-- The number that tells how a session ended: whole, or early, where memory for its text was refused or it reads no further.
 abbrev pub status_after : Result (Unit {0}) SessionFault → ℕ
 status_after (Ok done) = 0
-status_after (Err session.Read) = 3
-status_after (Err session.Write) = 4
+status_after (Err fault) = 4
 
 -- A session on a bench with these bytes as its whole input, what it wrote behind what stood there, and the status of its end.
 abbrev pub RunsOver : List ℕ → List ℕ → List ℕ → Seen → Seen → ℕ → Type 0

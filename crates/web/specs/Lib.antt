@@ -1,3 +1,4 @@
 pub mod Asked
 pub mod Desk
 pub mod Held
+pub mod Laws

@@ -1,11 +1,14 @@
 //! The calls that a host makes.
 
-ghost use Rattle.std.specs.Prelude.{◌≡◌, ◌⊎◌, ◌++◌, None, [], drop, length, take, IfSome};
+ghost use Rattle.std.specs.Prelude.{◌≡◌, ◌⊎◌, ◌++◌, None, [], drop, length, take, IfSome, IsSome};
+ghost use denote.RawPtr.{null_ptr};
 ghost use Rattle.program_options.specs.declared.version.TheConstants.{VERSION};
 ghost use Rattle.web.specs.Asked.{background_asked, options_asked};
 ghost use Rattle.web.specs.Desk.{Checks, Closes, IsKept, IsUnasked, Opens, Says};
+ghost use Rattle.web.specs.Held.{IsEmpty};
 
 use crate::asked::{background_of, options_of};
+use crate::cell::DeskCell;
 use crate::desk::Desk;
 use crate::held::Held;
 use crate::inside::{
@@ -26,25 +29,32 @@ pub extern "C" fn nonobench_version(out: &mut [u8]) -> usize
     copy_front(VERSION.as_bytes(), out)
 }
 
-/// Makes the state that all other calls but the version's are handed, and puts its pointer out.
+/// Makes an empty desk, and puts its pointer in a cell that holds none. All other calls but the version's are handed that cell.
 #[unsafe(no_mangle)]
-pub extern "C" fn nonobench_start(alloc: Global, out: &mut *mut u8) -> u32
+pub extern "C" fn nonobench_start(alloc: Global, out: &mut DeskCell) -> u32
+    requires { out.old.desk ≡ None }
     ensures status { (result ≡ 0) ⊎ (result ≡ 4) }
+    ensures made { result ≡ 0 → IsSome out.new.desk }
+    ensures empty { IfSome out.new.desk IsEmpty }
     ensures kept { result ≡ 4 → out.new ≡ out.old }
 {
     match Desk::make(alloc) {
         Ok(desk) => {
-            *out = Box::into_raw(desk) as *mut u8;
+            *out = DeskCell::of(Held::new(desk));
             DONE
         }
         Err(_) => MEMORY,
     }
 }
 
-/// Ends a state with all its benches.
+/// Ends the desk of a cell with all its benches. Where the pointer is null, nothing is done.
 #[unsafe(no_mangle)]
-pub extern "C" fn nonobench_end(held: Held) {
-    drop(held.into_box());
+pub extern "C" fn nonobench_end(cell: DeskCell)
+    requires { cell.desk ≡ None → cell.ptr ≡ null_ptr }
+{
+    if let Some(held) = cell.into_held() {
+        drop(held.into_box());
+    }
 }
 
 /// Opens a bench on a file, and puts its handle out, or 0 where none is opened. A fault is the text.

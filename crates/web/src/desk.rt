@@ -12,7 +12,7 @@ use line_settle::MaskEngine;
 use live_audit::Bench;
 use picture::Rgb;
 use propagate::InOrder;
-use session::{SessionFault, run_session};
+use session::run_session;
 use std::alloc::{AllocError, Global};
 
 /// A bench under its handle.
@@ -145,7 +145,8 @@ impl Desk {
     }
 }
 
-// Runs a session on one bench.
+// Runs a session on one bench. It ends early where memory for its text is refused, or a read more than a session makes is wanted:
+// where the lines have more than 4,294,963,200 bytes.
 fn say_at(alloc: Global, seat: &mut Seat, lines: &[u8], text: &mut Vec<u8>) -> u32
     ensures handle { seat.new.handle ≡ seat.old.handle }
     ensures runs { RunsOver lines.now text.old.items text.new.items seat.old.bench seat.new.bench
@@ -154,7 +155,6 @@ fn say_at(alloc: Global, seat: &mut Seat, lines: &[u8], text: &mut Vec<u8>) -> u
     let mut reader = lines;
     match run_session(alloc, &mut reader, text, &mut seat.bench) {
         Ok(()) => DONE,
-        Err(SessionFault::Read) => 3,
-        Err(SessionFault::Write) => MEMORY,
+        Err(_) => MEMORY,
     }
 }

@@ -12,8 +12,8 @@ use std::marker::Model;
 /// The pointer, as C sees it, and the desk that lies there.
 #[repr(C)]
 pub struct Held {
-    ptr: *mut u8,
-    alloc: Global,
+    pub(crate) ptr: *mut u8,
+    pub(crate) alloc: Global,
     pub ghost desk: { Desk } by { desk_coded },
 }
 

@@ -3,8 +3,10 @@
 
 mod asked;
 mod calls;
+mod cell;
 mod desk;
 mod held;
 mod inside;
+pub mod laws;
 mod parts;
 mod status;
