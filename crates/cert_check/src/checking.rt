@@ -20,7 +20,8 @@ use std::alloc::Global;
 // The line below which the givens stand.
 const FIRST_LINES: usize = 2;
 
-/// Holds each given to the picture's colour.
+/// Holds each given to the picture's colour: of facts without an exclusion this makes the root of a certificate's tree. The
+/// first given that lies outside the picture is the error `Place`, with its line in the certificate.
 pub fn set_givens(
     picture: &Picture,
     facts: &mut Facts,
