@@ -182,7 +182,7 @@ class Judging:
                 ground = readers.ground_of(background.decode("ascii", "replace").strip())
             except ValueError as error:
                 raise Unreadable(f"the file of its background {error}") from error
-        return readers.puzzles_of(data, name.lower().endswith(".non"), ground, givens)
+        return readers.puzzles_of(data, os.path.splitext(name)[1].lower(), ground, givens)
 
     def _judge(self, task: Task, about: tuple, puzzle: Union[Puzzle, Unreadable], certificate: Optional[bytes]) -> None:
         """Puts the row of one puzzle."""
