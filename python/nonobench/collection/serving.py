@@ -17,10 +17,7 @@ import threading
 import time
 from typing import Any, BinaryIO, Iterator, NamedTuple, Optional, Union
 
-try:
-    from .._grade import NoGrade, grade_of
-except ImportError:  # until docs/GRADE.md is there
-    NoGrade, grade_of = ValueError, None
+from .._grade import NoGrade, grade_of
 from . import certificates, readers
 from .judging import Desk, judge
 from .puzzles import Missing, Puzzle, Unreadable, one_line
@@ -228,7 +225,7 @@ class Judging:
             row["note"] = f"no certificate within {settings.limit}"
         if judged.certificate:
             row["lines"] = judged.certificate.count("\n")
-            if settings.has_grades and grade_of is not None:
+            if settings.has_grades:
                 row.update(_grade(puzzle, row, judged))
         if beside is not None:
             text = desk.say(b"write ppm\n").encode() if puzzle.is_non else puzzle.text
