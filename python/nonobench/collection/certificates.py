@@ -9,7 +9,7 @@ from typing import TYPE_CHECKING, Optional
 
 from .judging import Desk
 from .puzzles import Puzzle, one_line
-from .rows import Row, row_of, text_of
+from .rows import UNWRITTEN, Row, row_of, text_of
 
 if TYPE_CHECKING:
     from .workers import Answer
@@ -59,7 +59,7 @@ def write(path: str, certificate: str) -> str:
         os.replace(new, path)
     except (OSError, ValueError) as error:
         _remove(new)
-        return f"its certificate was not written: {one_line(getattr(error, 'strerror', None) or str(error))}"
+        return f"{UNWRITTEN}: {one_line(getattr(error, 'strerror', None) or str(error))}"
     return ""
 
 

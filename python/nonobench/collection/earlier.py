@@ -6,17 +6,19 @@ import hashlib
 import os
 from typing import BinaryIO, Optional
 
-from .outputs import Failure, lines_of
+from .outputs import Failure, failure, lines_of
 from .rows import Row, row_of
 
 
 class Earlier:
     """Where the rows of a file of rows are."""
 
-    def __init__(self, file: BinaryIO, name: str) -> None:
+    def __init__(self, name: str) -> None:
         self._places: dict[int, int] = {}
-        self._lines = os.fdopen(os.dup(file.fileno()), "rb")
-        self._lines.seek(0)
+        try:
+            self._lines: BinaryIO = open(name, "rb")
+        except OSError as error:
+            raise failure(name, error) from error
         for number, (place, line) in enumerate(lines_of(self._lines), 1):
             try:
                 row = row_of(line)

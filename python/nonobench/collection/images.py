@@ -51,6 +51,7 @@ def _pixels(data: bytes, kind: str) -> tuple[int, list[Any]]:
     try:
         with warnings.catch_warnings():
             warnings.simplefilter("ignore")
+            Image.MAX_IMAGE_PIXELS = None  # a size is looked at below, before anything is unpacked
             with Image.open(io.BytesIO(data), formats=[kind]) as image:
                 columns, rows = image.size
                 if not (0 < columns <= MOST_CELLS and 0 < rows <= MOST_CELLS):

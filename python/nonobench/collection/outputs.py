@@ -17,6 +17,7 @@ from .rows import COLUMNS, HEAD, csv_cells, row_of, table_line
 
 SOME = 1 << 16  # bytes that are written together
 MOMENT = 0.25  # seconds until a row is in its file
+CLOSED = "standard output was closed"
 
 
 class Failure(Exception):
@@ -25,7 +26,9 @@ class Failure(Exception):
 
 def failure(name: str, error: Exception) -> Failure:
     """The failure that an error of the system is."""
-    return Failure(f"{name}: {getattr(error, 'strerror', None) or error}")
+    if name == "-" and isinstance(error, BrokenPipeError):
+        return Failure(CLOSED)
+    return Failure(f"{'standard output' if name == '-' else name}: {getattr(error, 'strerror', None) or error}")
 
 
 def locked(name: str, file: Union[BinaryIO, int], is_shared: bool = False) -> None:
@@ -68,7 +71,7 @@ class Output:
             if name == "-":
                 self.file: BinaryIO = os.fdopen(os.dup(1), "wb", buffering=0)
                 return
-            self.file = os.fdopen(os.open(name, os.O_RDWR | os.O_CREAT | os.O_CLOEXEC, 0o666), "r+b", buffering=0)
+            self.file = os.fdopen(os.open(name, os.O_RDWR | os.O_CREAT | os.O_APPEND | os.O_CLOEXEC, 0o666), "r+b", buffering=0)
             locked(name, self.file)
             if is_regular(self.file) and not keeps:
                 self.file.truncate(0)
@@ -92,7 +95,7 @@ class Output:
             while data:
                 data = data[self.file.write(data) :]
         except OSError as error:
-            raise failure("standard output" if self.name == "-" else self.name, error) from error
+            raise failure(self.name, error) from error
 
     def close(self) -> None:
         """Writes what waits, and lets others write."""
@@ -112,11 +115,6 @@ class Lines:
         self._order = array("Q")
         if is_resumed:
             self._end = _cut_torn_line(self._output.file, name)
-
-    @property
-    def file(self) -> BinaryIO:
-        """The file, to read earlier rows from."""
-        return self._output.file
 
     def put(self, text: str) -> None:
         """Puts a new row."""
@@ -146,7 +144,7 @@ class Lines:
             return
         new = Output(f"{self._name}.new")
         try:
-            with os.fdopen(os.dup(file.fileno()), "rb") as lines:
+            with open(self._name, "rb") as lines:
                 for place in self._order:
                     lines.seek(place)
                     new.put(lines.readline())

@@ -5,10 +5,9 @@ from __future__ import annotations
 import contextlib
 import sys
 import time
-from collections import Counter
 from typing import Iterator, Optional
 
-from .rows import VERDICTS
+from .tally import Tally
 
 EVERY = 10.0  # seconds between lines where there is no terminal
 
@@ -16,13 +15,12 @@ EVERY = 10.0  # seconds between lines where there is no terminal
 class Progress:
     """How far an audit is."""
 
-    def __init__(self, is_quiet: bool) -> None:
+    def __init__(self, is_quiet: bool, tally: Tally) -> None:
         self._is_quiet = is_quiet
+        self._tally = tally
         self._begun = self._told = time.monotonic()
         self._files = 0
         self._total: Optional[int] = None
-        self._kept = 0
-        self.verdicts: Counter = Counter()
         self._bar = None if is_quiet or not sys.stderr.isatty() else _bar()
 
     def expect(self, total: int) -> None:
@@ -35,14 +33,10 @@ class Progress:
         """Counts a file."""
         self._files += 1
 
-    def row(self, verdict: str) -> None:
-        """Counts a puzzle."""
-        self.verdicts[verdict] += 1
-
     def tick(self) -> None:
         """Shows how far it is, where it is time."""
         if self._bar is not None:
-            self._bar.set_postfix_str(self.counts(), refresh=False)
+            self._bar.set_postfix_str(self._tally.verdicts(), refresh=False)
             self._bar.update(self._files - self._bar.n)
         elif not self._is_quiet and time.monotonic() - self._told >= EVERY:
             self._told = time.monotonic()
@@ -53,11 +47,7 @@ class Progress:
         line = f"{self._files}{'' if self._total is None else f' of {self._total}'} files, {self._files / spent:.0f} a second"
         if self._total is not None and self._files:
             line += f", {(self._total - self._files) * spent / self._files:.0f} s left"
-        return f"{line}; {self.counts()}"
-
-    def counts(self) -> str:
-        """How many puzzles have each verdict."""
-        return ", ".join(f"{verdict} {self.verdicts[verdict]}" for verdict in VERDICTS if self.verdicts[verdict]) or "none yet"
+        return f"{line}; {self._tally.verdicts()}"
 
     @contextlib.contextmanager
     def aside(self) -> Iterator[None]:

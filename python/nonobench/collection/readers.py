@@ -10,7 +10,7 @@ from typing import Iterator, NamedTuple, Optional, Union
 from . import images, webpbn
 from .puzzles import MOST_BYTES, Puzzle, Triple, Unreadable, one_line
 
-MOST_BESIDE = 200_000  # bytes of a file of givens
+NAMED = {".png": "PNG", ".gif": "GIF", ".bmp": "BMP", ".webp": "WebP", ".xml": "XML"}
 
 
 class Ground(NamedTuple):
@@ -53,18 +53,23 @@ def bytes_of(path: str, most: int = MOST_BYTES) -> bytes:
     return data
 
 
-def puzzles_of(data: bytes, is_non: bool, ground: Ground, givens: bytes = b"") -> Iterator[Union[Puzzle, Unreadable]]:
-    """Each puzzle of a file, or why it is none. What is wrong with the whole file is raised."""
+def puzzles_of(data: bytes, suffix: str, ground: Ground, givens: bytes = b"") -> Iterator[Union[Puzzle, Unreadable]]:
+    """Each puzzle of a file, or why it is none. What is wrong with the whole file is raised.
+
+    The first bytes tell what a file is. Its suffix counts where they do not.
+    """
     kind = images.format_of(data)
     if kind is not None:
         puzzle = images.puzzle_of_image(data, kind, ground.triple, ground.is_corner)
-    elif data.startswith(b"P3") or not (is_non or _is_xml(data)):
-        puzzle = Puzzle(data, background=first_triple(data) if ground.is_corner else ground.triple)
     elif _is_xml(data):
         yield from webpbn.puzzles_of_xml(data)
         return
-    else:
+    elif suffix == ".non":
         puzzle = Puzzle(data, is_non=True)
+    elif data.startswith(b"P3") or suffix not in NAMED:
+        puzzle = Puzzle(data, background=first_triple(data) if ground.is_corner else ground.triple)
+    else:
+        raise Unreadable(f"this does not begin as {NAMED[suffix]} does")
     if givens:
         puzzle = Puzzle(puzzle.text, puzzle.is_non, puzzle.background, givens_of(givens), puzzle.title)
     yield puzzle
@@ -72,8 +77,7 @@ def puzzles_of(data: bytes, is_non: bool, ground: Ground, givens: bytes = b"") -
 
 def _is_xml(data: bytes) -> bool:
     """Whether a text begins as XML does, in whichever coding."""
-    front = data[:4].lstrip(b"\xef\xbb\xbf")
-    return data.startswith((b"\xff\xfe", b"\xfe\xff", b"<\0", b"\0<")) or (front or data).lstrip()[:1] == b"<" or data.lstrip()[:1] == b"<"
+    return data.startswith((b"\xff\xfe", b"\xfe\xff", b"<\0", b"\0<")) or data.removeprefix(b"\xef\xbb\xbf").lstrip()[:1] == b"<"
 
 
 def first_triple(data: bytes) -> Optional[Triple]:

@@ -2,15 +2,19 @@
 
 from __future__ import annotations
 
+import functools
+import itertools
 import json
 import re
 from typing import Any, Optional
 
+from .._colours import colour_shown, colours_too_near
 from .judging import Judged
-from .puzzles import Puzzle
+from .puzzles import Puzzle, Triple
 
 VERDICTS = ("unique", "ambiguous", "undecided", "error")
 GRADES = ("easy", "medium", "hard", "very hard", "expert")
+UNWRITTEN = "its certificate was not written"
 FIGURES = ("rounds", "evaluations", "wait", "splits", "depth")
 COLUMNS = (
     "file", "puzzle", "title", "rows", "columns", "colours", "verdict", "open", "grade", *(f"grade_{name}" for name in FIGURES),
@@ -35,19 +39,30 @@ def judged_row(puzzle: Puzzle, judged: Judged) -> Row:
     if puzzle.givens:
         row["givens"] = [list(place) for place in puzzle.givens]
     palette, rest = rest.split("\npicture\n", 1)
-    row["palette"] = palette_of(palette, int(maxval))
+    shown, near = palette_of(palette, int(maxval))
+    row["palette"] = list(shown)
+    if near:
+        row["near"] = list(near)
     row["picture"] = rest[: row["rows"] * (row["columns"] + 1) - 1].replace("\n", "/")
     if judged.other:
         row["other"] = judged.other
     return row
 
 
-def palette_of(lines: str, maxval: int) -> list[str]:
-    """The colours of a report as they are shown, the background first."""
-    words = [line.split(" ")[1:] for line in lines.split("\n")]
-    if maxval == 255:
-        return ["%02x%02x%02x" % (int(red), int(green), int(blue)) for red, green, blue in words]
-    return ["".join("%02x" % ((int(word) * 255 + maxval // 2) // maxval) for word in triple) for triple in words]
+@functools.lru_cache(maxsize=1024)
+def palette_of(lines: str, maxval: int) -> tuple[tuple[str, ...], tuple[str, ...]]:
+    """The colours of a report as they are shown, the background first; and which of them look alike."""
+    triples = [colour_shown(_triple(line), maxval) for line in lines.split("\n")]
+    shown = tuple("%02x%02x%02x" % triple for triple in triples)
+    pairs = itertools.combinations(range(len(triples)), 2)
+    near = tuple(f"#{shown[one]} and #{shown[other]}" for one, other in pairs if colours_too_near(triples[one], triples[other]))
+    return shown, near
+
+
+def _triple(line: str) -> Triple:
+    """The samples of a line of a report's colours, past the colour's letter."""
+    red, green, blue = line.split(" ")[1:]
+    return int(red), int(green), int(blue)
 
 
 def map_of(report: str, rows: int, columns: int) -> list[str]:
@@ -69,14 +84,19 @@ def certificate_words(row: Row) -> str:
     if not told["accepted"]:
         return f"refused: {told['why']}"
     if told.get("unpublished"):
-        return f"accepted with {len(told['unpublished'])} unpublished givens"
-    return f"accepted with {len(told['givens'])} givens" if told.get("givens") else "accepted"
+        return f"accepted, unpublished givens {len(told['unpublished'])}"
+    return f"accepted, givens {len(told['givens'])}" if told.get("givens") else "accepted"
 
 
-def is_proper(row: Row) -> bool:
-    """Whether a puzzle has one solution, and a certificate that lies beside it says so of what is published."""
-    told = row.get("certificate")
-    return row["verdict"] == "unique" and (told is None or (told["accepted"] and not told.get("unpublished")))
+def flaws_of(row: Row) -> list[str]:
+    """Why a puzzle cannot be published as it is, apart from its verdict."""
+    told = row.get("certificate") or {"accepted": True}
+    flaws = [] if told["accepted"] else ["certificates not accepted"]
+    if told.get("unpublished"):
+        flaws.append("certificates with unpublished givens")
+    if row.get("near"):
+        flaws.append("colours that look alike")
+    return flaws
 
 
 HEAD = f"{'VERDICT':9}  {'SIZE':>7}  {'COLOURS':>7}  {'OPEN':>5}  {'GRADE':9}  {'LINES':>7}  {'SECONDS':>7}  NAME"
@@ -96,7 +116,7 @@ def table_line(row: Row) -> str:
 
 def near_words(row: Row) -> str:
     """Which colours of a puzzle look alike."""
-    return f"colours that look alike: {', '.join(row['near'])}" if row.get("near") else ""
+    return f"colours look alike: {', '.join(row['near'])}" if row.get("near") else ""
 
 
 def printable(text: str) -> str:

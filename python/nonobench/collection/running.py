@@ -6,7 +6,6 @@ import os
 import signal
 import sys
 import threading
-from collections import Counter
 from typing import Any, Callable, Iterator, NamedTuple, Optional
 
 from .._library import version
@@ -14,10 +13,11 @@ from . import certificates
 from .arguments import Options, options_of
 from .earlier import Earlier, content_before
 from .finding import find, order_of
-from .outputs import Failure, Lines, Sheet, Table, kept_folder, lines_of
+from .outputs import CLOSED, Failure, Lines, Sheet, Table, kept_folder, lines_of
 from .progress import Progress
-from .rows import GRADES, VERDICTS, is_proper, row_of
+from .rows import row_of
 from .serving import FULL, Settings, Task
+from .tally import Tally
 from .workers import Answer, Broken, Pool
 
 MOST_WAITING = 64 << 20  # bytes of rows that wait for one before them
@@ -72,7 +72,8 @@ class Run:
 
     def __init__(self, options: Options) -> None:
         self._options = options
-        self._progress = Progress(options.is_quiet or options.is_merge)
+        self._tally = Tally()
+        self._progress = Progress(options.is_quiet or options.is_merge, self._tally)
         self._lines: Optional[Lines] = None
         self._sinks: list[Any] = []
         self._earlier: Optional[Earlier] = None
@@ -81,9 +82,6 @@ class Run:
         self._complete: set[int] = set()
         self._size = 0
         self._next = 0
-        self._missing: Counter = Counter()
-        self._grades: Counter = Counter()
-        self._improper = 0
 
     def audit(self) -> int:
         """Audits a collection."""
@@ -95,7 +93,7 @@ class Run:
             source.start()
             self._open()
             if options.is_resumed:
-                self._earlier = Earlier(self._lines.file, options.jsonl)
+                self._earlier = Earlier(options.jsonl)
             self._count_files()
             tasks = self._tasks(settings)
             return self._guarded(lambda: self._take_all(source.answers(tasks, lambda: self._size > MOST_WAITING)))
@@ -197,7 +195,7 @@ class Run:
         for error in failures:
             print(f"nonobench-audit: {error}", file=sys.stderr)
         self._summary(is_whole)
-        return status or (3 if failures else self._status())
+        return status or (3 if failures else self._tally.status())
 
     def _close(self, is_whole: bool) -> list[Failure]:
         failures = []
@@ -230,7 +228,7 @@ class Run:
             sink.flush()
         self._progress.tick()
         if len(self._sinks) == 1 and getattr(self._sinks[0], "is_closed", False):
-            raise Failure("standard output was closed")
+            raise Failure(CLOSED)
 
     def _release(self, number: int) -> None:
         """Delivers the rows of a file."""
@@ -254,52 +252,24 @@ class Run:
     def _keep(self, place: int) -> None:
         text = self._earlier.text(place)
         self._lines.keep(place)
-        self._tell(row_of(text)["verdict"], text)
+        self._tally.put(row_of(text)["verdict"], text)
         for sink in self._sinks:
             if sink is not self._lines:
                 sink.put(text)
 
     def _deliver(self, verdict: str, text: str) -> None:
-        self._tell(verdict, text)
+        self._tally.put(verdict, text)
         for sink in self._sinks:
             sink.put(text)
 
-    def _tell(self, verdict: str, text: str) -> None:
-        """Counts a row. A text cannot hold the marks that are looked for: quotes in it stand behind a backslash."""
-        self._progress.row(verdict)
-        if verdict == "error":
-            self._missing.update(name for name in [row_of(text).get("missing")] if name)
-        elif '"certificate":{' in text and not is_proper(row_of(text)):
-            self._improper += 1
-        at = text.find('"grade":"')
-        if at >= 0:
-            self._grades[text[at + 9 : text.index('"', at + 9)]] += 1
-
-    def _status(self) -> int:
-        counts = self._progress.verdicts
-        if counts["error"] or (not counts.total() if hasattr(counts, "total") else not sum(counts.values())):
-            return 3
-        return 1 if self._improper or counts["ambiguous"] or counts["undecided"] else 0
-
     def _summary(self, is_whole: bool) -> None:
-        counts, options = self._progress.verdicts, self._options
-        for name, number in sorted(self._missing.items()):
-            print(f"nonobench-audit: {number} were not read, since {name} is not installed (pip install nonobench[audit])", file=sys.stderr)
-        if not sum(counts.values()) and is_whole:
-            print(f"nonobench-audit: no puzzles in {', '.join(options.paths)}", file=sys.stderr)
-        if not is_whole:
-            again = " (--resume goes on)" if options.jsonl not in (None, "-") else ""
-            print(f"nonobench-audit: stopped after {sum(counts.values())} puzzles{again}", file=sys.stderr)
+        options, summary = self._options, self._tally.summary()
+        self._tally.warn(options, is_whole)
         if options.is_quiet or "-" in (options.jsonl, options.csv):
             return
-        told = [f"{sum(counts.values())} puzzles: {self._progress.counts()}"]
-        if self._grades:
-            told.append("grades: " + ", ".join(f"{grade} {self._grades[grade]}" for grade in GRADES if self._grades[grade]))
-        if self._improper:
-            told.append(f"certificates not accepted, or with unpublished givens: {self._improper}")
         table = next((sink for sink in self._sinks if isinstance(sink, Table)), None)
         if table is not None:
-            table.say("\n" + "\n".join(told))
+            table.say("\n" + summary)
             table.close(is_whole)
         else:
-            print("\n".join(told))
+            print(summary)

@@ -17,10 +17,7 @@ import threading
 import time
 from typing import Any, BinaryIO, Iterator, NamedTuple, Optional, Union
 
-try:
-    from .._grade import NoGrade, grade_of
-except ImportError:  # until docs/GRADE.md is there
-    NoGrade, grade_of = ValueError, None
+from .._grade import NoGrade, grade_of
 from . import certificates, readers
 from .judging import Desk, judge
 from .puzzles import Missing, Puzzle, Unreadable, one_line
@@ -182,7 +179,7 @@ class Judging:
                 ground = readers.ground_of(background.decode("ascii", "replace").strip())
             except ValueError as error:
                 raise Unreadable(f"the file of its background {error}") from error
-        return readers.puzzles_of(data, name.lower().endswith(".non"), ground, givens)
+        return readers.puzzles_of(data, os.path.splitext(name)[1].lower(), ground, givens)
 
     def _judge(self, task: Task, about: tuple, puzzle: Union[Puzzle, Unreadable], certificate: Optional[bytes]) -> None:
         """Puts the row of one puzzle."""
@@ -228,7 +225,7 @@ class Judging:
             row["note"] = f"no certificate within {settings.limit}"
         if judged.certificate:
             row["lines"] = judged.certificate.count("\n")
-            if settings.has_grades and grade_of is not None:
+            if settings.has_grades:
                 row.update(_grade(puzzle, row, judged))
         if beside is not None:
             text = desk.say(b"write ppm\n").encode() if puzzle.is_non else puzzle.text

@@ -1,0 +1,76 @@
+"""What a run counts of its rows, what it says of them in the end, and its status."""
+
+from __future__ import annotations
+
+import sys
+from collections import Counter
+
+from .arguments import Options
+from .rows import GRADES, UNWRITTEN, VERDICTS, flaws_of, row_of
+
+ALL_UNIQUE, SOME_NOT, ERRORS = 0, 1, 3
+
+
+class Tally:
+    """How many puzzles have which verdict, grade and flaw."""
+
+    def __init__(self) -> None:
+        self._verdicts: Counter = Counter()
+        self._grades: Counter = Counter()
+        self._flaws: Counter = Counter()
+        self._missing: Counter = Counter()
+        self._unwritten = 0
+
+    def put(self, verdict: str, text: str) -> None:
+        """Counts a row. No string in its text holds the marks that are looked for: a quote in one follows a backslash."""
+        self._verdicts[verdict] += 1
+        if verdict == "error":
+            self._missing.update(name for name in [row_of(text).get("missing")] if name)
+        elif '"certificate":{' in text or '"near":[' in text:
+            self._flaws.update(flaws_of(row_of(text)))
+        if f'"note":"{UNWRITTEN}' in text:
+            self._unwritten += 1
+        at = text.find('"grade":"')
+        if at >= 0:
+            self._grades[text[at + 9 : text.index('"', at + 9)]] += 1
+
+    @property
+    def total(self) -> int:
+        """All rows."""
+        return sum(self._verdicts.values())
+
+    def verdicts(self) -> str:
+        """How many puzzles have each verdict."""
+        return _counted(self._verdicts, VERDICTS) or "none yet"
+
+    def status(self) -> int:
+        """The status of a run that came to its end."""
+        if self._verdicts["error"] or self._unwritten or not self.total:
+            return ERRORS
+        return ALL_UNIQUE if self.total == self._verdicts["unique"] and not self._flaws else SOME_NOT
+
+    def summary(self) -> str:
+        """The lines that end a run."""
+        lines = [f"{self.total} {'puzzle' if self.total == 1 else 'puzzles'}: {self.verdicts()}"]
+        if self._grades:
+            lines.append(f"grades (not proved): {_counted(self._grades, GRADES)}")
+        if self._flaws:
+            lines.append(f"besides: {_counted(self._flaws, sorted(self._flaws))}")
+        return "\n".join(lines)
+
+    def warn(self, options: Options, is_whole: bool) -> None:
+        """Says on standard error what kept the run from judging all."""
+        lines = [f"{count} not read, since {name} is not installed" for name, count in sorted(self._missing.items())]
+        if self._unwritten:
+            lines.append(f"certificates not written: {self._unwritten}")
+        if not self.total and is_whole:
+            lines.append(f"no puzzles in {', '.join(options.paths)}")
+        if not is_whole:
+            again = " (--resume goes on)" if options.jsonl not in (None, "-") else ""
+            lines.append(f"stopped after {self.total} puzzles{again}")
+        for line in lines:
+            print(f"nonobench-audit: {line}", file=sys.stderr)
+
+
+def _counted(counts: Counter, names) -> str:
+    return ", ".join(f"{name} {counts[name]}" for name in names if counts[name])

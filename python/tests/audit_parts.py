@@ -1,0 +1,106 @@
+"""What the tests of nonobench-audit share: small puzzles worked by hand, a folder of their own, and runs of the program."""
+
+import json
+import os
+import subprocess
+import sys
+import tempfile
+import unittest
+from pathlib import Path
+
+ROOT = Path(__file__).resolve().parent.parent.parent
+WHITE, BLACK, RED = (255, 255, 255), (0, 0, 0), (255, 0, 0)
+TRIPLES = {".": WHITE, "a": BLACK, "b": RED}
+# Black above white, white above red: rows 1a and 1b, columns 1a and 1b. No other picture has these clues.
+UNIQUE = ("a.", ".b")
+# Black on the diagonal, and on the other one: both have a block of 1 in each row and column.
+AMBIGUOUS = ("a.", ".a")
+OTHER = ".a/a."
+GIVEN_CERT = "nonocert 2\ngiven 1 1\nline r 1\nline c 1\nline r 2\ndone\n"
+
+
+def p3(rows, background=None):
+    """A P3 text of rows of letters."""
+    triples = {**TRIPLES, **({".": background} if background else {})}
+    cells = "\n".join("%d %d %d" % triples[letter] for row in rows for letter in row)
+    return f"P3\n{len(rows[0])} {len(rows)}\n255\n{cells}\n".encode()
+
+
+def webpbn(rows, title="", more="", kind="grid"):
+    """A puzzle in Web Paint-by-Number's XML, of white, black and red cells."""
+    image = "".join("|" + "".join({".": ".", "a": "X", "b": "r"}[letter] for letter in row) + "|" for row in rows)
+    return (
+        f'<puzzle type="{kind}"><title>{title}</title><color name="red" char="r">f00</color>'
+        f'<solution type="goal"><image>{image}</image></solution>{more}</puzzle>'
+    )
+
+
+def chequered(side, colours):
+    """A picture with so many solutions, and so many colours on each of its lines, that no search ends in time."""
+    letters = "abcdefghijklmno"[: colours - 1] + "."
+    return ["".join(letters[(row + column) % colours] for column in range(side)) for row in range(side)]
+
+
+class Case(unittest.TestCase):
+    """A test in a folder of its own, `self.folder`, with the collection in `self.folder / "site"`."""
+
+    def setUp(self):
+        folder = tempfile.TemporaryDirectory()
+        self.addCleanup(folder.cleanup)
+        self.folder = Path(folder.name)
+        self.site = self.folder / "site"
+        self.site.mkdir()
+
+    def put(self, name, data):
+        """A file of the collection."""
+        place = self.site / name
+        place.parent.mkdir(parents=True, exist_ok=True)
+        place.write_bytes(data if isinstance(data, bytes) else data.encode())
+        return place
+
+    def words(self, *words):
+        """The command line of a run, apart from the folder that it runs in."""
+        return [sys.executable, "-m", "nonobench.audit", *map(str, words)]
+
+    def env(self, **more):
+        return {**os.environ, "PYTHONPATH": str(ROOT / "python"), "PYTHONDONTWRITEBYTECODE": "1", **more}
+
+    def run_audit(self, *words, status=None, **more):
+        """A run: what it printed, what it said, and its status, which is looked at where it is given."""
+        done = subprocess.run(
+            self.words(*words), cwd=self.folder, env=self.env(**more), capture_output=True, text=True, check=False, timeout=300
+        )
+        if status is not None:
+            self.assertEqual(done.returncode, status, done.stdout + done.stderr)
+        return done
+
+    def rows(self, *words, status=None, **more):
+        """The rows of a run, by their files."""
+        done = self.run_audit(*words, "--jsonl", "rows.jsonl", status=status, **more)
+        self.assertNotIn("Traceback", done.stderr)
+        return self.read("rows.jsonl")
+
+    def read(self, name):
+        """The rows of a file, by their names."""
+        lines = (self.folder / name).read_text().splitlines()
+        rows = map(json.loads, lines)
+        return {row["file"] + (f"#{row['puzzle']}" if "puzzle" in row else ""): row for row in rows}
+
+    def start(self, *words, **more):
+        """A run that goes on beside the test."""
+        process = subprocess.Popen(
+            self.words(*words), cwd=self.folder, env=self.env(**more), stdout=subprocess.PIPE, stderr=subprocess.PIPE, text=True
+        )
+        self.addCleanup(process.wait)
+        self.addCleanup(process.kill)
+        self.addCleanup(process.stdout.close)
+        self.addCleanup(process.stderr.close)
+        return process
+
+
+def children(pid):
+    """The processes that a process started."""
+    found = []
+    for task in Path(f"/proc/{pid}/task").iterdir():
+        found += [int(word) for word in (task / "children").read_text().split()]
+    return found

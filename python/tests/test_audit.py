@@ -1,0 +1,447 @@
+"""Tests of nonobench-audit: cd python && python3 -m unittest tests/test_audit.py
+
+Pictures and what is expected of them are worked by hand. Pillow, defusedxml and jinja2 are needed.
+"""
+
+import csv
+import io
+import json
+import os
+import re
+import signal
+import sys
+import time
+import unittest
+from pathlib import Path
+
+sys.path.insert(0, str(Path(__file__).resolve().parent))
+from audit_parts import AMBIGUOUS, BLACK, GIVEN_CERT, OTHER, RED, ROOT, UNIQUE, WHITE, Case, chequered, p3, webpbn  # noqa: E402
+
+from nonobench.collection import readers  # noqa: E402
+from nonobench.collection.puzzles import Unreadable  # noqa: E402
+
+IMAGE = [BLACK, WHITE, WHITE, RED]
+NONE = readers.Ground()
+
+
+def one(data, suffix="", ground=NONE):
+    """The only puzzle of a file."""
+    puzzles = list(readers.puzzles_of(data, suffix, ground))
+    assert len(puzzles) == 1, puzzles
+    return puzzles[0]
+
+
+def image(kind, mode="RGB", pixels=None, **more):
+    """An image of 2 by 2 pixels that Pillow writes."""
+    from PIL import Image
+
+    made = Image.new(mode, (2, 2))
+    made.putdata(pixels or IMAGE)
+    file = io.BytesIO()
+    made.save(file, kind, **more)
+    return file.getvalue()
+
+
+class Reading(unittest.TestCase):
+    """Files as puzzles."""
+
+    def test_images(self):
+        for kind, more in (("PNG", {}), ("BMP", {}), ("WEBP", {"lossless": True})):
+            with self.subTest(kind):
+                puzzle = one(image(kind, **more))
+                self.assertEqual((puzzle.text, puzzle.background), (p3(UNIQUE), WHITE))
+        from PIL import Image
+
+        gif = Image.new("P", (2, 2))
+        gif.putpalette([255, 255, 255, 0, 0, 0, 255, 0, 0])
+        gif.putdata([1, 0, 0, 2])
+        file = io.BytesIO()
+        gif.save(file, "GIF")
+        self.assertEqual(one(file.getvalue()).text, p3(UNIQUE))
+
+    def test_netpbm(self):
+        grey = (127, 127, 127)
+        text = b"P3\n2 1\n255\n0 0 0\n255 255 255\n"
+        for file in (b"P1 2 1 1 0", b"P4 2 1\n\x80", b"P2 2 1 255 0 255", b"P5 2 1 255\n\x00\xff", b"P6 2 1 255\n\0\0\0\xff\xff\xff"):
+            with self.subTest(file):
+                self.assertEqual(one(file).text, text)
+        self.assertEqual(one(b"P5 1 1 255\n\x7f").text, b"P3\n1 1\n255\n%d %d %d\n" % grey)
+        self.assertEqual(one(p3(UNIQUE)).text, p3(UNIQUE))
+        self.assertEqual(one(b"no picture", ".ppm").text, b"no picture")
+
+    def test_transparent_is_background(self):
+        pixels = [(0, 0, 0, 255), (9, 9, 9, 0), (7, 7, 7, 0), (255, 0, 0, 255)]
+        self.assertEqual(one(image("PNG", "RGBA", pixels)).text, p3(UNIQUE))
+        puzzle = one(image("PNG", "RGBA", pixels), ground=readers.Ground((1, 2, 3)))
+        self.assertEqual((puzzle.text, puzzle.background), (p3(UNIQUE, (1, 2, 3)), (1, 2, 3)))
+        # Half black over white is grey.
+        self.assertIn(b"\n127 127 127\n", one(image("PNG", "RGBA", [(0, 0, 0, 128)] * 4)).text)
+
+    def test_background(self):
+        self.assertEqual(one(image("PNG"), ground=readers.ground_of("corner")).background, BLACK)
+        self.assertEqual(one(p3(UNIQUE), ground=readers.ground_of("corner")).background, BLACK)
+        self.assertEqual(one(b"P3 # 9 9\n1 1 7 #\r 3 4 5", ground=readers.ground_of("corner")).background, (3, 4, 5))
+        self.assertEqual(one(p3(UNIQUE), ground=readers.ground_of("5,6,7")).background, (5, 6, 7))
+        self.assertIsNone(one(p3(UNIQUE), ground=readers.ground_of("white")).background)
+        for word in ("black", "1,2", "1,2,3,4", "-1,0,0", "0,0,65536", ""):
+            with self.subTest(word), self.assertRaises(ValueError):
+                readers.ground_of(word)
+
+    def test_colours_and_sizes(self):
+        from PIL import Image
+
+        for columns, rows, colours, words in ((121, 1, 1, "121 by 1 pixels"), (1, 121, 1, "1 by 121"), (4, 4, 16, "more than 16 colours")):
+            made = Image.new("RGB", (columns, rows))
+            made.putdata([(at % colours, 0, 0) for at in range(columns * rows)])
+            file = io.BytesIO()
+            made.save(file, "PNG")
+            with self.subTest(words), self.assertRaisesRegex(Unreadable, words):
+                one(file.getvalue())
+        made = Image.new("RGB", (4, 4))
+        made.putdata([(at % 15, 0, 0) for at in range(16)])
+        file = io.BytesIO()
+        made.save(file, "PNG")
+        self.assertEqual(len(set(one(file.getvalue()).text.split(b"\n")[3:-1])), 15)
+
+    def test_samples_of_16_bits(self):
+        from PIL import Image
+
+        made = Image.new("I;16", (2, 1))
+        made.putpixel((0, 0), 0)
+        made.putpixel((1, 0), 65535)
+        file = io.BytesIO()
+        made.save(file, "PNG")
+        self.assertEqual(one(file.getvalue()).text, b"P3\n2 1\n255\n0 0 0\n255 255 255\n")
+
+    def test_non(self):
+        puzzle = one(b"width 1\nheight 1\nrows\n1\ncolumns\n1\n", ".non")
+        self.assertTrue(puzzle.is_non)
+
+    def test_xml(self):
+        puzzle = one(webpbn(UNIQUE, "A &lt;b&gt; title").encode())
+        self.assertEqual((puzzle.text, puzzle.background, puzzle.title), (p3(UNIQUE), WHITE, "A <b> title"))
+
+    def test_xml_with_givens(self):
+        saved = '<solution type="saved" id="{}"><image>|X?||?{}|</image></solution>'
+        self.assertEqual(one(webpbn(AMBIGUOUS, more=saved.format("givens", "?")).encode()).givens, ((1, 1),))
+        self.assertEqual(one(webpbn(AMBIGUOUS, more=saved.format("mine", "?")).encode()).givens, ())
+        refused = one(webpbn(AMBIGUOUS, more=saved.format("givens", ".")).encode())
+        self.assertEqual(str(refused), "a given has another colour than the solution")
+
+    def test_xml_signs(self):
+        text = (
+            '<puzzle backgroundcolor="blue"><color name="blue" char="-">00f</color><color name="bar" char="|">#102030</color>'
+            '<solution><image>|-\\||[-]|[|]|</image></solution></puzzle>'
+        )
+        # A backslash takes the bar as a sign, and a sign in brackets is that sign. The rows are `-|` and `-` `|`.
+        text = text.replace("|-\\||[-]|[|]|", "|-\\|| |[-]\\||")
+        puzzle = one(text.encode())
+        self.assertEqual((puzzle.text, puzzle.background), (b"P3\n2 2\n255\n0 0 255\n16 32 48\n0 0 255\n16 32 48\n", (0, 0, 255)))
+
+    def test_xml_colours_alike_stay_two(self):
+        text = '<puzzle><color name="snow" char="s">fff</color><solution><image>|s.|</image></solution></puzzle>'
+        puzzle = one(text.encode())
+        self.assertEqual((puzzle.text, puzzle.background), (b"P3\n2 1\n255\n255 255 0\n255 255 255\n", WHITE))
+
+    def test_xml_without_a_solution(self):
+        clues = '<clues type="columns"><line><count>1</count></line><line/></clues><clues type="rows"><line><count>1</count></line></clues>'
+        puzzle = one(f"<puzzle>{clues}</puzzle>".encode())
+        self.assertEqual((puzzle.is_non, puzzle.text), (True, b"width 2\nheight 1\nrows\n1\ncolumns\n1\n0\n"))
+        two = clues.replace("<count>1</count></line></clues>", '<count color="red">1</count></line></clues>')
+        self.assertRegex(str(one(f"<puzzle>{two}</puzzle>".encode())), "several colours and no solution")
+
+    def test_xml_that_is_refused(self):
+        clue = '<clues type="rows"><line><count>2</count></line><line/></clues>'
+        for text, words in (
+            (webpbn(UNIQUE, more=clue), "the clues of the rows are not those of the solution"),
+            (webpbn(UNIQUE, kind="triddler"), "of the type triddler"),
+            (webpbn(UNIQUE).replace("f00", "red"), "not three or six hexadecimal digits"),
+            (webpbn(UNIQUE).replace("|X.|", "|X?|"), "'\\?', which is no colour"),
+            (webpbn(UNIQUE).replace("|X.|", "|X.."), "does not stand between bars"),
+            (webpbn(UNIQUE).replace("|X.|", "|X|"), "several lengths"),
+            (webpbn(["." * 121]), "larger than 120 by 120"),
+            (webpbn(UNIQUE).replace('<puzzle type="grid"', '<puzzle type="grid" backgroundcolor="blue"'), "background of the puzzle"),
+            ("<puzzle/>", "neither a solution nor all clues"),
+        ):
+            with self.subTest(words):
+                self.assertRegex(str(one(text.encode())), words)
+        for text, words in (("<html/>", "no puzzle"), ("<puzzle>", "the XML is not read"), (b"\xff\xfe<", "the XML is not read")):
+            with self.subTest(words), self.assertRaisesRegex(Unreadable, words):
+                one(text if isinstance(text, bytes) else text.encode())
+
+    def test_page_and_package_read_alike(self):
+        # As the page writes it: two colours, a black given, and clues.
+        text = (ROOT / "python" / "tests" / "page.xml").read_bytes()
+        puzzle = one(text)
+        self.assertEqual((puzzle.text, puzzle.givens, puzzle.title), (p3(AMBIGUOUS), ((1, 1),), "Given & taken"))
+
+
+class Running(Case):
+    """Runs over a folder."""
+
+    def test_verdicts(self):
+        self.put("one.ppm", p3(UNIQUE))
+        self.put("small/two.ppm", p3(AMBIGUOUS))
+        self.put("key.non", "width 1\nheight 1\nrows\n1\ncolumns\n1\n")
+        self.put("notes.txt", "no puzzle")
+        rows = self.rows("site", status=1)
+        self.assertEqual(list(rows), ["site/key.non", "site/one.ppm", "site/small/two.ppm"])
+        one, two = rows["site/one.ppm"], rows["site/small/two.ppm"]
+        self.assertEqual([one[name] for name in ("verdict", "rows", "columns", "colours", "open")], ["unique", 2, 2, 3, 0])
+        self.assertEqual((one["picture"], one["palette"]), ("a./.b", ["ffffff", "000000", "ff0000"]))
+        self.assertEqual([two[name] for name in ("verdict", "open", "other")], ["ambiguous", 4, OTHER])
+        self.assertNotIn("lines", two)
+        self.assertEqual(rows["site/key.non"]["verdict"], "unique")
+
+    def test_status(self):
+        self.put("one.ppm", p3(UNIQUE))
+        self.run_audit("site", status=0)
+        self.put("two.ppm", p3(AMBIGUOUS))
+        self.run_audit("site", status=1)
+        self.put("three.ppm", b"P3 1")
+        self.run_audit("site", status=3)
+        for words in ([], ["nothing"], ["site", "--jobs", "0"], ["site", "--seconds", "x"], ["site", "--resume"], ["site", "--shard", "3/2"],
+                      ["site", "--allow", "100000"], ["site", "--background", "blue"], ["site", "--memory", "1"]):
+            with self.subTest(words):
+                self.run_audit(*words, status=2)
+        self.assertIn("status:\n  0  every puzzle", self.run_audit("--help", status=0).stdout)
+        (self.folder / "empty").mkdir()
+        self.assertIn("no puzzles in empty", self.run_audit("empty", status=3).stderr)
+
+    def test_table(self):
+        self.put("one.ppm", p3(UNIQUE))
+        self.put("two.ppm", p3(AMBIGUOUS))
+        printed = self.run_audit("site").stdout
+        self.assertRegex(printed, r"(?m)^unique +2x2 +3 +0 +(easy)? +[0-9]+ +[0-9.]+  site/one\.ppm$")
+        self.assertRegex(printed, r"(?m)^ambiguous +2x2 +2 +4 +[0-9.]+  site/two\.ppm$")
+        self.assertRegex(printed, r"\n\n2 puzzles: unique 1, ambiguous 1\n")
+        self.assertEqual(self.run_audit("site", "--quiet").stdout, "")
+
+    def test_csv(self):
+        self.put("=1+1.ppm", p3(UNIQUE))
+        self.put("-2.xml", webpbn(AMBIGUOUS, "=HYPERLINK()"))
+        self.run_audit(".", "--csv", "rows.csv", status=1)
+        rows = list(csv.DictReader(io.StringIO((self.folder / "rows.csv").read_text())))
+        self.assertEqual([row["verdict"] for row in rows], ["ambiguous", "unique"])
+        self.assertEqual(rows[0]["title"], "'=HYPERLINK()")
+        os.chdir(self.site)
+        self.addCleanup(os.chdir, "/")
+        names = self.run_audit("site/=1+1.ppm", "--csv", "-").stdout
+        self.assertIn("\nsite/=1+1.ppm,", names)
+
+    def test_certificates_are_written(self):
+        self.put("one.ppm", p3(UNIQUE))
+        self.put("small/one.png", image("PNG"))
+        self.put("two.ppm", p3(AMBIGUOUS))
+        self.put("twin.ppm", p3(UNIQUE))
+        self.put("twin.png", image("PNG"))
+        self.put("set.xml", "<puzzleset>" + webpbn(UNIQUE) + webpbn(AMBIGUOUS) + webpbn(UNIQUE) + "</puzzleset>")
+        self.run_audit("site", "--certify", "certs", status=1)
+        made = sorted(str(place.relative_to(self.folder / "certs")) for place in (self.folder / "certs").rglob("*") if place.is_file())
+        self.assertEqual(made, ["one.cert", "set.3.cert", "set.cert", "small/one.cert", "twin.png.cert", "twin.ppm.cert"])
+        rows = self.rows("site", "--certificates", "certs")
+        self.assertEqual({name: row.get("certificate") for name, row in rows.items()}, {
+            "site/one.ppm": {"accepted": True}, "site/small/one.png": {"accepted": True}, "site/two.ppm": None,
+            "site/twin.ppm": {"accepted": True}, "site/twin.png": {"accepted": True},
+            "site/set.xml#1": {"accepted": True}, "site/set.xml#2": None, "site/set.xml#3": {"accepted": True},
+        })
+
+    def test_certificates_beside(self):
+        self.put("one.ppm", p3(UNIQUE))
+        self.put("one.cert", "nonocert 1\nline r 1\n")
+        self.put("two.ppm", p3(AMBIGUOUS))
+        self.put("two.cert", GIVEN_CERT)
+        self.put("three.ppm", p3(AMBIGUOUS))
+        self.put("three.cert", GIVEN_CERT)
+        self.put("three.givens", "given 1 1\n")
+        rows = self.rows("site", status=1)
+        self.assertEqual(rows["site/one.ppm"]["certificate"], {"accepted": False, "why": "certificate Ended at line 3"})
+        self.assertEqual(rows["site/two.ppm"]["certificate"], {"accepted": True, "givens": [[1, 1]], "unpublished": [[1, 1]]})
+        # With its given the puzzle has one solution, and its certificate gives what is published.
+        self.assertEqual(rows["site/three.ppm"]["verdict"], "unique")
+        self.assertEqual(rows["site/three.ppm"]["givens"], [[1, 1]])
+        self.assertEqual(rows["site/three.ppm"]["certificate"], {"accepted": True, "givens": [[1, 1]]})
+        for name in ("one.ppm", "one.cert", "two.ppm", "two.cert"):
+            (self.site / name).unlink()
+        self.run_audit("site", status=0)
+
+    def test_givens_that_do_not_fit(self):
+        self.put("one.ppm", p3(AMBIGUOUS))
+        for text, words in (("given 3 1\n", "outside the picture"), ("given 1\n", "not `given R C`"), ("x", "not `given R C`")):
+            self.put("one.givens", text)
+            with self.subTest(text):
+                self.assertRegex(self.rows("site", status=3)["site/one.ppm"]["error"], words)
+
+    def test_background_beside(self):
+        # Black as background: one black cell on white is three cells on background.
+        self.put("one.ppm", p3(AMBIGUOUS))
+        self.put("one.background", "0,0,0\n")
+        row = self.rows("site")["site/one.ppm"]
+        self.assertEqual((row["palette"], row["picture"]), (["000000", "ffffff"], ".a/a."))
+        self.put("one.background", "black\n")
+        self.assertRegex(self.rows("site", status=3)["site/one.ppm"]["error"], "background must be")
+
+    def test_xml_of_several_puzzles(self):
+        self.put("set.xml", "<puzzleset>" + webpbn(UNIQUE, "One") + webpbn(AMBIGUOUS, "Two") + webpbn(UNIQUE, kind="x") + "</puzzleset>")
+        rows = self.rows("site", status=3)
+        self.assertEqual([(name, row["verdict"], row.get("title")) for name, row in rows.items()], [
+            ("site/set.xml#1", "unique", "One"), ("site/set.xml#2", "ambiguous", "Two"), ("site/set.xml#3", "error", None),
+        ])
+
+    def test_order_of_names(self):
+        for name in ("b.ppm", "a/b.ppm", "a-b.ppm", "a.ppm", "a/a/c.ppm"):
+            self.put(name, p3(UNIQUE))
+        # A folder comes where its own name does, before names that go on.
+        wanted = ["site/a/a/c.ppm", "site/a/b.ppm", "site/a-b.ppm", "site/a.ppm", "site/b.ppm"]
+        self.assertEqual(list(self.rows("site")), wanted)
+        self.assertEqual(list(self.rows("site/b.ppm", "site", "site/a", "./site")), wanted)
+
+    def test_grades(self):
+        # GRADE.md's example by hand: 2 rounds, 8 evaluations, longest wait 2.
+        self.put("one.ppm", p3([".a.", "aa.", "..."]))
+        row = self.rows("site", status=0)["site/one.ppm"]
+        self.assertEqual(row["grade"], "easy")
+        self.assertEqual(row["figures"], {"rounds": 2, "evaluations": 8, "wait": 2, "splits": 0, "depth": 0})
+        self.assertNotIn("grade", self.rows("site", "--no-grade", status=0)["site/one.ppm"])
+
+    def test_undecided(self):
+        self.put("hard.ppm", p3_of_letters(chequered(60, 4)))
+        self.put("one.ppm", p3(UNIQUE))
+        rows = self.rows("site", "--seconds", "2", status=1)
+        hard = rows["site/hard.ppm"]
+        self.assertEqual((hard["verdict"], hard["rows"], hard["limit"]), ("undecided", 60, "2 s"))
+        self.assertNotIn("lines", hard)
+        self.assertEqual(rows["site/one.ppm"]["verdict"], "unique")
+        hard = self.rows("site", "--allow", "10", status=1)["site/hard.ppm"]
+        self.assertEqual((hard["verdict"], hard["limit"]), ("undecided", "10 splits"))
+
+
+class Again(Case):
+    """Runs that go on, parts, and their joining."""
+
+    def fill(self, count):
+        for at in range(count):
+            self.put(f"{at % 7}/{at:03}.ppm", p3(UNIQUE if at % 3 else AMBIGUOUS))
+
+    def test_resume_redoes_only_what_changed(self):
+        self.fill(20)
+        first = self.rows("site", "--certify", "certs", status=1)
+        before = (self.folder / "rows.jsonl").read_bytes()
+        self.rows("site", "--certify", "certs", "--resume", status=1)
+        self.assertEqual((self.folder / "rows.jsonl").read_bytes(), before)
+        self.put("0/000.ppm", p3(UNIQUE))
+        self.put("0/new.ppm", p3(UNIQUE))
+        (self.site / "1" / "001.ppm").unlink()
+        (self.folder / "certs" / "2" / "002.cert").unlink()
+        again = self.rows("site", "--certify", "certs", "--resume", status=1)
+        self.assertEqual(sorted(again), sorted([*(set(first) - {"site/1/001.ppm"}), "site/0/new.ppm"]))
+        self.assertEqual(list(again), sorted(again))
+        redone = {name for name in again if again[name] != first.get(name)}
+        self.assertLessEqual(redone, {"site/0/000.ppm", "site/0/new.ppm", "site/2/002.ppm"})
+        self.assertEqual(again["site/0/000.ppm"]["verdict"], "unique")
+        self.assertTrue((self.folder / "certs" / "2" / "002.cert").exists())
+
+    def test_resume_minds_options_and_limits(self):
+        self.put("one.ppm", p3(UNIQUE))
+        self.put("hard.ppm", p3_of_letters(chequered(60, 4)))
+        first = self.rows("site", "--seconds", "2")
+        same = self.rows("site", "--seconds", "2", "--resume")
+        self.assertEqual(first, same)
+        other = self.rows("site", "--seconds", "3", "--resume")
+        self.assertEqual((other["site/one.ppm"], other["site/hard.ppm"]["limit"]), (first["site/one.ppm"], "3 s"))
+        black = self.rows("site", "--seconds", "2", "--resume", "--background", "0,0,0")
+        self.assertEqual(black["site/one.ppm"]["palette"][0], "000000")
+
+    def test_resume_after_a_torn_line(self):
+        self.fill(9)
+        self.rows("site", "--allow", "1000")
+        whole = (self.folder / "rows.jsonl").read_bytes()
+        lines = whole.splitlines(keepends=True)
+        (self.folder / "rows.jsonl").write_bytes(b"".join(lines[5:7] + lines[:4]) + lines[4][:20])
+        self.rows("site", "--allow", "1000", "--resume")
+        self.assertEqual((self.folder / "rows.jsonl").read_bytes(), whole)
+
+    def test_resume_refuses_other_files(self):
+        self.put("one.ppm", p3(UNIQUE))
+        (self.folder / "rows.jsonl").write_text('{"file":"site/one.ppm","verdict":"unique"}\nmy diary\n')
+        done = self.run_audit("site", "--jsonl", "rows.jsonl", "--resume", status=3)
+        self.assertIn("rows.jsonl: line 2 is no row of an audit", done.stderr)
+        self.assertIn("my diary", (self.folder / "rows.jsonl").read_text())
+
+    def test_shards_and_merge(self):
+        self.fill(23)
+        self.put("set.xml", "<puzzleset>" + webpbn(UNIQUE) * 3 + "</puzzleset>")
+        self.run_audit("site", "--allow", "1000", "--jsonl", "whole", "--html", "whole.html", "--csv", "whole.csv", status=1)
+        for part in (1, 2, 3):
+            self.run_audit("site", "--allow", "1000", "--shard", f"{part}/3", "--jsonl", f"part{part}", "--certify", "certs")
+        self.run_audit("merge", "part3", "part1", "part2", "--jsonl", "merged", "--html", "merged.html", "--csv", "merged.csv", status=1)
+        for end in ("", ".html", ".csv"):
+            self.assertEqual((self.folder / f"merged{end}").read_bytes(), (self.folder / f"whole{end}").read_bytes())
+        # The set of three comes last, so it is in the third part.
+        self.assertEqual([len((self.folder / f"part{part}").read_text().splitlines()) for part in (1, 2, 3)], [8, 8, 10])
+        self.run_audit("merge", "part1", "--jsonl", "part1", status=2)
+
+    def test_the_same_bytes_however_many_work(self):
+        self.fill(40)
+        made = [self.run_audit("site", "--allow", "1000", "--jobs", jobs, "--jsonl", "-").stdout for jobs in (1, 3)]
+        self.assertEqual(made[0], made[1])
+        self.assertNotIn("seconds", made[0])
+
+    def test_stop_keeps_what_is_done(self):
+        for at in range(30):
+            self.put(f"{at:02}.ppm", p3(UNIQUE))
+        self.put("99.ppm", p3_of_letters(chequered(60, 4)))
+        for number, status in ((signal.SIGINT, 130), (signal.SIGTERM, 143)):
+            process = self.start("site", "--jobs", "1", "--seconds", "300", "--jsonl", "rows.jsonl", "--html", "report.html")
+            deadline = time.monotonic() + 60
+            while time.monotonic() < deadline and len(self.read_some("rows.jsonl")) < 30:
+                time.sleep(0.05)
+            process.send_signal(number)
+            said = process.communicate(timeout=60)[1]
+            self.assertEqual(process.returncode, status, said)
+            self.assertIn("stopped after 30 puzzles (--resume goes on)", said)
+            self.assertEqual(len(self.read("rows.jsonl")), 30)
+            self.assertIn("the run was stopped", (self.folder / "report.html").read_text())
+            os.rename(self.folder / "rows.jsonl", self.folder / "kept.jsonl")
+        os.rename(self.folder / "kept.jsonl", self.folder / "rows.jsonl")
+        self.assertEqual(len(self.rows("site", "--resume", "--seconds", "2")), 31)
+
+    def read_some(self, name):
+        place = self.folder / name
+        return place.read_text().splitlines() if place.exists() else []
+
+
+class Report(Case):
+    """The report."""
+
+    def records(self, page):
+        return json.loads(re.search(r'<script type="application/json" id="rows">(.*?)</script>', page, re.DOTALL)[1])
+
+    def test_report(self):
+        self.put("one.ppm", p3(UNIQUE))
+        self.put("two.ppm", p3(AMBIGUOUS))
+        self.put("bad.ppm", b"P3 9")
+        self.run_audit("site", "--html", "report.html", "--title", "Mine & <i>yours</i>", status=3)
+        page = (self.folder / "report.html").read_text()
+        self.assertIn("<h1>Mine &amp; &lt;i&gt;yours&lt;/i&gt;</h1>", page)
+        self.assertNotRegex(page, r"""(?:src|href)=["'](?!data:|#)|@import|url\((?!["']?data:)""")
+        self.assertRegex(page, r"default-src 'none'")
+        bad, one, two = self.records(page)
+        self.assertEqual(bad, ["site/bad.ppm", "", 0, 0, 3, -1, 0, "", "", "", 0, bad[11], "ppm Truncated at byte 4"])
+        self.assertEqual((one[0], one[2:5], one[8]), ("site/one.ppm", [2, 2, 0], "a.2b"))
+        self.assertEqual((two[4], two[8], two[9]), (1, "a.2a", ".a2."))
+
+    def test_a_report_of_nothing_but_errors(self):
+        self.put("bad.ppm", b"P3 9")
+        self.run_audit("site", "--html", "report.html", status=3)
+        self.assertEqual(len(self.records((self.folder / "report.html").read_text())), 1)
+
+
+def p3_of_letters(rows):
+    """A P3 text of rows of letters in colours that differ much."""
+    cells = "\n".join("%d %d %d" % ((255, 255, 255) if letter == "." else (40 * (ord(letter) - 97), 0, 0)) for row in rows for letter in row)
+    return f"P3 {len(rows[0])} {len(rows)} 255\n{cells}\n".encode()
+
+
+if __name__ == "__main__":
+    unittest.main()

@@ -1,0 +1,371 @@
+"""Tests of nonobench-audit with what it should not be handed: cd python && python3 -m unittest tests/test_audit_hostile.py
+
+Files that are cut, huge, bombs or traps; names that are markup, formulas or ways out; outputs that cannot be written; processes
+that die, hang or take too much. Each test names what must come out.
+"""
+
+import os
+import pty
+import resource
+import signal
+import struct
+import subprocess
+import sys
+import time
+import unittest
+import zlib
+from pathlib import Path
+
+sys.path.insert(0, str(Path(__file__).resolve().parent))
+from audit_parts import AMBIGUOUS, ROOT, UNIQUE, Case, chequered, children, p3, webpbn  # noqa: E402
+from test_audit import p3_of_letters  # noqa: E402
+
+SIGN = b"\x89PNG\r\n\x1a\n"
+MEBIBYTE = bytes(1 << 20)
+
+
+def chunk(kind, data):
+    return struct.pack(">I", len(data)) + kind + data + struct.pack(">I", zlib.crc32(kind + data))
+
+
+def png(columns, rows, pixels, more=b""):
+    """A PNG image of compressed pixels."""
+    head = struct.pack(">IIBBBBB", columns, rows, 8, 2, 0, 0, 0)
+    return SIGN + chunk(b"IHDR", head) + more + chunk(b"IDAT", pixels) + chunk(b"IEND", b"")
+
+
+def bomb(mebibytes):
+    """So many mebibytes of zeros, compressed."""
+    pack = zlib.compressobj(9)
+    return b"".join(pack.compress(MEBIBYTE) for _ in range(mebibytes)) + pack.flush()
+
+
+class Files(Case):
+    """Files that are not what they seem."""
+
+    def errors(self, *words):
+        """Why each file is no puzzle; nothing for those that are."""
+        rows = self.rows("site", *words)
+        return {name.removeprefix("site/"): row.get("error") for name, row in rows.items()}
+
+    def test_images(self):
+        black = zlib.compress((b"\0" + bytes(24)) * 8)
+        self.put("cut.png", png(8, 8, zlib.compress(os.urandom(0) + bytes(range(200))))[:70])
+        self.put("empty.png", b"")
+        self.put("huge.png", png(60_000, 60_000, black))
+        self.put("bomb.png", png(8, 8, bomb(256)))
+        self.put("text.png", png(8, 8, black, chunk(b"zTXt", b"k\0\0" + bomb(256))))
+        self.put("whole.png", png(8, 8, black))
+        errors = self.errors("--memory", "256")
+        self.assertRegex(errors["cut.png"], "^the image is not read: ")
+        self.assertEqual(errors["empty.png"], "this does not begin as PNG does")
+        self.assertEqual(errors["huge.png"], "60000 by 60000 pixels, and a puzzle has at most 120 by 120")
+        self.assertIsNone(errors["bomb.png"])
+        self.assertEqual(errors["text.png"], "the image is not read: Decompressed Data Too Large")
+        self.assertIsNone(errors["whole.png"])
+
+    def test_texts(self):
+        self.put("cut.ppm", p3(UNIQUE)[:20])
+        self.put("empty.ppm", b"")
+        self.put("empty.non", b"")
+        self.put("long.ppm", b"P3 " + b" " * 16_777_214)
+        self.put("longest.ppm", b"P3 1 1 1 1 1 1".ljust(16_777_216))
+        self.assertEqual(self.errors(), {
+            "cut.ppm": "ppm Truncated at byte 20", "empty.ppm": "ppm NotP3 at byte 0", "empty.non": "non MissingSize",
+            "long.ppm": "more than 16777216 bytes", "longest.ppm": None,
+        })
+
+    def test_xml(self):
+        entity = '<!DOCTYPE a [<!ENTITY a "{}">{}]><puzzleset>{}</puzzleset>'
+        laughs = "".join(f'<!ENTITY a{at} "{f"&a{at - 1};" * 10}">' for at in range(1, 10))
+        self.put("laughs.xml", entity.format("ha", laughs.replace("&a0;", "&a;"), "&a9;"))
+        self.put("outside.xml", '<!DOCTYPE a [<!ENTITY a SYSTEM "file:///etc/passwd">]>' + webpbn(UNIQUE, "&a;"))
+        self.put("deep.xml", "<puzzleset>" + "<a>" * 100_000)
+        self.put("wide.xml", "<puzzleset>" + "<a/>" * 1_000_000 + "</puzzleset>")
+        self.put("bars.xml", webpbn(UNIQUE).replace("|a.|", "|" + "[" * 400_000).replace("|X.|", "|" + "[" * 400_000))
+        self.put("spaces.xml", webpbn(UNIQUE).replace("|X.|", " " * 400_000 + "x"))
+        self.put("broken.xml", "<puzzleset>" + webpbn(UNIQUE) + "<puzzle><tit")
+        # The document type that the format's page asks for is taken, and never fetched.
+        self.put("typed.xml", '<?xml version="1.0"?><!DOCTYPE pbn SYSTEM "https://webpbn.com/pbn-0.3.dtd"><puzzleset>' + webpbn(UNIQUE) + "</puzzleset>")
+        errors = self.errors("--memory", "256")
+        for name, words in (
+            ("laughs.xml", "declares entities"), ("outside.xml", "declares entities"), ("deep.xml", "too many elements"),
+            ("wide.xml", "too many elements"), ("bars.xml", "between bars"), ("spaces.xml", "between bars"),
+            ("broken.xml#2", "the XML is not read"),
+        ):
+            with self.subTest(name):
+                self.assertRegex(errors[name], words)
+        self.assertIsNone(errors["broken.xml#1"])
+        self.assertIsNone(errors["typed.xml"])
+
+    def test_no_files(self):
+        os.mkfifo(self.site / "pipe.ppm")
+        os.symlink("two.ppm", self.site / "one.ppm")
+        os.symlink("one.ppm", self.site / "two.ppm")
+        os.symlink("..", self.site / "up")
+        os.symlink(".", self.site / "self.ppm")
+        os.symlink("/dev/zero", self.site / "zero.ppm")
+        os.symlink("nowhere", self.site / "gone.ppm")
+        self.put("folder.ppm/in.ppm", p3(UNIQUE))
+        self.put("real.ppm", p3(UNIQUE))
+        os.symlink("real.ppm", self.site / "link.ppm")
+        self.assertEqual(self.errors(), {
+            "pipe.ppm": "this is no file", "one.ppm": "Too many levels of symbolic links", "two.ppm": "Too many levels of symbolic links",
+            "self.ppm": "this folder is not read", "zero.ppm": "this is no file", "gone.ppm": "No such file or directory",
+            "folder.ppm/in.ppm": None, "real.ppm": None, "link.ppm": None,
+        })
+
+
+class Names(Case):
+    """Names and titles of strangers."""
+
+    def test_names(self):
+        names = ["new\nline.ppm", "\x1b[31mred.ppm", "<img src=x onerror=alert(1)>.ppm", "=1+1.ppm", "rtl\u202egnp.ppm", "#2.ppm", "{{ 7*7 }}.ppm"]
+        for name in names:
+            self.put(name, p3(UNIQUE))
+        place = os.fsencode(self.site) + b"/\xff\xfe.ppm"
+        with open(place, "wb") as file:
+            file.write(p3(UNIQUE))
+        self.put("set.xml", webpbn(UNIQUE, "&lt;/script&gt;&lt;script&gt;alert(1)&lt;/script&gt; ../../../evil\n\x85x\u202e"))
+        self.run_audit("site", "--jsonl", "rows", "--csv", "rows.csv", "--html", "report.html", "--certify", "certs", "--allow", "9", status=0)
+        rows = self.read("rows")
+        self.assertEqual(set(rows), {*(f"site/{name}" for name in names), "site/\\xff\\xfe.ppm", "site/set.xml"})
+        self.assertEqual(rows["site/set.xml"]["title"], "</script><script>alert(1)</script> ../../../evil x")
+        page = (self.folder / "report.html").read_text()
+        self.assertEqual(page.count("<script"), 2)
+        self.assertNotIn("<img", page)
+        self.assertNotIn("49.ppm", page)
+        self.assertNotIn("\x1b", page + (self.folder / "rows.csv").read_text())
+        self.assertNotIn("\u202e", page)
+        self.assertEqual(len((self.folder / "rows.csv").read_text().splitlines()), 1 + len(rows))
+        made = [place for place in self.folder.rglob("*.cert")]
+        self.assertEqual(len(made), len(rows))
+        self.assertTrue(all(place.parent == self.folder / "certs" for place in made))
+        table = self.run_audit("site").stdout
+        self.assertEqual(len(table.split("\n\n")[0].splitlines()), 1 + len(rows))
+        self.assertIn("site/new\\nline.ppm\n", table)
+        self.assertNotIn("\x1b", table)
+
+    def test_paths_lead_nowhere_else(self):
+        self.put("in/one.ppm", p3(UNIQUE))
+        self.put("other/one.ppm", p3(UNIQUE))
+        self.run_audit("site/in/..", "--certify", "deep/certs", status=0)
+        self.run_audit("site/in/../in", "site/other", "--certify", "deep/more", status=0)
+        made = sorted(str(place.relative_to(self.folder)) for place in self.folder.rglob("*.cert"))
+        self.assertEqual(made, [f"deep/{name}/one.cert" for name in ("certs/in", "certs/other", "more/in", "more/other")])
+        os.mkdir(self.folder / "in")
+        (self.folder / "in" / "one.ppm").write_bytes(p3(UNIQUE))
+        self.assertIn("the same names", self.run_audit("in", "site/in", "--certify", "certs", status=2).stderr)
+
+    def test_the_current_folder_is_not_run(self):
+        for name in ("resource", "PIL", "defusedxml", "hashlib", "zlib", "struct", "tqdm", "jinja2"):
+            self.put(f"{name}.py", f"open({str(self.folder / 'owned')!r}, 'a').write('{name} ')\n")
+        self.put("one.ppm", p3(UNIQUE))
+        code = f"import sys; sys.path.insert(0, {str(ROOT / 'python')!r}); from nonobench.collection import main; sys.exit(main())"
+        done = subprocess.run([sys.executable, "-I", "-c", code, "."], cwd=self.site, capture_output=True, text=True, env=self.env())
+        self.assertEqual(done.returncode, 0, done.stderr)
+        self.assertFalse((self.folder / "owned").exists())
+
+
+class Outputs(Case):
+    """Outputs that cannot be written."""
+
+    def setUp(self):
+        super().setUp()
+        self.put("one.ppm", p3(UNIQUE))
+        self.put("two.ppm", p3(AMBIGUOUS))
+
+    def test_a_full_disk(self):
+        for words in (["--jsonl", "/dev/full"], ["--csv", "/dev/full"]):
+            with self.subTest(words):
+                done = self.run_audit("site", *words, status=3)
+                self.assertIn("nonobench-audit: /dev/full: No space left on device", done.stderr)
+                self.assertNotIn("Traceback", done.stderr)
+
+    def limited(self, *words):
+        """A run whose files may have so few bytes."""
+        bound = lambda: resource.setrlimit(resource.RLIMIT_FSIZE, (40, 40))  # noqa: E731
+        return subprocess.run(self.words(*words), cwd=self.folder, env=self.env(), capture_output=True, text=True, preexec_fn=bound)
+
+    def test_a_disk_that_fills(self):
+        done = self.limited("site", "--certify", "certs", "--no-grade")
+        self.assertEqual(done.returncode, 3, done.stderr)
+        self.assertIn("unique", done.stdout)
+        self.assertIn("its certificate was not written: File too large", done.stdout)
+        self.assertIn("certificates not written: 1", done.stderr)
+        self.assertEqual(list((self.folder / "certs").iterdir()), [])
+        done = self.limited("site", "--jsonl", "rows")
+        self.assertEqual(done.returncode, 3, done.stderr)
+        self.assertIn("nonobench-audit: rows: File too large", done.stderr)
+        (self.folder / "report.html").write_text("kept")
+        done = self.limited("site", "--html", "report.html")
+        self.assertEqual(done.returncode, 3, done.stderr)
+        self.assertIn("nonobench-audit: report.html", done.stderr)
+        self.assertEqual((self.folder / "report.html").read_text(), "kept")
+
+    def test_a_folder_that_cannot_be_written(self):
+        (self.folder / "file").write_text("")
+        for option in ("--jsonl", "--csv", "--html", "--certify"):
+            for place in ("/proc/nonobench/x", "file/x"):
+                with self.subTest((option, place)):
+                    done = self.run_audit("site", option, place, status=3)
+                    self.assertRegex(done.stderr, rf"^nonobench-audit: {place}[.new]*: [A-Z][a-z ]+\n$")
+
+    @unittest.skipIf(os.geteuid() == 0, "root writes everywhere")
+    def test_a_read_only_folder(self):
+        (self.folder / "shut").mkdir(mode=0o555)
+        for option, name in (("--certify", "shut"), ("--jsonl", "shut/rows")):
+            self.assertIn(f"{name}: Permission denied", self.run_audit("site", option, name, status=3).stderr)
+
+    def test_a_closed_pipe(self):
+        for at in range(200):
+            self.put(f"{at}.ppm", p3(UNIQUE))
+        for words in ([], ["--jsonl", "-"], ["--csv", "-"]):
+            process = self.start("site", *words)
+            process.stdout.close()
+            said = process.stderr.read()
+            with self.subTest(words):
+                self.assertEqual((process.wait(60), said), (3, "nonobench-audit: standard output was closed\n"))
+            process.stdout = open(os.devnull)
+
+    def test_two_runs_on_one_output(self):
+        self.put("hard.ppm", p3_of_letters(chequered(60, 4)))
+        outputs = ["--jsonl", "rows", "--csv", "rows.csv", "--html", "report.html", "--certify", "certs"]
+        first = self.start("site", "--seconds", "300", *outputs)
+        deadline = time.monotonic() + 60
+        while time.monotonic() < deadline and not ((self.folder / "rows").exists() and (self.folder / "rows").stat().st_size):
+            time.sleep(0.05)
+        before = (self.folder / "rows").read_bytes()
+        for option, name in zip(outputs[::2], outputs[1::2]):
+            told = f"{name}.new" if option == "--html" else name
+            with self.subTest(option):
+                self.assertEqual(self.run_audit("site", option, name, status=3).stderr, f"nonobench-audit: {told}: another run writes to it\n")
+        self.assertTrue((self.folder / "rows").read_bytes().startswith(before))
+        first.send_signal(signal.SIGTERM)
+        first.communicate(timeout=60)
+        # Parts of one collection share the folder of certificates.
+        self.run_audit("site/one.ppm", "--shard", "1/2", "--certify", "certs", status=0)
+
+
+class Processes(Case):
+    """Processes that die, hang or take too much."""
+
+    def begin(self):
+        """A run that is at a puzzle without an end, with others before and after it."""
+        self.put("a.ppm", p3(UNIQUE))
+        self.put("hard.ppm", p3_of_letters(chequered(60, 4)))
+        self.put("z.ppm", p3(UNIQUE))
+        return self.start("site", "--jobs", "1", "--seconds", "300", "--jsonl", "rows", "--no-grade")
+
+    def hurt(self, process, number, before):
+        """Sends a signal to the process that judges, once there is another one than before, and it is at work."""
+        deadline = time.monotonic() + 60
+        while time.monotonic() < deadline:
+            found = [pid for pid in children(process.pid) if pid != before]
+            if found and cpu_of(found[0]) > 0.5:
+                os.kill(found[0], number)
+                return found[0]
+            time.sleep(0.05)
+        self.fail("no process is at work")
+
+    def test_a_process_that_dies(self):
+        process = self.begin()
+        first = self.hurt(process, signal.SIGKILL, 0)
+        self.hurt(process, signal.SIGSEGV, first)
+        said = process.communicate(timeout=120)[1]
+        self.assertEqual(process.returncode, 3, said)
+        rows = self.read("rows")
+        self.assertEqual({name: row["verdict"] for name, row in rows.items()}, {"site/a.ppm": "unique", "site/hard.ppm": "error", "site/z.ppm": "unique"})
+        self.assertEqual(rows["site/hard.ppm"]["error"], "its process ended by signal 11")
+
+    def test_a_process_that_hangs(self):
+        for at in range(12):
+            self.put(f"{at:02}.ppm", p3(UNIQUE))
+        process = self.start("site", "--jobs", "1", "--seconds", "1.5", "--jsonl", "rows", "--no-grade")
+        deadline = time.monotonic() + 60
+        while time.monotonic() < deadline and not children(process.pid):
+            time.sleep(0.01)
+        os.kill(children(process.pid)[0], signal.SIGSTOP)
+        said = process.communicate(timeout=120)[1]
+        self.assertIn(process.returncode, (0, 1), said)
+        self.assertEqual(len(self.read("rows")), 12)
+
+    def test_too_much_memory(self):
+        self.put("a.ppm", p3(UNIQUE))
+        self.put("b.ppm", b"P3 1 1 1 1 1 1".ljust(16_777_216))
+        self.put("c.ppm", p3(UNIQUE))
+        rows = self.rows("site", "--memory", "64", "--jobs", "1", status=3)
+        self.assertEqual([row["verdict"] for row in rows.values()], ["unique", "error", "unique"])
+        self.assertEqual(rows["site/b.ppm"]["error"], "out of memory: more than 64 MiB")
+
+    def test_a_set_with_puzzles_without_end(self):
+        letters = "".join(f'<color name="{letter}" char="{letter}">{at}{at}0000</color>' for at, letter in enumerate("abc", 3))
+        image = "".join(f"|{row}|" for row in chequered(60, 4))
+        hard = f'<puzzle>{letters}<solution type="goal"><image>{image}</image></solution></puzzle>'
+        self.put("set.xml", "<puzzleset>" + webpbn(UNIQUE) + hard + webpbn(AMBIGUOUS) + hard + "</puzzleset>")
+        rows = self.rows("site", "--seconds", "0.5", "--jobs", "1", status=1)
+        self.assertEqual([row["verdict"] for row in rows.values()], ["unique", "undecided", "ambiguous", "undecided"])
+        self.assertEqual([row.get("more", False) for row in rows.values()], [True, True, True, False])
+
+    def test_a_library_that_is_not_there(self):
+        done = self.run_audit("site", NONOBENCH_LIBRARY="/nowhere/libnonobench.so")
+        self.assertNotEqual(done.returncode, 0)
+        self.assertIn("/nowhere/libnonobench.so is not there", done.stderr)
+
+    def test_libraries_that_are_not_there(self):
+        self.put("one.ppm", p3(UNIQUE))
+        self.put("image.png", png(1, 1, zlib.compress(bytes(4))))
+        self.put("set.xml", webpbn(UNIQUE))
+        # Without Debian's and the user's packages there are no libraries but Python's own.
+        words = [sys.executable, "-S", "-m", "nonobench.audit", "site", "--jsonl", "rows"]
+        bare = self.folder / "bare"
+        (bare / "bin").mkdir(parents=True)
+        script = bare / "bin" / "python"
+        script.write_text(f'#!/bin/sh\nexec {sys.executable} -S "$@"\n')
+        script.chmod(0o755)
+        code = f"import sys; sys.executable = {str(script)!r}; sys.argv = ['nonobench-audit', *sys.argv[1:]]; from nonobench.collection import main; sys.exit(main())"
+        done = subprocess.run([*words[:2], "-c", code, "site", "--jsonl", "rows"], cwd=self.folder, env=self.env(), capture_output=True, text=True)
+        self.assertEqual(done.returncode, 3, done.stderr)
+        self.assertIn("nonobench-audit: 1 not read, since Pillow is not installed\n", done.stderr)
+        self.assertIn("nonobench-audit: 1 not read, since defusedxml is not installed\n", done.stderr)
+        rows = self.read("rows")
+        self.assertEqual(rows["site/one.ppm"]["verdict"], "unique")
+        self.assertEqual(rows["site/image.png"]["error"], "Pillow is not installed, which reads images (pip install nonobench[audit])")
+        done = subprocess.run([*words[:2], "-c", code, "site", "--html", "x"], cwd=self.folder, env=self.env(), capture_output=True, text=True)
+        self.assertEqual((done.returncode, done.stderr), (3, "nonobench-audit: jinja2 is not installed, which makes the report (pip install nonobench[audit])\n"))
+
+
+class Terminal(Case):
+    """What is shown on a terminal."""
+
+    def test_a_bar(self):
+        try:
+            import tqdm  # noqa: F401
+        except ImportError:
+            self.skipTest("no tqdm")
+        self.put("one.ppm", p3(UNIQUE))
+        ours, theirs = pty.openpty()
+        done = subprocess.run(self.words("site"), cwd=self.folder, env=self.env(), stdout=subprocess.PIPE, stderr=theirs, text=True)
+        os.close(theirs)
+        shown = b""
+        try:
+            while more := os.read(ours, 65536):
+                shown += more
+        except OSError:
+            pass
+        os.close(ours)
+        self.assertEqual(done.returncode, 0)
+        self.assertRegex(shown.decode(), r"1/1 .* files/s, unique 1|1/1 .*unique 1")
+
+
+def cpu_of(pid):
+    """The seconds that a process has been at work."""
+    try:
+        words = Path(f"/proc/{pid}/stat").read_text().rpartition(")")[2].split()
+    except OSError:
+        return 0.0
+    return (int(words[11]) + int(words[12])) / os.sysconf("SC_CLK_TCK")
+
+
+if __name__ == "__main__":
+    unittest.main()
