@@ -1,5 +1,6 @@
 // A puzzle as line logic meets it: the clues of a picture's rows and columns, and the candidates that each cell begins with.
-import { clueOf, narrow } from './lines.mjs';
+
+import { clueOf, narrow } from './lines.js';
 
 const LETTERS = '.abcdefghijklmno';
 const ALL_COLOURS = 0xffff;
@@ -93,6 +94,26 @@ export class Narrowing {
     const fits = narrow(this.#line, size, puzzle.clues[line], this.#out);
     for (let at = 0; at < size; at++) if (this.#out[at] !== this.#line[at]) this.#write(first + at * step, this.#out[at], line);
     return fits;
+  }
+
+  /** Looks at lines until none is to be looked at. */
+  settle() {
+    for (let looks = 1; looks > 0;) {
+      looks = 0;
+      for (let line = 0; line < this.puzzle.lines; line++) {
+        if (!this.wants(line)) continue;
+        this.look(line);
+        looks++;
+      }
+    }
+    return this;
+  }
+
+  /** The indices of the open cells. */
+  openCells() {
+    const found = [];
+    for (let index = 0; index < this.masks.length; index++) if (!isSettled(this.masks[index])) found.push(index);
+    return found;
   }
 
   #write(index, mask, line) {
