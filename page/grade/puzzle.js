@@ -23,7 +23,7 @@ const isSettled = (mask) => (mask & (mask - 1)) === 0;
 export class Puzzle {
   /** `clues` are those of the lines, where they are known already. */
   constructor(rows, columns, cells, givens = [], clues = null) {
-    Object.assign(this, { rows, columns, cells, givens: [...givens], lines: rows + columns });
+    Object.assign(this, { rows, columns, cells, givens: [...givens], lines: rows + columns, mask: null });
     this.clues = clues ?? Array.from({ length: this.lines }, (_, line) => this.clueAt(line));
   }
 
@@ -47,8 +47,18 @@ export class Puzzle {
     return clueOf(cells);
   }
 
+  /** The row and the column of a cell, as lines. */
+  linesOf(index) {
+    return [Math.floor(index / this.columns), this.rows + (index % this.columns)];
+  }
+
+  /** The background and the colours of the picture. */
+  get candidatesMask() {
+    return (this.mask ??= this.cells.reduce((mask, colour) => mask | (1 << colour), 1));
+  }
+
   /** Each given cell has its colour alone; any other has `others`: the background and the colours of the picture by default. */
-  candidates(others = this.cells.reduce((mask, colour) => mask | (1 << colour), 1)) {
+  candidates(others = this.candidatesMask) {
     const masks = new Uint16Array(this.cells.length).fill(others);
     for (const index of this.givens) masks[index] = 1 << this.cells[index];
     return masks;
