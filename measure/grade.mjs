@@ -3,7 +3,7 @@
 import { readFileSync } from 'node:fs';
 import { basename } from 'node:path';
 import { load } from '../web/nonobench.mjs';
-import { gradeOf } from '../page/grade/grade.mjs';
+import { gradeOf } from '../page/grade/grade.js';
 
 const MOST_SPLITS = 20000; // of a verdict
 

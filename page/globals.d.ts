@@ -7,3 +7,4 @@ declare function showOpenFilePicker(options?: any): Promise<any>;
 declare function showSaveFilePicker(options?: any): Promise<any>;
 interface DataTransferItem { getAsFileSystemHandle?(): Promise<any> }
 interface Array<T> { findLast(holds: (one: T, at: number) => boolean): T | undefined }
+declare const LIMITS: { side: number; colours: number; history: number };

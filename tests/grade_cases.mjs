@@ -2,9 +2,9 @@
 import assert from 'node:assert/strict';
 import { readFileSync } from 'node:fs';
 import { test } from 'node:test';
-import { gradeOf, gradeText, wordFor } from '../page/grade/grade.mjs';
-import { Puzzle } from '../page/grade/puzzle.mjs';
-import { treeOf } from '../page/grade/tree.mjs';
+import { gradeOf, gradeText, wordFor } from '../page/grade/grade.js';
+import { Puzzle } from '../page/grade/puzzle.js';
+import { treeOf } from '../page/grade/tree.js';
 
 const FORM = /^(\S+)(?: given ([\d, ]+?))?(?: verdict (\w+))?(?: map (\S+))?(?: cert (.*))?$/;
 

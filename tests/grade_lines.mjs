@@ -2,8 +2,8 @@
 // Run: node --test tests/grade_lines.mjs
 import assert from 'node:assert/strict';
 import { test } from 'node:test';
-import { clueOf, narrow } from '../page/grade/lines.mjs';
-import { Narrowing, Puzzle, mapOf } from '../page/grade/puzzle.mjs';
+import { clueOf, narrow } from '../page/grade/lines.js';
+import { Narrowing, Puzzle, mapOf } from '../page/grade/puzzle.js';
 
 // Numbers below a bound, the same each time.
 function random(seed) {

@@ -2,6 +2,7 @@
 // Run: node --test tests/page_answers.mjs
 import assert from 'node:assert/strict';
 import { test } from 'node:test';
+import '../page/test/limits.mjs';
 import { TextFault, answersTo } from '../page/engine/answers.js';
 
 const REPORT = `size 2 2

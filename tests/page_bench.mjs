@@ -1,13 +1,17 @@
-// Tests of the open document: strokes, undo by stroke, a history that is too short, workers that end or answer nonsense, and
-// what is kept. The worker is the page's own over an engine that solves nothing. Run: node --test tests/page_bench.mjs
+// Tests of the open document: strokes, undo by stroke, a history that is too short, workers that end or answer nonsense, what the
+// page alone keeps, and what is kept. The worker is the page's own over the module, the file WASM; without one they are left out.
+// Run: node --test tests/page_bench.mjs
 import assert from 'node:assert/strict';
-import { test } from 'node:test';
+import { test as testAlways } from 'node:test';
+import { needsModule, workers } from '../page/test/worker.mjs';
 import { on } from '../page/base/events.js';
-import { baseOf, docOf, sameDoc } from '../page/document/mirror.js';
+import { baseOf } from '../page/document/cover.js';
+import { docOf, pageOf, sameDoc } from '../page/document/document.js';
 import { Bench } from '../page/engine/bench.js';
 import { Client } from '../page/engine/client.js';
-import { workers } from '../page/test/worker.mjs';
+import { readRecord, recordOf } from '../page/library/records.js';
 
+const test = (name, f) => testAlways(name, needsModule, f);
 const COLOURS = [[255, 255, 255], [0, 0, 0], [200, 30, 30]];
 const empty = (rows, columns) => ({ rows, columns, maxval: 255, colours: COLOURS, picture: Array(rows).fill('.'.repeat(columns)), givens: new Set() });
 
@@ -38,21 +42,22 @@ test('a stroke behind an undo that waits is made on what the undo leaves', async
   const { bench } = await opened();
   await bench.stroke(['paint 1 1 a']);
   await bench.stroke(['paint 1 1 b', 'paint 1 2 b']);
+  const seen = [];
   const waits = [bench.undo(), bench.undo(), bench.redo()];
-  assert.equal(bench.expected().picture[0], 'a...');
-  waits.push(bench.stroke(['recolour a b']));
-  assert.equal(bench.expected().picture[0], 'b...');
+  waits.push(bench.stroke((doc) => {
+    seen.push(doc.picture[0]);
+    return ['recolour a b'];
+  }));
   waits.push(bench.undo(), bench.undo());
-  assert.equal(bench.expected().picture[0], '....');
   await Promise.all(waits);
+  assert.deepEqual(seen, ['a...'], 'the commands are made of the document that the stroke meets');
   assert.deepEqual([bench.state.picture[0], bench.past.length, bench.future.length], ['....', 0, 2]);
 });
 
-test('strokes made at once go in one text, and what is refused counts for nothing', async () => {
-  const { bench, made } = await opened();
+test('strokes made at once are one each, and what is refused counts for nothing', async () => {
+  const { bench } = await opened();
   const answers = await Promise.all([bench.stroke(['paint 1 1 a']), bench.stroke(['paint 1 1 a']), bench.stroke(['paint 1 2 b', 'paint 1 2 b'])]);
   assert.deepEqual(answers.map(words), [['ok'], ['NoChange'], ['ok', 'NoChange']]);
-  assert.equal(made[0].said.filter((text) => text.includes('paint 1 2 b')).length, 1);
   assert.equal(bench.past.length, 2);
   await bench.undo();
   assert.equal(bench.state.picture[0], 'a...');
@@ -137,7 +142,7 @@ test('where no worker comes in its place, what is shown is what is there', async
   const { bench } = await opened(empty(3, 4), { fails: () => isBroken });
   await bench.stroke(['paint 1 1 a']);
   const told = [];
-  const ends = [on('shown', () => told.push(bench.expected().picture[0])), on('lost', () => told.push('lost'))];
+  const ends = [on('shown', () => told.push(bench.seen().picture[0])), on('lost', () => told.push('lost'))];
   isBroken = true;
   await assert.rejects(bench.stroke(['paint 1 2 b']));
   for (const end of ends) end();
@@ -155,8 +160,8 @@ test('of strokes sent together only the one that ends each worker is left out', 
 });
 
 test('a search that ends each worker is not made again and again', async () => {
-  const { bench, made } = await opened(empty(3, 4), { fails: (text) => /^allow [1-9]/.test(text), judge: 'undecided 0' });
-  await bench.stroke(['paint 1 1 a']);
+  const { bench, made } = await opened(empty(3, 4), { fails: (text) => /^allow [1-9]/.test(text) });
+  await bench.stroke(['paint 1 1 a', 'paint 2 2 a']); // another picture has these clues, which takes a search
   while (bench.running) await new Promise((go) => setImmediate(go));
   assert.deepEqual([bench.state.picture[0], bench.state.verdict.word, bench.running], ['a...', 'undecided', false]);
   assert.ok(made.length <= 4);
@@ -183,15 +188,21 @@ test('a text that no session writes is not taken', async () => {
   assert.deepEqual([bench.state.picture, made.length], [['a...', '....', '....'], 2]);
 });
 
+// What is kept of a bench, opened in another one.
+async function reopened(bench) {
+  const { doc, name, strokes } = readRecord(JSON.parse(JSON.stringify(recordOf(bench, 'x'))));
+  const again = new Bench(() => new Client(workers()));
+  await again.open(baseOf(doc), { name, page: pageOf(doc), strokes });
+  return again;
+}
+
 test('what is kept brings picture and strokes back', async () => {
   const { bench } = await opened();
   await bench.stroke(['paint 1 1 a', 'paint 1 2 b']);
   await bench.stroke(['insert row 1']);
   await bench.stroke(['pin 2 1']);
   await bench.undo();
-  const kept = JSON.parse(JSON.stringify(bench.kept()));
-  const again = new Bench(() => new Client(workers()));
-  await again.open(kept.base, { name: kept.name, strokes: kept.strokes });
+  const again = await reopened(bench);
   assert.ok(sameDoc(docOf(again.state), docOf(bench.state)));
   await again.redo();
   assert.deepEqual([...again.state.givens], [4]);
@@ -204,18 +215,68 @@ test('what was made another document is kept, too', async () => {
   await bench.stroke(['paint 1 1 a']);
   await bench.become({ ...empty(5, 2), picture: ['.a', '..', '..', '..', 'b.'] });
   await bench.stroke(['paint 1 1 b']);
-  const kept = JSON.parse(JSON.stringify(bench.kept()));
-  const again = new Bench(() => new Client(workers()));
-  await again.open(kept.base, { strokes: kept.strokes });
+  const again = await reopened(bench);
   assert.ok(sameDoc(docOf(again.state), docOf(bench.state)));
   await again.undo();
   assert.deepEqual(again.state.picture, ['.a', '..', '..', '..', 'b.']);
+  await again.undo();
+  await again.undo();
+  assert.deepEqual(again.state.picture, ['....', '....', '....']);
+});
+
+test('texts, names, signs and locks are under undo, and count for what is saved', async () => {
+  const { bench } = await opened();
+  bench.saved(docOf(bench.state));
+  assert.equal(bench.isSaved, true);
+  await bench.become((doc) => ({ ...doc, about: { title: 'Tree' } }));
+  assert.deepEqual([bench.isSaved, bench.state.about.title, bench.past.length], [false, 'Tree', 1]);
+  await bench.become((doc) => ({ ...doc, inks: [{}, { name: 'bark', sign: 'b' }] }));
+  await bench.stroke(['paint 1 1 a']);
+  assert.deepEqual([bench.state.about.title, bench.state.inks[1].name], ['Tree', 'bark']);
+  await bench.undo();
+  await bench.undo();
+  assert.deepEqual([bench.state.inks, bench.state.about.title], [[], 'Tree']);
+  await bench.undo();
+  assert.deepEqual([bench.isSaved, bench.state.about], [true, {}]);
+  for (let turn = 0; turn < 3; turn++) await bench.redo();
+  assert.deepEqual([bench.state.picture[0], bench.state.inks[1].name, bench.isSaved], ['a...', 'bark', false]);
+});
+
+test('locked cells go with their lines, as given ones do', async () => {
+  const { bench } = await opened();
+  await bench.become((doc) => ({ ...doc, givens: new Set([0, 6]), locks: new Set([0, 6]) })); // row 1 column 1, row 2 column 3
+  for (const lines of [['insert row 1'], ['insert column 2'], ['swap row 2 3'], ['swap column 1 4'], ['delete row 1'], ['delete column 2'], ['delete row 1']]) {
+    await bench.stroke(lines);
+    assert.deepEqual([...bench.state.locks].sort((a, b) => a - b), [...bench.state.givens].sort((a, b) => a - b), lines[0]);
+  }
+  assert.equal(bench.state.locks.size, 1);
+  for (let turn = 0; turn < 7; turn++) await bench.undo();
+  assert.deepEqual([...bench.state.locks], [0, 6]);
+});
+
+test('undone to what a file has, a document is saved again', async () => {
+  const { bench } = await opened();
+  await bench.stroke(['paint 1 1 a']);
+  assert.equal(bench.isSaved, false);
+  bench.saved(docOf(bench.state));
+  await bench.stroke(['paint 1 2 a']);
+  assert.equal(bench.isSaved, false);
+  await bench.undo();
+  assert.equal(bench.isSaved, true);
+});
+
+test('a stroke that floats on what others paint is seen at once', async () => {
+  const { bench } = await opened();
+  const waits = [bench.stroke(['paint 1 1 a'], new Map([[0, 'a']])), bench.stroke(['paint 1 2 b'], new Map([[1, 'b']]))];
+  assert.equal(bench.seen().picture[0], 'ab..');
+  await Promise.all(waits);
+  assert.equal(bench.state.picture[0], 'ab..');
 });
 
 test('an opening that fails leaves what was open', async () => {
   const { bench } = await opened();
   await bench.stroke(['paint 1 1 a']);
-  await assert.rejects(bench.open({ text: 'P3 nonsense', format: 'ppm', background: '255,255,255', lines: [] }), { kind: 'open' });
+  await assert.rejects(bench.open({ text: 'P3 nonsense', background: '255,255,255', lines: [] }), { kind: 'open' });
   await bench.stroke(['paint 1 2 a']);
   assert.equal(bench.state.picture[0], 'aa..');
 });

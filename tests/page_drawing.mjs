@@ -101,7 +101,7 @@ export async function turning({ trial, page }) {
     await act('turn-left');
     await act('mirror-across');
     await shows(trial, DUCK, 'back again');
-    await page.run(() => bench.become(resized(bench.expected(), 6, 8, { down: 1, across: 0 })));
+    await page.run(() => bench.become((doc) => resized(doc, 6, 8, { down: 1, across: 0 })));
     await shows(trial, ['........', ...DUCK.map((row) => `${row}.`)], 'larger, the picture below on the left');
     for (let turn = 0; turn < 7; turn++) await trial.press('Control+z');
     await shows(trial, DUCK, 'all undone');

@@ -2,12 +2,15 @@
 // are made by hand after Netpbm's ppm page and webpbn.com/pbn_fmt.html. Run: node --test tests/page_files.mjs
 import assert from 'node:assert/strict';
 import { test } from 'node:test';
-import { docOfImage, docOfNotes, emptyDoc, packedDoc, ppmTextOf, unpackedDoc } from '../page/document/docs.js';
+import '../page/test/limits.mjs';
+import { ABOUT, docOf, emptyDoc, packedDoc, sameBenchPart, sameDoc, unpackedDoc } from '../page/document/document.js';
 import { FileFault } from '../page/document/limits.js';
 import { readPpm } from '../page/formats/ppm.js';
-import { cluesOfRows, readWebpbn, webpbnText } from '../page/formats/webpbn.js';
+import { docOfNotes, ppmTextOf } from '../page/formats/ppm_notes.js';
+import { cluesOfRows, inksOf, leavesOut, webpbnText } from '../page/formats/webpbn.js';
+import { readWebpbn } from '../page/formats/webpbn_reading.js';
 import { readXml } from '../page/formats/xml.js';
-import { kindOfFile } from '../page/import/images.js';
+import { docOfImage, kindOfFile } from '../page/import/images.js';
 
 const bytes = (text) => Uint8Array.from(text, (sign) => sign.charCodeAt(0));
 const plain = (value) => JSON.parse(JSON.stringify(value));
@@ -138,10 +141,10 @@ const PUZZLE = `<?xml version="1.0"?>
 `;
 
 test('a puzzle of webpbn.com', () => {
-    const { doc, about } = readWebpbn(PUZZLE);
+    const { doc } = readWebpbn(PUZZLE);
     assert.deepEqual(doc.picture, ['bbb', '.a.']);
     assert.deepEqual(doc.colours, [[255, 255, 255], [0, 0, 0], [0, 176, 0]]);
-    assert.equal(about.title, 'Tree & <b>root</b>');
+    assert.equal(doc.about.title, 'Tree & <b>root</b>');
     refused(() => readWebpbn(PUZZLE.replace('<count color="green">3', '<count color="green">2')), /clues of the rows/);
     refused(() => readWebpbn(PUZZLE.replace('|.X.|', '|.Y.|')), /'Y'/);
     refused(() => readWebpbn(PUZZLE.replace('|.X.|', '|.X|')), /rows of the puzzle/);
@@ -170,14 +173,15 @@ test('the XML that is written is read back, givens and all', () => {
     const doc = { rows: 2, columns: 4, maxval: 255, colours: [[40, 0, 0], [255, 255, 255], [0, 0, 0], [200, 100, 50]], picture: ['aab.', '.ccb'], givens: new Set([2, 7]) };
     const clues = { rows: [[{ length: 2, letter: 'a' }, { length: 1, letter: 'b' }], [{ length: 2, letter: 'c' }, { length: 1, letter: 'b' }]], columns: [[{ length: 1, letter: 'a' }], [{ length: 1, letter: 'a' }, { length: 1, letter: 'c' }], [{ length: 1, letter: 'b' }, { length: 1, letter: 'c' }], [{ length: 1, letter: 'b' }]] };
     assert.deepEqual(plain(cluesOfRows(doc.picture)), clues);
-    const text = webpbnText(doc, clues, { title: 'A < B & "C"' });
+    const text = webpbnText({ ...doc, about: { title: 'A < B & "C"' } }, clues);
     assert.match(text, /<title>A &lt; B &amp; &quot;C&quot;<\/title>/);
     assert.match(text, /<color name="background" char="-">280000<\/color>/);
     assert.match(text, /<clues type="columns">\n<line><count color="white">1<\/count><\/line>/);
     assert.match(text, /\|\.\.X-\|\n\|-ccX\|/);
-    const back = readWebpbn(text);
-    assert.deepEqual(packedDoc(back.doc), packedDoc(doc));
+    const back = readWebpbn(text).doc;
+    assert.ok(sameBenchPart(back, doc));
     assert.equal(back.about.title, 'A < B & "C"');
+    assert.deepEqual(back.inks, [{ name: 'background', sign: '-' }, { name: 'white', sign: '.' }, { name: 'black', sign: 'X' }, { name: 'orange', sign: 'c' }]);
     assert.doesNotMatch(webpbnText({ ...doc, givens: new Set() }, clues), /saved/);
 });
 
@@ -191,10 +195,87 @@ test('any picture goes out as XML and as P3, and comes back', () => {
         const colours = [...triples].map((text) => text.split(',').map(Number));
         const picture = Array.from({ length: rows }, () => Array.from({ length: columns }, () => '.abcdefghijklmno'[chance(count)]).join(''));
         const givens = new Set(Array.from({ length: chance(4) }, () => chance(rows * columns)));
-        const doc = { rows, columns, maxval: 255, colours, picture, givens };
-        const sorted = (one) => ({ ...packedDoc(one), givens: [...one.givens].sort((a, b) => a - b) });
-        assert.deepEqual(sorted(readWebpbn(webpbnText(doc, cluesOfRows(picture))).doc), sorted(doc));
+        const about = Object.fromEntries(ABOUT.filter(() => chance(2)).map((name) => [name, `${name} <${chance(9)}> & "\u00e4\u{1f333}"`]));
+        const inks = colours.map((_, at) => ({ name: `ink ${at} & "x"`, sign: '.X-abc#%123|[]?'[(at + round) % 15], ...(chance(3) ? {} : { locked: true }) }));
+        const locks = new Set(Array.from({ length: chance(4) }, () => chance(rows * columns)));
+        const doc = docOf({ rows, columns, maxval: 255, colours, picture, givens, about, inks, locks });
+        const xml = readWebpbn(webpbnText(doc)).doc;
+        assert.ok(sameBenchPart(xml, doc));
+        assert.deepEqual([xml.about, [...xml.locks].sort(), xml.inks.map((ink) => [ink.name, Boolean(ink.locked)])], [{ source: 'nonobench', ...about }, [...locks].sort(), inks.map((ink) => [ink.name, Boolean(ink.locked)])]);
+        assert.ok(sameDoc(readWebpbn(webpbnText(xml)).doc, xml), 'written again it is the same');
         const text = ppmTextOf(doc);
-        assert.deepEqual(sorted(docOfNotes(text, readPpm(bytes(text)))), sorted(doc));
+        assert.match(text, /^[\n -~]*$/);
+        assert.ok(sameDoc(docOfNotes(text, readPpm(bytes(text))), doc));
     }
+});
+
+// ---- each element of the format, written again as it was read
+
+const WHOLE = `<?xml version="1.0" encoding="UTF-8"?>
+<puzzleset>
+<source>archive &amp; co</source>
+<title>A set</title>
+<author>Its author</author>
+<authorid>set-7</authorid>
+<copyright>&#169; of the set</copyright>
+<puzzle type="grid" defaultcolor="leaf" backgroundcolor="sky blue">
+<source>webpbn.com</source>
+<id>#1234 (v.2)</id>
+<title>Tree</title>
+<author>Jan</author>
+<authorid>jan99</authorid>
+<copyright>2026 by Jan</copyright>
+<description>A tree &lt;in&gt; the wind.</description>
+<color name="sky blue" char="s">99CCFF</color>
+<color name="leaf" char="L">00B000</color>
+<color name="bark" char="%">604020</color>
+<clues type="columns"><line><count>1</count></line><line><count>1</count><count color="bark">1</count></line><line><count>1</count></line></clues>
+<clues type="rows"><line><count>3</count></line><line><count color="bark">1</count></line></clues>
+<solution type="goal" id="g"><image>|LLL|
+|s%s|</image><note>The tree itself.</note></solution>
+<solution type="solution" id="other"><image>|LLL|
+|%ss|</image><note>Not a solution, in truth.</note></solution>
+<solution type="saved" id="half"><image>|L??|
+|?[s%]s|</image><note>Begun on a train.</note></solution>
+<note>First note.</note>
+<note>Second note.</note>
+</puzzle>
+<note>A note of the set.</note>
+</puzzleset>
+`;
+const ELEMENTS = {
+    'source of the set': '<source>archive &amp; co</source>', 'title of the set': '<title>A set</title>', 'author of the set': '<author>Its author</author>', 'authorid of the set': '<authorid>set-7</authorid>', 'copyright of the set': '<copyright>\u00a9 of the set</copyright>',
+    'default and background colour': '<puzzle type="grid" defaultcolor="leaf" backgroundcolor="sky blue">', source: '<source>webpbn.com</source>', id: '<id>#1234 (v.2)</id>', title: '<title>Tree</title>', author: '<author>Jan</author>', authorid: '<authorid>jan99</authorid>', copyright: '<copyright>2026 by Jan</copyright>', description: '<description>A tree &lt;in&gt; the wind.</description>',
+    'a colour by name and sign': '<color name="sky blue" char="s">99ccff</color>\n<color name="leaf" char="L">00b000</color>\n<color name="bark" char="%">604020</color>',
+    'clues by names': '<line><count color="leaf">1</count><count color="bark">1</count></line>', goal: '<solution type="goal" id="g">\n<image>\n|LLL|\n|s%s|\n</image>', 'the note of the goal': '<note>The tree itself.</note>',
+    'another solution': '<solution type="solution" id="other">\n<image>|LLL|\n|%ss|</image>\n<note>Not a solution, in truth.</note>', 'a saved solution': '<solution type="saved" id="half">\n<image>|L??|\n|?[s%]s|</image>\n<note>Begun on a train.</note>',
+    'notes of the puzzle': '<note>First note.</note>\n<note>Second note.</note>\n</puzzle>', 'note of the set': '</puzzle>\n<note>A note of the set.</note>\n</puzzleset>',
+};
+for (const [what, text] of Object.entries(ELEMENTS)) {
+    test(`XML is read and written again: ${what}`, () => {
+        const written = webpbnText(readWebpbn(WHOLE).doc);
+        assert.ok(written.includes(text), `${text} is not in ${written}`);
+        assert.equal(webpbnText(readWebpbn(written).doc), written);
+    });
+}
+
+test('solutions that do not fit the picture any more are left out, and that is known', () => {
+    const { doc } = readWebpbn(WHOLE);
+    assert.equal(leavesOut(doc), false);
+    const larger = { ...doc, rows: 3, picture: [...doc.picture, '...'] };
+    assert.equal(leavesOut(larger), true);
+    assert.doesNotMatch(webpbnText(larger), /id="half"/);
+});
+
+test('further puzzles of a set', () => {
+    const two = WHOLE.replace('</puzzle>', '</puzzle><puzzle><title>Dot</title><solution><image>|X|</image></solution></puzzle><puzzle><solution><image>|Y|</image></solution></puzzle>');
+    assert.deepEqual([readWebpbn(two).count, readWebpbn(two, 1).doc.about.title, readWebpbn(two, 1).doc.picture], [3, 'Dot', ['a']]);
+    refused(() => readWebpbn(two, 2), /'Y'/);
+});
+
+test('names and signs of colours: its own, none twice', () => {
+    const inks = (colours, own) => inksOf({ colours, inks: own }).map(({ name, sign }) => `${name} ${sign}`);
+    assert.deepEqual(inks([[255, 255, 255], [0, 0, 0], [200, 30, 30], [190, 40, 40]], []), ['white .', 'black X', 'red b', 'red 2 c']);
+    assert.deepEqual(inks([[1, 2, 3], [255, 255, 255]], [{ name: 'white', sign: '.' }]), ['white .', 'white 2 a']);
+    assert.deepEqual(inks([[1, 2, 3], [4, 5, 6]], [{ sign: '?' }, { name: 'background', sign: '-' }]), ['background 2 .', 'background -']);
 });

@@ -46,7 +46,7 @@ export async function fresh(browser, url, folder, name, { size = SIZES.small, be
 }
 
 /** Nothing is kept from before. */
-export const clean = (page) => page.run(async () => { await keep.ready(); for (const record of await keep.keeper.list()) await keep.keeper.drop(record.id); });
+export const clean = (page) => page.run(async () => { await keep.ready(); for (const card of await keep.keeper.cards()) await keep.keeper.drop(card.id); });
 
 /** Goes on with the first that the browser keeps. */
 export async function goOn(page) {

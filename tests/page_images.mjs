@@ -1,6 +1,7 @@
 // Tests of how the page makes few colours and cells of an image. Pictures are made by hand. Run: node --test tests/page_images.mjs
 import assert from 'node:assert/strict';
 import { test } from 'node:test';
+import '../page/test/limits.mjs';
 import { oklabOf } from '../page/document/colours.js';
 import { dotSize, scaledTo, sizeOfImage } from '../page/import/images.js';
 import { withoutMargin } from '../page/import/proposing.js';

@@ -1,12 +1,15 @@
-// Tests of what the page keeps: shelves that are full or refuse, records that are damaged, which of many go, and what a second
-// tab is told. Run: node --test tests/page_keep.mjs
+// Tests of the library: shelves that are full or refuse, records that are damaged or of the first version, cards, archives, and what
+// a second tab is told. Run: node --test tests/page_keep.mjs
 import assert from 'node:assert/strict';
 import { test } from 'node:test';
-import { emptyDoc, packedDoc } from '../page/document/docs.js';
-import { baseOf, mirrored } from '../page/document/mirror.js';
-import { Keeper, MOST_KEPT, recordOf, soundRecord } from '../page/library/keep.js';
+import '../page/test/limits.mjs';
+import { baseOf } from '../page/document/cover.js';
+import { docOf, emptyDoc, packedDoc, sameDoc } from '../page/document/document.js';
+import { crcOf, readZip, writeZip } from '../page/formats/zip.js';
+import { archiveOf, readArchive } from '../page/import/archives.js';
+import { Keeper } from '../page/library/keeper.js';
+import { cardOf, readRecord, recordOf, recordOfDoc } from '../page/library/records.js';
 import { claim, localShelf, memoryShelf, openShelf } from '../page/library/shelf.js';
-
 
 class Full extends Error {
     name = 'QuotaExceededError';
@@ -31,97 +34,132 @@ function storageOf(room) {
     };
 }
 
-// A bench with strokes, as far as a record asks for them.
-function benchOf(doc, strokes, more = {}) {
-    const past = [];
-    let now = doc;
-    for (const lines of strokes) {
-        const before = now;
-        now = lines.reduce(mirrored, now);
-        past.push({ lines, before, after: now });
-    }
-    const bench = { name: 'tree', isSaved: false, base: baseOf(doc), past, future: [], state: now, ...more };
-    bench.kept = () => ({ base: bench.base, name: bench.name, strokes: { past: past.map((stroke) => stroke.lines), future: bench.future.map((stroke) => stroke.lines) } });
-    return bench;
+// A bench with strokes, as far as a record asks for them: the documents before the one at hand, and those that can be made again.
+function benchOf(doc, before = [], after = [], more = {}) {
+    const docs = [...before, doc, ...after];
+    const strokes = docs.slice(1).map((to, at) => ({ before: docs[at], after: to }));
+    return { name: 'tree', isSaved: false, state: doc, past: strokes.slice(0, before.length), future: strokes.slice(before.length).reverse(), ...more };
 }
-const record = (id, when, more = {}) => ({ ...recordOf(benchOf(emptyDoc(3, 2), []), id), when, ...more });
+const painted = (doc, place, letter = 'a') => ({ ...doc, picture: doc.picture.map((row, at) => [...row].map((one, col) => (at * doc.columns + col === place ? letter : one)).join('')) });
+const record = (id, when, more = {}) => ({ ...recordOf(benchOf(emptyDoc(3, 2)), id, when), ...more });
+const json = (value) => JSON.parse(JSON.stringify(value));
 
-test('a record holds the base, the strokes and what they come to', () => {
-    const one = recordOf(benchOf(emptyDoc(4, 3), [['paint 1 1 a', 'pin 1 1'], ['fill 2 2 3 4 a']]), 'x', { title: 'T' });
-    assert.deepEqual(one.strokes, { past: [['paint 1 1 a', 'pin 1 1'], ['fill 2 2 3 4 a']], future: [] });
-    assert.deepEqual(one.now.picture, ['a...', '.aaa', '.aaa']);
-    assert.deepEqual([one.now.givens, one.about, one.isSaved], [[0], { title: 'T' }, false]);
-    const back = soundRecord(JSON.parse(JSON.stringify(one)));
-    assert.deepEqual([...back.now.givens], [0]);
-});
-
-test('a stroke to another size is kept as its document', () => {
-    const doc = packedDoc(emptyDoc(5, 3));
-    const bench = benchOf(emptyDoc(4, 3), [['paint 1 1 a']]);
-    bench.kept = () => ({ base: bench.base, name: 'x', strokes: { past: [['paint 1 1 a'], { doc }], future: [] } });
-    const one = JSON.parse(JSON.stringify(recordOf({ ...bench, state: emptyDoc(5, 3) }, 'x')));
-    assert.deepEqual([one.base.text, one.strokes.past], [baseOf(emptyDoc(4, 3)).text, [['paint 1 1 a'], { doc }]]);
-    assert.ok(soundRecord(one));
-    one.strokes.past[1].doc.rows = 4;
-    assert.equal(soundRecord(one), null);
-});
-
-test('of more strokes than are kept the last ones are, behind a base of their own', () => {
-    const turn = (count) => Array.from({ length: count }, (_, at) => `paint 1 1 ${at % 2 ? '.' : 'a'}`);
-    const one = recordOf(benchOf(emptyDoc(4, 3), [turn(2001), turn(1000), turn(2000), ['paint 2 2 a']]), 'x');
-    assert.deepEqual(one.strokes.past.map((lines) => lines.length), [1000, 2000, 1]);
-    assert.match(one.base.text, /^P3\n4 3\n255\n0 0 0\n/); // painted by the stroke that went
-    const none = recordOf(benchOf(emptyDoc(4, 3), [turn(5000)]), 'x');
-    assert.deepEqual([none.strokes.past, none.base.text], [[], baseOf(emptyDoc(4, 3)).text]);
-});
-
-test('damaged records are none', () => {
-    const good = JSON.parse(JSON.stringify(record('x', 1)));
-    assert.ok(soundRecord(good));
-    for (const wrong of [null, 'x', {}, { ...good, version: 2 }, { ...good, now: { ...good.now, picture: ['z..', '...'] } }, { ...good, base: {} }, { ...good, base: { text: 1, lines: [] } }, { ...good, strokes: null }, { ...good, strokes: { past: [[1]], future: [] } }, { ...good, id: 3 }]) {
-        assert.equal(soundRecord(wrong), null);
+test('a record holds the document and those that strokes lead to, back and forth', () => {
+    const [one, two, other] = [emptyDoc(4, 3), painted(emptyDoc(4, 3), 0), { ...emptyDoc(2, 2), about: { title: 'T' }, givens: new Set([1]) }];
+    const three = { ...painted(two, 5), locks: new Set([2]) };
+    const back = readRecord(json(recordOf(benchOf(three, [one, two], [other, one]), 'x', 7)));
+    assert.deepEqual([back.name, back.when, back.isSaved, back.strokes.past.length, back.strokes.future.length], ['tree', 7, false, 2, 2]);
+    for (const [found, wanted] of [[back.doc, three], [back.strokes.past[0], one], [back.strokes.past[1], two], [back.strokes.future[0], other], [back.strokes.future[1], one]]) {
+        assert.ok(sameDoc(found, wanted));
     }
+});
+
+test('of strokes that take much room the last ones are kept', () => {
+    const docs = Array.from({ length: 40 }, (_, at) => ({ ...emptyDoc(100, 100), picture: Array(100).fill((at % 2 ? 'a' : '.').repeat(100)) }));
+    const back = readRecord(json(recordOf(benchOf(docs.at(-1), docs.slice(0, -1)), 'x')));
+    assert.ok(back.strokes.past.length > 10 && back.strokes.past.length < 39, `${back.strokes.past.length}`);
+    assert.ok(sameDoc(back.strokes.past.at(-1), docs.at(-2)));
+});
+
+test('damaged records are none, and damaged strokes leave the document', () => {
+    const good = json(recordOf(benchOf(painted(emptyDoc(3, 2), 0), [emptyDoc(3, 2)]), 'x'));
+    assert.equal(readRecord(good).strokes.past.length, 1);
+    for (const wrong of [null, 'x', {}, { ...good, version: 3 }, { ...good, doc: { ...good.doc, picture: ['z..', '...'] } }, { ...good, doc: null }, { ...good, id: 3 }]) assert.equal(readRecord(wrong), null);
+    for (const past of [null, 'x', [{ rows: [[9, '...']] }], [{ rows: [[0, 'zzz']] }], [{ whole: {} }], [null]]) {
+        const read = readRecord({ ...good, past });
+        assert.deepEqual([read.doc.picture, read.strokes.past], [['a..', '...'], []]);
+    }
+});
+
+test('a record of the first version brings its picture and its texts', () => {
+    const old = { version: 1, id: 'x', name: 'old', when: 5, isSaved: false, about: { title: 'T', author: '' }, base: { text: 'P3 ..', lines: [] }, strokes: { past: [['paint 1 1 a']], future: [] }, now: { rows: 1, columns: 2, maxval: 255, colours: [[255, 255, 255], [0, 0, 0]], picture: ['a.'], givens: [0] } };
+    const read = readRecord(old);
+    assert.deepEqual([read.name, read.doc.picture, [...read.doc.givens], read.doc.about, read.strokes], ['old', ['a.'], [0], { title: 'T' }, { past: [], future: [] }]);
+    assert.deepEqual(cardOf(old).doc.picture, ['a.']);
 });
 
 test('of records that wait the last one counts', async () => {
     const puts = [];
-    const shelf = { ...memoryShelf(), put: async (key, value) => { puts.push(value.when); await new Promise((go) => setTimeout(go, 5)); } };
+    const shelf = { ...memoryShelf(), putAll: async ([[, value]]) => { puts.push(value.when); await new Promise((go) => setTimeout(go, 5)); } };
     const keeper = new Keeper(shelf, () => {});
-    for (let at = 1; at <= 5; at++) keeper.note(() => record('x', at));
+    for (let at = 1; at <= 5; at++) keeper.note(() => ({ record: record('x', at) }));
     assert.equal(keeper.isDone, false);
     await keeper.writing;
     assert.deepEqual([puts, keeper.isDone], [[1, 5], true]);
 });
 
-test('at most so many are kept: first those in a file go, then the oldest, and never the one at hand', async () => {
+test('a hundred pictures stay, whether they are in a file or not', async () => {
     const said = [];
-    const keeper = new Keeper({ ...memoryShelf(), lasts: true }, (one) => said.push(one));
-    for (let at = 0; at < MOST_KEPT; at++) await keeper.put(record(`r${at}`, at, { isSaved: at === 7 }));
-    await keeper.put(record('new', -1));
-    await keeper.put(record('other', 99));
-    const ids = (await keeper.list()).map((one) => one.id);
-    assert.equal(ids.length, MOST_KEPT);
-    assert.ok(ids.includes('other') && !ids.includes('r7') && !ids.includes('new'), ids.join());
-    assert.deepEqual(said.filter((one) => one.kind === 'dropped').map((one) => one.record.id), ['r7', 'new']);
+    const keeper = new Keeper({ ...memoryShelf(), lasts: true }, (one) => said.push(one.kind));
+    for (let at = 0; at < 100; at++) await keeper.put(record(`r${at}`, at, { isSaved: at % 2 === 0 }), { verdict: 'unique', grade: '3 of 5' });
+    const cards = await keeper.cards();
+    assert.deepEqual([cards.length, cards[0].id, cards[0].verdict, cards[0].grade, new Set(said).size], [100, 'r99', 'unique', '3 of 5', 1]);
 });
 
-test('a full storage: what is in a file makes room, else it is told', async () => {
+test('a full storage: it is told, and nothing that is kept goes', async () => {
     const said = [];
-    const size = JSON.stringify(record('a', 1)).length + 20;
-    const keeper = new Keeper(localShelf(storageOf(Math.round(size * 2.5))), (one) => said.push([one.kind, one.why ?? one.record.id]));
+    const size = JSON.stringify(record('a', 1)).length + JSON.stringify(cardOf(record('a', 1))).length + 40;
+    const keeper = new Keeper(localShelf(storageOf(Math.round(size * 2.5))), ({ kind, why }) => said.push([kind, why]));
     await keeper.put(record('a', 1, { isSaved: true }));
     await keeper.put(record('b', 2));
     await keeper.put(record('c', 3));
-    await keeper.put(record('d', 4));
-    assert.deepEqual(said, [['kept', ''], ['kept', ''], ['dropped', undefined], ['kept', ''], ['failed', 'full']].map(([kind, why]) => (kind === 'dropped' ? ['dropped', 'a'] : [kind, why])));
-    assert.deepEqual((await keeper.list()).map((one) => one.id), ['c', 'b']);
+    assert.deepEqual(said, [['kept', ''], ['kept', ''], ['failed', 'full']]);
+    assert.deepEqual((await keeper.cards()).map((one) => one.id), ['b', 'a']);
+    assert.equal((await keeper.record('a')).name, 'tree');
+    await keeper.put({ ...record('a', 4), name: 'x'.repeat(size * 2) });
+    assert.equal((await keeper.record('a')).when, 1, 'the record before stays where the new one is refused');
 });
 
 test('a shelf that refuses, and one that does not last, are told', async () => {
     const said = [];
-    await new Keeper({ ...memoryShelf(), lasts: true, put: async () => { throw new Error('no'); } }, (one) => said.push([one.kind, one.why])).put(record('a', 1));
+    await new Keeper({ ...memoryShelf(), lasts: true, putAll: async () => { throw new Error('no'); } }, (one) => said.push([one.kind, one.why])).put(record('a', 1));
     await new Keeper(memoryShelf(), (one) => said.push([one.kind, one.why])).put(record('a', 1));
     assert.deepEqual(said, [['failed', 'refused'], ['failed', 'none']]);
+});
+
+test('pictures are renamed, copied, taken away and brought back', async () => {
+    const keeper = new Keeper(memoryShelf(), () => {});
+    await keeper.put(recordOf(benchOf(painted(emptyDoc(3, 2), 0), [emptyDoc(3, 2)]), 'a', 1), { verdict: 'unique' });
+    await keeper.rename('a', 'leaf');
+    const copy = await keeper.duplicate('a', 'leaf copy');
+    assert.deepEqual((await keeper.cards()).map(({ name, verdict, isSaved }) => [name, verdict, isSaved]), [['leaf copy', 'unique', false], ['leaf', 'unique', false]]);
+    assert.deepEqual([(await keeper.record(copy)).strokes.past.length, (await keeper.record('a')).name], [1, 'leaf']);
+    const gone = await keeper.drop('a');
+    assert.deepEqual([(await keeper.cards()).map((card) => card.id), await keeper.record('a')], [[copy], null]);
+    await keeper.restore(gone);
+    assert.equal((await keeper.record('a')).doc.picture[0], 'a..');
+    assert.equal((await keeper.cards()).length, 2);
+});
+
+test('a card that is missing or damaged is made of its record', async () => {
+    const keeper = new Keeper(memoryShelf(), () => {});
+    await keeper.put(record('a', 1), { verdict: 'unique' });
+    await keeper.put(record('b', 2));
+    await keeper.shelf.drop('card:a');
+    await keeper.shelf.put('card:b', { id: 'b', doc: { rows: 1e9 } });
+    await keeper.shelf.put('work:bad', { version: 2, id: 'bad', doc: null });
+    assert.deepEqual((await keeper.cards()).map(({ id, verdict }) => [id, verdict]), [['b', null], ['a', null]]);
+});
+
+test('an archive of all, and back', async () => {
+    assert.equal(crcOf(new TextEncoder().encode('123456789')), 0xcbf43926); // the check value of CRC-32
+    const docs = [{ ...painted(emptyDoc(3, 2), 1), about: { title: 'Tr\u00e4um <1>' }, givens: new Set([4]), locks: new Set([1]) }, emptyDoc(2, 5)];
+    const bytes = archiveOf([{ name: 'leaf', doc: docs[0] }, { name: 'Leaf', doc: docs[1] }, { name: 'a/b: "c"', doc: docs[1] }]);
+    assert.deepEqual((await readZip(bytes)).map((file) => file.name), ['leaf.xml', 'Leaf 2.xml', 'a b   c.xml']);
+    const { docs: back, unread } = await readArchive(bytes);
+    assert.deepEqual([back.map((one) => one.name), unread], [['leaf', 'Leaf 2', 'a b   c'], []]);
+    assert.deepEqual([back[0].doc.picture, back[0].doc.about.title, [...back[0].doc.givens], [...back[0].doc.locks]], [docs[0].picture, 'Tr\u00e4um <1>', [4], [1]]);
+    assert.deepEqual(bytes, archiveOf([{ name: 'leaf', doc: docs[0] }, { name: 'Leaf', doc: docs[1] }, { name: 'a/b: "c"', doc: docs[1] }]));
+});
+
+test('archives of others: what is no puzzle is left, what is damaged is refused', async () => {
+    const text = (one) => new TextEncoder().encode(one);
+    const bytes = writeZip([{ name: 'x/', bytes: text('') }, { name: 'x/one.ppm', bytes: text('P3 2 1 255 255 255 255 0 0 0') }, { name: 'notes.txt', bytes: text('hello') }, { name: 'bad.xml', bytes: text('<puzzle>') }]);
+    const { docs, unread } = await readArchive(bytes);
+    assert.deepEqual([docs.map((one) => [one.name, one.doc.picture]), unread], [[['one', ['.a']]], ['notes.txt', 'bad.xml']]);
+    const found = (sign) => Buffer.from(bytes).indexOf(sign);
+    for (const at of [found('P3 2'), found('PK\u0001\u0002'), found('PK\u0003\u0004'), bytes.length - 22]) await assert.rejects(readZip(bytes.map((byte, one) => (one === at ? byte ^ 85 : byte))), /damaged/);
+    await assert.rejects(readZip(text('PK')), /damaged/);
 });
 
 test('which shelf is opened', async () => {

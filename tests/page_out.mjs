@@ -5,21 +5,25 @@ import { join } from 'node:path';
 import { act, downloaded, drop, examples, fresh, isOpen, menu } from './page_hands.mjs';
 import { SLACK, ppmOf } from './page_trial.mjs';
 
-/** Ctrl+S downloads a P3 text under the document's name that opens as it was; then nothing asks on leaving. */
+/** Ctrl+S downloads an XML text under the document's name that opens as it was, texts and names too; then nothing asks on leaving. */
 export async function savedAsDownload({ browser, url, folder }) {
     const { page, trial, own } = await fresh(browser, url, folder, 'saved');
     await page.click('#new-go');
     await isOpen(page);
     await page.run(() => bench.stroke(['colour add 200 100 50', 'colour add 1 2 3', 'fill 2 2 4 9 b', 'pin 3 3']));
+    await page.run(() => bench.become((doc) => ({ ...doc, about: { title: 'A & B', author: 'C' }, inks: [{}, {}, { name: 'rust', sign: '%' }], locks: new Set([25]) })));
     await page.press('Control+s');
-    const { name, content } = await downloaded(page, own, '.ppm');
-    assert.equal(name, 'picture.ppm');
+    const { name, content } = await downloaded(page, own, '.xml');
+    assert.equal(name, 'picture.xml');
+    const page_ = () => page.run(() => [bench.state.about.title, bench.state.about.author, bench.state.inks[2].name, bench.state.inks[2].sign, [...bench.state.locks]]);
+    assert.deepEqual(await page_(), ['A & B', 'C', 'rust', '%', [25]]);
     const before = await trial.state();
     const dialogs = page.dialogs.length;
     await trial.load();
     assert.equal(page.dialogs.length, dialogs);
-    await drop(page, own, 'picture.ppm', content);
+    await drop(page, own, 'picture.xml', content);
     await isOpen(page);
+    assert.deepEqual(await page_(), ['A & B', 'C', 'rust', '%', [25]]);
     const after = await trial.state();
     assert.deepEqual([after.picture, after.colours, after.givens], [before.picture, before.colours, before.givens]);
     await page.close();
@@ -33,11 +37,11 @@ export async function savedAsSeen({ browser, url, folder }) {
     await trial.drag([[1, 1], [1, 2]]);
     await trial.drag([[1, 1], [3, 4]]);
     await page.press('Control+s');
-    assert.match((await downloaded(page, own, 'seen.ppm')).content.toString().replaceAll('255 255 255', '.').replaceAll('0 0 0', 'a').replaceAll('\n', ''), /\.{10}\.\.\.aa$/);
+    assert.match((await downloaded(page, own, 'seen.xml')).content.toString(), /\|\.{5}\|\n\|\.{5}\|\n\|\.\.\.XX\|/);
     assert.deepEqual(await trial.picture(), ['.....', '.....', '...aa']);
     assert.equal(await page.run(() => bench.isSaved), true);
-    await page.run(() => { bench.stroke(['paint 1 1 a']); runAction('export-xml'); });
-    assert.match((await downloaded(page, own, '.xml')).content.toString(), /\|X\.{4}\|/);
+    await page.run(() => { bench.stroke(['paint 1 1 a']); runAction('export-ppm'); });
+    assert.match((await downloaded(page, own, '.ppm')).content.toString(), /\n5 3\n255\n0 0 0\n255 255 255\n/);
     await page.close();
 }
 
@@ -65,7 +69,7 @@ export async function xml({ browser, url, folder }) {
     await drop(page, own, 'flower.ppm', readFileSync(new URL('flower.ppm', examples)));
     await isOpen(page);
     await page.run(() => {
-        keep.about = { title: '<img src=x onerror="window.bad = 1">' };
+        bench.become((doc) => ({ ...doc, about: { title: '<img src=x onerror="window.bad = 1">' } }));
         return bench.stroke(['pin 1 4', 'pin 2 1']);
     });
     await act(page, 'export-xml');
@@ -93,7 +97,7 @@ export async function exportsAndPrint({ browser, url, folder }) {
     await isOpen(page);
     assert.deepEqual((await trial.picture())[0], '..aaa.....');
     await menu(page, 'export-non');
-    assert.match((await downloaded(page, own, '.non')).content.toString(), /^width 10\nheight 5\nrows\n/);
+    assert.match((await downloaded(page, own, '.non')).content.toString(), /^title "Key"\nwidth 10\nheight 5\nrows\n/);
     await page.run(() => bench.stroke(['pin 1 3', 'pin 1 5']));
     await trial.judged();
     await act(page, 'certificate');

@@ -5,6 +5,7 @@ import { readFileSync, readdirSync } from 'node:fs';
 import { dirname, join, relative, resolve } from 'node:path';
 import { test } from 'node:test';
 import { fileURLToPath } from 'node:url';
+import '../page/test/limits.mjs';
 
 const page = fileURLToPath(new URL('../page/', import.meta.url));
 const ROOMS = ['base', 'document', 'formats', 'engine', 'draw', 'view', 'play', 'library', 'import', 'export', 'start']; // from below

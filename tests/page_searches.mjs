@@ -2,6 +2,7 @@
 // off. The pictures are worked by hand. Run: node --test tests/page_searches.mjs
 import assert from 'node:assert/strict';
 import { test } from 'node:test';
+import '../page/test/limits.mjs';
 import { cellsThatDiffer, givensFor, repaintsFor } from '../page/engine/fix.js';
 import { Searches } from '../page/engine/searches.js';
 import { crossedOff, isMet, marksOf } from '../page/play/crossing.js';

@@ -2,6 +2,7 @@
 // hand. Run: node --test tests/page_shapes.mjs
 import assert from 'node:assert/strict';
 import { test } from 'node:test';
+import '../page/test/limits.mjs';
 import { bucketCells, boxCells, boxOf, cutOut, lineCells, reordered, resized, rowsOfText, shifted, stamped, turned } from '../page/document/shapes.js';
 import { Geometry } from '../page/draw/geometry.js';
 

@@ -36,7 +36,7 @@ export async function kept({ browser, page, trial, url, folder }) {
     await again.page.close();
 }
 
-/** A damaged record is left out, and one whose strokes come to something else gives its picture. */
+/** A damaged record is left out, and one whose strokes are damaged gives its picture. */
 export async function damaged({ page, trial }) {
     await clean(page);
     await page.click('#new-go');
@@ -45,10 +45,10 @@ export async function damaged({ page, trial }) {
     await isKept(page);
     await page.run(async () => {
         const shelf = keep.keeper.shelf;
-        const [key] = await shelf.keys();
+        const key = (await shelf.keys()).find((one) => one.startsWith('work:'));
         const record = await shelf.get(key);
-        await shelf.put('work:bad', { version: 1, id: 'bad', now: { rows: 1e9 } });
-        await shelf.put(key, { ...record, strokes: { past: [['paint 5 5 a']], future: [] } });
+        await shelf.put('work:bad', { version: 2, id: 'bad', doc: { rows: 1e9 } });
+        await shelf.put(key, { ...record, past: [{ rows: [[99, 'x']] }] });
     });
     await trial.load();
     await page.until(() => document.querySelector('#kept .kept'), 5000 * SLACK);
@@ -58,10 +58,10 @@ export async function damaged({ page, trial }) {
     await page.until(() => bench.state.picture[1] === '.a..................', 5000 * SLACK);
     await isKept(page);
     assert.doesNotMatch(await said(page), /another tab/);
-    assert.equal(await page.run(async () => (await keep.keeper.list()).length), 1);
+    assert.equal(await page.run(async () => (await keep.keeper.cards()).length), 1);
 }
 
-/** Two tabs have a picture each; where both would keep the same one the second says so. */
+/** Two tabs have a picture each; where both would keep the same one the second says so, and adds a copy only once it changes. */
 export async function tabsApart({ browser, page, trial, url, folder }) {
     await clean(page);
     await page.click('#new-go');
@@ -72,11 +72,18 @@ export async function tabsApart({ browser, page, trial, url, folder }) {
     await goOn(other.page);
     await isOpen(other.page);
     await other.page.until(() => document.getElementById('said').textContent.includes('open in another tab'), 5000 * SLACK);
+    for (let again = 0; again < 3; again++) {
+        await other.page.run(() => runAction('new'));
+        await goOn(other.page);
+        await other.page.until(() => document.getElementById('start').hidden, 5000 * SLACK);
+        await isKept(other.page);
+    }
+    assert.equal(await page.run(async () => (await keep.keeper.cards()).length), 1, 'opened again and again it is one picture');
     await other.drag([[5, 5]]);
     await isKept(other.page);
     await trial.drag([[7, 7]]);
     await isKept(page);
-    const names = await page.run(async () => (await keep.keeper.list()).map((record) => record.now.picture.join('').replaceAll('.', '').length));
+    const names = await page.run(async () => (await keep.keeper.cards()).map((card) => card.doc.picture.join('').replaceAll('.', '').length));
     assert.deepEqual(names, [2, 2]);
     await other.page.close();
 }

@@ -125,7 +125,7 @@ export async function refusedFiles({ page, folder }) {
     for (const [name, [content, wanted]] of Object.entries(tries)) {
         await page.run(() => { document.getElementById('said').textContent = ''; });
         await drop(page, folder, name, content);
-        await page.until(() => document.getElementById('said').textContent.includes('not opened'), 10000 * SLACK);
+        await page.until(() => document.getElementById('said').textContent.includes('could not be opened'), 10000 * SLACK);
         assert.match(await said(page), wanted, name);
         assert.equal(await page.run(() => bench.state), null, name);
     }
@@ -159,7 +159,7 @@ export async function droppedOnDialogs({ page, folder, trial }) {
     await opened('pasted');
     await page.run(() => runAction('keys'));
     await drop(page, folder, 'none.bin', 'x'.padEnd(20, '\0'));
-    await page.until(() => document.getElementById('said').textContent.includes('none.bin is not opened'), 5000 * SLACK);
+    await page.until(() => document.getElementById('said').textContent.includes('“none.bin” could not be opened'), 5000 * SLACK);
 }
 
 /** Clues without a goal open, and a search that would not end is stopped. */
@@ -171,7 +171,7 @@ export async function cluesAlone({ browser, url, folder }) {
     // Two cells in each line of 60 by 60 but the last, which has three: no picture has as many cells by rows as by columns.
     const lines = (last) => [...Array(59).fill('1,1'), last].join('\n');
     await drop(page, own, 'none.non', `width 60\nheight 60\nrows\n${lines('1,1')}\ncolumns\n${lines('1,1,1')}\n`);
-    await page.until(() => document.querySelector('dialog[open]')?.textContent.includes('searched for'), 8000 * SLACK);
+    await page.until(() => document.querySelector('dialog[open]')?.textContent.includes('Searching for a picture'), 8000 * SLACK);
     await page.press('Enter');
     await page.until(() => document.getElementById('said').textContent.includes('stopped'), 2000 * SLACK);
     assert.deepEqual(await trial.picture(), ['aaa', '.a.']);

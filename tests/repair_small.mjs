@@ -2,12 +2,11 @@
 // answers by brute force, too. Run: node --test tests/repair_small.mjs
 import assert from 'node:assert/strict';
 import { test } from 'node:test';
-import { clueOf } from '../page/grade/lines.mjs';
-import { Narrowing, Puzzle, cellsOf, mapOf } from '../page/grade/puzzle.mjs';
-import { Board } from '../page/repair/board.mjs';
-import { give, repair } from '../page/repair/repair.mjs';
-import { settle } from '../page/repair/search.mjs';
-import { haveSameClue } from '../page/repair/witness.mjs';
+import { clueOf } from '../page/grade/lines.js';
+import { Narrowing, Puzzle, cellsOf, mapOf } from '../page/grade/puzzle.js';
+import { Board } from '../page/repair/board.js';
+import { give, repair } from '../page/repair/repair.js';
+import { haveSameClue } from '../page/repair/witness.js';
 
 const LETTERS = '.abc';
 function random(seed) {
@@ -48,7 +47,7 @@ class AllPictures {
     }
 
     isByLines(cells, givens = []) {
-        return settle(new Narrowing(new Puzzle(this.rows, this.columns, cells, givens))).open === 0;
+        return new Narrowing(new Puzzle(this.rows, this.columns, cells, givens)).settle().open === 0;
     }
 }
 
@@ -64,7 +63,7 @@ function sessionOf(all, cells) {
         pin: (words) => { pins.add(index(words)); return 'ok'; },
         unpin: (words) => { pins.delete(index(words)); return 'ok'; },
         allow: () => 'ok',
-        map: () => mapOf(settle(new Narrowing(new Puzzle(all.rows, all.columns, shown, pins)))).join('\n'),
+        map: () => mapOf(new Narrowing(new Puzzle(all.rows, all.columns, shown, pins)).settle()).join('\n'),
         verdict: () => {
             const far = (one) => one.reduce((count, colour, at) => count + (colour === shown[at] ? 0 : 1), 0);
             const [other] = all.others(shown, [...pins]).sort((one, two) => far(two) - far(one));

@@ -7,6 +7,7 @@ import { createHash } from 'node:crypto';
 import { existsSync, mkdirSync, readFileSync, writeFileSync, copyFileSync, rmSync } from 'node:fs';
 import { join } from 'node:path';
 import { gzipSync } from 'node:zlib';
+import { limitsOf } from './limits.mjs';
 
 const [root, folder, entry = join(root, 'page', 'main.js')] = process.argv.slice(2);
 const EXAMPLES = ['heart', 'mushroom', 'boat'];
@@ -29,7 +30,7 @@ function bundled(file, ...words) {
   return stdout.trimEnd();
 }
 
-const script = (file) => bundled(file, '--format=iife');
+const script = (file) => bundled(file, '--format=iife', `--define:LIMITS=${JSON.stringify(limitsOf(root))}`);
 const hashOf = (text) => `'sha256-${createHash('sha256').update(text).digest('base64')}'`;
 
 // What the page may do: it runs its own script and style alone, known by their hashes, and fetches nothing.

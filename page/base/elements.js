@@ -29,10 +29,14 @@ export const withoutGestures = (element) => element.addEventListener('touchstart
 
 let saidTimer = 0;
 
-/** Says something to the user, in the line at the top: `kind` is '' or 'alarm'. An alarm stays until it is clicked or something else is said. */
-export function say(text, kind = '') {
+/**
+ * Says something to the user, in the line at the top: `kind` is '' or 'alarm'. An alarm stays until it is clicked or something else is
+ * said; so does what has an `action`, {name, run}, a button beside the text.
+ */
+export function say(text, kind = '', action = null) {
   clearTimeout(saidTimer);
-  $('said').dataset.kind = kind;
-  $('said').textContent = text;
-  if (text && !kind) saidTimer = setTimeout(() => say(''), 8000);
+  const line = $('said');
+  line.dataset.kind = kind;
+  line.replaceChildren(text, ...(action ? [' ', make('button', { type: 'button', onclick: action.run }, action.name)] : []));
+  if (text && !kind && !action) saidTimer = setTimeout(() => say(''), 8000);
 }

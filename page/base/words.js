@@ -4,5 +4,8 @@ export const number = (count) => count.toLocaleString('en');
 export const many = (count, what) => `${number(count)} ${what}${count === 1 ? '' : 's'}`;
 export const clamp = (value, least, most) => Math.max(least, Math.min(most, value));
 
+/** A name without what no file name may have. */
+export const cleanName = (name) => (name ?? '').replace(/[\u0000-\u001f\\/:*?"<>|]/g, ' ').trim().slice(0, 80).replace(/\.+$/, '') || 'picture';
+
 /** A file's name without its ending and without what no file name may have. */
-export const bareName = (name) => (name ?? '').replace(/\.[A-Za-z0-9]{1,5}$/, '').replace(/[\u0000-\u001f\\/:*?"<>|]/g, ' ').trim().slice(0, 80) || 'picture';
+export const bareName = (name) => cleanName((name ?? '').replace(/\.[A-Za-z0-9]{1,5}$/, ''));

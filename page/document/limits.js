@@ -1,8 +1,9 @@
-// The limits of a document, the letters of its colours, and what a file that passes them is told.
+// The limits of a document, as the crates have them, and the letters of its colours. The build puts LIMITS in (web/limits.mjs).
 
-export const MOST_CELLS = 120; // of a puzzle, a side
-export const MOST_COLOURS = 16; // of a puzzle, with the background
-export const LETTERS = '.abcdefghijklmno';
+export const MOST_CELLS = LIMITS.side; // rows or columns
+export const MOST_COLOURS = LIMITS.colours; // with the background
+export const HISTORY = LIMITS.history; // commands that a bench can take back
+export const LETTERS = '.abcdefghijklmno'.slice(0, MOST_COLOURS);
 
 /** A file that is not read; the message is for the user. */
 export class FileFault extends Error {}

@@ -1,7 +1,7 @@
 // Shapes and turns, worked out on rows of letters: what a line, a rectangle or a bucket touches, and what becomes of a picture
 // that is mirrored, turned, shifted or made larger or smaller.
 
-import { LETTERS } from './limits.js';
+import { LETTERS, MOST_CELLS } from './limits.js';
 
 /** The places (row, column) on the way from one cell to another. */
 export function lineCells(from, to) {
@@ -52,7 +52,7 @@ export function bucketCells(picture, start) {
 // A document whose cell at (row, column) is the one that `from(row, column)` names in the old one, or background.
 function remade(doc, rows, columns, from) {
   const picture = [];
-  const givens = new Set();
+  const [givens, locks] = [new Set(), new Set()];
   for (let row = 0; row < rows; row++) {
     let text = '';
     for (let col = 0; col < columns; col++) {
@@ -60,10 +60,11 @@ function remade(doc, rows, columns, from) {
       const isInside = r >= 0 && c >= 0 && r < doc.rows && c < doc.columns;
       text += isInside ? doc.picture[r][c] : '.';
       if (isInside && doc.givens.has(r * doc.columns + c)) givens.add(row * columns + col);
+      if (isInside && doc.locks?.has(r * doc.columns + c)) locks.add(row * columns + col);
     }
     picture.push(text);
   }
-  return { ...doc, rows, columns, picture, givens };
+  return { ...doc, rows, columns, picture, givens, locks };
 }
 
 const TURNS = {
@@ -106,7 +107,7 @@ export function stamped(picture, rows, top, left) {
 export function rowsOfText(text, colours) {
   const rows = text.replaceAll('\r', '').split('\n').map((row) => row.trimEnd().replaceAll(' ', '.')).filter((row) => row !== '');
   const known = LETTERS.slice(0, colours);
-  if (!rows.length || rows.length > 120 || rows.some((row) => row.length > 120 || [...row].some((letter) => !known.includes(letter)))) return null;
+  if (!rows.length || rows.length > MOST_CELLS || rows.some((row) => row.length > MOST_CELLS || [...row].some((letter) => !known.includes(letter)))) return null;
   const columns = Math.max(...rows.map((row) => row.length));
   return rows.map((row) => row.padEnd(columns, '.'));
 }
@@ -115,5 +116,6 @@ export function rowsOfText(text, colours) {
 export function reordered(doc, order, into = 0) {
   const to = doc.colours.map((_, at) => (order.includes(at) ? order.indexOf(at) : order.indexOf(into)));
   const letters = to.map((at) => LETTERS[at]);
-  return { ...doc, colours: order.map((at) => doc.colours[at]), picture: doc.picture.map((row) => [...row].map((letter) => letters[LETTERS.indexOf(letter)]).join('')) };
+  const inks = (doc.inks ?? []).length ? order.map((at) => doc.inks[at] ?? {}) : [];
+  return { ...doc, inks, colours: order.map((at) => doc.colours[at]), picture: doc.picture.map((row) => [...row].map((letter) => letters[LETTERS.indexOf(letter)]).join('')) };
 }

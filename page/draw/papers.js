@@ -3,7 +3,7 @@
 
 import { make } from '../base/elements.js';
 import { lightness } from '../document/colours.js';
-import { eightBitDoc } from '../document/docs.js';
+import { eightBitDoc } from '../document/document.js';
 import { LETTERS } from '../document/limits.js';
 
 const PAPER_INK = '#1a1a1a';

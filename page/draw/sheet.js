@@ -3,8 +3,8 @@
 
 import { $, make } from '../base/elements.js';
 import { on, tell } from '../base/events.js';
+import { docOf } from '../document/document.js';
 import { LETTERS } from '../document/limits.js';
-import { docOf } from '../document/mirror.js';
 import { bench } from '../engine/bench.js';
 import { Cells, GIVEN, HATCHED, RIVAL } from './cells.js';
 import { Geometry } from './geometry.js';
@@ -81,8 +81,8 @@ class Sheet {
 
   // The document with the strokes that wait, where it has the size of the state.
   update() {
-    const doc = bench.state ? bench.expected() : null;
-    this.doc = doc && doc.rows === this.state.rows && doc.columns === this.state.columns ? { ...doc, colours: this.state.colours.length >= doc.colours.length ? this.state.colours : doc.colours } : docOf(this.state);
+    const doc = bench.state ? bench.seen() : null;
+    this.doc = doc && doc.rows === this.state.rows && doc.columns === this.state.columns ? doc : docOf(this.state);
     this.isAhead = this.doc.picture.some((row, at) => row !== this.state.picture[at]);
   }
 

@@ -1,7 +1,7 @@
 // Canvases of pixels, and documents drawn small on them.
 
 import { make } from '../base/elements.js';
-import { eightBitDoc } from '../document/docs.js';
+import { eightBitDoc } from '../document/document.js';
 import { LETTERS } from '../document/limits.js';
 
 /** The pen of a new canvas whose pixels are read back. */

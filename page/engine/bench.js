@@ -1,13 +1,14 @@
 // The document at hand: strokes and questions go to the first worker as lines of a session, one text at a time, and what it
-// answers is all that is shown. Strokes are kept beside it, so that a worker that ended is replaced and nothing is lost.
+// answers is all that is shown. Documents are kept beside it, so that a worker that ended is replaced and nothing is lost.
 
 import { tell } from '../base/events.js';
-import { baseOf, docBehind, docOf, linesTo, mirrored, sameDoc } from '../document/mirror.js';
+import { baseOf, linesTo, pageAfter, withCells } from '../document/cover.js';
+import { docOf, pageOf, sameBenchPart, sameDoc } from '../document/document.js';
+import { HISTORY } from '../document/limits.js';
 import { answersTo } from './answers.js';
 import { EngineFault, startEngine } from './client.js';
-import { HISTORY, openedIn, stateOf, strokesBehind } from './opening.js';
+import { openedIn, stateOf } from './opening.js';
 
-const MOST_LINES = 2000; // of one text
 const MOST_STROKES = 400; // that can be taken back
 const MOST_PAINTED = 400; // commands to paint a document back; where it takes more it is opened anew
 const FIRST_MS = 40; // what a verdict may take in the first worker: the rest is searched in the second
@@ -17,88 +18,111 @@ export class Bench {
   constructor(make = startEngine) {
     this.make = make;
     this.engine = null;
-    this.state = null; // what the bench reported last, or null where nothing is open
+    this.state = null; // what the bench reported last with the page's part of the document, or null where nothing is open
     this.name = 'picture'; // of the file, without an ending
-    this.base = null; // {text, format, background, lines}: how the document is opened
-    this.past = []; // strokes: {lines, opens, live, before, after}; `live` where the bench's own history holds it
+    this.past = []; // strokes: {lines, live, before, after}, documents; `live` where the bench's own history holds it
     this.future = [];
     this.queue = [];
     this.running = false;
     this.term = {}; // another one for each document that is opened
     this.splits = FIRST_SPLITS;
-    this.isSaved = true;
+    this.savedDoc = null; // the document as a file has it
+    this.searched = null; // the picture whose verdict was searched for here
+  }
+
+  /** Whether the document is as a file has it. */
+  get isSaved() {
+    return this.state === null || (this.savedDoc !== null && sameDoc(this.savedDoc, this.state));
+  }
+
+  /** A document is in a file from now on. */
+  saved(doc) {
+    this.savedDoc = doc;
   }
 
   // ---- opening
 
   /**
-   * Opens a document in place of the present one: `base` is {text, format, background, lines}. Rejects with an EngineFault
-   * or TextFault, and then the present one stays. `strokes` are those that `kept` gave.
+   * Opens a document in place of the present one: `base` is {text, background, lines}, `page` what the page alone keeps of it.
+   * Rejects with an EngineFault or TextFault, and then the present one stays. `strokes` are documents: those before each stroke
+   * that can be taken back, the first one first, and those after each that can be made again, the next one first.
    */
-  async open(base, { name = 'picture', strokes = { past: [], future: [] }, isSaved = true } = {}) {
+  async open(base, { name = 'picture', page = pageOf({}), strokes = { past: [], future: [] }, isSaved = true } = {}) {
     const engine = this.make();
-    const opened = { lines: [], ...base };
     try {
-      const made = await openedIn(engine, opened, strokes);
+      const state = await openedIn(engine, base, page);
       this.engine?.end();
       for (const item of this.queue.splice(0)) item.resolve([]);
-      Object.assign(this, { engine, name, isSaved, running: false, term: {}, ...made });
+      const docs = [...strokes.past, docOf(state), ...strokes.future];
+      const made = docs.slice(1).map((after, at) => ({ lines: [], live: false, before: docs[at], after }));
+      const [past, future] = [made.slice(0, strokes.past.length), made.slice(strokes.past.length).reverse()];
+      Object.assign(this, { engine, state, name, past, future, running: false, term: {}, savedDoc: isSaved ? docOf(state) : null, searched: null });
     } catch (fault) {
       engine.end();
       throw fault;
     }
     tell('opened', this);
-    this.show(this.state);
+    this.show();
     this.run();
     return this.state;
-  }
-
-  /** What is to be kept so that the document comes back with its strokes: as JSON takes it. */
-  kept() {
-    const entry = (stroke) => (stroke.opens ? { doc: { ...stroke.after, givens: [...stroke.after.givens] } } : stroke.lines);
-    return { base: this.base, name: this.name, strokes: { past: this.past.map(entry), future: [...this.future].reverse().map(entry) } };
   }
 
   close() {
     this.engine?.end();
     for (const item of this.queue.splice(0)) item.resolve([]);
-    Object.assign(this, { engine: null, state: null, base: null, past: [], future: [], running: false, term: {}, isSaved: true });
+    Object.assign(this, { engine: null, state: null, past: [], future: [], running: false, term: {}, savedDoc: null });
     tell('busy', false);
     tell('closed', null);
   }
 
   // ---- strokes
 
-  /** The document behind all strokes that wait. */
-  expected() {
-    return this.queue.reduce((doc, item) => item.doc ?? doc, docOf(this.state));
+  // Whether a document is open and no stroke waits: what would change nothing need not be sent then.
+  get isIdle() {
+    return this.state !== null && !this.queue.length;
   }
 
-  /** Sends the commands of one stroke: one undo takes it back. Resolves to their answers. */
-  stroke(lines) {
-    if (!lines.length || !this.state) return Promise.resolve([]);
-    const before = this.expected();
-    return this.put({ way: 'new', lines, doc: docBehind(before, lines) });
+  /** The document with the cells of strokes that wait, as these will paint them. */
+  seen() {
+    const doc = docOf(this.state);
+    const cells = this.queue.flatMap((item) => (item.cells && item.columns === doc.columns ? [...item.cells] : []));
+    return cells.length ? { ...doc, picture: withCells(doc.picture, cells) } : doc;
   }
 
-  /** Makes the document another one, as one stroke: by commands where they can, else it is opened anew. */
-  become(doc) {
-    if (!this.state) return Promise.resolve([]);
-    const lines = linesTo(this.expected(), doc, MOST_PAINTED);
-    return lines ? this.stroke(lines) : this.put({ way: 'become', lines: [], doc: docOf(doc) });
+  /**
+   * One stroke, which one undo takes back: commands, or what makes them of the document once it is their turn. `cells` are those
+   * that it paints, by places, which are shown until it is answered. Resolves to the answers.
+   */
+  stroke(lines, cells = null) {
+    const make = typeof lines === 'function' ? lines : () => lines;
+    if (this.isIdle && !make(docOf(this.state)).length) return Promise.resolve([]);
+    return this.put({ way: 'new', make, cells });
+  }
+
+  /** Makes the document another one, or what a function makes of it (null: nothing), as one stroke: by commands where they can, else it is opened anew. */
+  become(doc, cells = null) {
+    const make = typeof doc === 'function' ? doc : () => doc;
+    const made = this.isIdle ? make(docOf(this.state)) : null;
+    if (this.isIdle && (!made || sameDoc(docOf(made), this.state))) return Promise.resolve([]);
+    return this.put({ way: 'become', make, cells });
   }
 
   undo() {
-    return this.put({ way: 'undo', lines: [], doc: this.state && strokesBehind(this).past.at(-1)?.before });
+    return this.isIdle && !this.past.length ? Promise.resolve([{ kind: 'refused', name: 'UndoEmpty' }]) : this.put({ way: 'undo' });
   }
 
   redo() {
-    return this.put({ way: 'redo', lines: [], doc: this.state && strokesBehind(this).future.at(-1)?.after });
+    return this.isIdle && !this.future.length ? Promise.resolve([{ kind: 'refused', name: 'RedoEmpty' }]) : this.put({ way: 'redo' });
   }
 
-  /** Asks something that changes nothing; resolves to the answer. */
-  async ask(line) {
-    return (await this.put({ way: 'ask', lines: [line] }))[0];
+  /** Asks something that changes nothing: a line or several; resolves to the answers. */
+  ask(lines) {
+    return this.put({ way: 'ask', lines: [lines].flat() });
+  }
+
+  /** Resolves once all that waits is answered. */
+  async rest() {
+    while (this.queue.length) await this.queue.at(-1).done.catch(() => {});
   }
 
   /** Takes a verdict from elsewhere, where the picture is still that of `state`. */
@@ -110,11 +134,13 @@ export class Bench {
 
   put(item) {
     if (!this.state) return Promise.resolve([]);
-    const done = new Promise((resolve, reject) => Object.assign(item, { resolve, reject }));
+    item.columns = this.state.columns;
+    item.done = new Promise((resolve, reject) => Object.assign(item, { resolve, reject }));
+    item.done.catch(() => {});
     this.queue.push(item);
     if (item.way !== 'ask') tell('stroke', item);
     this.run();
-    return done;
+    return item.done;
   }
 
   // ---- sending
@@ -155,124 +181,106 @@ export class Bench {
 
   async next() {
     const [item] = this.queue;
-    if (item.way === 'ask') return this.answer(item, await this.said(item.lines));
-    if (item.way === 'new') return this.sendStrokes();
-    if (item.way === 'become') return this.sendBecome(item);
-    return this.sendUndo(item);
+    const { term } = this;
+    const answers = await { ask: () => this.said(item.lines), new: () => this.sendStroke(item), become: () => this.sendBecome(item), undo: () => this.sendTurn(item), redo: () => this.sendTurn(item) }[item.way]();
+    if (this.term !== term) return;
+    if (this.queue[0] === item) this.queue.shift();
+    if (item.way !== 'ask') this.show();
+    item.resolve(answers);
   }
 
   async said(lines) {
     return answersTo(lines, await this.engine.say(lines), this.state);
   }
 
-  answer(item, answers) {
-    const at = this.queue.indexOf(item);
-    if (at >= 0) this.queue.splice(at, 1);
-    item.resolve(answers);
-  }
-
-  // All strokes that wait, as far as one text takes them.
-  async sendStrokes() {
-    const items = [];
-    let count = 0;
-    for (const item of this.queue) {
-      count += item.lines.length;
-      if (item.way !== 'new' || (items.length && (count > MOST_LINES || items[0].failed))) break;
-      items.push(item);
-    }
-    const answers = await this.sent(items.flatMap((item) => item.lines));
-    let at = 0;
-    let doc = docOf(this.state);
-    for (const item of items) {
-      const mine = answers.answers.slice(at, (at += item.lines.length));
-      const lines = item.lines.filter((_, index) => mine[index].kind === 'ok');
-      const before = doc;
-      doc = lines.reduce(mirrored, doc);
-      if (lines.length) this.keep({ lines, live: lines.length <= HISTORY, before, after: doc });
-      item.mine = mine;
-    }
-    this.took(answers, doc);
-    for (const item of items) this.answer(item, item.mine);
-  }
-
   // Says commands and asks for what is to be shown; nothing is searched.
   async sent(lines, way = 'new') {
-    const all = [...lines, 'allow 0', 'report', 'verdict'];
     tell('sent', { way, lines });
-    const answers = await this.said(all);
+    const { term } = this;
+    const answers = await this.said([...lines, 'allow 0', 'report', 'verdict']);
+    if (this.term !== term) throw new EngineFault({ kind: 'closed', text: 'another document is open' });
     const [report, verdict] = answers.slice(-2);
     const refused = [report, verdict].find((one) => one.kind === 'refused');
     if (refused) throw new EngineFault({ kind: 'memory', text: refused.name });
-    return { answers, report, verdict };
+    return { answers: answers.slice(0, lines.length), report, verdict };
+  }
+
+  async sendStroke(item) {
+    const before = docOf(this.state);
+    return this.sendLines(item.make(before), before, null);
+  }
+
+  // Commands as one stroke; `page` is what the page alone keeps after it, where that does not follow from the commands.
+  async sendLines(lines, before, page) {
+    if (!lines.length) return [];
+    const { answers, report, verdict } = await this.sent(lines);
+    const done = lines.filter((_, at) => answers[at].kind === 'ok');
+    this.state = stateOf(report, verdict, this.state, page ?? { ...pageOf(before), ...pageAfter(before, done) });
+    if (done.length) this.keep({ lines: done, live: done.length <= HISTORY, before, after: docOf(this.state) });
+    return answers;
+  }
+
+  async sendBecome(item) {
+    const before = docOf(this.state);
+    const made = item.make(before);
+    const doc = made && docOf(made);
+    if (!doc || sameDoc(doc, before)) return [];
+    const lines = linesTo(before, doc, MOST_PAINTED);
+    if (lines?.length) return this.sendLines(lines, before, pageOf(doc));
+    await this.makeDoc(doc);
+    this.keep({ lines: [], live: lines !== null, before, after: docOf(this.state) });
+    return [{ kind: 'ok' }];
   }
 
   keep(stroke) {
     this.past.push(stroke);
     this.future = [];
+    if (this.past.length > MOST_STROKES) this.past.shift();
     // The bench's history holds so many commands: older strokes are painted back.
     let count = 0;
     for (let at = this.past.length - 1; at >= 0; at--) {
       count += this.past[at].lines.length;
       if (count > HISTORY) this.past[at].live = false;
     }
-    if (this.past.length > MOST_STROKES + 50) this.base = baseOf(this.past.splice(0, 50).at(-1).after);
   }
 
-  took({ report, verdict }, doc) {
-    const before = this.state;
-    this.state = stateOf(report, verdict, before);
-    if (!sameDoc(doc, this.state)) { // not what was worked out beside it: the report counts
-      for (const stroke of [...this.past, ...this.future]) stroke.live = false;
-      if (this.past.length) this.past.at(-1).after = docOf(this.state);
-    }
-    this.isSaved = false;
-    this.show(this.state);
+  show() {
+    tell('shown', this.state);
   }
 
-  show(state) {
-    tell('shown', state);
-  }
-
-  async sendUndo(item) {
+  async sendTurn(item) {
     const isUndo = item.way === 'undo';
     const stroke = (isUndo ? this.past : this.future).at(-1);
-    if (!stroke) return this.answer(item, [{ kind: 'refused', name: isUndo ? 'UndoEmpty' : 'RedoEmpty' }]);
+    if (!stroke) return [{ kind: 'refused', name: isUndo ? 'UndoEmpty' : 'RedoEmpty' }];
     const doc = isUndo ? stroke.before : stroke.after;
-    if (stroke.live) {
-      const answers = await this.sent(stroke.lines.map(() => item.way), item.way);
-      this.turn(isUndo, stroke);
-      this.took(answers, doc);
-      return this.answer(item, answers.answers.slice(0, 1));
+    if (stroke.live && stroke.lines.length) {
+      const { report, verdict } = await this.sent(stroke.lines.map(() => item.way), item.way);
+      this.state = stateOf(report, verdict, this.state, pageOf(doc));
     }
-    for (const one of [...this.past, ...this.future]) one.live = false;
-    await this.makeDoc(doc, () => this.turn(isUndo, stroke));
-    return this.answer(item, [{ kind: 'ok' }]);
-  }
-
-  turn(isUndo, stroke) {
+    if (!sameBenchPart(doc, this.state) || !stroke.live) await this.makeDoc(doc);
+    else this.state = { ...this.state, ...pageOf(doc) };
     (isUndo ? this.past : this.future).pop();
     (isUndo ? this.future : this.past).push(stroke);
+    return [{ kind: 'ok' }];
   }
 
-  async sendBecome(item) {
-    const before = docOf(this.state);
-    for (const one of [...this.past, ...this.future]) one.live = false;
-    await this.makeDoc(item.doc, () => this.keep({ lines: [], opens: true, live: false, before, after: item.doc }));
-    this.answer(item, [{ kind: 'ok' }]);
-  }
-
-  // Makes the bench's document this one: by commands where a few do, else by opening it.
-  async makeDoc(doc, done) {
+  // Makes the bench's document this one: by commands where a few do, else by opening it. Its history then begins here.
+  async makeDoc(doc) {
     const lines = linesTo(docOf(this.state), doc, MOST_PAINTED);
-    if (lines) {
-      const answers = await this.sent(lines);
-      done();
-      return this.took(answers, doc);
+    if (lines && !lines.length) {
+      this.state = { ...this.state, ...pageOf(doc), changed: { rows: new Set(), columns: new Set() } };
+      return;
     }
-    const base = baseOf(doc);
-    const { state } = await openedIn(this.engine, base, { past: [], future: [] });
-    done();
-    return this.took({ report: { ...state, givens: [...state.givens].map((index) => [Math.floor(index / state.columns) + 1, (index % state.columns) + 1]) }, verdict: state.verdict }, doc);
+    for (const one of [...this.past, ...this.future]) one.live = false;
+    if (lines) {
+      const { report, verdict } = await this.sent(lines);
+      this.state = stateOf(report, verdict, this.state, pageOf(doc));
+      if (sameBenchPart(doc, this.state)) return;
+    }
+    const { term } = this;
+    const opened = await openedIn(this.engine, baseOf(doc), pageOf(doc));
+    if (this.term !== term) throw new EngineFault({ kind: 'closed', text: 'another document is open' });
+    this.state = opened;
   }
 
   // ---- a worker that ended
@@ -286,18 +294,18 @@ export class Bench {
     this.engine.end();
     this.engine = this.make();
     try {
-      const { state } = await openedIn(this.engine, baseOf(docOf(this.state)), { past: [], future: [] });
+      const state = await openedIn(this.engine, baseOf(this.state), pageOf(this.state));
       if (this.term !== term) return;
       for (const one of [...this.past, ...this.future]) one.live = false;
       this.state = state;
       if (!item) this.searched = state.picture; // it was the search that failed
       tell('recovered', fault);
-      this.show(state);
+      this.show();
     } catch (again) {
       if (this.term !== term) return;
       for (const one of this.queue.splice(0)) one.reject(again);
       this.searched = this.state.picture;
-      this.show(this.state); // without the strokes that waited
+      this.show(); // without the strokes that waited
       tell('lost', again);
     }
   }

@@ -81,8 +81,9 @@ export class Client {
     return this.call('say', { lines: Array.isArray(lines) ? lines.map((line) => `${line}\n`).join('') : lines });
   }
 
-  check(picture, certificate, background) {
-    return this.call('check', { picture, certificate, background });
+  /** Checks a certificate of a P3 picture; `givens` are the cells that the puzzle gives, [row, column] from 1. */
+  check(picture, certificate, { background, givens }) {
+    return this.call('check', { picture, certificate, background, givens });
   }
 
   end(text = 'the worker was ended') {

@@ -1,7 +1,8 @@
 // Searches that may take long: one at a time, in a second worker on a copy of the document. One is ended by ending that
 // worker, so that a stroke never waits for it.
 
-import { baseOf, docOf } from '../document/mirror.js';
+import { baseOf } from '../document/cover.js';
+import { docOf } from '../document/document.js';
 import { answersTo } from './answers.js';
 
 const TICK = 250; // milliseconds between two looks at the clock

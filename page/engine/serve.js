@@ -18,8 +18,8 @@ export function serve(scope, load) {
     say({ lines }) {
       return opened.say(lines);
     },
-    check({ picture, certificate, background }) {
-      return engine.check(picture, certificate, { background });
+    check({ picture, certificate, background, givens }) {
+      return engine.check(picture, certificate, { background, givens });
     },
     close() {
       opened?.close();

@@ -4,26 +4,34 @@
 import { $, make, say } from '../base/elements.js';
 import { bareName, clamp, many } from '../base/words.js';
 import { nameOf, plainHexOf } from '../document/colours.js';
-import { eightBitDoc } from '../document/docs.js';
+import { docOf, eightBitDoc, sameDoc } from '../document/document.js';
 import { LETTERS } from '../document/limits.js';
-import { docOf, sameDoc } from '../document/mirror.js';
 import { canvasOfPaper, paperOf, svgOfPaper, svgPart } from '../draw/papers.js';
 import { drawSmall } from '../draw/small.js';
 import { bench } from '../engine/bench.js';
 import { keep } from '../library/keep.js';
-import { SAVE_TYPES, exportAs, saved, saving, showFileName, textAs } from '../library/saving.js';
+import { SAVE_TYPES, download, exportAs, saved, saving, showFileName, textAs } from '../library/saving.js';
 import { addAction, runAction } from '../view/actions.js';
 import { openDialog } from '../view/dialogs.js';
-import { asSeen } from '../view/tools.js';
+import { asSeen, heard } from '../view/tools.js';
 import { certificateText } from '../view/verdict.js';
 
 const PNG_SIDE = 1600; // pixels that the longer side of a PNG comes near to
 const puzzleAtHand = () => ({ doc: docOf(bench.state), clues: bench.state.clues });
 const pngCell = ({ rows, columns }) => clamp(Math.floor(PNG_SIDE / Math.max(rows, columns)), 8, 32);
 
-function exportPng(canvas, suffix) {
-  canvas.toBlob((blob) => (blob ? exportAs('png', blob, suffix) : say('The browser made no PNG of it.', 'alarm')), 'image/png');
+function exportPng(canvas, suffix, more = '') {
+  canvas.toBlob((blob) => (blob ? exportAs('png', blob, suffix, more) : say('The browser made no PNG of it.', 'alarm')), 'image/png');
 }
+
+// What somebody who solves the puzzle should not be left to find out.
+const WARNINGS = {
+  ambiguous: 'Another picture has the same clues. “Fix it” in the menu Check makes this one the only solution.',
+  undecided: 'It is not known yet whether this picture is the only solution.',
+};
+
+// The warning that goes with a puzzle that leaves the page, after a blank; '' where it has one solution.
+const warningText = () => (WARNINGS[bench.state.verdict.word] ? ` ${WARNINGS[bench.state.verdict.word]}` : '');
 
 /** The picture, some pixels a cell, without lines. */
 async function exportPicture(side) {
@@ -37,7 +45,7 @@ async function exportPicture(side) {
 async function exportEmpty() {
   await asSeen();
   const { doc, clues } = puzzleAtHand();
-  exportPng(canvasOfPaper(paperOf({ doc, clues }, { cell: pngCell(doc) })), '-puzzle');
+  exportPng(canvasOfPaper(paperOf({ doc, clues }, { cell: pngCell(doc) })), '-puzzle', warningText());
 }
 
 async function exportText(form) {
@@ -45,8 +53,8 @@ async function exportText(form) {
   const doc = docOf(bench.state);
   const text = await textAs(form);
   if (text === null) return;
-  exportAs(form, text);
-  if (form !== 'non') saved(doc, bench.name + SAVE_TYPES[form].ending); // it holds all of the document
+  download(text, bench.name + SAVE_TYPES[form].ending, SAVE_TYPES[form].type);
+  saved(doc, bench.name + SAVE_TYPES[form].ending, form, warningText());
 }
 
 async function exportCertificate() {
@@ -75,26 +83,20 @@ function printedLegend(doc, letters) {
 /** Fills the part of the page that is printed: the puzzle, and on wish the solution on a second sheet. */
 function fillPrint({ title, letters, solution }) {
   const { doc, clues } = puzzleAtHand();
-  const by = keep.about.author ? `, by ${keep.about.author}` : '';
+  const by = doc.about.author ? `, by ${doc.about.author}` : '';
   const facts = `${doc.columns} by ${doc.rows}${doc.givens.size ? `, ${many(doc.givens.size, 'cell')} given` : ''}${by}`;
   const sheets = [make('section', { class: 'printed' }, make('h1', {}, title), make('p', {}, facts), svgOfPaper(paperOf({ doc, clues }, { letters })), printedLegend(doc, letters))];
   if (solution) sheets.push(make('section', { class: 'printed' }, make('h1', {}, `${title}: solution`), svgOfPaper(paperOf({ doc, clues }, { letters, solution: true, clues: false }))));
   $('print').replaceChildren(...sheets);
 }
 
-// What somebody who solves the sheet should not be left to find out.
-const PRINT_WARNINGS = {
-  ambiguous: 'Another picture has the same clues. “Fix it” in the menu Check makes this one the only solution.',
-  undecided: 'It is not known yet whether this picture is the only solution.',
-};
-
 async function printPuzzle() {
   await asSeen();
-  const title = make('input', { type: 'text', value: keep.about.title || bench.name, maxlength: '200' });
+  const title = make('input', { type: 'text', value: bench.state.about.title || bench.name, maxlength: '200' });
   const letters = make('input', { type: 'checkbox' });
   const solution = make('input', { type: 'checkbox', checked: true });
   const content = make('div', { class: 'rows' }, make('label', {}, 'Title', title), make('label', {}, letters, 'Letters in place of colours, for black and white'), make('label', {}, solution, 'The solution on a second sheet'));
-  const warning = PRINT_WARNINGS[bench.state.verdict.word];
+  const warning = WARNINGS[bench.state.verdict.word];
   if (warning) content.append(make('p', { class: 'wrong' }, warning));
   const go = await openDialog({ title: 'Print', content, buttons: [{ name: 'Print …', value: true, main: true }] });
   if (!go) return;
@@ -102,14 +104,20 @@ async function printPuzzle() {
   globalThis.print();
 }
 
-/** Asks for the title and the author, which go into the XML and on the printed sheet. */
+const ABOUT_FIELDS = { title: 'Title', author: 'Author', copyright: 'Copyright', description: 'Description', note: 'Note' };
+const LONG_FIELDS = ['description', 'note'];
+
+/** Asks for the texts about the puzzle, which go into its files and on the printed sheet, and for the name of the file. */
 async function askAbout() {
-  const fields = ['title', 'author', 'copyright', 'description'].map((name) => [name, make('input', { type: 'text', value: keep.about[name] ?? '', maxlength: '500' })]);
-  const content = make('div', { class: 'rows' }, ...fields.map(([name, input]) => make('label', {}, name[0].toUpperCase() + name.slice(1), input)));
+  const { about } = bench.state;
+  const field = (name) => (LONG_FIELDS.includes(name) ? make('textarea', { rows: 3, maxlength: '5000' }, about[name] ?? '') : make('input', { type: 'text', value: about[name] ?? '', maxlength: '500' }));
+  const fields = Object.keys(ABOUT_FIELDS).map((name) => [name, field(name)]);
   const file = make('input', { type: 'text', value: bench.name, maxlength: '80' });
-  content.append(make('label', {}, 'Name of the file', file));
+  const content = make('div', { class: 'rows' }, ...fields.map(([name, input]) => make('label', {}, ABOUT_FIELDS[name], input)), make('label', {}, 'Name of the file', file));
   if (!(await openDialog({ title: 'About the puzzle', content, buttons: [{ name: 'OK', value: true, main: true }] }))) return;
-  keep.about = Object.fromEntries(fields.map(([name, input]) => [name, input.value.trim()]));
+  const texts = Object.fromEntries(fields.map(([name, input]) => [name, input.value.trim()]).filter(([, text]) => text));
+  const without = (doc) => Object.fromEntries(Object.entries(doc.about).filter(([name]) => !(name in ABOUT_FIELDS)));
+  await heard(bench.become((doc) => ({ ...doc, about: { ...without(doc), ...texts } })));
   if (bareName(file.value) !== bench.name) saving.handle = null;
   bench.name = bareName(file.value);
   keep.now();
@@ -129,7 +137,7 @@ export function startExporting() {
   addAction({ id: 'print', name: 'Print …', key: 'Ctrl+P', place: 'file', group: 'print', run: printPuzzle });
   // What is opened by the browser's own print, without the dialog, is a sheet too.
   addEventListener('beforeprint', () => {
-    if (bench.state && !$('print').children.length) fillPrint({ title: keep.about.title || bench.name, letters: false, solution: true });
+    if (bench.state && !$('print').children.length) fillPrint({ title: bench.state.about.title || bench.name, letters: false, solution: true });
   });
   addEventListener('afterprint', () => $('print').replaceChildren());
 }

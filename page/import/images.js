@@ -2,16 +2,19 @@
 // size that its head tells, and an image cropped and scaled to cells. Samples are averaged as light, not as numbers.
 
 import { LIGHT_OF } from '../document/colours.js';
+import { LETTERS, MOST_CELLS, MOST_COLOURS } from '../document/limits.js';
 import { isBlankByte } from '../formats/ppm.js';
 
 const bytesBegin = (bytes, text, from = 0) => [...text].every((sign, at) => bytes[from + at] === sign.charCodeAt(0));
 
-/** What a file is, by its bytes alone: 'ppm', 'png', 'jpeg', 'gif', 'webp', 'xml', 'non' or null. */
+/** What a file is, by its bytes alone: 'ppm', 'png', 'jpeg', 'gif', 'webp', 'zip', 'cert', 'xml', 'non' or null. */
 export function kindOfFile(bytes) {
   if (bytesBegin(bytes, 'P3') || bytesBegin(bytes, 'P6')) return 'ppm';
   if (bytesBegin(bytes, '\u0089PNG\r\n\u001a\n')) return 'png';
   if (bytes[0] === 0xff && bytes[1] === 0xd8 && bytes[2] === 0xff) return 'jpeg';
   if (bytesBegin(bytes, 'GIF8')) return 'gif';
+  if (bytesBegin(bytes, 'PK\u0003\u0004') || bytesBegin(bytes, 'PK\u0005\u0006')) return 'zip';
+  if (bytesBegin(bytes, 'nonocert')) return 'cert';
   if (bytesBegin(bytes, 'RIFF') && bytesBegin(bytes, 'WEBP', 8)) return 'webp';
   let at = bytesBegin(bytes, '\u00ef\u00bb\u00bf') ? 3 : 0;
   while (at < bytes.length && isBlankByte(bytes[at])) at++;
@@ -130,4 +133,41 @@ export function dotSize({ width, height, data }) {
     }
   }
   return side;
+}
+
+export const isTransparent = (data, at) => data[at + 3] < 128;
+
+/**
+ * An image as a document, pixel by pixel, or null where it has too many pixels or colours for that. The background is
+ * what is transparent, shown white, else `background`, else white. Null too where the image has none of it, and where it
+ * has what is transparent and white besides: then the background is the user's choice.
+ */
+export function docOfImage({ width, height, data }, background = null) {
+  if (width > MOST_CELLS || height > MOST_CELLS) return null;
+  const ground = background ?? [255, 255, 255];
+  const groundKey = (ground[0] << 16) | (ground[1] << 8) | ground[2];
+  let clear = false;
+  for (let at = 0; at < data.length; at += 4) if (isTransparent(data, at)) clear = true;
+  const numbers = new Map([[groundKey, 0]]);
+  const colours = [ground];
+  let met = clear || background !== null;
+  let cells = '';
+  for (let at = 0; at < data.length; at += 4) {
+    if (isTransparent(data, at)) {
+      cells += '.';
+      continue;
+    }
+    const key = (data[at] << 16) | (data[at + 1] << 8) | data[at + 2];
+    if (key === groundKey && clear) return null;
+    if (key === groundKey) met = true;
+    if (!numbers.has(key)) {
+      if (colours.length === MOST_COLOURS) return null;
+      numbers.set(key, colours.length);
+      colours.push([data[at], data[at + 1], data[at + 2]]);
+    }
+    cells += LETTERS[numbers.get(key)];
+  }
+  if (!met) return null;
+  const picture = Array.from({ length: height }, (_, row) => cells.slice(row * width, (row + 1) * width));
+  return { rows: height, columns: width, maxval: 255, colours, picture, givens: new Set() };
 }

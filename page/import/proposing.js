@@ -1,8 +1,7 @@
 // What the dialog for pictures proposes of an image: its size in cells, how many colours, and the part without a margin.
 
-import { isTransparent } from '../document/docs.js';
 import { MOST_CELLS, MOST_COLOURS } from '../document/limits.js';
-import { dotSize, scaledTo } from './images.js';
+import { dotSize, isTransparent, scaledTo } from './images.js';
 import { MOST_POINTS } from './importing.js';
 import { flatColours, hasClear, hasFewColours, spotsOf } from './quantise.js';
 

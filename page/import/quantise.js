@@ -2,8 +2,8 @@
 // then a little k-means (Lloyd). Distances are taken in Oklab (Ottosson, 2020), where equal steps look equal.
 
 import { lightness, oklabOf } from '../document/colours.js';
-import { isTransparent } from '../document/docs.js';
 import { LETTERS, MOST_COLOURS } from '../document/limits.js';
+import { isTransparent } from './images.js';
 
 const KMEANS_ROUNDS = 8;
 const FLAT_SHARE = 0.01; // of the pixels: what a colour of a drawing has at least

@@ -2,35 +2,36 @@
 // many cells or colours goes through the dialog of importing.js.
 
 import { $, make, say } from '../base/elements.js';
-import { bareName } from '../base/words.js';
-import { docOfImage, docOfNotes } from '../document/docs.js';
+import { tell } from '../base/events.js';
+import { bareName, many } from '../base/words.js';
 import { FileFault } from '../document/limits.js';
-import { docOf } from '../document/mirror.js';
 import { penOf } from '../draw/small.js';
-import { answersTo } from '../engine/answers.js';
 import { startEngine } from '../engine/client.js';
-import { stateOf } from '../engine/opening.js';
-import { MOST_BYTES_READ, boundSides, readPpm } from '../formats/ppm.js';
-import { readWebpbn } from '../formats/webpbn.js';
+import { MOST_BYTES_READ, boundSides } from '../formats/ppm.js';
+import { keep } from '../library/keep.js';
 import { faultText, openDoc } from '../library/open.js';
+import { recordOfDoc } from '../library/records.js';
 import { isTyping } from '../view/actions.js';
 import { openDialog, openDialogs } from '../view/dialogs.js';
+import { takeArchive } from './archives.js';
+import { takeCertificate } from './certificates.js';
 import { kindOfFile, sizeOfImage } from './images.js';
 import { importImage } from './importing.js';
+import { NOT_READ, aboutNon, docOfNon, isNonText, readPpmFile, readXmlFile } from './reading.js';
 
-const TAKEN_KINDS = '.ppm,.pnm,.non,.xml,.png,.jpg,.jpeg,.gif,.webp,image/png,image/jpeg,image/gif,image/webp';
-
-const NOT_READ = 'it is no picture and no puzzle that this page reads';
+const TAKEN_KINDS = '.ppm,.pnm,.non,.xml,.cert,.zip,.png,.jpg,.jpeg,.gif,.webp,image/png,image/jpeg,image/gif,image/webp';
+const MOST_ARCHIVE = 1 << 30; // bytes
 
 /** Takes a file (or a blob that was pasted); `handle` is the browser's own for writing it again. */
 export async function takeFile(file, handle = null) {
   say(''); // what was said of another file
   try {
-    if (file.size > MOST_BYTES_READ) throw new FileFault('it has more than 16 MiB');
+    const isArchive = kindOfFile(new Uint8Array(await file.slice(0, 16).arrayBuffer())) === 'zip';
+    if (file.size > (isArchive ? MOST_ARCHIVE : MOST_BYTES_READ)) throw new FileFault(`it has more than ${isArchive ? '1 GiB' : '16 MiB'}`);
     const bytes = new Uint8Array(await file.arrayBuffer());
     return await takeBytes(bytes, file, handle);
   } catch (fault) {
-    say(`${file.name ?? 'What was pasted'} is not opened: ${faultText(fault)}`, 'alarm');
+    say(`${file.name ? `“${file.name}”` : 'What was pasted'} could not be opened: ${faultText(fault)}`, 'alarm');
     return false;
   }
 }
@@ -38,59 +39,64 @@ export async function takeFile(file, handle = null) {
 async function takeBytes(bytes, file, handle) {
   const kind = kindOfFile(bytes);
   const name = bareName(file.name);
+  const text = () => new TextDecoder().decode(bytes);
   if (kind === 'ppm') return takePpm(bytes, name, handle);
-  if (kind === 'xml') return takeXml(new TextDecoder().decode(bytes), name, handle);
-  if (kind === 'non') return takeNon(bytes, name, handle);
+  if (kind === 'xml') return takeXml(text(), name, handle);
+  if (kind === 'non') return takeNon(text(), name, handle);
+  if (kind === 'cert') return takeCertificate(text(), file.name ?? 'certificate');
+  if (kind === 'zip') {
+    await takeArchive(bytes, file.name ?? 'archive');
+    tell('library', null);
+    return true;
+  }
   if (kind === null) throw new FileFault(NOT_READ);
   return importImage(await imageOfFile(file, bytes, kind), name);
 }
 
 async function takePpm(bytes, name, handle) {
-  const image = readPpm(bytes);
-  const text = bytes[1] === 51 ? new TextDecoder('latin1').decode(bytes) : '';
-  const doc = docOfNotes(text, image) ?? docOfImage(image);
-  return doc ? openDoc(doc, { name, handle: text ? handle : null }) : importImage(image, name);
+  const { image, isText, doc } = readPpmFile(bytes);
+  return doc ? openDoc(doc, { name, handle: isText ? handle : null, form: isText ? 'ppm' : 'xml' }) : importImage(image, name);
 }
 
+// A set of several puzzles: the first is opened, the others go to the library.
 async function takeXml(text, name, handle) {
-  const { doc, non, about, count } = readWebpbn(text);
-  if (non) return openNon(non, name, about);
-  const isOpen = await openDoc(doc, { name, about, handle: count === 1 ? handle : null, form: 'xml' });
-  if (isOpen && count > 1) say(`The first of ${count} puzzles is open. Saved, it goes to a file of its own.`, 'alarm');
+  const [first, ...others] = readXmlFile(text);
+  const isOpen = first.non ? await openNon(first.non, name, first.page) : await openDoc(first.doc, { name, handle: others.length ? null : handle, form: 'xml' });
+  if (!isOpen || !others.length) return isOpen;
+  const keeper = await keep.ready();
+  let added = 0;
+  for (const [at, { doc }] of others.entries()) {
+    if (doc && await keeper.put(recordOfDoc(doc, doc.about.title || `${name} ${at + 2}`, true))) added++;
+  }
+  const left = others.length - added;
+  say(`The first of ${others.length + 1} puzzles is open, and ${many(added, 'other')} went to the library${left ? `; ${left} could not be read` : ''}.`, left ? 'alarm' : '');
   return isOpen;
 }
 
-function takeNon(bytes, name, handle) {
-  const text = new TextDecoder().decode(bytes);
-  if (!/^[ \t]*(width|height|rows|columns)\b/m.test(text)) throw new FileFault(NOT_READ);
-  const title = /^[ \t]*title[ \t]+"?([^"\n\r]*)/m.exec(text)?.[1].trim() ?? '';
-  return openNon(bytes, name, { title }, handle);
+function takeNon(text, name, handle) {
+  if (!isNonText(text)) throw new FileFault(NOT_READ);
+  return openNon(text, name, { about: aboutNon(text) }, handle);
 }
 
 const STOP_AFTER = 400; // milliseconds until a search can be stopped by the user
 
 // Of clues without a goal a picture is searched for, in a worker of its own, which the user can stop.
-async function openNon(text, name, about, handle = null) {
+async function openNon(text, name, page, handle = null) {
   const engine = startEngine();
   /** @type {any} */
   let dialog = null;
   const timer = setTimeout(() => {
-    openDialog({ title: `Opening ${name}`, content: 'A picture with these clues is searched for.', buttons: [{ name: 'Stop', value: null, main: true }] }).then(() => engine.end('stopped'));
+    openDialog({ title: `Opening ${name}`, content: 'Searching for a picture with these clues.', buttons: [{ name: 'Stop', value: null, main: true }] }).then(() => engine.end('stopped'));
     dialog = $('dialogs').lastElementChild;
   }, STOP_AFTER);
   let doc;
   try {
-    await engine.open(text, { history: 1, background: null });
-    const lines = ['allow 0', 'report'];
-    const [, report] = answersTo(lines, await engine.say(lines), null);
-    if (report.kind !== 'report') throw new FileFault('there is not enough memory for it');
-    doc = docOf(stateOf(report, null, null));
+    doc = await docOfNon(text, page, engine);
   } finally {
     clearTimeout(timer);
     dialog?.close();
-    engine.end();
   }
-  return openDoc(doc, { name, about, handle, form: 'non' });
+  return openDoc(doc, { name, handle, form: 'non' });
 }
 
 /** The pixels of an image file, after the size in its head was looked at. */
@@ -168,7 +174,8 @@ export function hearFiles() {
     const text = event.clipboardData.getData('text/plain');
     if (isTyping(event.target) && (!file || text)) return; // a field takes a text itself
     if (file) takeDropped([file], null);
-    else if (/^\s*(P3\s|<\?xml|<puzzle)/.test(text) || /^width [0-9]/m.test(text)) takeDropped([new File([text], 'pasted')], null);
+    else if (/^\s*(P3\s|<\?xml|<puzzle|nonocert)/.test(text) || /^width [0-9]/m.test(text)) takeDropped([new File([text], 'pasted')], null);
+    else if (text && !event.defaultPrevented) say(`What was pasted could not be opened: ${NOT_READ}.`, 'alarm');
     else return;
     event.preventDefault();
   });

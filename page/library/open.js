@@ -1,38 +1,52 @@
 // Opens documents in place of the one at hand, and tells what is refused.
 
 import { say } from '../base/elements.js';
-import { FileFault } from '../document/limits.js';
-import { baseOf } from '../document/mirror.js';
+import { baseOf } from '../document/cover.js';
+import { pageOf } from '../document/document.js';
+import { FileFault, MOST_CELLS } from '../document/limits.js';
 import { bench } from '../engine/bench.js';
 import { confirmDialog } from '../view/dialogs.js';
 import { keep } from './keep.js';
 import { saving, showFileName } from './saving.js';
 
 /**
- * Opens what is kept or made, in place of the present document, and keeps it under a name of its own. `base` is how the
- * bench opens it. Answers whether it is open; what is refused is told.
+ * Opens a document in place of the present one, and keeps it under a name of its own. `id` is that of a record of the library,
+ * `strokes` are as the bench has them. Answers whether it is open; what is refused is told.
  */
-export async function openBase(base, { name, isSaved = true, id = null, about = {}, strokes, handle = null, form = 'ppm', isBlank = false }) {
+export async function openDoc(doc, { name, isSaved = true, id = null, strokes = undefined, handle = null, form = 'xml', isBlank = false }) {
   const isLost = bench.state && !keep.isKept && !bench.isSaved;
-  if (isLost && !(await confirmDialog('Open another picture', `${bench.name} is in no file, and the browser does not keep it. It would be lost.`, 'Open'))) return false;
+  if (isLost && !(await confirmDialog('Open another picture', `“${bench.name}” has not been saved, and the browser does not keep it. It would be lost.`, 'Open'))) return false;
   keep.isPaused = true;
   try {
-    await bench.open(base, { name, strokes, isSaved });
+    await bench.open(baseOf(doc), { name, page: pageOf(doc), strokes, isSaved });
   } catch (fault) {
-    say(`${name} is not opened: ${faultText(fault)}`, 'alarm');
+    say(`“${name}” could not be opened: ${faultText(fault)}`, 'alarm');
     return false;
   } finally {
     keep.isPaused = false;
   }
-  saving.handle = handle;
-  saving.form = form;
-  await keep.begin(id, about, isBlank);
+  Object.assign(saving, { handle, form });
+  await keep.begin(id, isBlank);
   showFileName();
   return true;
 }
 
-export const openDoc = (doc, how) => openBase(baseOf(doc), how);
-const OPEN_FAULTS = { BadSize: 'its width or height is not from 1 to 120', BadCount: 'it has too few or too many clues', BadClue: 'a clue is no list of numbers', ClueTooLong: 'a clue is longer than its line', BadGoal: 'its goal does not fit its size', GoalDisagrees: 'its goal has other clues', MissingSize: 'it has no width or height', Repeated: 'a part of it stands there twice' };
+/** Goes on with a picture of the library; says whether it is open. */
+export async function openRecord(id) {
+  const record = await keep.keeper.record(id);
+  if (!record) {
+    say('This picture of the library is damaged and could not be opened.', 'alarm');
+    return false;
+  }
+  const { doc, name, isSaved, strokes } = record;
+  return openDoc(doc, { name, isSaved, id, strokes });
+}
+
+const OPEN_FAULTS = {
+  BadSize: `its width or height is not from 1 to ${MOST_CELLS}`, BadCount: 'it has too few or too many clues', BadClue: 'a clue is no list of numbers',
+  ClueTooLong: 'a clue is longer than its line', BadGoal: 'its goal does not fit its size', GoalDisagrees: 'its goal has other clues',
+  MissingSize: 'it has no width or height', Repeated: 'a part of it stands there twice',
+};
 
 /** What a fault says to the user, without names of the bench's own. */
 export function faultText(fault) {

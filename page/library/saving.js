@@ -1,27 +1,30 @@
 // Saving: Ctrl+S writes the document under the file's name, by the browser's file access where it has one, else as a download.
-// A P3 text is written with notes of background, palette and givens; what was opened as XML or .non is written as that.
+// A new document is saved as Web Paint-by-Number's XML, which holds all of it; what was opened as PPM or .non is saved as that.
 
 import { $, make, say } from '../base/elements.js';
 import { on } from '../base/events.js';
 import { bareName } from '../base/words.js';
-import { eightBitDoc, ppmTextOf } from '../document/docs.js';
-import { docOf, sameDoc } from '../document/mirror.js';
+import { docOf, eightBitDoc } from '../document/document.js';
 import { bench } from '../engine/bench.js';
-import { webpbnText } from '../formats/webpbn.js';
+import { leftOutOfPpm, ppmTextOf } from '../formats/ppm_notes.js';
+import { leavesOut, webpbnText } from '../formats/webpbn.js';
+import { openDialog } from '../view/dialogs.js';
 import { asSeen } from '../view/tools.js';
 import { keep } from './keep.js';
 
-export const saving = { handle: null, form: 'ppm' };
+export const saving = { handle: null, form: 'xml' };
 export const SAVE_TYPES = {
-  ppm: { type: 'image/x-portable-pixmap', ending: '.ppm', what: 'Picture as plain PPM' },
-  xml: { type: 'application/xml', ending: '.xml', what: 'Web Paint-by-Number XML' },
-  non: { type: 'text/plain', ending: '.non', what: 'Two-colour puzzle' },
+  xml: { type: 'application/xml', ending: '.xml', what: 'Web Paint-by-Number XML: everything' },
+  ppm: { type: 'image/x-portable-pixmap', ending: '.ppm', what: 'Plain PPM: the picture, the rest in comments' },
+  non: { type: 'text/plain', ending: '.non', what: '.non: a two-colour puzzle' },
   cert: { type: 'text/plain', ending: '.cert', what: 'Certificate' },
   png: { type: 'image/png', ending: '.png', what: 'Picture as PNG' },
+  zip: { type: 'application/zip', ending: '.zip', what: 'Archive' },
 };
+const DOCUMENT_FORMS = ['xml', 'ppm', 'non'];
 
 /** Hands a text or blob to the user as a download. */
-function download(content, file, type) {
+export function download(content, file, type) {
   const link = make('a', { href: URL.createObjectURL(content instanceof Blob ? content : new Blob([content], { type })), download: file });
   link.click();
   setTimeout(() => URL.revokeObjectURL(link.href), 10000);
@@ -33,29 +36,47 @@ async function writeHandle(handle, content) {
   await stream.close();
 }
 
+// The lines of a .non text that say what the puzzle is. The format has no way to write a double quote.
+const nonHead = ({ title, author, copyright }) => [['title', title], ['by', author], ['copyright', copyright]]
+  .filter(([, text]) => text).map(([word, text]) => `${word} "${text.replaceAll('"', '\'').replace(/\s+/g, ' ')}"\n`).join('');
+
 /** The text of the document in one of the forms that hold it, or null, told, where it has none. */
 export async function textAs(form) {
   const { state } = bench;
   if (form === 'ppm') return ppmTextOf(eightBitDoc(state));
-  if (form === 'xml') return webpbnText(state, state.clues, { ...keep.about, title: keep.about.title || bench.name });
-  const answer = await bench.ask('write non').catch(() => null);
-  if (answer?.kind === 'text') return answer.text;
+  if (form === 'xml') return webpbnText(state, state.clues);
+  const [answer] = await bench.ask('write non').catch(() => []);
+  if (answer?.kind === 'text') return nonHead(state.about) + answer.text;
   say(answer?.name === 'TwoColoursOnly' ? 'A .non puzzle has one colour beside the background.' : 'The .non text was not made.', 'alarm');
   return null;
 }
 
-// A .non text has no place for givens and for colours other than black on white: what has some is saved as a P3 text.
+// What a .non text has no place for, in words.
+function leftOutOfNon(doc) {
+  const { colours, inks, about } = eightBitDoc(doc);
+  return [
+    String(colours) === '255,255,255,0,0,0' ? '' : 'its colours', doc.givens.size ? 'its given cells' : '', doc.locks.size ? 'its locked cells' : '',
+    inks.some((ink) => ink?.name && !['white', 'black'].includes(ink.name)) ? 'names of colours' : '',
+    ['authorid', 'description', 'id', 'note'].some((name) => about[name]) ? 'its description' : '',
+  ].filter(Boolean).join(', ');
+}
+
+/** What a form has no place for of a document, in words; '' where it holds all of it. */
+export function leftOut(form, doc) {
+  if (form === 'xml') return leavesOut(doc) ? 'solutions that do not fit the picture any more' : '';
+  return form === 'ppm' ? leftOutOfPpm(doc) : leftOutOfNon(doc);
+}
+
+// A puzzle that was opened as .non and has become more than that is saved as XML.
 function checkForm() {
-  const { colours, givens } = eightBitDoc(bench.state);
-  if (saving.form !== 'non' || (String(colours) === '255,255,255,0,0,0' && givens.size === 0)) return;
-  Object.assign(saving, { form: 'ppm', handle: null });
+  if (saving.form === 'non' && leftOutOfNon(bench.state)) Object.assign(saving, { form: 'xml', handle: null });
 }
 
 /** Saves where it was saved before, else asks where. */
 export async function save() {
   await asSeen();
   checkForm();
-  if (!saving.handle) return saveAs();
+  if (!saving.handle) return globalThis.showSaveFilePicker ? saveByPicker() : saveDownload(saving.form);
   const doc = docOf(bench.state);
   const content = await textAs(saving.form);
   if (content === null) return false;
@@ -65,64 +86,90 @@ export async function save() {
     say(`${saving.handle.name} was not written (${fault.message}).`, 'alarm');
     return false;
   }
-  saved(doc, saving.handle.name);
+  saved(doc, saving.handle.name, saving.form);
   return true;
 }
 
-export function saved(doc, file) {
-  if (bench.state && sameDoc(doc, bench.state)) bench.isSaved = true;
+/** Notes that a file has the document, and tells it; what the file has no place for is told, and is not saved by that. */
+export function saved(doc, file, form, more = '') {
+  const without = leftOut(form, doc);
+  if (!without) bench.saved(doc);
   keep.now();
   showFileName();
-  say(`${file} saved.`);
+  say(without ? `${file} saved, without ${without}. XML keeps all of it.` : `${file} saved.${more}`, without || more ? 'alarm' : '');
 }
 
-/** Saves under a name that is chosen; where the browser has no file access that is a download under the document's name. */
+const formOfFile = (name) => (/\.(ppm|pnm)$/i.test(name) ? 'ppm' : /\.non$/i.test(name) ? 'non' : 'xml');
+
+async function saveByPicker() {
+  const forms = [saving.form, ...DOCUMENT_FORMS.filter((one) => one !== saving.form)];
+  const types = forms.map((form) => ({ description: SAVE_TYPES[form].what, accept: { [SAVE_TYPES[form].type]: [SAVE_TYPES[form].ending] } }));
+  try {
+    const handle = await showSaveFilePicker({ suggestedName: bench.name + SAVE_TYPES[saving.form].ending, types });
+    const form = formOfFile(handle.name);
+    const doc = docOf(bench.state);
+    const content = await textAs(form);
+    if (content === null) return false;
+    await writeHandle(handle, content);
+    Object.assign(saving, { handle, form });
+    bench.name = bareName(handle.name);
+    saved(doc, handle.name, form);
+    return true;
+  } catch (fault) {
+    return fault.name === 'AbortError' ? false : saveDownload(saving.form);
+  }
+}
+
+async function saveDownload(form) {
+  const doc = docOf(bench.state);
+  const { type, ending } = SAVE_TYPES[form];
+  const content = await textAs(form);
+  if (content === null) return false;
+  download(content, bench.name + ending, type);
+  saved(doc, bench.name + ending, form);
+  return true;
+}
+
+/** Saves under a name and in a form that are chosen. */
 export async function saveAs() {
   await asSeen();
   checkForm();
-  const doc = docOf(bench.state);
-  const { form } = saving;
-  const content = await textAs(form);
-  if (content === null) return false;
-  const { type, ending, what } = SAVE_TYPES[form];
-  if (globalThis.showSaveFilePicker) {
-    try {
-      const handle = await showSaveFilePicker({ suggestedName: bench.name + ending, types: [{ description: what, accept: { [type]: [ending] } }] });
-      await writeHandle(handle, content);
-      saving.handle = handle;
-      bench.name = bareName(handle.name);
-      saved(doc, handle.name);
-      return true;
-    } catch (fault) {
-      if (fault.name === 'AbortError') return false;
-    }
-  }
-  download(content, bench.name + ending, type);
-  saved(doc, bench.name + ending);
-  return true;
+  if (globalThis.showSaveFilePicker) return saveByPicker();
+  const name = make('input', { type: 'text', value: bench.name, maxlength: '80' });
+  const form = make('select', {}, ...DOCUMENT_FORMS.map((one) => make('option', { value: one, selected: one === saving.form }, SAVE_TYPES[one].what)));
+  const content = make('div', { class: 'rows' }, make('label', {}, 'Name', name), make('label', {}, 'Form', form));
+  if (!(await openDialog({ title: 'Save as', content, buttons: [{ name: 'Save', value: true, main: true }] }))) return false;
+  bench.name = bareName(name.value);
+  saving.form = form.value;
+  return saveDownload(form.value);
 }
 
-/** Writes something beside the document: a download under its name. */
-export function exportAs(form, content, suffix = '') {
+/** Writes something beside the document: a download under its name. `more` is what is to be told with it. */
+export function exportAs(form, content, suffix = '', more = '') {
   const file = bench.name + suffix + SAVE_TYPES[form].ending;
   download(content, file, SAVE_TYPES[form].type);
-  say(`${file} saved.`);
+  say(`${file} saved.${more}`, more ? 'alarm' : '');
 }
 
 /** Shows the document's name, and whether it is in a file. */
 export function showFileName() {
   const isOpen = bench.state !== null;
-  const where = bench.isSaved ? '' : keep.isKept ? ' · kept in this browser' : ' · not kept';
+  const { isSaved } = bench;
+  const where = isSaved ? '' : keep.isKept ? ' · in the library, not in a file' : ' · not kept';
   $('title').textContent = isOpen ? bench.name + where : '';
-  document.title = isOpen ? `${bench.isSaved ? '' : '• '}${bench.name} – nonobench` : 'nonobench';
+  document.title = isOpen ? `${isSaved ? '' : '• '}${bench.name} – nonobench` : 'nonobench';
 }
 
 /** Keeps each stroke, shows the name, and asks before an unsaved picture is left. */
 export function startSaving() {
   on('shown', () => {
-    if (!keep.isPaused) keep.now();
+    if (!keep.isPaused) {
+      keep.grade = null;
+      keep.now();
+    }
     showFileName();
   });
+  on('judged', () => { if (!keep.isPaused) keep.now(); });
   on('kept', showFileName);
   on('closed', showFileName);
   addEventListener('beforeunload', (event) => {
@@ -133,3 +180,4 @@ export function startSaving() {
   // A tab that goes to the background may be ended without a further word.
   addEventListener('visibilitychange', () => { if (document.visibilityState === 'hidden' && !bench.isSaved) keep.now(); });
 }
+

@@ -1,5 +1,5 @@
 // Where the browser keeps things: a shelf of named values, over IndexedDB, else localStorage, else memory alone.
-// Each shelf has `get`, `put`, `drop` and `keys`, which answer promises; `lasts` tells whether a reload finds it again.
+// Each shelf has `get`, `put`, `putAll`, `drop` and `keys`, which answer promises; `lasts` tells whether a reload finds it again.
 
 const SHELF_NAME = 'nonobench';
 const SHELF_WAIT = 3000; // milliseconds for a database that does not open
@@ -40,7 +40,8 @@ async function indexedShelf(factory) {
     lasts: true,
     get: (key) => settledRequest(store('readonly').get(key)),
     put: (key, value) => write((kept) => kept.put(value, key)),
-    drop: (key) => write((kept) => kept.delete(key)),
+    putAll: (entries) => write((kept) => { for (const [key, value] of entries) kept.put(value, key); }),
+    drop: (...keys) => write((kept) => { for (const key of keys) kept.delete(key); }),
     keys: () => settledRequest(store('readonly').getAllKeys()),
   };
 }
@@ -57,7 +58,17 @@ export function localShelf(storage) {
       return text === null ? undefined : JSON.parse(text);
     },
     put: async (key, value) => storage.setItem(own(key), JSON.stringify(value)),
-    drop: async (key) => storage.removeItem(own(key)),
+    putAll: async (entries) => {
+      const before = entries.map(([key]) => [own(key), storage.getItem(own(key))]);
+      try {
+        for (const [key, value] of entries) storage.setItem(own(key), JSON.stringify(value));
+      } catch (fault) { // all of them or none
+        for (const [key, text] of before) if (text === null) storage.removeItem(key);
+        for (const [key, text] of before) if (text !== null) storage.setItem(key, text);
+        throw fault;
+      }
+    },
+    drop: async (...keys) => { for (const key of keys) storage.removeItem(own(key)); },
     keys: async () => Array.from({ length: storage.length }, (_, at) => storage.key(at)).filter((key) => key.startsWith(own(''))).map((key) => key.slice(own('').length)),
   };
 }
@@ -68,7 +79,8 @@ export function memoryShelf() {
     lasts: false,
     get: async (key) => (kept.has(key) ? JSON.parse(kept.get(key)) : undefined),
     put: async (key, value) => { kept.set(key, JSON.stringify(value)); },
-    drop: async (key) => { kept.delete(key); },
+    putAll: async (entries) => { for (const [key, value] of entries) kept.set(key, JSON.stringify(value)); },
+    drop: async (...keys) => { for (const key of keys) kept.delete(key); },
     keys: async () => [...kept.keys()],
   };
 }

@@ -3,7 +3,7 @@
 import { $, make, withoutGestures } from '../base/elements.js';
 import { clamp, many } from '../base/words.js';
 import { cssOf, inkOn, nameOf } from '../document/colours.js';
-import { LETTERS } from '../document/limits.js';
+import { LETTERS, MOST_CELLS } from '../document/limits.js';
 import { bench } from '../engine/bench.js';
 import { addAction } from '../view/actions.js';
 import { selection } from '../view/select.js';
@@ -217,7 +217,7 @@ const playPointer = {
   },
 };
 
-const PLAY_STEPS = { ArrowUp: [-1, 0], ArrowDown: [1, 0], ArrowLeft: [0, -1], ArrowRight: [0, 1], PageUp: [-10, 0], PageDown: [10, 0], Home: [0, -120], End: [0, 120] };
+const PLAY_STEPS = { ArrowUp: [-1, 0], ArrowDown: [1, 0], ArrowLeft: [0, -1], ArrowRight: [0, 1], PageUp: [-10, 0], PageDown: [10, 0], Home: [0, -MOST_CELLS], End: [0, MOST_CELLS] };
 function playKey(event) {
   const step = event.target === $('play-field') ? PLAY_STEPS[event.key] : null;
   const way = event.ctrlKey || event.metaKey ? { z: event.shiftKey ? 'redo' : 'undo', y: 'redo' }[event.key.toLowerCase()] : null;

@@ -1,17 +1,26 @@
-// Workers for tests in node: what the page's worker does, over the stand-in engine, in the same thread but answering later, as
-// a worker does. `fails` says at which texts a worker ends by itself, `judge` what each verdict is.
-import { readFileSync } from 'node:fs';
+// Workers for tests in node: what the page's worker does, over the real module, in the same thread but answering later, as a
+// worker does. The module is the file WASM, or what `web/build` left in web/out; `hasModule` says whether there is one.
+import './limits.mjs';
+import { existsSync, readFileSync } from 'node:fs';
+import { fileURLToPath } from 'node:url';
+import { load } from '../../web/nonobench.mjs';
 import { serve } from '../engine/serve.js';
 
-const standIn = readFileSync(new URL('stand_in.js', import.meta.url), 'utf8');
+const file = process.env.WASM ?? fileURLToPath(new URL('../../web/out/nonobench.wasm', import.meta.url));
+export const hasModule = existsSync(file);
+export const needsModule = { skip: hasModule ? false : `no module at ${file}: set WASM` };
+const bytes = hasModule ? readFileSync(file) : null;
 
-/** Makes what stands for `new Worker(..)`; `made` gets each of them. */
-export function workers({ fails = () => false, made = [], judge = 'unique' } = {}) {
+/** An engine of the module in this thread. */
+export const engine = () => load(bytes);
+
+/** Makes what stands for `new Worker(..)`; `made` gets each of them, `fails` says at which texts a worker ends by itself. */
+export function workers({ fails = (text, worker) => false, made = [] } = {}) {
   return () => {
     const scope = { postMessage: (data) => setImmediate(() => !worker.isEnded && worker.onmessage({ data })) };
-    serve(scope, new Function(`${standIn}\nstandIn.judge = () => '${judge}\\n';\nreturn load;`)());
+    serve(scope, () => engine());
     const worker = {
-      isEnded: false, said: [],
+      isEnded: false, said: [], onmessage: null, onerror: null,
       postMessage(data) {
         if (data.call === 'say') worker.said.push(data.lines);
         if (data.call === 'say' && fails(data.lines, worker)) setImmediate(() => worker.onerror({ message: 'out of memory' }));

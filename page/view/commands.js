@@ -1,7 +1,7 @@
 // What the menus Edit, Picture, View and Help have, with their keys.
 
 import { make } from '../base/elements.js';
-import { LETTERS } from '../document/limits.js';
+import { LETTERS, MOST_CELLS, MOST_COLOURS } from '../document/limits.js';
 import { resized, rowsOfText, shifted, turned } from '../document/shapes.js';
 import { sheet } from '../draw/sheet.js';
 import { bench } from '../engine/bench.js';
@@ -88,21 +88,21 @@ function shiftBy(down, across) {
 
 async function resizeByDialog() {
   setDown();
-  const doc = bench.expected();
-  const field = (label, value) => make('input', { type: 'number', min: 1, max: 120, value, 'aria-label': label });
+  const doc = bench.seen();
+  const field = (label, value) => make('input', { type: 'number', min: 1, max: MOST_CELLS, value, 'aria-label': label });
   const [columns, rows] = [field('Columns', doc.columns), field('Rows', doc.rows)];
   const places = [['top', 0], ['middle', 0.5], ['bottom', 1]].flatMap(([down, d]) => [['left', 0], ['middle', 0.5], ['right', 1]].map(([across, a]) => ({ name: `${down} ${across}`, d, a })));
   const anchor = make('div', { class: 'anchor', role: 'radiogroup', 'aria-label': 'Where the picture stays' },
     ...places.map((place, at) => make('input', { type: 'radio', name: 'anchor', value: at, 'aria-label': place.name, checked: at === 0 })));
-  const isSize = (input) => /^[0-9]+$/.test(input.value) && Number(input.value) >= 1 && Number(input.value) <= 120;
+  const isSize = (input) => /^[0-9]+$/.test(input.value) && Number(input.value) >= 1 && Number(input.value) <= MOST_CELLS;
   const chosen = () => places[Number(anchor.querySelector(':checked').value)];
   const done = await openDialog({
     title: 'Resize',
     content: make('div', {}, make('p', {}, make('label', {}, 'Columns ', columns), ' ', make('label', {}, 'Rows ', rows)), make('p', {}, 'The picture stays at:'), anchor),
-    buttons: [{ name: 'Resize', main: true, value: () => ({ columns: Number(columns.value), rows: Number(rows.value), ...chosen() }), test: () => (isSize(columns) && isSize(rows) ? '' : 'Both are 1 to 120.') }],
+    buttons: [{ name: 'Resize', main: true, value: () => ({ columns: Number(columns.value), rows: Number(rows.value), ...chosen() }), test: () => (isSize(columns) && isSize(rows) ? '' : `Both are 1 to ${MOST_CELLS}.`) }],
   });
   if (!done || (done.rows === doc.rows && done.columns === doc.columns)) return;
-  heard(bench.become(resized(bench.expected(), done.rows, done.columns, { down: done.d, across: done.a })));
+  heard(bench.become((now) => resized(now, done.rows, done.columns, { down: done.d, across: done.a })));
 }
 
 export function addViewActions() {
@@ -133,7 +133,7 @@ function goToNextCell() {
 }
 
 export function addKeys() {
-  for (let at = 0; at < 16; at++) {
+  for (let at = 0; at < MOST_COLOURS; at++) {
     addAction({ id: `colour-${at}`, name: `Colour ${at}`, key: at < 10 ? String(at) : null, run: () => useColour(LETTERS[at]) });
   }
   addAction({ id: 'colour-next', name: 'Next colour', key: ']', run: () => stepColour(1) });

@@ -3,8 +3,8 @@
 import { $, make, say } from '../base/elements.js';
 import { many } from '../base/words.js';
 import { cssOf, inkOn } from '../document/colours.js';
+import { placeOf } from '../document/document.js';
 import { LETTERS } from '../document/limits.js';
-import { placeOf } from '../document/mirror.js';
 import { sheet } from '../draw/sheet.js';
 import { bench } from '../engine/bench.js';
 import { givensFor, repaintsFor } from '../engine/fix.js';

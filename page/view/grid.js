@@ -4,6 +4,7 @@
 import { make } from '../base/elements.js';
 import { on, tell } from '../base/events.js';
 import { clamp } from '../base/words.js';
+import { MOST_CELLS } from '../document/limits.js';
 import { sheet } from '../draw/sheet.js';
 import { bench } from '../engine/bench.js';
 import { colourText, dress, wordOf } from './dress.js';
@@ -97,7 +98,7 @@ function besideLine(axis, line, col) {
   return { transform: `translate(${left}px, ${top}px)`, maxWidth: axis === 'r' ? `${Math.max(150, x - 30)}px` : '250px' };
 }
 
-const STEPS = { ArrowUp: [-1, 0], ArrowDown: [1, 0], ArrowLeft: [0, -1], ArrowRight: [0, 1], PageUp: [-10, 0], PageDown: [10, 0], Home: [0, -120], End: [0, 120] };
+const STEPS = { ArrowUp: [-1, 0], ArrowDown: [1, 0], ArrowLeft: [0, -1], ArrowRight: [0, 1], PageUp: [-10, 0], PageDown: [10, 0], Home: [0, -MOST_CELLS], End: [0, MOST_CELLS] };
 const DRAWING = new Set(['pencil', 'pin', 'line', 'rectangle', 'box', 'select']);
 
 function gridKey(event) {
@@ -105,7 +106,7 @@ function gridKey(event) {
   const step = STEPS[event.key];
   if (step) {
     event.preventDefault();
-    const far = event.ctrlKey ? 120 : 1;
+    const far = event.ctrlKey ? MOST_CELLS : 1;
     const isCorner = event.ctrlKey && (event.key === 'Home' || event.key === 'End');
     if (event.shiftKey && DRAWING.has(tools.name) && !tools.drag) beginDrag({ ...cursor });
     moveCursor(cursor.row + (isCorner ? step[1] : step[0]) * far, cursor.col + step[1] * far, true);

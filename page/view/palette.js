@@ -5,7 +5,7 @@ import { $, make, say } from '../base/elements.js';
 import { on } from '../base/events.js';
 import { many } from '../base/words.js';
 import { eightBits, hexOf, tripleOf } from '../document/colours.js';
-import { LETTERS } from '../document/limits.js';
+import { LETTERS, MOST_COLOURS } from '../document/limits.js';
 import { reordered } from '../document/shapes.js';
 import { bench } from '../engine/bench.js';
 import { addAction } from './actions.js';
@@ -31,7 +31,7 @@ function showPalette() {
   }));
   markColour();
   const added = palette.row.parentElement.querySelector('[data-action="colour-add"]');
-  if (added) added.disabled = colours.length >= 16 || maxval < 1;
+  if (added) added.disabled = colours.length >= MOST_COLOURS || maxval < 1;
 }
 
 function markColour() {
@@ -61,26 +61,30 @@ function freeColour(doc, triple) {
   return found;
 }
 
+const NEW_COLOURS = [[34, 59, 104], [196, 69, 54], [233, 180, 76], [83, 141, 110], [120, 81, 145]];
+
 async function addColour() {
   setDown();
-  const old = bench.expected();
-  const doc = withEightBits(old);
-  const triple = freeColour(doc, [[34, 59, 104], [196, 69, 54], [233, 180, 76], [83, 141, 110], [120, 81, 145]][doc.colours.length % 5]);
-  const done = old === doc || old.maxval === 255 ? sendStroke([`colour add ${triple.join(' ')}`])
-    : heard(bench.become({ ...doc, colours: [...doc.colours, triple] }));
-  if (await done) useColour(LETTERS[bench.state.colours.length - 1]);
+  const added = (old) => {
+    const doc = withEightBits(old);
+    if (doc.colours.length >= MOST_COLOURS) return null;
+    return { ...doc, colours: [...doc.colours, freeColour(doc, NEW_COLOURS[doc.colours.length % NEW_COLOURS.length])] };
+  };
+  if (await heard(bench.become(added))) useColour(LETTERS[bench.state.colours.length - 1]);
 }
 
 async function changeColour() {
   setDown();
-  const old = bench.expected();
-  const doc = withEightBits(old);
   const at = LETTERS.indexOf(tools.colour);
   const triple = tripleOf(palette.picker.value);
-  if (doc.colours[at].join() === triple.join()) return;
-  if (hasColour(doc, triple)) return void say('The palette has this colour already. To make two colours one, use Merge.', 'alarm');
-  if (old.maxval === 255 && at > 0) return sendStroke([`colour set ${tools.colour} ${triple.join(' ')}`]);
-  return heard(bench.become({ ...doc, colours: doc.colours.map((one, other) => (other === at ? triple : one)) }));
+  const now = withEightBits(bench.state).colours;
+  if (now[at].join() === triple.join()) return null;
+  if (hasColour({ colours: now }, triple)) return say('The palette has this colour already. To make two colours one, use Merge.', 'alarm');
+  const changed = (old) => {
+    const doc = withEightBits(old);
+    return at >= doc.colours.length || hasColour(doc, triple) ? null : { ...doc, colours: doc.colours.map((one, other) => (other === at ? triple : one)) };
+  };
+  return heard(bench.become(changed));
 }
 
 // Asks for one of the other colours.
@@ -101,8 +105,8 @@ async function mergeColour() {
 function removeColour(letter, into = '.') {
   setDown();
   const at = LETTERS.indexOf(letter);
-  const order = bench.state.colours.map((_, one) => one).filter((one) => one !== at);
-  return becomeOpened(reordered(bench.expected(), order, LETTERS.indexOf(into)), 'The colour left the palette, and those behind it have other letters now. Undo takes it back.');
+  const without = (doc) => reordered(doc, [...doc.colours.keys()].filter((one) => one !== at), LETTERS.indexOf(into));
+  return becomeOpened((doc) => (at < doc.colours.length ? without(doc) : null), 'The colour left the palette, and those behind it have other letters now. Undo takes it back.');
 }
 
 function deleteColour() {
@@ -115,10 +119,13 @@ function moveColour(by) {
   const to = at + by;
   if (at < 1 || to < 1 || to >= bench.state.colours.length) return;
   setDown();
-  const order = bench.state.colours.map((_, one) => one);
-  [order[at], order[to]] = [order[to], order[at]];
+  const exchanged = (doc) => {
+    const order = [...doc.colours.keys()];
+    [order[at], order[to]] = [order[to], order[at]];
+    return reordered(doc, order);
+  };
   tools.colour = LETTERS[to];
-  return becomeOpened(reordered(bench.expected(), order), 'The colours stand in another order now. Undo takes it back.');
+  return becomeOpened((doc) => (Math.max(at, to) < doc.colours.length ? exchanged(doc) : null), 'The colours stand in another order now. Undo takes it back.');
 }
 
 async function becomeOpened(doc, text) {
@@ -133,7 +140,7 @@ export function makePalette() {
   $('colours').append(make('h2', {}, 'Colours'), palette.row, opens, palette.text, make('div', { class: 'group' }, make('label', {}, 'Change ', palette.picker)), more);
   more.id = 'colour-more';
   const add = (id, name, run, can) => addAction({ id, name, place: 'colour-more', run, can });
-  add('colour-add', 'Add', addColour, () => bench.state.colours.length < 16);
+  add('colour-add', 'Add', addColour, () => bench.state.colours.length < MOST_COLOURS);
   add('colour-merge', 'Merge…', mergeColour);
   add('colour-delete', 'Delete', deleteColour);
   add('colour-earlier', '◂ Earlier', () => moveColour(-1));

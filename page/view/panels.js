@@ -2,6 +2,7 @@
 
 import { $, make, say } from '../base/elements.js';
 import { on } from '../base/events.js';
+import { MOST_CELLS } from '../document/limits.js';
 import { sheet } from '../draw/sheet.js';
 import { bench } from '../engine/bench.js';
 import { clueText } from '../engine/opening.js';
@@ -73,7 +74,7 @@ export function makeLinesPanel() {
   const names = { row: ['above', 'below'], column: ['on the left', 'on the right'] };
   $('lines').append(make('h2', {}, 'Rows and columns'));
   for (const word of ['row', 'column']) {
-    const other = make('input', { type: 'number', min: 1, max: 120, 'aria-label': `The other ${word}` });
+    const other = make('input', { type: 'number', min: 1, max: MOST_CELLS, 'aria-label': `The other ${word}` });
     const at = () => (word === 'row' ? cursor.row : cursor.col) + 1;
     const button = (text, label, lines) => make('button', { type: 'button', 'aria-label': label, onclick: () => { setDown(); sendStroke([lines()]); } }, text);
     $('lines').append(make('div', { class: 'lines', role: 'group', 'aria-label': word === 'row' ? 'Row' : 'Column' },

@@ -3,6 +3,7 @@
 
 import { say } from '../base/elements.js';
 import { on, tell } from '../base/events.js';
+import { cellsBetween } from '../document/cover.js';
 import { boxCells, boxOf, rowsOfText, stamped } from '../document/shapes.js';
 import { sheet } from '../draw/sheet.js';
 import { bench } from '../engine/bench.js';
@@ -62,7 +63,7 @@ export function endSelect() {
 export function lift() {
   if (selection.rows) return;
   const { box } = selection;
-  const { picture } = bench.expected();
+  const { picture } = bench.seen();
   selection.rows = picture.slice(box.top, box.bottom + 1).map((row) => row.slice(box.left, box.right + 1));
   selection.under = stamped(picture, selection.rows.map((row) => '.'.repeat(row.length)), box.top, box.left);
 }
@@ -78,9 +79,9 @@ export function setDown() {
   if (!rows) return;
   const picture = stamped(under, rows, box.top, box.left);
   Object.assign(selection, { rows: null, under: null });
-  const doc = bench.expected();
+  const doc = bench.seen();
   sheet.overlay = new Map();
-  if (isOfSize(picture, doc) && picture.some((row, at) => row !== doc.picture[at])) heard(bench.become({ ...doc, picture }));
+  if (isOfSize(picture, doc)) heard(bench.become((now) => (isOfSize(picture, now) ? { ...now, picture } : null), cellsBetween(doc.picture, picture)));
   sheet.update();
   sheet.redraw();
   selection.box = clipBox(box, doc);
@@ -96,7 +97,7 @@ function clipBox(box, doc) {
 function keepSelection() {
   const { box, rows } = selection;
   if (!box || !bench.state) return;
-  if (!rows) selection.box = clipBox(box, bench.expected());
+  if (!rows) selection.box = clipBox(box, bench.seen());
   if (rows || String(Object.values(selection.box ?? {})) !== String(Object.values(box))) showSelection();
 }
 
@@ -114,7 +115,7 @@ export function dropSelection() {
 function selectedRows() {
   const { box, rows } = selection;
   if (!box) return null;
-  return rows ?? bench.expected().picture.slice(box.top, box.bottom + 1).map((row) => row.slice(box.left, box.right + 1));
+  return rows ?? bench.seen().picture.slice(box.top, box.bottom + 1).map((row) => row.slice(box.left, box.right + 1));
 }
 
 /** Clears what is selected to the background. */
@@ -134,7 +135,7 @@ export function pasteRows(rows) {
   const at = selection.box ?? { top: seen.top, left: seen.left };
   useTool('select');
   selection.rows = rows;
-  selection.under = bench.expected().picture;
+  selection.under = bench.seen().picture;
   selection.box = { top: at.top, left: at.left, bottom: at.top + rows.length - 1, right: at.left + rows[0].length - 1 };
   showSelection();
   say('Drag it where it belongs; Enter sets it down, Escape drops it.');
@@ -144,7 +145,7 @@ export function pasteRows(rows) {
 function changeSelected(change) {
   lift();
   const { box, rows } = selection;
-  const doc = { ...bench.expected(), rows: rows.length, columns: rows[0].length, picture: rows, givens: new Set() };
+  const doc = { ...bench.seen(), rows: rows.length, columns: rows[0].length, picture: rows, givens: new Set(), locks: new Set() };
   const { picture } = change(doc);
   selection.rows = picture;
   selection.box = { ...box, bottom: box.top + picture.length - 1, right: box.left + picture[0].length - 1 };
@@ -154,14 +155,14 @@ function changeSelected(change) {
 /** Mirrors, turns or shifts what is selected, or else the whole picture. */
 export function transform(change) {
   if (selection.box) return changeSelected(change);
-  return heard(bench.become(change(bench.expected())));
+  return heard(bench.become(change));
 }
 
 // The browser's own copy, cut and paste, so that text goes to other programs and comes from them without being asked for.
 function copySelected(event, cuts) {
   if (isTyping(event.target) || !bench.state || isCovered() || document.querySelector('dialog[open]')) return;
   if (String(getSelection()) && !cuts && !selection.box) return;
-  const rows = selectedRows() ?? bench.expected().picture;
+  const rows = selectedRows() ?? bench.seen().picture;
   event.preventDefault();
   event.clipboardData.setData('text/plain', `${rows.join('\n')}\n`);
   if (cuts && selection.box) clearSelected();

@@ -2,8 +2,9 @@
 
 import { say } from '../base/elements.js';
 import { tell } from '../base/events.js';
-import { LETTERS } from '../document/limits.js';
-import { coverOf, placeOf } from '../document/mirror.js';
+import { coverOf } from '../document/cover.js';
+import { placeOf } from '../document/document.js';
+import { LETTERS, MOST_CELLS, MOST_COLOURS } from '../document/limits.js';
 import { boxCells, boxOf, bucketCells, lineCells } from '../document/shapes.js';
 import { sheet } from '../draw/sheet.js';
 import { bench } from '../engine/bench.js';
@@ -89,12 +90,10 @@ export function endDrag() {
   tools.drag = null;
   if (drag.tool === 'pin') {
     sheet.boxes = [];
-    const { givens } = bench.expected();
-    const turned = [...drag.touched].filter((index) => givens.has(index) !== drag.gives).sort((a, b) => a - b);
-    return sendStroke(turned.map((index) => `${drag.gives ? 'pin' : 'unpin'} ${placeOf(bench.state, index)}`));
+    const places = [...drag.touched].sort((a, b) => a - b);
+    return sendStroke((doc) => places.filter((place) => doc.givens.has(place) !== drag.gives).map((place) => `${drag.gives ? 'pin' : 'unpin'} ${placeOf(doc, place)}`));
   }
-  const lines = coverOf(drag.touched, bench.expected().picture, drag.letter);
-  const done = sendStroke(lines);
+  const done = paintPlaces(drag.touched, drag.letter);
   sheet.overlay = new Map();
   sheet.update();
   sheet.redraw();
@@ -111,17 +110,23 @@ export function dropDrag() {
 }
 
 export function paintCells(cells, letter = tools.colour) {
-  return sendStroke(coverOf(new Set(cells.map(indexAt)), bench.expected().picture, letter));
+  return paintPlaces(new Set(cells.map(indexAt)), letter);
+}
+
+// Places in one colour, shown until it is answered.
+function paintPlaces(places, letter) {
+  return sendStroke((doc) => coverOf(places, doc.picture, letter), new Map([...places].map((place) => [place, letter])));
 }
 
 function recolourAt(at) {
-  const source = bench.expected().picture[at.row][at.col];
-  return source === tools.colour ? null : sendStroke([`recolour ${source} ${tools.colour}`]);
+  const letter = tools.colour;
+  const sourceIn = (picture) => picture[at.row]?.[at.col] ?? letter;
+  return sendStroke(({ picture }) => (sourceIn(picture) === letter ? [] : [`recolour ${sourceIn(picture)} ${letter}`]));
 }
 
 const MEANINGS = {
-  Place: 'that lies outside the picture', Colour: 'the palette has no such colour', TooLarge: 'there are 120 lines already, the most that there can be',
-  LastLine: 'it is the only line', PaletteFull: 'the palette has 16 colours already', DuplicateColour: 'the palette has this colour already',
+  Place: 'that lies outside the picture', Colour: 'the palette has no such colour', TooLarge: `there are ${MOST_CELLS} lines already, the most that there can be`,
+  LastLine: 'it is the only line', PaletteFull: `the palette has ${MOST_COLOURS} colours already`, DuplicateColour: 'the palette has this colour already',
   Background: 'the background keeps its colour', SampleOver: 'the colour is too bright for this picture', UndoEmpty: 'there is nothing to undo',
   RedoEmpty: 'there is nothing to redo', Memory: 'memory ran out', TwoColoursOnly: 'a .non puzzle has one colour beside the background',
   LongLine: 'it is too long', BadNumber: 'a number is wrong', BadColour: 'a colour is wrong',
@@ -130,12 +135,14 @@ const MEANINGS = {
 /** What a refusal says to the user. */
 const meaningOf = (name) => MEANINGS[name] ?? 'it was refused';
 
-/** Sends a stroke, on what floated too; tells what was refused. A stroke that changes nothing is not sent and not told. */
-export async function sendStroke(lines) {
+/**
+ * Sends a stroke, on what floated too; tells what was refused. `lines` and `cells` are as the bench has them. A stroke that changes
+ * nothing is not sent and not told.
+ */
+export async function sendStroke(lines, cells = null) {
   forgetReason();
   setDown();
-  if (!lines.length) return true;
-  return heard(bench.stroke(lines));
+  return heard(bench.stroke(lines, cells));
 }
 
 /** Waits for answers; tells the first refusal but that nothing would change. */
@@ -154,5 +161,5 @@ export async function heard(promise) {
 /** Sets down what floats and waits for strokes that are not answered yet: what is seen is what goes out. */
 export async function asSeen() {
   setDown();
-  if (bench.queue.length) await bench.ask('allow 0').catch(() => {});
+  await bench.rest();
 }

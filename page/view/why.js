@@ -18,7 +18,7 @@ async function whyAt(row, col) {
   why.asked = mine;
   const { state } = bench;
   const letters = [...LETTERS.slice(0, state.colours.length)].filter((letter) => letter !== state.picture[row][col]);
-  const answers = await bench.put({ way: 'ask', lines: letters.map((letter) => `why ${row + 1} ${col + 1} ${letter}`) }).catch(() => []);
+  const answers = await bench.ask(letters.map((letter) => `why ${row + 1} ${col + 1} ${letter}`)).catch(() => []);
   if (why.asked !== mine || answers.length !== letters.length || answers[0]?.kind !== 'why') return;
   const reasons = letters.map((letter, at) => ({ ...answers[at], letter, row, col }));
   $('why').replaceChildren(make('h3', {}, `Row ${row + 1}, column ${col + 1}: why not …`), ...reasons.map(whyItem));

@@ -2,8 +2,8 @@
 //
 // Each second picture is a set of cells one of which must be given. The fewest cells that meet all sets so far are asked for, and
 // a further picture is a further set: so what has one solution at last has the fewest cells, and that is known.
-import { Narrowing, Puzzle } from '../grade/puzzle.mjs';
-import { settle } from './search.mjs';
+
+import { Narrowing, Puzzle } from '../grade/puzzle.js';
 
 const FEW = 3; // so many given cells for line logic are looked for by trying all
 const MOST_TRIED = 40; // open cells that are tried where no second picture is known
@@ -11,10 +11,7 @@ const MOST_TRIED = 40; // open cells that are tried where no second picture is k
 /** The open cells of the plain solver's end, where `given` are given besides the board's own. */
 export function openWith(board, given) {
   const puzzle = new Puzzle(board.rows, board.columns, board.cells, [...board.givens, ...given], board.clues);
-  const narrowing = settle(new Narrowing(puzzle, puzzle.candidates(board.all)));
-  const found = [];
-  narrowing.masks.forEach((mask, index) => { if (mask & (mask - 1)) found.push(index); });
-  return found;
+  return new Narrowing(puzzle, puzzle.candidates(board.all)).settle().openCells();
 }
 
 // The cells in which two pictures differ, in parts that share no line: each part alone is a second picture.

@@ -1,5 +1,6 @@
 // Questions to the proved session about candidates of a picture: what line logic leaves, and whether another picture has the clues.
-import { cellsOf } from '../grade/puzzle.mjs';
+
+import { cellsOf } from '../grade/puzzle.js';
 
 const LETTERS = '.abcdefghijklmno';
 

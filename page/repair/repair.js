@@ -4,9 +4,12 @@
 //
 // `say` puts lines to a proved session that shows the board's picture, and gives its text or a promise of it. Every proposal was
 // judged by the session.
-import { Asker } from './asker.mjs';
-import { Giving, givensForLines } from './givens.mjs';
-import { Judge, Search, SpentError } from './search.mjs';
+
+import { Asker } from './asker.js';
+import { climb, dive } from './descents.js';
+import { Giving, givensForLines } from './givens.js';
+import { Judge, SpentError } from './judge.js';
+import { Search } from './search.js';
 
 const MOST_ONES = 24; // repairs of one cell that are listed
 const MOST_TWOS = 8; // repairs of two
@@ -43,8 +46,8 @@ function drawing() {
 
 // A descent: by the engine's second pictures, or where many cells are open by the plain solver alone.
 async function descend(search, isDusty, options) {
-  await (isDusty ? search.climb({ width: 1, steps: STEPS, ...options }) : search.dive({ top: 20, steps: STEPS, ...options }));
-  await search.improve(30, 0);
+  await (isDusty ? climb : dive)(search, { steps: STEPS, ...options });
+  await search.improve(30);
 }
 
 async function forOneSolution(search, limit) {
@@ -67,21 +70,22 @@ async function forOneSolution(search, limit) {
     await search.improve(30, 50);
   }
   if (search.proved < 3) await search.all(3, 300 * limit.seconds);
-  await search.improve(500, 500);
+  await search.improve(500, 500, Infinity);
   for (let count = search.proved + 1; count <= 7 && !search.isDone; count++) await search.all(count, Infinity);
 }
 
-async function forLines(search) {
+async function forLines(search, limit) {
   const draw = drawing();
   await search.all(1, 1000, MOST_ONES);
   if (search.isDone) return;
   await search.all(2, 300, MOST_TWOS);
   if (search.isDone) return;
-  await search.climb({ width: 1, steps: STEPS, draw });
-  await search.improve(100, 100);
-  if (search.size <= 2) return;
-  await search.climb({ width: 3, steps: 16, draw });
-  await search.improve(200, 200);
+  for (let round = 0; round < ROUNDS && !search.isDone && limit.share(0.6); round++) {
+    await climb(search, { width: round % 3 === 2 ? 3 : 1, steps: STEPS, draw });
+    await search.improve(50, 50);
+  }
+  if (search.proved < 2) await search.all(2, 1000, MOST_TWOS);
+  await search.improve(300, 300, Infinity);
   for (let count = search.proved + 1; count <= 4 && !search.isDone; count++) await search.all(count, Infinity, 4);
 }
 
@@ -112,7 +116,7 @@ export async function repair({ board, goal, say, allowance, ...bounds }, { found
   const search = new Search(board, new Judge(asker, goal), limit, { found: (candidate) => found(proposalOf(candidate, goal)), tried });
   let isThrough = true;
   try {
-    await (goal === 'lines' ? forLines(search) : forOneSolution(search, limit));
+    await (goal === 'lines' ? forLines : forOneSolution)(search, limit);
   } catch (error) {
     if (!(error instanceof SpentError)) throw error;
     isThrough = false;

@@ -1,6 +1,7 @@
 // The picture that is to be repaired: which cells may take which colour, by what rule, and a candidate of it that is changed in place.
-import { clueOf } from '../grade/lines.mjs';
-import { Puzzle } from '../grade/puzzle.mjs';
+
+import { clueOf } from '../grade/lines.js';
+import { Puzzle } from '../grade/puzzle.js';
 
 const HALF = 2 ** 26; // two halves of a key, each below this, make a number that is exact
 

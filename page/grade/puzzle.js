@@ -1,5 +1,6 @@
 // A puzzle as line logic meets it: the clues of a picture's rows and columns, and the candidates that each cell begins with.
-import { clueOf, narrow } from './lines.mjs';
+
+import { clueOf, narrow } from './lines.js';
 
 const LETTERS = '.abcdefghijklmno';
 const ALL_COLOURS = 0xffff;
@@ -22,7 +23,7 @@ const isSettled = (mask) => (mask & (mask - 1)) === 0;
 export class Puzzle {
   /** `clues` are those of the lines, where they are known already. */
   constructor(rows, columns, cells, givens = [], clues = null) {
-    Object.assign(this, { rows, columns, cells, givens: [...givens], lines: rows + columns });
+    Object.assign(this, { rows, columns, cells, givens: [...givens], lines: rows + columns, mask: null });
     this.clues = clues ?? Array.from({ length: this.lines }, (_, line) => this.clueAt(line));
   }
 
@@ -46,8 +47,18 @@ export class Puzzle {
     return clueOf(cells);
   }
 
+  /** The row and the column of a cell, as lines. */
+  linesOf(index) {
+    return [Math.floor(index / this.columns), this.rows + (index % this.columns)];
+  }
+
+  /** The background and the colours of the picture. */
+  get candidatesMask() {
+    return (this.mask ??= this.cells.reduce((mask, colour) => mask | (1 << colour), 1));
+  }
+
   /** Each given cell has its colour alone; any other has `others`: the background and the colours of the picture by default. */
-  candidates(others = this.cells.reduce((mask, colour) => mask | (1 << colour), 1)) {
+  candidates(others = this.candidatesMask) {
     const masks = new Uint16Array(this.cells.length).fill(others);
     for (const index of this.givens) masks[index] = 1 << this.cells[index];
     return masks;
@@ -93,6 +104,26 @@ export class Narrowing {
     const fits = narrow(this.#line, size, puzzle.clues[line], this.#out);
     for (let at = 0; at < size; at++) if (this.#out[at] !== this.#line[at]) this.#write(first + at * step, this.#out[at], line);
     return fits;
+  }
+
+  /** Looks at lines until none is to be looked at. */
+  settle() {
+    for (let looks = 1; looks > 0;) {
+      looks = 0;
+      for (let line = 0; line < this.puzzle.lines; line++) {
+        if (!this.wants(line)) continue;
+        this.look(line);
+        looks++;
+      }
+    }
+    return this;
+  }
+
+  /** The indices of the open cells. */
+  openCells() {
+    const found = [];
+    for (let index = 0; index < this.masks.length; index++) if (!isSettled(this.masks[index])) found.push(index);
+    return found;
   }
 
   #write(index, mask, line) {

@@ -1,6 +1,7 @@
 // How hard a puzzle with one solution is, as docs/GRADE.md defines it. Nothing here is proved.
-import { Narrowing, Puzzle, mapOf } from './puzzle.mjs';
-import { treeOf } from './tree.mjs';
+
+import { Narrowing, Puzzle, mapOf } from './puzzle.js';
+import { treeOf } from './tree.js';
 
 // docs/GRADE.md states these bounds: the greatest figures with which a puzzle still has the word.
 const BOUNDS = {

@@ -2,7 +2,8 @@
 //
 // A `split` has one branch for each colour that is left in its cell. Which are left is no part of the text, so the lines are
 // followed with the candidates that they leave: all 16 colours in each cell at the root, the picture's alone in a given.
-import { ALL_COLOURS, Narrowing, Puzzle, countOf } from './puzzle.mjs';
+
+import { ALL_COLOURS, Narrowing, Puzzle } from './puzzle.js';
 
 const LINE = /^(?:(line|dead) ([rc]) (\d{1,3})|(split|given) (\d{1,3}) (\d{1,3})|(done))$/;
 
@@ -72,5 +73,3 @@ export function treeOf(puzzle, certificate) {
   });
   return tree;
 }
-
-export { countOf };

@@ -1,0 +1,161 @@
+// Web Paint-by-Number's XML puzzle sets, read: the picture, and all else that the format has, so that writing it again loses nothing.
+
+import { unpackedDoc } from '../document/document.js';
+import { FileFault, LETTERS, MOST_COLOURS } from '../document/limits.js';
+import { LOCKED_COLOURS, WEBPBN_GIVENS, WEBPBN_LOCKS, cluesOfRows } from './webpbn.js';
+import { readWebpbnImage } from './webpbn_image.js';
+import { readXml } from './xml.js';
+
+const MOST_SIGNS = 100000; // of a text
+
+const childrenOf = (element, name) => element.children.filter((child) => child.name === name);
+const trimmed = (element) => element.text.trim().slice(0, MOST_SIGNS);
+const textIn = (element, name) => (childrenOf(element, name).length ? trimmed(childrenOf(element, name)[0]) : '');
+const textsIn = (element, name) => childrenOf(element, name).map(trimmed).filter(Boolean);
+const present = (texts) => Object.fromEntries(Object.entries(texts).filter(([, text]) => text.length));
+const imageIn = (solution) => childrenOf(solution, 'image')[0]?.text ?? '';
+const typeOf = (element, usual) => element.attributes.get('type') ?? usual;
+const idOf = (element) => element.attributes.get('id') ?? '';
+
+function tripleOfHex(text) {
+  const hex = text.trim().replace(/^#/, '');
+  if (/^[0-9a-fA-F]{3}$/.test(hex)) return [...hex].map((digit) => parseInt(digit + digit, 16));
+  if (/^[0-9a-fA-F]{6}$/.test(hex)) return [0, 2, 4].map((at) => parseInt(hex.slice(at, at + 2), 16));
+  throw new FileFault('A colour of the puzzle is not three or six hexadecimal digits.');
+}
+
+// The declared colours by name, and white and black where they are not declared.
+function readColours(puzzle) {
+  const colours = new Map();
+  const known = [['white', '.', [255, 255, 255]], ['black', 'X', [0, 0, 0]]];
+  for (const element of childrenOf(puzzle, 'color')) {
+    const name = element.attributes.get('name') ?? '';
+    const sign = element.attributes.get('char') ?? known.find(([other]) => other === name)?.[1] ?? null;
+    if (colours.has(name)) throw new FileFault('A colour of the puzzle is declared twice.');
+    colours.set(name, { name, sign, triple: tripleOfHex(element.text), declared: true });
+  }
+  for (const [name, sign, triple] of known) if (!colours.has(name)) colours.set(name, { name, sign, triple, declared: false });
+  return colours;
+}
+
+// The clues as blocks with names of colours, or null where the puzzle has none.
+function readClues(puzzle, type, usual) {
+  const clues = childrenOf(puzzle, 'clues').find((element) => element.attributes.get('type') === type);
+  if (!clues) return null;
+  return childrenOf(clues, 'line').map((line) => childrenOf(line, 'count').map((count) => {
+    if (!/^\s*[0-9]{1,6}\s*$/.test(count.text)) throw new FileFault('A clue of the puzzle is no number.');
+    return { length: Number(count.text), name: count.attributes.get('color') ?? usual };
+  }).filter((block) => block.length > 0));
+}
+
+// ---- what stands beside the picture
+
+const ABOUT_SET = ['source', 'title', 'author', 'authorid', 'copyright'];
+
+function aboutOf(puzzle) {
+  const names = ['source', 'id', 'title', 'author', 'authorid', 'copyright', 'description'];
+  return present({ ...Object.fromEntries(names.map((name) => [name, textIn(puzzle, name)])), note: textsIn(puzzle, 'note')[0] ?? '' });
+}
+
+// What else the puzzle and its set had; null where there is nothing.
+function extrasOf(set, puzzle, goal, others) {
+  const setTexts = set === puzzle ? {} : present({ ...Object.fromEntries(ABOUT_SET.map((name) => [name, textIn(set, name)])), notes: textsIn(set, 'note') });
+  const goalTexts = goal ? present({ id: idOf(goal), notes: textsIn(goal, 'note') }) : {};
+  const solutions = others.map((one) => ({ type: typeOf(one, 'goal'), ...present({ id: idOf(one), notes: textsIn(one, 'note') }), image: imageIn(one) }));
+  const extras = present({ notes: textsIn(puzzle, 'note').slice(1), solutions, defaultcolor: puzzle.attributes.get('defaultcolor') ?? '' });
+  if (Object.keys(setTexts).length) extras.set = setTexts;
+  if (Object.keys(goalTexts).length) extras.goal = goalTexts;
+  return Object.keys(extras).length ? extras : null;
+}
+
+/**
+ * A puzzle of rows and columns of an XML text, the first one for 0: `{ doc, count }`, or `{ non, page, count }` with the text of a
+ * two-colour puzzle that has clues and no solution. `count` is how many there are. Throws a FileFault for what no bench would open.
+ */
+export function readWebpbn(text, at = 0) {
+  const set = readXml(text);
+  const all = set.name === 'puzzleset' ? childrenOf(set, 'puzzle') : set.name === 'puzzle' ? [set] : [];
+  const puzzles = all.filter((element) => typeOf(element, 'grid') === 'grid');
+  const puzzle = puzzles[at];
+  if (!puzzle) throw new FileFault('The XML has no puzzle of rows and columns.');
+  const count = puzzles.length;
+  const solutions = childrenOf(puzzle, 'solution');
+  const goal = solutions.find((one) => typeOf(one, 'goal') === 'goal') ?? solutions.find((one) => typeOf(one, 'goal') === 'solution');
+  const own = (id) => solutions.find((one) => typeOf(one, 'goal') === 'saved' && idOf(one) === id);
+  const [givens, locks] = [own(WEBPBN_GIVENS), own(WEBPBN_LOCKS)];
+  const page = { about: aboutOf(puzzle), extras: extrasOf(set, puzzle, goal, solutions.filter((one) => ![goal, givens, locks].includes(one))) };
+  const usual = puzzle.attributes.get('defaultcolor') ?? 'black';
+  const clues = { rows: readClues(puzzle, 'rows', usual), columns: readClues(puzzle, 'columns', usual) };
+  if (!goal) return { non: nonOfClues(clues), page, count };
+  const signs = readWebpbnImage(imageIn(goal));
+  const { doc, names } = docOfSigns(signs, readColours(puzzle), puzzle.attributes.get('backgroundcolor') ?? 'white');
+  checkClues(doc, clues, (name) => LETTERS[names.indexOf(name)] ?? '?');
+  if (givens) doc.givens = placesOfSigns(readWebpbnImage(imageIn(givens)), signs, 'given');
+  if (locks) doc.locks = placesOfSigns(readWebpbnImage(imageIn(locks)), signs, 'locked cell');
+  for (const name of lockedNames(locks)) if (names.includes(name)) doc.inks[names.indexOf(name)].locked = true;
+  return { doc: unpackedDoc({ ...doc, ...page }), count };
+}
+
+function lockedNames(locks) {
+  const note = locks ? textsIn(locks, 'note').find((one) => one.startsWith(LOCKED_COLOURS)) : null;
+  return note ? note.slice(LOCKED_COLOURS.length).split(', ') : [];
+}
+
+// ---- the picture
+
+// The colours that the picture takes: the background first, then those that are declared, and white and black where they are used.
+function orderOf(signs, colours, ground) {
+  const background = colours.get(ground);
+  if (!background) throw new FileFault('The background of the puzzle is a colour that it does not have.');
+  const used = new Set(signs.flat());
+  const bySign = new Map();
+  for (const colour of colours.values()) if (colour.sign && (!bySign.has(colour.sign) || colour.declared)) bySign.set(colour.sign, colour);
+  for (const sign of used) if (!bySign.has(sign)) throw new FileFault(`The solution has a cell '${sign.slice(0, 2)}', which is no colour of the puzzle.`);
+  const order = [background, ...[...colours.values()].filter((one) => one !== background && (one.declared || (used.has(one.sign) && bySign.get(one.sign) === one)))];
+  return { bySign, order: order.length > MOST_COLOURS ? order.filter((one) => one === background || used.has(one.sign)) : order };
+}
+
+function docOfSigns(signs, colours, ground) {
+  const { bySign, order } = orderOf(signs, colours, ground);
+  const triples = new Set();
+  const triplesOf = order.map(({ triple }) => {
+    const own = [...triple];
+    while (triples.has(own.join())) own[2] += own[2] === 255 ? -255 : 1; // two colours that are shown alike stay two
+    triples.add(own.join());
+    return own;
+  });
+  const picture = signs.map((row) => row.map((sign) => LETTERS[order.indexOf(bySign.get(sign))] ?? '?').join(''));
+  /** @type {any[]} */
+  const inks = order.map(({ name, sign }) => ({ name, ...(sign ? { sign } : {}) }));
+  const doc = { rows: signs.length, columns: signs[0].length, maxval: 255, colours: triplesOf, picture, givens: [], inks, locks: [] };
+  return { doc, names: order.map((one) => one.name) };
+}
+
+function checkClues(doc, clues, letterOf) {
+  const own = cluesOfRows(doc.picture);
+  for (const axis of ['rows', 'columns']) {
+    if (!clues[axis]) continue;
+    const told = clues[axis].map((blocks) => blocks.map(({ length, name }) => `${length}${letterOf(name)}`).join(' '));
+    const wanted = own[axis].map((blocks) => blocks.map(({ length, letter }) => `${length}${letter}`).join(' '));
+    if (told.length !== wanted.length || told.some((line, at) => line !== wanted[at])) throw new FileFault(`The clues of the ${axis} are not those of the solution.`);
+  }
+}
+
+// The cells of a saved solution that are not `?`.
+function placesOfSigns(saved, signs, what) {
+  if (saved.length !== signs.length) throw new FileFault('The saved cells have another size than the solution.');
+  return saved.flatMap((row, r) => row.flatMap((sign, c) => {
+    if (sign === '?') return [];
+    if (sign !== signs[r][c]) throw new FileFault(`A ${what} has another colour than the solution.`);
+    return [r * row.length + c];
+  }));
+}
+
+function nonOfClues({ rows, columns }) {
+  if (!rows || !columns) throw new FileFault('The puzzle has neither a solution nor all clues.');
+  if (new Set([...rows, ...columns].flat().map((block) => block.name)).size > 1) {
+    throw new FileFault('The puzzle has clues in several colours and no solution; the bench opens pictures.');
+  }
+  const line = (blocks) => blocks.map((block) => block.length).join(',') || '0';
+  return `width ${columns.length}\nheight ${rows.length}\nrows\n${rows.map(line).join('\n')}\ncolumns\n${columns.map(line).join('\n')}\n`;
+}

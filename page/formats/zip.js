@@ -1,0 +1,109 @@
+// Archives: zip files that are written without compression, and read with it.
+
+import { FileFault } from '../document/limits.js';
+
+const MOST_ENTRIES = 20000;
+const MOST_ENTRY = 16 * 1024 * 1024; // bytes of one file in an archive
+const [LOCAL, CENTRAL, END] = [0x04034b50, 0x02014b50, 0x06054b50];
+const UTF8 = 0x0800;
+const DATE = 0x21; // the first day that a zip can tell: archives of the same pictures are the same
+
+const CRC_TABLE = Uint32Array.from({ length: 256 }, (_, byte) => {
+  let value = byte;
+  for (let bit = 0; bit < 8; bit++) value = value & 1 ? 0xedb88320 ^ (value >>> 1) : value >>> 1;
+  return value;
+});
+
+/** The checksum CRC-32 of bytes. */
+export function crcOf(bytes) {
+  let crc = 0xffffffff;
+  for (const byte of bytes) crc = CRC_TABLE[(crc ^ byte) & 255] ^ (crc >>> 8);
+  return (crc ^ 0xffffffff) >>> 0;
+}
+
+// Numbers of 2 or 4 bytes, the low byte first.
+function packed(...fields) {
+  return Uint8Array.from(fields.flatMap(([value, size]) => Array.from({ length: size }, (_, at) => (value >>> (8 * at)) & 255)));
+}
+const two = (value) => [value, 2];
+const four = (value) => [value, 4];
+
+function joined(pieces) {
+  const all = new Uint8Array(pieces.reduce((sum, piece) => sum + piece.length, 0));
+  let at = 0;
+  for (const piece of pieces) {
+    all.set(piece, at);
+    at += piece.length;
+  }
+  return all;
+}
+
+/** A zip of files, each `{name, bytes}`. */
+export function writeZip(files) {
+  const [pieces, central] = [[], []];
+  let at = 0;
+  for (const { name, bytes } of files) {
+    const title = new TextEncoder().encode(name);
+    const fields = [two(20), two(UTF8), two(0), two(0), two(DATE), four(crcOf(bytes)), four(bytes.length), four(bytes.length), two(title.length), two(0)];
+    central.push(joined([packed(four(CENTRAL), two(20), ...fields, two(0), two(0), two(0), four(0), four(at)), title]));
+    const piece = joined([packed(four(LOCAL), ...fields), title, bytes]);
+    pieces.push(piece);
+    at += piece.length;
+  }
+  const directory = joined(central);
+  return joined([...pieces, directory, packed(four(END), two(0), two(0), two(files.length), two(files.length), four(directory.length), four(at), two(0))]);
+}
+
+const damaged = () => new FileFault('The archive is damaged.');
+
+/** The files of a zip as `{name, bytes}`, where `bytes` is null for what is not read: folders, what is encrypted or too large. */
+export async function readZip(bytes) {
+  const view = new DataView(bytes.buffer, bytes.byteOffset, bytes.byteLength);
+  let end = bytes.length - 22;
+  while (end >= 0 && view.getUint32(end, true) !== END) end--;
+  if (end < 0) throw damaged();
+  const count = view.getUint16(end + 10, true);
+  if (count > MOST_ENTRIES) throw new FileFault('The archive has too many files.');
+  const files = [];
+  for (let at = view.getUint32(end + 16, true), left = count; left > 0; left--) {
+    if (at + 46 > bytes.length || view.getUint32(at, true) !== CENTRAL) throw damaged();
+    const [title, extra, comment] = [28, 30, 32].map((place) => view.getUint16(at + place, true));
+    const name = new TextDecoder().decode(bytes.subarray(at + 46, at + 46 + title));
+    files.push({ name, bytes: await unpackedEntry(bytes, view, at) });
+    at += 46 + title + extra + comment;
+  }
+  return files;
+}
+
+async function unpackedEntry(bytes, view, at) {
+  const [flags, method] = [view.getUint16(at + 8, true), view.getUint16(at + 10, true)];
+  const [crc, size, length, local] = [16, 20, 24, 42].map((place) => view.getUint32(at + place, true));
+  if (flags & 1 || ![0, 8].includes(method) || length > MOST_ENTRY || !length) return null;
+  if (local + 30 > bytes.length || view.getUint32(local, true) !== LOCAL) throw damaged();
+  const from = local + 30 + view.getUint16(local + 26, true) + view.getUint16(local + 28, true);
+  if (from + size > bytes.length) throw damaged();
+  const raw = bytes.subarray(from, from + size);
+  const whole = method === 0 ? raw : await inflated(raw, length);
+  if (whole.length !== length || crcOf(whole) !== crc) throw damaged();
+  return whole;
+}
+
+// What was deflated, up to the size that the archive tells.
+async function inflated(raw, most) {
+  const reader = new Blob([raw]).stream().pipeThrough(new DecompressionStream('deflate-raw')).getReader();
+  const pieces = [];
+  let size = 0;
+  try {
+    for (;;) {
+      const { done, value } = await reader.read();
+      if (done) return joined(pieces);
+      size += value.length;
+      if (size > most) throw damaged();
+      pieces.push(value);
+    }
+  } catch {
+    throw damaged();
+  } finally {
+    reader.cancel().catch(() => {});
+  }
+}

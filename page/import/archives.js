@@ -1,0 +1,75 @@
+// Archives of the library: all pictures as XML in one zip, and back.
+
+import { say } from '../base/elements.js';
+import { bareName, cleanName, many } from '../base/words.js';
+import { webpbnText } from '../formats/webpbn.js';
+import { readZip, writeZip } from '../formats/zip.js';
+import { keep } from '../library/keep.js';
+import { recordOfDoc } from '../library/records.js';
+import { SAVE_TYPES, download } from '../library/saving.js';
+import { kindOfFile } from './images.js';
+import { aboutNon, docOfNon, isNonText, readPpmFile, readXmlFile } from './reading.js';
+
+// A name that no other file of the archive has.
+function freeName(name, taken) {
+  for (let count = 1; ; count++) {
+    const tried = count === 1 ? name : `${name} ${count}`;
+    if (taken.has(tried.toLowerCase())) continue;
+    taken.add(tried.toLowerCase());
+    return tried;
+  }
+}
+
+/** A zip of records, each as an XML file. */
+export function archiveOf(records) {
+  const taken = new Set();
+  return writeZip(records.map(({ name, doc }) => ({ name: `${freeName(cleanName(name), taken)}.xml`, bytes: new TextEncoder().encode(webpbnText(doc)) })));
+}
+
+/** Hands all pictures of the library to the user as one archive. */
+export async function exportAll() {
+  const keeper = await keep.ready();
+  const cards = await keeper.cards();
+  const records = [];
+  for (const { id } of cards) records.push(await keeper.record(id));
+  const sound = records.filter(Boolean);
+  if (!sound.length) return say('The library has no pictures.');
+  download(new Blob([archiveOf(sound)], { type: SAVE_TYPES.zip.type }), 'nonobench library.zip', SAVE_TYPES.zip.type);
+  return say(`${many(sound.length, 'picture')} saved as “nonobench library.zip”${sound.length < cards.length ? `; ${many(cards.length - sound.length, 'damaged one')} left out` : ''}.`, sound.length < cards.length ? 'alarm' : '');
+}
+
+// The documents that a file of an archive holds.
+async function docsOfEntry(bytes) {
+  const kind = kindOfFile(bytes);
+  if (kind === 'ppm') return [readPpmFile(bytes).doc].filter(Boolean);
+  const text = new TextDecoder().decode(bytes);
+  if (kind === 'xml') return (await Promise.all(readXmlFile(text).map(({ doc, non, page }) => (non ? docOfNon(non, page) : doc)))).filter(Boolean);
+  return kind === 'non' && isNonText(text) ? [await docOfNon(text, { about: aboutNon(text) })] : [];
+}
+
+/** The documents of an archive as `{ docs: [{ name, doc }], unread: [name] }`. */
+export async function readArchive(bytes) {
+  const [docs, unread] = [[], []];
+  for (const { name, bytes: content } of await readZip(bytes)) {
+    if (name.endsWith('/')) continue;
+    const found = content ? await docsOfEntry(content).catch(() => []) : [];
+    if (!found.length) unread.push(name);
+    const own = bareName(name.split('/').at(-1));
+    found.forEach((doc, at) => docs.push({ name: at ? `${own} ${at + 1}` : own, doc }));
+  }
+  return { docs, unread };
+}
+
+/** Adds the pictures of an archive to the library. Answers how many were added. */
+export async function takeArchive(bytes, name) {
+  const { docs, unread } = await readArchive(bytes);
+  const keeper = await keep.ready();
+  let added = 0;
+  for (const { name: title, doc } of docs) {
+    if (!(await keeper.put(recordOfDoc(doc, title, true)))) break;
+    added++;
+  }
+  const left = [unread.length ? `${many(unread.length, 'file')} not read` : '', added < docs.length ? `${many(docs.length - added, 'picture')} not taken` : ''].filter(Boolean).join(', ');
+  if (added === docs.length) say(`“${name}”: ${many(added, 'picture')} added to the library${left ? `; ${left}` : ''}.`, left ? 'alarm' : '');
+  return added;
+}

@@ -1,0 +1,58 @@
+// Files of puzzles as documents: what is read without asking anything of the user.
+
+import { docOf, pageOf } from '../document/document.js';
+import { FileFault } from '../document/limits.js';
+import { answersTo } from '../engine/answers.js';
+import { startEngine } from '../engine/client.js';
+import { stateOf } from '../engine/opening.js';
+import { readPpm } from '../formats/ppm.js';
+import { docOfNotes } from '../formats/ppm_notes.js';
+import { readWebpbn } from '../formats/webpbn_reading.js';
+import { docOfImage } from './images.js';
+
+export const NOT_READ = 'it is no picture and no puzzle that this page reads';
+
+/** What the bytes of a PPM picture are: `image`, `doc` where it opens cell by cell, else null, and whether it is a text. */
+export function readPpmFile(bytes) {
+  const image = readPpm(bytes);
+  const isText = bytes[1] === 51; // P3
+  const text = isText ? new TextDecoder('latin1').decode(bytes) : '';
+  return { image, isText, doc: docOfNotes(text, image) ?? docOfImage(image) };
+}
+
+/**
+ * The puzzles of an XML text, each as readWebpbn gives it; one that is damaged, but for the first, as `{ fault }`.
+ * @returns {any[]}
+ */
+export function readXmlFile(text) {
+  const first = readWebpbn(text);
+  const others = Array.from({ length: first.count - 1 }, (_, at) => {
+    try {
+      return readWebpbn(text, at + 1);
+    } catch (fault) {
+      return { fault };
+    }
+  });
+  return [first, ...others];
+}
+
+/** The texts about a .non puzzle, by its keyword lines. */
+export function aboutNon(text) {
+  const value = (word) => new RegExp(`^[ \\t]*${word}[ \\t]+"?([^"\\n\\r]*)`, 'm').exec(text)?.[1].trim() ?? '';
+  return Object.fromEntries([['title', value('title')], ['author', value('by')], ['copyright', value('copyright')]].filter(([, one]) => one));
+}
+
+export const isNonText = (text) => /^[ \t]*(width|height|rows|columns)\b/m.test(text);
+
+/** The document of a .non text, in an engine of its own: of clues without a goal a picture is searched for. `page` is what stands beside it. */
+export async function docOfNon(text, page = {}, engine = startEngine()) {
+  try {
+    await engine.open(text, { history: 1, background: null });
+    const lines = ['allow 0', 'report'];
+    const [, report] = answersTo(lines, await engine.say(lines), null);
+    if (report.kind !== 'report') throw new FileFault('there is not enough memory for it');
+    return docOf(stateOf(report, null, null, pageOf(page)));
+  } finally {
+    engine.end();
+  }
+}

@@ -1,0 +1,95 @@
+// The library in the browser's storage: as many pictures as there is room for. Nothing goes but what its user takes away.
+
+import { cardOf, newId, readCard, readRecord } from './records.js';
+import { isFull } from './shelf.js';
+
+const RECORD = 'work:';
+const CARD = 'card:';
+
+/** Keeps records on a shelf: of each document the last one, one write at a time. */
+export class Keeper {
+  constructor(shelf, said) {
+    this.shelf = shelf;
+    this.said = said; // called with {kind: 'kept' | 'failed', why, record}
+    this.waiting = null;
+    this.writing = null;
+  }
+
+  /** Whether all that was handed in is on the shelf. */
+  get isDone() {
+    return !this.waiting && !this.writing;
+  }
+
+  /** Keeps {record, facts}, made by `make` when it is its turn; of those that wait the last one counts. */
+  note(make) {
+    this.waiting = make;
+    this.writing ??= this.write().finally(() => { this.writing = null; });
+    return this.writing;
+  }
+
+  async write() {
+    while (this.waiting) {
+      const made = this.waiting();
+      this.waiting = null;
+      if (made) await this.put(made.record, made.facts);
+    }
+  }
+
+  /** Keeps a record with its card; says whether it is kept. */
+  async put(record, facts = {}) {
+    try {
+      await this.shelf.putAll([[RECORD + record.id, record], [CARD + record.id, cardOf(record, facts)]]);
+      this.said({ kind: this.shelf.lasts ? 'kept' : 'failed', why: this.shelf.lasts ? '' : 'none', record });
+      return true;
+    } catch (fault) {
+      this.said({ kind: 'failed', why: isFull(fault) ? 'full' : 'refused', record });
+      return false;
+    }
+  }
+
+  async ids(begin) {
+    return (await this.shelf.keys()).map(String).filter((key) => key.startsWith(begin)).map((key) => key.slice(begin.length));
+  }
+
+  /** The cards of all records, the newest first. One that is missing is made of its record. */
+  async cards() {
+    const cards = new Map();
+    for (const id of await this.ids(CARD)) cards.set(id, readCard(await this.shelf.get(CARD + id).catch(() => null)));
+    const ids = await this.ids(RECORD);
+    const missing = ids.filter((id) => !cards.get(id));
+    for (const id of missing) {
+      const value = await this.shelf.get(RECORD + id).catch(() => null);
+      cards.set(id, readRecord(value) ? readCard(cardOf(value)) : null);
+    }
+    return ids.map((id) => cards.get(id)).filter(Boolean).sort((a, b) => b.when - a.when);
+  }
+
+  /** A record, read, or null where it is none. */
+  async record(id) {
+    return readRecord(await this.shelf.get(RECORD + id).catch(() => null));
+  }
+
+  /** Takes a picture away; resolves to what `restore` brings back. */
+  async drop(id) {
+    const gone = { record: await this.shelf.get(RECORD + id), card: await this.shelf.get(CARD + id) };
+    await this.shelf.drop(RECORD + id, CARD + id);
+    return gone;
+  }
+
+  async restore({ record, card }) {
+    await this.shelf.putAll([[RECORD + record.id, record], [CARD + record.id, card ?? cardOf(record)]]);
+  }
+
+  async rename(id, name) {
+    const { record, card } = { record: await this.shelf.get(RECORD + id), card: await this.shelf.get(CARD + id) };
+    await this.restore({ record: { ...record, name }, card: { ...(card ?? cardOf(record)), name } });
+  }
+
+  /** A copy of a picture, with its strokes, under another name; resolves to its id. */
+  async duplicate(id, name) {
+    const [record, card] = [await this.shelf.get(RECORD + id), await this.shelf.get(CARD + id)];
+    const own = { id: newId(), name, when: Date.now(), isSaved: false };
+    await this.restore({ record: { ...record, ...own }, card: { ...(card ?? cardOf(record)), ...own } });
+    return own.id;
+  }
+}
