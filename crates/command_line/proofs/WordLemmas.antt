@@ -1,6 +1,5 @@
 -- The words of the command line, as the parser's contract has them.
-use Rattle.std.proofs.Common.{◌≡◌, ◌≢◌, ◌⊎◌, ◌↔◌, ◌≤◌, ℕ, Bool, decimal, List, [], ◌∷◌, length, codes, Option, None, Some, Result, Ok, Err, IsTrue, option_map, true, false, true≢false, refl, sym, ap, subst, ◌∙◌, arith, inl, inr, ⊎_elim}
-use Rattle.std.proofs.lemmas.Fmt.{parse-decimal}
+use Rattle.std.proofs.Common.{◌≡◌, ◌≢◌, ◌⊎◌, ◌↔◌, ◌≤◌, ℕ, Bool, List, [], ◌∷◌, length, codes, Option, None, Some, Result, Ok, Err, IsTrue, option_map, true, false, true≢false, refl, sym, ap, subst, ◌∙◌, arith, inl, inr, ⊎_elim}
 use Rattle.std.specs.Str.Parse.{ParsesUnsigned}
 use Rattle.clap.specs.declared.builder.value_parser.ValueParser.{ValueParser}
 use Rattle.clap.specs.declared.error.Error.{Error}
@@ -15,7 +14,7 @@ use Rattle.program_options.specs.declared.fault.ProgramFault.TheVariants as faul
 use Rattle.command_line.specs.declared.words.Task.{Task}
 use Rattle.command_line.specs.declared.words.Task.TheVariants.{Clues, Work, Check, Help}
 use Rattle.command_line.specs.Program.{AreFormats, ParsesAs, program_app}
-use Rattle.command_line.specs.Words.{Given, IsAsked, IsCheck, IsNamed, IsTaskBy, IsTaskOf, IsUntaken, IsWork, given_in, given_of, is_shown}
+use Rattle.command_line.specs.Words.{Given, IsAsked, IsCheck, IsNamed, IsTaskBy, IsTaskOf, IsUntaken, IsWork, Spells, given_in, given_of, is_shown}
 use Rattle.command_line.proofs.EnterLemmas.{names_one, some_kind}
 
 -- ---- values
@@ -81,20 +80,12 @@ asked_check entered rows r name is asked = record {
 
 -- ---- the history
 
-same_number : {E : Type 0} (a b : ℕ) (r : Result ℕ E) → r ≡ Ok a → r ≡ Ok b → Some a ≡ Some b
-same_number a b r e f = cc
-
-no_error : {E : Type 0} (e : E) (b : ℕ) (r : Result ℕ E) → r ≡ Err e → r ≡ Ok b → ⊥
-no_error e b r h f = absurd cc
-
--- a number that a text reads as, where the text is that number in decimal digits
-pub depth_read : {E : Type 0} (n : ℕ) (text : Text) (found : Option ℕ) (gives : List ℕ → Result ℕ E → Type 0) → ((t : List ℕ) (r : Result ℕ E) → gives t r → ParsesUnsigned 16 10 t r) → n ≤ 1000 → text ≡ decimal n → ReadsOne gives text found → found ≡ Some n
-depth_read {E} n text (Some m) gives parses few is reads =
-    let r : Result ℕ E = Ok m in
-    same_number m n r refl (parse-decimal 16 n text r (omega (arith, few)) (omega (arith, few)) is (parses text r reads))
-depth_read {E} n text None gives parses few is reads =
-    let r : Result ℕ E = Err reads.0 in
-    absurd (no_error reads.0 n r refl (parse-decimal 16 n text r (omega (arith, few)) (omega (arith, few)) is (parses text r reads.1)))
+-- a number that a text reads as, where the text writes that number
+pub depth_read : {E : Type 0} (n : ℕ) (text : Text) (found : Option ℕ) (gives : List ℕ → Result ℕ E → Type 0) → ((t : List ℕ) (r : Result ℕ E) → gives t r → ParsesUnsigned 16 10 t r) → n ≤ 1000 → Spells text n → ReadsOne gives text found → found ≡ Some n
+depth_read {E} n text (Some m) gives parses few spells reads = ap Some ((parses text (Ok m) reads).1 ∙ spells.value)
+depth_read {E} n text None gives parses few spells reads =
+    let value = spells.value in
+    absurd (parses text (Err reads.0) reads.1 (spells.numeral, omega (arith, few)))
 
 -- ---- words that are not taken
 

@@ -1,5 +1,6 @@
 -- What the words ask for, by the values that the parser of words found.
-use Rattle.std.specs.Prelude.{◌≡◌, ◌⊎◌, ℕ, ◌<◌, ◌≤◌, ◌↔◌, Bool, true, false, List, [], ◌∷◌, codes, decimal, unwrap_or, Option, None, Some, Result, Ok, Err}
+use Rattle.std.specs.Prelude.{◌≡◌, ◌⊎◌, ℕ, ◌<◌, ◌≤◌, ◌↔◌, Bool, true, false, List, [], ◌∷◌, codes, unwrap_or, Option, None, Some, Result, Ok, Err, refl}
+use Rattle.std.specs.Str.Parse.{IsNumeral, digits_value, without_leading_plus}
 use Rattle.clap.specs.Words.{App, IsAmong, Kinds, Row, Text, fault_of, first_of, first_value, one_of, one_text, subcommand_of, takes}
 use Rattle.clap.specs.declared.builder.value_parser.ValueParser.{ValueParser}
 use Rattle.clap.specs.declared.error.kind.ErrorKind.{ErrorKind}
@@ -61,11 +62,16 @@ abbrev pub background_asked : Option Text → Result (Option Rgb) ProgramFault
 background_asked None = Ok None
 background_asked (Some text) = background_named (background_of text)
 
--- The format and the background are those of the words; so is the history, where its text is a number from 1 to 1,000.
+-- a text of decimal digits, with a plus in front of them or none, and the number that they write; zeros may lead
+pub record Spells (text : Text) (n : ℕ) : Type 0 where
+  pub numeral : IsNumeral 10 (without_leading_plus text)
+  pub value : digits_value 10 (without_leading_plus text) ≡ n
+
+-- The format and the background are those of the words; so is the history, where its text writes a number from 1 to 1,000.
 pub record AreOptions (g : Given) (options : Options) : Type 0 where
   pub format : (options.non ≡ true) ↔ (g.format ≡ Some (codes "non"))
   pub background : background_asked g.background ≡ Ok options.background
-  pub history : (n : ℕ) → 0 < n → n ≤ 1000 → g.history ≡ Some (decimal n) → options.history ≡ n
+  pub history : (text : Text) (n : ℕ) → 0 < n → n ≤ 1000 → Spells text n → g.history ≡ Some text → options.history ≡ n
 
 -- a path as it was given
 abbrev pub path_of : Option Text → Text
@@ -125,3 +131,12 @@ IsTaskBy (first ∷ more) app words r = (takes app words ≡ true → ⊥) × ((
 -- What words ask for: memory ran out; or it is as the definition of the program's command line reads them.
 abbrev pub IsTaskOf : List Text → Result Task ProgramFault → Type 0
 IsTaskOf words r = (r ≡ Err fault.Memory) ⊎ ((formats : ValueParser) × (AreFormats formats × IsTaskBy (fault_of (program_app formats) words) (program_app formats) words r))
+
+-- ---- worked by hand
+
+-- zeros may lead, and a plus
+five : digits_value 10 (without_leading_plus (codes "05")) ≡ 5
+five = refl
+
+plus_five : digits_value 10 (without_leading_plus (codes "+5")) ≡ 5
+plus_five = refl

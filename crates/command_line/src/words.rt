@@ -1,10 +1,10 @@
 //! The words of the command line.
 
-ghost use Rattle.std.specs.Prelude.{◌≡◌, ◌↔◌, ◌<◌, ◌≤◌, ◌≢◌, ℕ, Some, [], codes, decimal, true, IfOk};
+ghost use Rattle.std.specs.Prelude.{◌≡◌, ◌↔◌, ◌<◌, ◌≤◌, ◌≢◌, ℕ, Some, [], codes, true, IfOk};
 ghost use Rattle.clap.specs.Walk.{texts};
-ghost use Rattle.clap.specs.Words.{first_value, found_of, kind_of, one_text, subcommand_rows_of};
+ghost use Rattle.clap.specs.Words.{Text, first_value, found_of, kind_of, one_text, subcommand_rows_of};
 ghost use Rattle.command_line.specs.declared.words.Task.TheVariants.{Clues};
-ghost use Rattle.command_line.specs.Words.{IsAsked, IsCheck, IsLawfulTask, IsTaskOf, IsUntaken, IsWork, background_asked, given_of};
+ghost use Rattle.command_line.specs.Words.{IsAsked, IsCheck, IsLawfulTask, IsTaskOf, IsUntaken, IsWork, Spells, background_asked, given_of};
 
 use crate::command::parsed;
 use clap::error::ErrorKind;
@@ -129,8 +129,8 @@ fn background_of(matches: &ArgMatches<'_>) -> Result<Option<Rgb>, ProgramFault>
 fn history_of(matches: &ArgMatches<'_>) -> u16
     ensures some { 0 < result }
     ensures fits { result ≤ MAX_DEPTH }
-    ensures read { (n : ℕ) → 0 < n → n ≤ 1000
-        → one_text (found_of matches.now) (codes "history") ≡ Some (decimal n) → result ≡ n }
+    ensures read { (text : Text) (n : ℕ) → 0 < n → n ≤ 1000 → Spells text n
+        → one_text (found_of matches.now) (codes "history") ≡ Some text → result ≡ n }
 {
     depth_or_default(matches.get_one::<u16>("history"))
 }
