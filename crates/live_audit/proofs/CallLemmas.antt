@@ -21,7 +21,7 @@ answered_audited (Strokes stroke (Some fault)) old new a h = still_audited old n
 answered_audited (Asks None) old new a h = still_audited old new a old.allowance h
 answered_audited (Asks (Some verdict)) old new a h = h.1.0
 answered_audited (Allows allowance) old new a h = still_audited old new a allowance h
-answered_audited (Proves None) old new a h = h.1
+answered_audited (Proves None) old new a h = still_audited old new a old.allowance h
 answered_audited (Proves (Some found)) old new a h = h.1.1
 
 answered_machine : (call : Call) (old new : Seen) → Answers call old new → machine_of new ≡ after_call (machine_of old) call
@@ -31,8 +31,8 @@ answered_machine (Strokes stroke (Some fault)) old new h = ap machine_of h.as_be
 answered_machine (Asks None) old new h = ap machine_of h
 answered_machine (Asks (Some verdict)) old new h = ap machine_of h.0.1.1.same
 answered_machine (Allows allowance) old new h = ap machine_of h
-answered_machine (Proves None) old new h = ap machine_of h.0.same
-answered_machine (Proves (Some found)) old new h = ap machine_of h.1.0.0.same
+answered_machine (Proves None) old new h = ap machine_of h
+answered_machine (Proves (Some found)) old new h = ap machine_of h.1.0.same
 
 answered_right : (call : Call) (old new : Seen) → Answers call old new → IsRight (machine_of old) call
 answered_right (Strokes stroke None) old new h = h.0.lawful

@@ -1,11 +1,8 @@
 -- What is known of the parts, and what need not be searched then.
-use Rattle.std.proofs.Common.{◌≡◌, ◌<◌, ◌^◌, ℕ, zero, suc, List, Option, None, length, ap, subst, ◌∙◌, inl, inr, arith}
+use Rattle.std.proofs.Common.{◌≡◌, ◌<◌, ℕ, zero, suc, List, Option, None, length, ap, subst, ◌∙◌, inl, inr, arith}
 use Rattle.std.specs.Prelude.{◌⊎◌}
-use Rattle.picture.specs.declared.document.Document.{Document}
 use Rattle.clues.specs.ClueBook.{Clues}
 use Rattle.line_settle.specs.declared.meter.Meter.{Meter}
-use Rattle.justify.specs.Book.{Account}
-use Rattle.edits.specs.History.{History}
 use Rattle.second_search.specs.declared.counting.Ending.{Ending}
 use Rattle.second_search.specs.declared.counting.Ending.TheVariants as ending
 use Rattle.second_search.specs.declared.keeper.Answer.{Answer}
@@ -13,43 +10,15 @@ use Rattle.second_search.specs.declared.keeper.Answer.TheVariants.{Nothing}
 use Rattle.second_search.specs.declared.keeper.KeptPart.{KeptPart}
 use Rattle.second_search.specs.Verdict.{Verdict as Judgement}
 use Rattle.second_search.specs.Verdict as judgement
-use Rattle.second_search.specs.Judging.{Done, EndsBy, EndsPart, HasFilling, Judges, Passes, answer_at, cells_at, kept_at}
+use Rattle.second_search.specs.Judging.{EndsBy, EndsPart, HasFilling, Judges, Passes, answer_at, cells_at, kept_at}
 use Rattle.second_search.specs.Laws.{AllowancesBreakOff}
 use Rattle.live_audit.specs.declared.verdict.Verdict.{Verdict}
 use Rattle.live_audit.specs.declared.verdict.Verdict.TheVariants as verdicts
 use Rattle.live_audit.specs.declared.work.Work.{Work}
-use Rattle.live_audit.specs.Bench.{Seen, nothing_done, seen}
-use Rattle.live_audit.specs.Calls.{IsAtOnce}
+use Rattle.live_audit.specs.Bench.{Seen, nothing_done}
 use Rattle.live_audit.specs.Laws.{CertifiedVerdictsSearchNothing}
 use Rattle.live_audit.specs.Verdict.{AnswersAs}
 use Rattle.live_audit.proofs.VerdictLemmas.{keeps_so}
-
--- ---- where another filling is kept
-
--- a judgement where another filling is kept
-record IsKept (kept next : List KeptPart) (searched : ℕ) : Type 0 where
-  same : next ≡ kept
-  none : searched ≡ 0
-
-kept_so : (clues : Clues) (facts picture : List (List ℕ)) (allowance : Option ℕ) (kept next : List KeptPart) (j : Judgement) (m n i : ℕ) → HasFilling kept i → Judges clues facts picture allowance kept next j m n → IsKept kept next m
-kept_so clues facts picture allowance kept next judgement.Unique m n i f h = absurd (h.none_kept i f.place f.is)
-kept_so clues facts picture allowance kept next judgement.Other m n i f h = elim h [
-  | inl k ↦ record { same = k.same; none = k.searched_none }
-  | inr o ↦ absurd (o.none_kept i f.place f.is)
-]
-kept_so clues facts picture allowance kept next judgement.Undecided m n i f h = absurd (h.none_kept i f.place f.is)
-
--- the bench that learns is as before
-pub at_once : (d : Document) (h : History) (clues : Clues) (book : Account) (kept next : List KeptPart) (allowance : Option ℕ) (work : Work) (s : Seen) (j : Judgement) (sb sa pb pa : ℕ) (mb ma : Meter) (cb ca : ℕ)
-    → cb < 2 ^ 64 → seen h clues book kept allowance work cb ≡ s → Done sb sa pb pa mb ma cb ca (Judges clues book.facts d.picture None kept next j)
-    → IsAtOnce s (seen h clues book next allowance work ca)
-at_once d h clues book kept next allowance work s j sb sa pb pa mb ma cb ca small v done =
-    let new : Seen = seen h clues book next allowance work ca in
-    subst (λ (x : Seen). IsAtOnce x new) v (λ i f.
-    let k = kept_so clues book.facts d.picture None kept next j done.searched done.splits i f done.is in
-    let none = done.none k.none in
-    let same : ca ≡ cb = omega arith in
-    (ap (λ (x : List KeptPart). seen h clues book x allowance work ca) k.same ∙ ap (seen h clues book kept allowance work) same))
 
 -- ---- where something is known of each part
 

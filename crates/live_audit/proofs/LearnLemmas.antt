@@ -1,41 +1,43 @@
--- A certificate's call: what is searched first, and the certificate that is made then.
-use Rattle.std.proofs.Common.{◌≤◌, arith, List, length, Option, Result, Ok, Err, IfOk, OnOk, inr, sym, ap, subst, ◌∙◌}
-use Rattle.cert_text.specs.Cert.{Certificate}
+-- A certificate's call: what is found beside the bench, and what is kept of it then.
+use Rattle.std.proofs.Common.{◌≡◌, ℕ, List, length, Option, Some, None, MatchOption, Result, Ok, Err, OnOk, refl, sym, ap, subst, ◌∙◌, inl}
+use Rattle.std.specs.Borrow.{Bor}
+use Rattle.clues.specs.ClueBook.{Clues, clues_of}
 use Rattle.second_search.specs.declared.keeper.KeptPart.{KeptPart}
-use Rattle.second_search.specs.Judging.{HasFilling, HasNoFilling}
-use Rattle.live_audit.specs.Bench.{Seen}
-use Rattle.live_audit.specs.Calls.{IsAsBefore, IsAtOnce, IsSearched, Learns}
-use Rattle.live_audit.specs.Certify.{Certifies}
-use Rattle.live_audit.proofs.CertifyLemmas.{certified_now}
+use Rattle.second_search.specs.Verdict.{Verdict as Judgement}
+use Rattle.second_search.specs.Verdict as judgement
+use Rattle.second_search.specs.Judging.{FirstFilling, HasNoFilling, IsFilling}
+use Rattle.edits.specs.Design.{Design}
+use Rattle.live_audit.specs.Bench.{AreAnswersOf, AreGivenCells, IsAudited, Seen}
+use Rattle.live_audit.specs.Calls.{IsAsBefore, IsAtOnce, IsFoundOn, IsSearchedTo, Learns}
+use Rattle.live_audit.specs.Verdict.{IsOtherFor}
+use Rattle.live_audit.proofs.VerdictLemmas.{shows_others}
 
-on_ok : {T X : Type 0} (result : Result T X) (P : Type 0) → P → OnOk result P
-on_ok (Ok x) P p = p
-on_ok (Err e) P p = tt
+-- ---- what is found
 
-searched_on : (old between new : Seen) → IsAsBefore between new → IsSearched old between → IsSearched old new
-searched_on old between new e h = subst (IsSearched old) (sym e) h
-
-learnt_on : (old between new : Seen) → IsAsBefore between new → IsSearched old between → Learns old between → Learns old new
-learnt_on old between new e h l = record {
-  same = e ∙ ap (λ (s : Seen). record s { calls = new.calls }) l.same ∙ ap (λ (k : List KeptPart). record old { kept = k; calls = new.calls }) (sym (ap (λ (s : Seen). s.kept) e));
-  kept = inr (searched_on old between new e h);
+-- where a filling is kept, nothing is searched
+pub found_at_once : (s : Seen) (other : List (List ℕ)) → FirstFilling s.kept other → IsAudited s → IsFoundOn s (record { cert = None; keeper = None })
+found_at_once s other f a = record {
+  searched = (judgement.Other, (0, (0, inl (record { at = f.at; is = record { place = f.place; is = subst IsFilling (sym f.is) tt }; same = refl; searched_none = refl; splits_none = refl }))));
+  answers = a.answers;
+  at_once = λ i h. refl;
 }
 
--- what a certificate's call comes to where no other picture was found
-pub record IsProved {X : Type 0} (old new : Seen) (result : Result (Option Certificate) X) : Type 0 where
-  pub certifies : IfOk result (Certifies old.history.document)
-  pub judges : OnOk result (IsSearched old new)
-  pub learns : Learns old new
-  pub at_once : OnOk result (IsAtOnce old new)
-  pub calls : old.calls ≤ new.calls
+-- the other picture that is kept
+pub kept_other : (d : Design) (clues : Clues) (facts : List (List ℕ)) (givens : List ℕ) (kept : List KeptPart) (r : Option (Bor (List (List ℕ)))) (P : Type 0) → AreGivenCells d givens → clues ≡ clues_of d.rows → AreAnswersOf d clues facts kept
+    → MatchOption r P (λ other. FirstFilling kept other.now) → MatchOption r P (λ other. FirstFilling kept other.now × IsOtherFor d other.now)
+kept_other d clues facts givens kept (Some other) P g e a f = (f, shows_others d clues givens kept g e (a.true_answers givens g) other.now f)
+kept_other d clues facts givens kept None P g e a none = none
 
-pub proved_on : {X : Type 0} (old between new : Seen) (result : Result (Option Certificate) X) → HasNoFilling between.kept (length between.kept) → IsAtOnce old between → IsSearched old between → Learns old between → old.calls ≤ between.calls → IfOk result (Certifies between.history.document) → IsAsBefore between new → between.calls ≤ new.calls → IsProved old new result
-proved_on old between new result none once h l first c e then = record {
-  certifies = certified_now result _ _ (ap (λ (s : Seen). s.history.document) l.same) c;
-  judges = on_ok result (IsSearched old new) (searched_on old between new e h);
-  learns = learnt_on old between new e h l;
-  at_once = on_ok result (IsAtOnce old new) (λ i f.
-      let k = subst (λ (s : Seen). HasFilling s.kept i) (sym (once i f)) f in
-      absurd (none i k.place k.is));
-  calls = omega arith;
+pub none_at_once : {T X : Type 0} (r : Result T X) (kept : List KeptPart) (s new : Seen) → HasNoFilling kept (length kept) → kept ≡ s.kept → OnOk r (IsAtOnce s new)
+none_at_once (Err e) kept s new none is = tt
+none_at_once (Ok x) kept s new none is = λ i has.
+    let here = subst (λ (k : List KeptPart). HasNoFilling k (length k)) is none in
+    absurd (here i has.place has.is)
+
+-- ---- what is kept
+
+pub learnt_on : (old between new : Seen) → IsAsBefore old between → Learns between new → Learns old new
+learnt_on old between new e l = record {
+  same = l.same ∙ ap (λ (s : Seen). record s { kept = new.kept; calls = new.calls }) e;
+  kept = subst (λ (s : Seen). IsSearchedTo s new.kept) e l.kept;
 }

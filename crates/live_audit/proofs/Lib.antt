@@ -4,6 +4,7 @@ pub mod VerdictLemmas
 pub mod CarryLemmas
 pub mod DepthLemmas
 pub mod CertifyLemmas
+pub mod CopyLemmas
 pub mod LearnLemmas
 pub mod KnownLemmas
 pub mod ColourLemmas

@@ -102,7 +102,7 @@ keeps_so clues facts picture allowance old new judgement.Other m n h = elim h [
 keeps_so clues facts picture allowance old new judgement.Undecided m n h = none_then old new h.at h.none_kept h.noted
 
 -- the first filling that is kept is another picture, where what is known of the parts is true
-shows_others : (d : Design) (clues : Clues) (givens : List ℕ) (kept : List KeptPart) → AreGivenCells d givens → clues ≡ clues_of d.rows → AreTrue clues givens d.rows kept → ShowsOthers d kept
+pub shows_others : (d : Design) (clues : Clues) (givens : List ℕ) (kept : List KeptPart) → AreGivenCells d givens → clues ≡ clues_of d.rows → AreTrue clues givens d.rows kept → ShowsOthers d kept
 shows_others d clues givens kept g e t other f =
     let there : IsTrueOf clues givens d.rows (cells_at kept f.at) (Filling other) = subst (IsTrueOf clues givens d.rows (cells_at kept f.at)) f.is (t f.at f.place) in
     other_for d clues givens other g e there.is_other
@@ -215,21 +215,3 @@ begins_audited d depth h clues book facts kept allowance work calls e a f s = re
   audit = subst (λ (x : History). IsAuditOf x.document clues book) (sym e) a;
   answers = record { parts = subst (λ (x : List (List ℕ)). AreParts x (parts_of kept)) f s.parts; true_answers = λ givens are. s.true_answers clues givens h.document.rows };
 }
-
--- ---- what is known once all was searched
-
--- what a judgement without an allowance keeps is what a verdict without one keeps, on the bench before
-pub searched_so : (d : Document) (h : History) (clues : Clues) (book : Account) (kept next : List KeptPart) (allowance : Option ℕ) (work : Work) (calls : ℕ) (s : Seen) (j : Judgement) (sb sa pb pa : ℕ) (mb ma : Meter) (cb ca : ℕ)
-    → design_of d ≡ h.document → seen h clues book kept allowance work calls ≡ s → Done sb sa pb pa mb ma cb ca (Judges clues book.facts d.picture None kept next j) → (x : Judgement) × ((m : ℕ) × ((n : ℕ) × Judges s.clues s.book.facts s.history.document.rows None s.kept next x m n))
-searched_so d h clues book kept next allowance work calls s j sb sa pb pa mb ma cb ca e v done =
-    let here : Judges clues book.facts h.document.rows None kept next j done.searched done.splits = subst (λ (x : Design). Judges clues book.facts x.rows None kept next j done.searched done.splits) e done.is in
-    (j, (done.searched, (done.splits, subst (λ (x : Seen). Judges x.clues x.book.facts x.history.document.rows None x.kept next j done.searched done.splits) v here)))
-
--- only what is known of the parts changes, and the calls
-pub learnt_so : (h : History) (clues : Clues) (book : Account) (kept next : List KeptPart) (allowance : Option ℕ) (work : Work) (before after : ℕ) (s : Seen)
-    → seen h clues book kept allowance work before ≡ s → seen h clues book next allowance work after ≡ record s { kept = next; calls = after }
-learnt_so h clues book kept next allowance work before after s v = subst (λ (x : Seen). seen h clues book next allowance work after ≡ record x { kept = next; calls = after }) v refl
-
--- the document of the bench before
-pub shown_so : (d now : Design) (kept : List KeptPart) → d ≡ now → ShowsOthers d kept → ShowsOthers now kept
-shown_so d now kept e h = subst (λ (x : Design). ShowsOthers x kept) e h

@@ -1,15 +1,17 @@
 -- What a stroke comes to on a bench, and lists of strokes.
-use Rattle.std.specs.Prelude.{◌≡◌, ◌⊎◌, ◌≤◌, ℕ, List, [], ◌∷◌, Option, Some, None}
+use Rattle.std.specs.Prelude.{◌≡◌, ◌≤◌, ℕ, List, [], ◌∷◌, Option, Some, None}
 use Rattle.cert_text.specs.Cert.{Certificate}
 use Rattle.clues.specs.Change.{Moves}
 use Rattle.kept_audit.specs.Audit.{GoesOn}
+use Rattle.second_search.specs.declared.keeper.KeptPart.{KeptPart}
 use Rattle.second_search.specs.Verdict.{Verdict as Judgement}
 use Rattle.second_search.specs.Carrying.{Carries}
 use Rattle.second_search.specs.Judging.{HasFilling, Judges}
 use Rattle.edits.specs.declared.fault.EditFault.{EditFault}
 use Rattle.edits.specs.History.{History, or_memory}
+use Rattle.live_audit.specs.declared.certifying.Finding.{Finding}
 use Rattle.live_audit.specs.declared.verdict.Verdict.{Verdict}
-use Rattle.live_audit.specs.Bench.{Seen, IsAudited, nothing_done}
+use Rattle.live_audit.specs.Bench.{AreAnswersOf, Seen, IsAudited, nothing_done}
 use Rattle.live_audit.specs.Certify.{Certifies}
 use Rattle.live_audit.specs.Stroke.{Stroke, after_stroke, stroke_fault, stroke_moves}
 use Rattle.live_audit.specs.Verdict.{IsVerdictOn, Tells}
@@ -28,14 +30,28 @@ abbrev pub IsAsBefore : Seen → Seen → Type 0
 IsAsBefore old new = new ≡ record old { calls = new.calls }
 
 -- What is known of the parts is what a verdict without an allowance keeps of them.
-abbrev pub IsSearched : Seen → Seen → Type 0
-IsSearched old new = (j : Judgement) × ((searched : ℕ) × ((splits : ℕ) × Judges old.clues old.book.facts old.history.document.rows None old.kept new.kept j searched splits))
+abbrev pub IsSearchedTo : Seen → List KeptPart → Type 0
+IsSearchedTo old kept = (j : Judgement) × ((searched : ℕ) × ((splits : ℕ) × Judges old.clues old.book.facts old.history.document.rows None old.kept kept j searched splits))
 
--- All is as before, but that the engine may have been called, and that what is known of the parts may be what a verdict without
--- an allowance keeps of them.
+abbrev pub IsSearched : Seen → Seen → Type 0
+IsSearched old new = IsSearchedTo old new.kept
+
+-- All is as before, but that the engine may have been called, and that what is known of the parts is what a verdict without an
+-- allowance keeps of them.
 pub record Learns (old new : Seen) : Type 0 where
   pub same : new ≡ record old { kept = new.kept; calls = new.calls }
-  pub kept : (new.kept ≡ old.kept) ⊎ IsSearched old new
+  pub kept : IsSearched old new
+
+-- What was found for a bench keeps of the parts either nothing new, where another filling is kept, or what a verdict without an
+-- allowance keeps of them, which is true.
+abbrev pub kept_then : List KeptPart → Option (List KeptPart) → List KeptPart
+kept_then kept None = kept
+kept_then kept (Some next) = next
+
+pub record IsFoundOn (s : Seen) (found : Finding) : Type 0 where
+  pub searched : IsSearchedTo s (kept_then s.kept found.keeper)
+  pub answers : AreAnswersOf s.history.document s.clues s.book.facts (kept_then s.kept found.keeper)
+  pub at_once : (i : ℕ) → HasFilling s.kept i → found.keeper ≡ None
 
 -- Where another filling of a part is kept, nothing changes, the engine's calls neither.
 abbrev pub IsAtOnce : Seen → Seen → Type 0
@@ -71,8 +87,8 @@ Answers (Strokes stroke (Some fault)) old new = Refuses stroke fault old new
 Answers (Asks None) old new = IsAsBefore old new
 Answers (Asks (Some verdict)) old new = Tells old new verdict × (IsAudited new × IsVerdictOn old.history.document old.allowance verdict)
 Answers (Allows allowance) old new = new ≡ record old { allowance = allowance }
-Answers (Proves None) old new = Learns old new × IsAudited new
-Answers (Proves (Some found)) old new = Certifies old.history.document found × ((Learns old new × IsSearched old new) × IsAudited new)
+Answers (Proves None) old new = IsAsBefore old new
+Answers (Proves (Some found)) old new = Certifies old.history.document found × (Learns old new × IsAudited new)
 
 -- Calls lead from one state to another, one behind the other, and the engine's calls never fall.
 abbrev pub Lead : List Call → Seen → Seen → Type 0

@@ -7,14 +7,15 @@ ghost use Rattle.edits.specs.declared.fault.EditFault.TheVariants.{Memory};
 ghost use Rattle.edits.specs.Design.{design_of};
 ghost use Rattle.edits.specs.History.{IsPlanFor, advanced};
 ghost use Rattle.live_audit.specs.Bench.{Begins, FitsDepth, IsAudited};
-ghost use Rattle.live_audit.specs.Calls.{Accepts, CarriesOn, IsAsBefore, IsAtOnce, IsSearched, Learns, Refuses};
+ghost use Rattle.live_audit.specs.Calls.{Accepts, CarriesOn, IsAsBefore, IsAtOnce, IsFoundOn, Learns, Refuses};
 ghost use Rattle.live_audit.specs.Certify.{Certifies};
 ghost use Rattle.live_audit.specs.Reason.{Explains};
 ghost use Rattle.live_audit.specs.Stroke.{Edits, Redoes, Undoes};
-ghost use Rattle.live_audit.specs.Verdict.{Tells, Decides, IsToldBy, IsVerdictOn, AnswersAs, ShowsOthers};
+ghost use Rattle.live_audit.specs.Verdict.{Tells, Decides, IsToldBy, IsVerdictOn, AnswersAs};
+ghost use Rattle.second_search.specs.Judging.{HasNoFilling};
 
-use crate::certifying::certify_ordered;
-use crate::judging::{answers_next, rule};
+use crate::certifying::{Finding, certify_ordered};
+use crate::judging::{answers_next, other_kept, rule, rule_beside};
 use crate::verdict::Verdict;
 use crate::why::Why;
 use crate::work::{NO_WORK, Work};
@@ -243,54 +244,82 @@ impl<E: LineEngine + Drop, A: Agenda + Drop> Bench<E, A> {
     /// picture, and its givens are exactly the document's. None exactly where there is another picture with the present one's
     /// clues and, in the givens, its colours. It knows no allowance: it begins as a verdict without one and keeps what that
     /// finds, so a verdict after it searches nothing. Where another filling is kept already, it answers at once, and nothing
-    /// changes. Work stays that of the last verdict. Where a growth is refused, all is as before but for `calls`, which do not
-    /// fall, and for what was found of the parts.
+    /// changes. Work stays that of the last verdict. Where memory runs out nothing changes but `calls`.
     pub fn certify(&mut self) -> Result<Option<Cert>, AllocError>
         ensures certifies { IfOk result (Certifies self.old.history.document) }
-        ensures judges { OnOk result (IsSearched self.old self.new) }
-        ensures learns { Learns self.old self.new }
+        ensures learns { OnOk result (Learns self.old self.new) }
+        ensures as_before { OnErr result (IsAsBefore self.old self.new) }
         ensures at_once { OnOk result (IsAtOnce self.old self.new) }
         ensures calls { self.old.calls ≤ self.new.calls }
         ensures audited { IsAudited self.new }
     {
-        let before = self.engine.calls();
-        self.learn()?;
-        let judging = self.engine.calls().saturating_sub(before);
-        match self.keeper.other() {
-            Some(_) => Ok(None),
-            None => self.prove(judging),
+        let found = self.find_certificate()?;
+        Ok(self.keep(found))
+    }
+
+    /// What `certify` answers, with what its search comes to know of the parts, and nothing of it is kept yet: nothing changes
+    /// but `calls`. So a caller can take the memory that it needs for the answer first, and then `keep` it.
+    pub fn find_certificate(&mut self) -> Result<Finding, AllocError>
+        ensures certifies { IfOk result (λ found. Certifies self.old.history.document found.cert) }
+        ensures finds { IfOk result (IsFoundOn self.new) }
+        ensures as_before { IsAsBefore self.old self.new }
+        ensures at_once { OnOk result (IsAtOnce self.old self.new) }
+        ensures calls { self.old.calls ≤ self.new.calls }
+        ensures audited { IsAudited self.new }
+    {
+        match other_kept(&self.keeper, self.studio.document(), &self.audit) {
+            Some(_) => Ok(Finding {
+                cert: None,
+                keeper: None,
+            }),
+            None => self.search_certificate(),
         }
     }
 
-    // Judges the present picture by its parts without an allowance, and keeps what that finds; the work is not noted.
-    fn learn(&mut self) -> Result<(), AllocError>
-        ensures judges { OnOk result (IsSearched self.old self.new) }
-        ensures learns { Learns self.old self.new }
-        ensures at_once { OnOk result (IsAtOnce self.old self.new) }
-        ensures others { OnOk result (ShowsOthers self.old.history.document self.new.kept) }
-        ensures calls { self.old.calls ≤ self.new.calls }
-        ensures audited { IsAudited self.new }
-    {
-        let _ = self.engine.calls();
-        rule(
-            &mut self.keeper,
-            &mut self.engine,
-            self.studio.document(),
-            &self.audit,
-            None,
-        )?;
-        Ok(())
-    }
-
-    // Makes the certificate of the present document, after judging it evaluated so many lines.
-    fn prove(&mut self, judging: u64) -> Result<Option<Cert>, AllocError>
-        ensures certifies { IfOk result (Certifies self.old.history.document) }
+    // The same where no other filling of a part is kept: the present picture is judged by its parts without an allowance, and a
+    // certificate is made where that finds no other picture.
+    fn search_certificate(&mut self) -> Result<Finding, AllocError>
+        requires { HasNoFilling self.old.kept (length self.old.kept) }
+        ensures certifies { IfOk result (λ found. Certifies self.old.history.document found.cert) }
+        ensures finds { IfOk result (IsFoundOn self.new) }
         ensures as_before { IsAsBefore self.old self.new }
         ensures calls { self.old.calls ≤ self.new.calls }
         ensures audited { IsAudited self.new }
     {
+        let before = self.engine.calls();
         let document = self.studio.document();
-        certify_ordered(self.alloc, &mut self.engine, document, judging)
+        let keeper = rule_beside(&self.keeper, &mut self.engine, document, &self.audit)?;
+        let judging = self.engine.calls().saturating_sub(before);
+        if let Some(_) = keeper.other() {
+            return Ok(Finding {
+                cert: None,
+                keeper: Some(keeper),
+            });
+        }
+        let cert = certify_ordered(self.alloc, &mut self.engine, document, judging)?;
+        Ok(Finding {
+            cert,
+            keeper: Some(keeper),
+        })
+    }
+
+    /// Keeps what `find_certificate` came to know of the parts, where nothing else was asked of the bench since then, and
+    /// gives the certificate. It takes no memory and cannot fail.
+    pub fn keep(&mut self, found: Finding) -> Option<Cert>
+        requires { IsFoundOn self.old found }
+        ensures cert { result ≡ found.cert }
+        ensures learns { Learns self.old self.new }
+        ensures at_once { IsAtOnce self.old self.new }
+        ensures calls { self.new.calls ≡ self.old.calls }
+        ensures audited { IsAudited self.new }
+    {
+        let _ = self.map();
+        let Finding { cert, keeper } = found;
+        let Some(next) = keeper else {
+            return cert;
+        };
+        self.keeper = next;
+        cert
     }
 
     /// The present document.

@@ -7,8 +7,16 @@ ghost use Rattle.live_audit.specs.Certify.{Certifies};
 use certificate::{Cert, make_cert_within};
 use line_settle::LineEngine;
 use picture::{Document, MAX_SIDE};
-use second_search::BOUNDS;
+use second_search::{BOUNDS, Keeper};
 use std::alloc::{AllocError, Global};
+
+/// What `Bench::find_certificate` found: a certificate, or none where there is another picture; and what its search came to
+/// know of the parts, none where nothing was searched. `Bench::keep` keeps that.
+#[derive(Drop)]
+pub struct Finding {
+    pub cert: Option<Cert>,
+    pub(crate) keeper: Option<Keeper>,
+}
 
 /// Makes a certificate of a document with its colours numbered as they appear, after judging it evaluated so many lines.
 pub(crate) fn certify_ordered<E: LineEngine>(

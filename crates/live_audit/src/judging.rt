@@ -1,19 +1,19 @@
 //! What is judged of a document's audit, and what stays known of its parts.
 
-ghost use Rattle.std.specs.Prelude.{◌≡◌, ◌≤◌, IfOk, OnErr};
+ghost use Rattle.std.specs.Prelude.{◌≡◌, ◌≤◌, ℕ, length, None, IfOk, MatchOption, OnErr};
 ghost use Rattle.second_search.specs.Verdict.{Verdict};
 ghost use Rattle.second_search.specs.Carrying.{Carries};
-ghost use Rattle.second_search.specs.Judging.{Done, Judges};
+ghost use Rattle.second_search.specs.Judging.{Done, FirstFilling, HasNoFilling, Judges};
 ghost use Rattle.second_search.specs.Parts.{IsScene};
 ghost use Rattle.kept_audit.specs.Audit.{IsAuditOf};
 ghost use Rattle.edits.specs.Design.{design_of};
 ghost use Rattle.live_audit.specs.Bench.{AreAnswersOf, AreGivenCells, nothing_done};
-ghost use Rattle.live_audit.specs.Verdict.{IsToldBy, WasDecided};
+ghost use Rattle.live_audit.specs.Verdict.{IsOtherFor, IsToldBy, ShowsOthers, WasDecided};
 
 use crate::work::{NO_WORK, Work};
 use kept_audit::Audit;
 use line_settle::LineEngine;
-use picture::{Document, MAX_SIDE};
+use picture::{Document, MAX_SIDE, Picture};
 use second_search::{Judged, Keeper, Scene};
 use std::alloc::AllocError;
 
@@ -100,6 +100,61 @@ pub(crate) fn rule<E: LineEngine>(
         &mut work.splits,
     )?;
     Ok((was_decided(&judged), work))
+}
+
+/// Judges a document by the parts of its map without an allowance, beside what is kept of them, where no other filling is
+/// kept, and gives what is known of them then.
+pub(crate) fn rule_beside<E: LineEngine>(
+    keeper: &Keeper,
+    engine: &mut E,
+    document: &Document,
+    audit: &Audit,
+) -> Result<Keeper, AllocError>
+    requires audited { IsAuditOf (design_of document.now) audit.now.clues audit.now.book }
+    requires answers { AreAnswersOf (design_of document.now) audit.now.clues audit.now.book.facts
+        keeper.now }
+    requires none { HasNoFilling keeper.now (length keeper.now) }
+    requires long { MAX_SIDE ≤ E.longest engine.old }
+    ensures judges { IfOk result (λ next. (j : Verdict) × ((searched : ℕ) × ((splits : ℕ)
+        × Judges audit.now.clues audit.now.book.facts document.now.picture None keeper.now next j
+        searched splits))) }
+    ensures others { IfOk result (ShowsOthers (design_of document.now)) }
+    ensures answers { IfOk result
+        (AreAnswersOf (design_of document.now) audit.now.clues audit.now.book.facts) }
+    ensures calls { E.calls engine.old ≤ E.calls engine.new }
+    ensures same_longest { E.longest engine.new ≡ E.longest engine.old }
+{
+    let mut next = copy_of(keeper, document, audit)?;
+    rule(&mut next, engine, document, audit, None)?;
+    Ok(next)
+}
+
+// The same parts with what is known of them, where no other filling is kept.
+fn copy_of(keeper: &Keeper, document: &Document, audit: &Audit) -> Result<Keeper, AllocError>
+    requires audited { IsAuditOf (design_of document.now) audit.now.clues audit.now.book }
+    requires answers { AreAnswersOf (design_of document.now) audit.now.clues audit.now.book.facts
+        keeper.now }
+    requires none { HasNoFilling keeper.now (length keeper.now) }
+    ensures { IfOk result (λ copy. copy ≡ keeper.now) }
+{
+    let scene = scene_of(document, audit);
+    keeper.carry(&scene, &scene)
+}
+
+/// The other picture for a document that is kept, if one is.
+pub(crate) fn other_kept<'a>(
+    keeper: &'a Keeper,
+    document: &Document,
+    audit: &Audit,
+) -> Option<&'a Picture>
+    requires audited { IsAuditOf (design_of document.now) audit.now.clues audit.now.book }
+    requires answers { AreAnswersOf (design_of document.now) audit.now.clues audit.now.book.facts
+        keeper.now }
+    ensures { MatchOption result (HasNoFilling keeper.now (length keeper.now))
+        (λ other. FirstFilling keeper.now other.now × IsOtherFor (design_of document.now) other.now) }
+{
+    let _scene = scene_of(document, audit);
+    keeper.other()
 }
 
 // Whether a judgement was not broken off.

@@ -10,6 +10,7 @@ mod why;
 mod work;
 
 pub use bench::{Bench, MAX_ALLOWANCE};
+pub use certifying::Finding;
 pub use verdict::Verdict;
 pub use why::Why;
 pub use work::Work;

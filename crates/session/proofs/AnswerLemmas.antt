@@ -1,5 +1,5 @@
 -- What is answered is what a session says.
-use Rattle.std.proofs.Common.{◌≡◌, ℕ, ◌<◌, ◌≤◌, true, false, Bool, List, [], ◌++◌, length, Option, None, Some, Result, Ok, Err, IfErr, IfOk, IfSome, OnOk, MatchResult, inl, inr, refl, sym, ap, subst, ◌∙◌, arith}
+use Rattle.std.proofs.Common.{◌≡◌, ℕ, ◌<◌, ◌≤◌, true, false, Bool, List, [], ◌++◌, length, Option, None, Some, Result, Ok, Err, IfErr, IfOk, IfSome, OnErr, OnOk, MatchResult, inl, inr, refl, sym, ap, subst, ◌∙◌, arith}
 use Rattle.std.proofs.lemmas.Bool.Decides.{nat_tests}
 use Rattle.std.specs.declared.vec.Vec.{Vec}
 use Rattle.std.specs.declared.alloc.Global.{Global}
@@ -18,7 +18,7 @@ use Rattle.cert_text.specs.Cert.{Certificate}
 use Rattle.live_audit.specs.declared.verdict.Verdict.{Verdict}
 use Rattle.live_audit.specs.declared.why.Why.{Why}
 use Rattle.live_audit.specs.Bench.{IsAudited, Seen}
-use Rattle.live_audit.specs.Calls.{Accepts, IsAsBefore, IsSearched, Learns, Refuses}
+use Rattle.live_audit.specs.Calls.{Accepts, IsAsBefore, Learns, Refuses}
 use Rattle.live_audit.specs.Certify.{Certifies}
 use Rattle.live_audit.specs.Reason.{Explains}
 use Rattle.live_audit.specs.Stroke.{Stroke}
@@ -103,12 +103,12 @@ unfolding Replies
 replies_outside s row col colour outside = (inl (inl (outside, (refl, refl))), same_count s.calls)
 
 -- a certificate
-pub replies_certify : {E : Type 0} (old new : Seen) (outcome : Result (Vec ℕ Global) E) → Learns old new → OnOk outcome (IsSearched old new) → IsAudited new → old.calls ≤ new.calls
+pub replies_certify : {E : Type 0} (old new : Seen) (outcome : Result (Vec ℕ Global) E) → OnOk outcome (Learns old new) → OnErr outcome (IsAsBefore old new) → IsAudited new → old.calls ≤ new.calls
     → IfOk outcome (λ text. (found : Option Certificate) × (Certifies old.history.document found × (text.items ≡ certified_text found)))
     → Replies command.Certify old (answer_text (text_said outcome)) new
 unfolding Replies
-replies_certify old new (Ok text) learns searched audited calls found = (inl (found.0, (found.1.0, (found.1.1, ((learns, searched), audited)))), calls)
-replies_certify old new (Err e) learns searched audited calls found = (inr (refl, (learns, audited)), calls)
+replies_certify old new (Ok text) learns before audited calls found = (inl (found.0, (found.1.0, (found.1.1, (learns, audited)))), calls)
+replies_certify old new (Err e) learns before audited calls found = (inr (refl, before), calls)
 
 -- an allowance
 pub replies_allow : (old new : Seen) (allowance : Option ℕ) → new ≡ record old { allowance = allowance } → Replies (command.Allow allowance) old done_text new

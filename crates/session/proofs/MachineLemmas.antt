@@ -101,7 +101,7 @@ said_at command.Report old new text a h =
     at_either text (machine_of old) new (record { audited = j.1.0; machine_is = ap machine_of j.0.1.1.same })
 said_at command.Certify old new text a h =
     let l = h.1.1.1 in
-    at_either text (machine_of old) new (record { audited = l.1; machine_is = ap machine_of l.0.0.same })
+    at_either text (machine_of old) new (record { audited = l.1; machine_is = ap machine_of l.0.same })
 said_at (command.Allow allowance) old new text a h =
     let i = allows old new allowance a h.1 in
     record { audited = i.audited; machine_is = i.machine_is ∙ sym (not_memory text (machine_of old) (machine old.history allowance) h.0) }
@@ -117,7 +117,7 @@ lacked_at (command.Why row col colour) old new text a h = short_at old new text 
 lacked_at command.WritePpm old new text a h = short_at old new text a h
 lacked_at command.WriteNon old new text a h = short_at old new text a h.1
 lacked_at command.Report old new text a h = short_at old new text a h
-lacked_at command.Certify old new text a h = at_either text (machine_of old) new (record { audited = h.1.1; machine_is = ap machine_of h.1.0.same })
+lacked_at command.Certify old new text a h = short_at old new text a h
 lacked_at (command.Allow allowance) old new text a h = absurd h
 
 by_reply : (c : Command) (old new : Seen) (text : List ℕ) → IsAudited old → SaysTo old c text new ⊎ IsShort c old text new → IsAt (if is_word text memory_line then machine_of old else after_command (machine_of old) c) new

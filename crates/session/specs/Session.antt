@@ -16,7 +16,7 @@ use Rattle.live_audit.specs.declared.verdict.Verdict.TheVariants.{Unique, Ambigu
 use Rattle.live_audit.specs.declared.why.Why.{Why}
 use Rattle.live_audit.specs.declared.why.Why.TheVariants.{Possible, Given, By}
 use Rattle.live_audit.specs.Bench.{IsAudited, Seen}
-use Rattle.live_audit.specs.Calls.{Accepts, IsAsBefore, IsSearched, Learns, Refuses}
+use Rattle.live_audit.specs.Calls.{Accepts, IsAsBefore, Learns, Refuses}
 use Rattle.live_audit.specs.Reason.{Explains}
 use Rattle.live_audit.specs.Stroke.{Stroke, Edits, Undoes, Redoes}
 use Rattle.live_audit.specs.Verdict.{IsVerdictOn, Tells}
@@ -103,7 +103,7 @@ abbrev pub LacksMemory : Seen → List ℕ → Seen → Type 0
 LacksMemory old text new = (text ≡ memory_line) × IsAsBefore old new
 
 -- Where it may be: an edit, an undo and a redo have it among their own refusals, an allowance takes no memory, and a cell or a
--- picture that is refused otherwise takes none either. What a certificate's search found before is kept.
+-- picture that is refused otherwise takes none either.
 abbrev pub IsShort : Command → Seen → List ℕ → Seen → Type 0
 IsShort (command.Edit e) old text new = ⊥
 IsShort command.Undo old text new = ⊥
@@ -115,7 +115,7 @@ IsShort (command.Why row col colour) old text new = (has_cell old.history.docume
 IsShort command.WritePpm old text new = LacksMemory old text new
 IsShort command.WriteNon old text new = (is_two_colour old.history.document.rows ≡ true) × LacksMemory old text new
 IsShort command.Report old text new = LacksMemory old text new
-IsShort command.Certify old text new = (text ≡ memory_line) × (Learns old new × IsAudited new)
+IsShort command.Certify old text new = LacksMemory old text new
 IsShort (command.Allow allowance) old text new = ⊥
 
 -- What a command says.
@@ -135,7 +135,7 @@ SaysTo old command.WriteNon text new =
     ⊎ ((is_two_colour old.history.document.rows ≡ false) × Shows two_colours_line old text new)
 SaysTo old command.Report text new = (verdict : Verdict) × (Judges old new verdict × (text ≡ report_on old verdict))
 SaysTo old command.Certify text new =
-    (found : Option Certificate) × (Certifies old.history.document found × ((text ≡ certified_text found) × ((Learns old new × IsSearched old new) × IsAudited new)))
+    (found : Option Certificate) × (Certifies old.history.document found × ((text ≡ certified_text found) × (Learns old new × IsAudited new)))
 SaysTo old (command.Allow allowance) text new = (text ≡ done_text) × (new ≡ record old { allowance = allowance })
 
 -- that, or memory was wanting; and the engine's calls do not fall

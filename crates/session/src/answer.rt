@@ -1,6 +1,6 @@
 //! What a session answers to a line: all that takes memory comes before the first byte goes out.
 
-ghost use Rattle.std.specs.Prelude.{◌≡◌, ◌+◌, ◌++◌, ◌<◌, ◌≤◌, [], vec_capacity, vec_len, Option, IfOk, OnOk};
+ghost use Rattle.std.specs.Prelude.{◌≡◌, ◌+◌, ◌++◌, ◌<◌, ◌≤◌, [], vec_capacity, vec_len, Option, IfOk, OnErr, OnOk};
 ghost use Rattle.picture.specs.Content.{content_of};
 ghost use Rattle.ppm_text.specs.Text.{ppm_text};
 ghost use Rattle.edits.specs.Fault.{has_cell};
@@ -11,7 +11,7 @@ ghost use Rattle.command_text.specs.Lines.{AsksBounded};
 ghost use Rattle.report_text.specs.Room.{TakesRoom, picture_room};
 ghost use Rattle.report_text.specs.Shown.{map_text};
 ghost use Rattle.live_audit.specs.Certify.{Certifies};
-ghost use Rattle.live_audit.specs.Calls.{IsSearched, Learns};
+ghost use Rattle.live_audit.specs.Calls.{IsAsBefore, Learns};
 ghost use Rattle.live_audit.specs.Bench.{IsAudited};
 ghost use Rattle.session.specs.Answer.{GivesNon, IsAsked, answer_text, stroke_said, text_said};
 ghost use Rattle.session.specs.Room.{verdict_room};
@@ -235,21 +235,22 @@ fn non_answer(alloc: Global, picture: &Picture) -> Answer
     }
 }
 
-// The certificate's text, or that there is another picture.
+// The certificate's text, or that there is another picture. What its search came to know is kept once the text is made.
 fn certificate_text<E: LineEngine + Drop, A: Agenda + Drop>(
     alloc: Global,
     bench: &mut Bench<E, A>,
 ) -> Result<Vec<u8>, AllocError>
     ensures text { IfOk result (λ text. (found : Option Certificate)
         × (Certifies bench.old.history.document found × (text.items ≡ certified_text found))) }
-    ensures judges { OnOk result (IsSearched bench.old bench.new) }
-    ensures learns { Learns bench.old bench.new }
+    ensures learns { OnOk result (Learns bench.old bench.new) }
+    ensures as_before { OnErr result (IsAsBefore bench.old bench.new) }
     ensures calls { bench.old.calls ≤ bench.new.calls }
     ensures audited { IsAudited bench.new }
 {
-    let found = bench.certify()?;
+    let found = bench.find_certificate()?;
     let mut text = Vec::new(alloc);
-    push_found(&mut text, &found)?;
+    push_found(&mut text, &found.cert)?;
+    let _ = bench.keep(found);
     Ok(text)
 }
 

@@ -58,4 +58,4 @@ pub returns-in-Certify : goal.returns-in-Certify
 returns-in-Certify g c =
     let e = c.certificate_text.ensures in
     rw (c.in-Certify.is, c.text_answer-in-Certify.ensures)
-    (replies_certify c.args.bench.now c.certificate_text.new.bench c.certificate_text.result e.learns e.judges e.audited e.calls e.text)
+    (replies_certify c.args.bench.now c.certificate_text.new.bench c.certificate_text.result e.learns e.as_before e.audited e.calls e.text)
