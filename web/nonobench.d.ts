@@ -1,5 +1,12 @@
 // What nonobench.mjs offers.
 
+declare global {
+  // As in newer libraries of TypeScript. Older engines do not have it.
+  interface SymbolConstructor {
+    readonly dispose: unique symbol;
+  }
+}
+
 /** A file: its text, or its bytes. At most 16,777,216 bytes. */
 export type Input = string | Uint8Array | ArrayBuffer;
 

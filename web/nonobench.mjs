@@ -59,8 +59,9 @@ function publishedOf(givens = []) {
   return new Set(givens.map(([row, column]) => `${row} ${column}`));
 }
 
-// The cells that an accepted certificate gives: their lines stand directly below its first one.
+// The cells that an accepted certificate gives: their lines stand directly below its first one, `nonocert 2`.
 function givensOf(certificate) {
+  if (certificate[9] !== 0x32) return [];
   const text = decoder.decode(certificate), line = /given (\d+) (\d+)(?:\n|$)/y, givens = [];
   line.lastIndex = text.indexOf('\n') + 1;
   for (let found = line.exec(text); found; found = line.exec(text)) givens.push([Number(found[1]), Number(found[2])]);
@@ -112,7 +113,7 @@ class Engine {
    */
   check(picture, certificate, options = {}) {
     const background = this.#background(options.background), published = publishedOf(options.givens ?? undefined);
-    const proof = this.#input(certificate).slice(); // what is read below is what was checked, also of shared memory
+    const held = this.#input(certificate), proof = held.buffer instanceof ArrayBuffer ? held : held.slice(); // shared memory may change
     const status = this.#lend([this.#input(picture), proof, background], ([file, cert, word]) =>
       this.#calls.nonobench_check(this.#cell, file.at, file.size, cert.at, cert.size, word.at, word.size));
     if (status === MEMORY || status === OPTIONS) this.#refuse(status);

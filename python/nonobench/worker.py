@@ -25,7 +25,7 @@ _START = """import sys
 package = sys.modules["nonobench"] = type(sys)("nonobench")
 package.__path__ = [sys.argv[1]]
 from nonobench._serve import serve
-serve(int(sys.argv[2]), int(sys.argv[3]))"""
+serve(0, int(sys.argv[2]))"""
 
 # After so many seconds more than it may take, a question ends the process by itself, should nobody be there to end it.
 _GRACE = 2
@@ -92,15 +92,20 @@ class Worker(Questions):
                 self._number += 1
                 answer = process.ask(self._number, kind, (picture, background, rest), self._seconds)
             except BaseException as error:
-                if process:
-                    process.end()
-                if isinstance(error, socket.timeout):
+                if not process:
+                    raise
+                process.end()
+                if isinstance(error, _Late):
                     raise TimeoutError(f"no answer within {self._seconds:g} seconds") from None
                 if isinstance(error, (EOFError, ConnectionError)):
-                    raise MemoryError("the worker ended") from error
+                    raise process.why() from error
                 raise
             self._process = process
             return answer
+
+
+class _Late(Exception):
+    """There is no answer in time."""
 
 
 def _started(memory: int) -> _Process:
@@ -128,14 +133,13 @@ class _Process:
     """A process that answers, and the stream to it. It is ended with this object."""
 
     def __init__(self, memory: int) -> None:
+        self._memory = memory
         self._stream, theirs = socket.socketpair()
         with theirs:
-            words = [FOLDER, str(theirs.fileno()), str(memory)]
             self._process = subprocess.Popen(
-                [sys.executable, *_FLAGS, "-c", _START, *words], stdin=subprocess.DEVNULL, stdout=subprocess.DEVNULL,
-                pass_fds=[theirs.fileno()], cwd="/", env={**os.environ, "NONOBENCH_LIBRARY": PATH}, start_new_session=True,
+                [sys.executable, *_FLAGS, "-c", _START, FOLDER, str(memory)], stdin=theirs.fileno(), stdout=subprocess.DEVNULL, cwd="/",
+                env={**os.environ, "NONOBENCH_LIBRARY": PATH}, start_new_session=True,
             )
-        self._memory = memory
         self.end = weakref.finalize(self, _end, self._process, self._stream, os.getpid())
 
     @property
@@ -147,18 +151,29 @@ class _Process:
         """Whether it ended by itself."""
         return self._process.poll() is not None
 
+    def why(self) -> Exception:
+        """What is told of a process that ended in the middle of a question: by status 1 Python tells what its program raised."""
+        if self._process.returncode == 1:
+            return RuntimeError("the worker's program failed; it says why on standard error")
+        return MemoryError("the worker ended")
+
     def ask(self, number: int, kind: int, files: tuple[bytes, ...], seconds: float) -> tuple[int, list[bytes]]:
-        """The status and the texts that come for a question. Raises socket.timeout, EOFError or ConnectionError where none come."""
+        """The status and the texts that come for a question. Raises _Late, EOFError or ConnectionError where none come."""
         deadline = time.monotonic() + seconds
         limit = min(math.ceil(seconds) + _GRACE, _MOST_ALARM)
-        self._wait(deadline)
-        self._stream.sendall(b"".join((QUESTION.pack(number, kind, limit, *map(len, files)), *files)), _NO_SIGNAL)
-        answered, status, *sizes = ANSWER.unpack(self._read(ANSWER.size, deadline))
-        if answered != number:
-            raise RuntimeError(f"the worker answered question {answered} in place of {number}")
-        if sum(sizes) > self._memory:
-            raise RuntimeError("the worker answers more than it has memory for")
-        return status, [self._read(size, deadline) for size in sizes if size]
+        try:
+            self._wait(deadline)
+            self._stream.sendall(b"".join((QUESTION.pack(number, kind, limit, *map(len, files)), *files)), _NO_SIGNAL)
+            answered, status, *sizes = ANSWER.unpack(self._read(ANSWER.size, deadline))
+            if answered != number:
+                raise RuntimeError(f"the worker answered question {answered} in place of {number}")
+            if sum(sizes) > self._memory:
+                raise RuntimeError("the worker answers more than it has memory for")
+            return status, [self._read(size, deadline) for size in sizes if size]
+        except socket.timeout:
+            if time.monotonic() < deadline:
+                raise  # by a handler of somebody else's signal
+            raise _Late from None
 
     def _read(self, size: int, deadline: float) -> bytes:
         parts = []
@@ -174,7 +189,7 @@ class _Process:
         """Lets the next call on the stream wait until a time."""
         left = deadline - time.monotonic()
         if left <= 0:
-            raise socket.timeout
+            raise _Late
         self._stream.settimeout(left)
 
 

@@ -83,6 +83,20 @@ class Workers(unittest.TestCase):
             worker._seconds = 300
             self.assertEqual(worker.clues(DIAGONAL), nonobench.clues(DIAGONAL))
 
+    def test_a_program_that_fails(self):
+        kept = nonobench.worker.PATH
+        self.addCleanup(setattr, nonobench.worker, "PATH", kept)
+        nonobench.worker.PATH = "/nowhere/libnonobench.so"
+        with nonobench.Worker(seconds=300) as worker, self.assertRaisesRegex(RuntimeError, "the worker's program failed"):
+            worker.clues(DIAGONAL)
+
+    def test_no_standard_streams(self):
+        # A program may have closed its own: then the stream has their numbers.
+        program = f"import os, nonobench\nfor at in range(3): os.close(at)\nworker = nonobench.Worker(seconds=300)\n" \
+                  f"os._exit(0 if worker.clues({DIAGONAL!r}) == nonobench.clues({DIAGONAL!r}) else 1)\n"
+        env = {**os.environ, "PYTHONPATH": str(PACKAGE)}
+        self.assertEqual(subprocess.run([sys.executable, "-c", program], env=env, check=False).returncode, 0)
+
     def test_memory(self):
         # The question alone takes more than is left beside the interpreter.
         with nonobench.Worker(seconds=300, memory=40 << 20) as worker:
@@ -199,6 +213,18 @@ class Interrupts(unittest.TestCase):
                 worker.check(TILE, b"junk", published=nonobench.ANY_GIVEN)
             with self.assertRaisesRegex(CertificateFault, "NotCert"):
                 worker.check(TILE, b"junk", published=nonobench.ANY_GIVEN)
+
+    def test_what_a_handler_raises_is_raised(self):
+        def late(*_):
+            raise TimeoutError("the handler's own")
+
+        signal.signal(signal.SIGALRM, late)
+        with nonobench.Worker(seconds=300) as worker:
+            worker.clues(DIAGONAL)
+            os.kill(worker._process.pid, signal.SIGSTOP)
+            signal.setitimer(signal.ITIMER_REAL, 0.2)
+            with self.assertRaisesRegex(TimeoutError, "^the handler's own$"):
+                worker.clues(DIAGONAL)
 
     def test_an_interrupted_process_is_ended(self):
         with nonobench.Worker(seconds=300) as worker:
