@@ -157,7 +157,7 @@ test('archives of others: what is no puzzle is left, what is damaged is refused'
     const bytes = writeZip([{ name: 'x/', bytes: text('') }, { name: 'x/one.ppm', bytes: text('P3 2 1 255 255 255 255 0 0 0') }, { name: 'notes.txt', bytes: text('hello') }, { name: 'bad.xml', bytes: text('<puzzle>') }]);
     const { docs, unread } = await readArchive(bytes);
     assert.deepEqual([docs.map((one) => [one.name, one.doc.picture]), unread], [[['one', ['.a']]], ['notes.txt', 'bad.xml']]);
-    const found = (sign) => Buffer.from(bytes).indexOf(sign);
+    const found = (sign) => Buffer.from(bytes).indexOf(sign, 1);
     for (const at of [found('P3 2'), found('PK\u0001\u0002'), found('PK\u0003\u0004'), bytes.length - 22]) await assert.rejects(readZip(bytes.map((byte, one) => (one === at ? byte ^ 85 : byte))), /damaged/);
     await assert.rejects(readZip(text('PK')), /damaged/);
 });
