@@ -4,6 +4,7 @@ import { resolve } from 'node:path';
 import { Browser } from './page_browser.mjs';
 import { Trial, hookedPage } from './page_trial.mjs';
 import * as drawing from './page_drawing.mjs';
+import * as lasting from './page_lasting.mjs';
 import * as looks from './page_looks.mjs';
 import * as loss from './page_loss.mjs';
 import * as meaning from './page_meaning.mjs';
@@ -16,7 +17,7 @@ import * as ways from './page_ways.mjs';
 const [folder, ...only] = [resolve(process.argv[2]), ...process.argv.slice(3)];
 const url = hookedPage(process.env.PAGE, folder);
 const isWanted = (name) => !only.length || only.some((one) => name === one || (one.endsWith(':') && name.startsWith(one)));
-const tests = Object.entries({ ...drawing, ...loss, ...meaning, ...ways, ...stored, ...out, ...looks, ...phone, ...points.tests })
+const tests = Object.entries({ ...drawing, ...lasting, ...loss, ...meaning, ...ways, ...stored, ...out, ...looks, ...phone, ...points.tests })
     .filter(([name, test]) => typeof test === 'function' && name !== 'hard' && isWanted(name));
 const browser = new Browser();
 const passed = new Set();

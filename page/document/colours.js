@@ -48,5 +48,15 @@ export function oklabOf(red, green, blue) {
   ];
 }
 
-/** How light a triple looks, from 0 to 255. */
-export const lightness = ([red, green, blue]) => 255 * oklabOf(red, green, blue)[0];
+/** The contrast of two triples of eight bits, from 1 to 21 (WCAG 2). */
+export function contrastOf(one, other) {
+  const light = ([red, green, blue]) => 0.2126 * LIGHT_OF[red] + 0.7152 * LIGHT_OF[green] + 0.0722 * LIGHT_OF[blue] + 0.05;
+  const [a, b] = [light(one), light(other)];
+  return Math.max(a, b) / Math.min(a, b);
+}
+
+/**
+ * How light a triple looks, from 0 to 255.
+ * @param {ArrayLike<number>} triple
+ */
+export const lightness = (triple) => 255 * oklabOf(triple[0], triple[1], triple[2])[0];

@@ -1,13 +1,15 @@
 // The cells on their canvas: only those are drawn whose look has changed. A cell's look is a number: its letter, whether it
-// is hatched, the other picture's letter, whether it is given. The lines between cells lie beside them and stay.
+// is hatched, the other picture's letter, whether it is given or locked. The lines between cells lie beside them and stay.
 
 import { clamp } from '../base/words.js';
 import { cssOf, inkOn } from '../document/colours.js';
 import { LETTERS } from '../document/limits.js';
+import { drawGiven } from './given.js';
 
 export const RIVAL = 1 << 8;
 export const HATCHED = 1 << 4;
 export const GIVEN = 1 << 16;
+export const LOCKED = 1 << 17;
 
 export class Cells {
   constructor(canvas) {
@@ -144,7 +146,8 @@ export class Cells {
     const rival = look & RIVAL ? (look >> 9) & 15 : -1;
     if (rival >= 0) this.rival(sheet, rival, x, y, wide, high);
     if (this.hasLetters) this.letter(sheet, look & 15, rival, x, y, wide, high);
-    if (look & GIVEN) this.given(sheet, x, y, wide, high);
+    if (look & GIVEN) drawGiven(this.pen, x, y, Math.min(wide, high));
+    if (look & LOCKED) this.locked(sheet, x, y, Math.min(wide, high));
   }
 
   // The other picture's colour in the lower corner, and a frame.
@@ -183,20 +186,19 @@ export class Cells {
     write(rival, x + wide * 0.7, y + high * 0.68);
   }
 
-  given(sheet, x, y, wide, high) {
+  // A lock: a small square with a bow, at the lower left.
+  locked(sheet, x, y, high) {
     const { pen } = this;
-    const { scale } = sheet.geometry;
-    const size = clamp(wide * 0.17, 1.5 * scale, 5 * scale);
-    pen.strokeStyle = sheet.inks.accent;
-    pen.lineWidth = 1.4 * scale;
-    pen.strokeRect(x + 1.2 * scale, y + 1.2 * scale, wide - 2.4 * scale, high - 2.4 * scale);
-    pen.beginPath();
-    pen.arc(x + wide / 2, y + high / 2, size, 0, 7);
-    pen.fillStyle = sheet.inks.accent;
-    pen.fill();
-    pen.lineWidth = scale;
-    pen.strokeStyle = '#fff';
-    pen.stroke();
+    const side = Math.max(2, high * 0.26);
+    const [left, top] = [x + high * 0.08, y + high * 0.92 - side * 0.7];
+    pen.lineWidth = Math.max(1, side * 0.16);
+    for (const { ink, grow } of [{ ink: '#fff', grow: 1 }, { ink: '#1a1a1a', grow: 0 }]) {
+      pen.strokeStyle = pen.fillStyle = ink;
+      pen.beginPath();
+      pen.arc(left + side / 2, top, side * 0.28 + grow * 0.5, Math.PI, 0);
+      pen.stroke();
+      pen.fillRect(left - grow, top - grow, side + 2 * grow, side * 0.7 + 2 * grow);
+    }
   }
 
   rules(sheet) {

@@ -18,6 +18,8 @@ export class Geometry {
     this.cell = 16;
     this.left = this.top = 40; // room for the clues
     this.panX = this.panY = 0; // how far the picture is moved to the left and up
+    this.slack = { x: 0, y: 0 }; // free room at the left and above the clues
+    this.wantsFit = false; // whether clues have grown past what a fitted picture leaves them
     this.isFitted = true;
     this.isFolded = false; // whether clues are edges with numbers of lines alone
     this.letters = false;
@@ -106,20 +108,31 @@ export class Geometry {
     Object.assign(this, this.isFolded ? this.edges() : this.room(this.cell));
     this.font = this.fontFor(this.cell);
     this.pitch = this.pitchFor(this.cell);
+    // A picture smaller than its room stands in the middle, somewhat above it.
+    const free = (room, length) => Math.max(0, room - length - MARGIN);
+    this.slack = { x: Math.floor(free(this.width - this.left, this.columns * this.cell) / 2), y: Math.floor(free(this.height - this.top, this.rows * this.cell) / 3) };
+    this.wantsFit = false;
   }
 
-  /** Makes room where clues have grown; what was there stays, or the picture would move under the pointer. */
+  /**
+   * Makes room where clues have grown, beside cells that stay where they are: of the free room first. A picture that is fitted and has
+   * none is fitted again later (`wantsFit`); till then its longest clues are drawn in part. Answers whether anything is drawn elsewhere.
+   */
   grow() {
     if (this.isFolded) return false;
     const { left, top } = this.room(this.cell, 0);
-    const grows = left > this.left || top > this.top;
-    if (!grows) return false;
-    if (this.isFitted) this.fit();
-    else {
-      [this.left, this.top] = [Math.max(left, this.left), Math.max(top, this.top)];
-      this.clamp();
+    let [more, higher] = [Math.max(0, left - this.left), Math.max(0, top - this.top)];
+    if (!more && !higher) return false;
+    if (this.isFitted) {
+      this.wantsFit ||= more > this.slack.x || higher > this.slack.y;
+      [more, higher] = [Math.min(more, this.slack.x), Math.min(higher, this.slack.y)];
     }
-    return true;
+    this.left += more;
+    this.top += higher;
+    this.panX += Math.max(0, more - this.slack.x);
+    this.panY += Math.max(0, higher - this.slack.y);
+    this.slack = { x: Math.max(0, this.slack.x - more), y: Math.max(0, this.slack.y - higher) };
+    return more > 0 || higher > 0;
   }
 
   /** The size of a cell one step larger or smaller: by a share of it, at least by a pixel. */
@@ -153,7 +166,7 @@ export class Geometry {
     this.clamp();
   }
 
-  // Where the picture is smaller than its room it stands in the middle; else an edge comes no further than its margin.
+  // Where the picture is smaller than its room it stays; else an edge comes no further than its margin.
   clamp() {
     const over = (length, room) => Math.max(0, length + MARGIN * this.scale - room);
     this.panX = Math.round(clamp(this.panX, 0, over(this.columns * this.cell, this.width - this.left)));
@@ -161,11 +174,11 @@ export class Geometry {
   }
 
   slackX() {
-    return Math.max(0, Math.floor((this.width - this.left - this.columns * this.cell - MARGIN) / 2));
+    return this.slack.x;
   }
 
   slackY() {
-    return Math.max(0, Math.floor((this.height - this.top - this.rows * this.cell - MARGIN) / 3));
+    return this.slack.y;
   }
 
   // The edges of the room of the cells.

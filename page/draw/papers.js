@@ -3,8 +3,9 @@
 
 import { make } from '../base/elements.js';
 import { lightness } from '../document/colours.js';
-import { eightBitDoc } from '../document/document.js';
+import { columnOf, eightBitDoc, rowOf } from '../document/document.js';
 import { LETTERS } from '../document/limits.js';
+import { givenCorners } from './given.js';
 
 const PAPER_INK = '#1a1a1a';
 const PAPER_FAINT = '#8a8a8a';
@@ -25,8 +26,14 @@ export function paperOf({ doc, clues }, { cell = 20, clues: hasClues = true, sol
   paper.shapes.push({ kind: 'rect', x: 0, y: 0, width: paper.width, height: paper.height, fill: '#fff' });
   drawPaperCells(paper, solution);
   drawPaperLines(paper);
+  if (!solution) drawPaperGivens(paper);
   if (hasClues) drawPaperClues(paper, clues);
   return paper;
+}
+
+// The mark of each given cell, over what is drawn there.
+function drawPaperGivens({ cell, left, top, doc, shapes }) {
+  for (const place of doc.givens) shapes.push({ kind: 'diamond', corners: givenCorners(left + columnOf(doc, place) * cell, top + rowOf(doc, place) * cell, cell), weight: cell / 25 });
 }
 
 function drawPaperCells({ cell, left, top, letters, doc, shapes }, solution) {
@@ -96,10 +103,20 @@ export function svgOfPaper({ width, height, shapes }) {
   for (const shape of shapes) {
     const edge = shape.edge ? { stroke: PAPER_FAINT, 'stroke-width': shape.edge } : {};
     if (shape.kind === 'rect') svg.append(svgPart('rect', { x: shape.x, y: shape.y, width: shape.width, height: shape.height, fill: shape.fill, ...edge }));
+    else if (shape.kind === 'diamond') svg.append(svgPart('polygon', { points: shape.corners.map((corner) => corner.map((one) => one.toFixed(2)).join()).join(' '), fill: '#fff', stroke: PAPER_INK, 'stroke-width': shape.weight }));
     else if (shape.kind === 'line') svg.append(svgPart('line', { x1: shape.x1, y1: shape.y1, x2: shape.x2, y2: shape.y2, stroke: PAPER_INK, 'stroke-width': shape.weight, 'stroke-linecap': 'square' }));
     else svg.append(svgPart('text', { x: shape.x, y: shape.y + shape.size * 0.36, 'font-size': shape.size, 'text-anchor': 'middle', fill: shape.fill }, shape.text));
   }
   return svg;
+}
+
+function drawDiamond(pen, { corners, weight }) {
+  pen.beginPath();
+  corners.forEach(([x, y], at) => (at ? pen.lineTo(x, y) : pen.moveTo(x, y)));
+  pen.closePath();
+  [pen.fillStyle, pen.strokeStyle, pen.lineWidth] = ['#fff', PAPER_INK, Math.max(1, weight)];
+  pen.fill();
+  pen.stroke();
 }
 
 /** A paper as points of a canvas. */
@@ -114,7 +131,8 @@ export function canvasOfPaper({ width, height, shapes }) {
       if (!shape.edge) continue;
       [pen.strokeStyle, pen.lineWidth] = [PAPER_FAINT, Math.max(1, shape.edge)];
       pen.strokeRect(shape.x, shape.y, shape.width, shape.height);
-    } else if (shape.kind === 'line') {
+    } else if (shape.kind === 'diamond') drawDiamond(pen, shape);
+    else if (shape.kind === 'line') {
       const half = Math.max(1, shape.weight) / 2;
       pen.fillRect(shape.x1 - half, shape.y1 - half, shape.x2 - shape.x1 + 2 * half, shape.y2 - shape.y1 + 2 * half);
     } else {

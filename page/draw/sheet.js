@@ -6,7 +6,7 @@ import { on, tell } from '../base/events.js';
 import { docOf } from '../document/document.js';
 import { LETTERS } from '../document/limits.js';
 import { bench } from '../engine/bench.js';
-import { Cells, GIVEN, HATCHED, RIVAL } from './cells.js';
+import { Cells, GIVEN, HATCHED, LOCKED, RIVAL } from './cells.js';
 import { Geometry } from './geometry.js';
 import { drawMarks } from './marks.js';
 import { Strips } from './strips.js';
@@ -111,7 +111,9 @@ class Sheet {
       const rival = this.rivalAt(row, col);
       if (rival !== null) look |= RIVAL | (LETTERS.indexOf(rival) << 9);
     }
-    return this.doc.givens.has(row * this.state.columns + col) ? look | GIVEN : look;
+    const place = row * this.state.columns + col;
+    if (this.doc.givens.has(place)) look |= GIVEN;
+    return this.doc.locks.has(place) ? look | LOCKED : look;
   }
 
   isChanged(axis, at) {
@@ -232,6 +234,12 @@ class Sheet {
     return x < at.originX || y < at.originY || x > at.width || y > at.height;
   }
 
+  /** Shows the whole picture. */
+  fit() {
+    this.geometry.fit();
+    this.redrawAll();
+  }
+
   /** Scrolls until a cell is seen. */
   reveal(row, col) {
     if (this.geometry.reveal(row, col)) this.drawAll();
@@ -254,6 +262,8 @@ export function startSheet() {
     sheet.stage.dataset.drawn = Number(sheet.stage.dataset.drawn ?? 0) + 1;
   });
   on('judged', (state) => sheet.judge(state));
+  // What would have moved the picture under the pointer waits until something else is used.
+  for (const name of ['pointerdown', 'focusin']) addEventListener(name, (/** @type {any} */ event) => { if (sheet.geometry.wantsFit && !sheet.stage.contains(event.target)) sheet.fit(); });
   on('stroke', () => {
     sheet.update();
     sheet.redraw();

@@ -13,6 +13,8 @@ import { keep } from '../library/keep.js';
 import { SAVE_TYPES, download, exportAs, saved, saving, showFileName, textAs } from '../library/saving.js';
 import { addAction, runAction } from '../view/actions.js';
 import { openDialog } from '../view/dialogs.js';
+import { inkName } from '../view/dress.js';
+import { nearText } from '../view/palette.js';
 import { asSeen, heard } from '../view/tools.js';
 import { certificateText } from '../view/verdict.js';
 
@@ -76,15 +78,15 @@ function printedLegend(doc, letters) {
     return [make('span', {}, swatch, ` ${text}`), ' '];
   };
   const drawn = colours.slice(1).map((triple, at) => [LETTERS[at + 1], triple]).filter(([letter]) => doc.picture.some((row) => row.includes(letter)));
-  const inks = drawn.flatMap(([letter, triple]) => item(triple, `${letters ? `${letter}: ` : ''}${nameOf(triple, 255)}`));
-  return make('p', { class: 'legend' }, ...inks, ...(isWhite ? [] : item(colours[0], `background: ${nameOf(colours[0], 255)}`)));
+  const inks = drawn.flatMap(([letter, triple]) => item(triple, `${letters ? `${letter}: ` : ''}${inkName(doc, letter)}`));
+  return make('p', { class: 'legend' }, ...inks, ...(isWhite ? [] : item(colours[0], `background: ${inkName(doc, '.')}`)));
 }
 
 /** Fills the part of the page that is printed: the puzzle, and on wish the solution on a second sheet. */
 function fillPrint({ title, letters, solution }) {
   const { doc, clues } = puzzleAtHand();
   const by = doc.about.author ? `, by ${doc.about.author}` : '';
-  const facts = `${doc.columns} by ${doc.rows}${doc.givens.size ? `, ${many(doc.givens.size, 'cell')} given` : ''}${by}`;
+  const facts = `${doc.columns} by ${doc.rows}${doc.givens.size ? `, ${many(doc.givens.size, 'cell')} given (◆)` : ''}${by}`;
   const sheets = [make('section', { class: 'printed' }, make('h1', {}, title), make('p', {}, facts), svgOfPaper(paperOf({ doc, clues }, { letters })), printedLegend(doc, letters))];
   if (solution) sheets.push(make('section', { class: 'printed' }, make('h1', {}, `${title}: solution`), svgOfPaper(paperOf({ doc, clues }, { letters, solution: true, clues: false }))));
   $('print').replaceChildren(...sheets);
@@ -96,8 +98,7 @@ async function printPuzzle() {
   const letters = make('input', { type: 'checkbox' });
   const solution = make('input', { type: 'checkbox', checked: true });
   const content = make('div', { class: 'rows' }, make('label', {}, 'Title', title), make('label', {}, letters, 'Letters in place of colours, for black and white'), make('label', {}, solution, 'The solution on a second sheet'));
-  const warning = WARNINGS[bench.state.verdict.word];
-  if (warning) content.append(make('p', { class: 'wrong' }, warning));
+  for (const warning of [WARNINGS[bench.state.verdict.word], nearText(bench.state)]) if (warning) content.append(make('p', { class: 'wrong' }, warning));
   const go = await openDialog({ title: 'Print', content, buttons: [{ name: 'Print …', value: true, main: true }] });
   if (!go) return;
   fillPrint({ title: title.value || bench.name, letters: letters.checked, solution: solution.checked });

@@ -27,10 +27,10 @@ async function openPlay() {
   dialog.showModal();
   playPalette();
   fitPlay();
-  $('play-field').focus();
+  $('play-field').focus({ preventScroll: true });
   const { word } = state.verdict;
   const told = word === 'unique' ? 'One solution. Good luck.' : word === 'ambiguous' ? 'This puzzle has more than one solution.' : 'It is not known whether this puzzle has one solution.';
-  playSays(`${told}${state.givens.size ? ' Cells with a square are given.' : ''}`);
+  playSays(`${told}${state.givens.size ? ' Cells with a diamond ◆ are given.' : ''}`);
 }
 
 const playSays = (text) => { $('play-said').textContent = text; };
@@ -228,6 +228,7 @@ function playKey(event) {
   else if (event.key === 'Backspace' || event.key === 'Delete') keepPlay(markPlay([play.at.row * play.state.columns + play.at.col], '?'));
   else if (event.key === 'x') { beginPlay(play.at, '.'); endPlay(); }
   else if (event.key.length === 1 && LETTERS.includes(event.key)) choosePlay(event.key);
+  else if (/^[0-9]$/.test(event.key)) choosePlay(LETTERS[Number(event.key)]);
   else return;
   event.preventDefault();
 }

@@ -3,11 +3,16 @@
 
 import { $ } from '../base/elements.js';
 import { clamp } from '../base/words.js';
-import { cssOf, inkOn, nameOf } from '../document/colours.js';
+import { contrastOf, cssOf, eightBits, inkOn, lightness, nameOf } from '../document/colours.js';
 import { LETTERS } from '../document/limits.js';
+import { drawGiven } from '../draw/given.js';
 import { wordOf } from '../view/dress.js';
 import { crossedOff } from './crossing.js';
 import { afterPlay, play, playColumn } from './play.js';
+
+// Cells without a mark: in the dark a grey from which both black and white stand out.
+const [BLANK, DARK_BLANK] = [[255, 254, 251], [118, 122, 128]];
+const LEAST_CONTRAST = 3;
 
 const PLAY_SIDES = [8, 10, 12, 14, 16, 18, 20, 24, 28, 32, 40, 48];
 
@@ -70,14 +75,15 @@ export function drawPlay() {
 
 function playInks() {
   const style = getComputedStyle($('play-room'));
-  return { paper: style.backgroundColor, ink: style.color, alarm: '#c8321e', here: '#14609c' };
+  const isDark = lightness((style.backgroundColor.match(/[0-9.]+/g) ?? [255, 255, 255]).slice(0, 3).map(Number)) < 128;
+  return { paper: style.backgroundColor, blank: isDark ? DARK_BLANK : BLANK, ink: style.color, alarm: '#c8321e', here: '#14609c' };
 }
 
 function playBlock(pen, inks, block, isCrossed, x, y, wide) {
   const { colours, maxval } = play.state;
   const triple = colours[LETTERS.indexOf(block.letter)];
   const size = playFont();
-  pen.globalAlpha = isCrossed ? 0.28 : 1;
+  pen.globalAlpha = isCrossed ? 0.5 : 1;
   pen.fillStyle = cssOf(triple, maxval);
   pen.fillRect(x, y, wide, size + 4);
   pen.strokeStyle = 'rgb(128 128 128 / 60%)';
@@ -133,7 +139,7 @@ function drawPlayField() {
   const { state, side } = play;
   const inks = playInks();
   const pen = playPen('play-field', side * state.columns + 2, side * state.rows + 2);
-  pen.fillStyle = inks.paper;
+  pen.fillStyle = `rgb(${inks.blank.join(' ')})`;
   pen.fillRect(0, 0, side * state.columns + 2, side * state.rows + 2);
   play.marks.forEach((row, at) => row.forEach((mark, col) => drawPlayCell(pen, inks, mark, at, col)));
   pen.fillStyle = inks.ink;
@@ -153,21 +159,30 @@ function drawPlayField() {
   pen.strokeRect(play.at.col * side + 1, play.at.row * side + 1, side - 1, side - 1);
 }
 
+// A mark in its colour; one that hardly stands out from cells without a mark has an edge that does.
+function drawPlayMark(pen, inks, mark, x, y) {
+  const { state, side } = play;
+  const triple = state.colours[LETTERS.indexOf(mark)];
+  const ink = inkOn(triple, state.maxval);
+  pen.fillStyle = cssOf(triple, state.maxval);
+  pen.fillRect(x, y, side, side);
+  if (contrastOf(eightBits(triple, state.maxval), inks.blank) < LEAST_CONTRAST) {
+    pen.strokeStyle = ink;
+    pen.lineWidth = Math.max(1, side * 0.07);
+    pen.strokeRect(x + side * 0.13, y + side * 0.13, side * 0.74, side * 0.74);
+  }
+  if (mark !== '.') return;
+  pen.fillStyle = ink;
+  pen.beginPath();
+  pen.arc(x + side / 2, y + side / 2, Math.max(1.2, side * 0.09), 0, 7);
+  pen.fill();
+}
+
 function drawPlayCell(pen, inks, mark, row, col) {
   const { state, side, wrong } = play;
   const [x, y, index] = [col * side, row * side, row * state.columns + col];
-  if (mark !== '?') {
-    const triple = state.colours[LETTERS.indexOf(mark)];
-    pen.fillStyle = cssOf(triple, state.maxval);
-    pen.fillRect(x, y, side, side);
-    if (mark === '.' || state.givens.has(index)) {
-      pen.fillStyle = inkOn(triple, state.maxval);
-      pen.beginPath();
-      if (state.givens.has(index)) pen.rect(x + side * 0.38, y + side * 0.38, side * 0.26, side * 0.26);
-      else pen.arc(x + side / 2, y + side / 2, Math.max(1.2, side * 0.09), 0, 7);
-      pen.fill();
-    }
-  }
+  if (mark !== '?') drawPlayMark(pen, inks, mark, x, y);
+  if (state.givens.has(index)) drawGiven(pen, x, y, side);
   if (!wrong.has(index)) return;
   for (const [ink, breadth] of [['#fff', 4], [inks.alarm, 2]]) {
     pen.strokeStyle = ink;

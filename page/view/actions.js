@@ -44,13 +44,19 @@ function keyName(event) {
   return [(event.ctrlKey || event.metaKey) && 'Ctrl', event.altKey && 'Alt', event.shiftKey && modified && 'Shift', key].filter(Boolean).join('+');
 }
 
-export const isTyping = (target) => target?.matches?.('input:not([type=checkbox]):not([type=radio]):not([type=button]):not([type=range]), textarea, select, [contenteditable]') ?? false;
+/** Whether an element takes text itself. */
+export const isTyping = (target) => target?.matches?.('input:not([type=checkbox]):not([type=radio]):not([type=button]):not([type=range]), textarea, [contenteditable]') ?? false;
+
+/** Whether an element takes plain keys itself: a field of text does, and a choice, in which letters look for an option. */
+export const takesKeys = (target) => isTyping(target) || (target?.matches?.('select') ?? false);
 
 function actionOfKey(event) {
   const name = keyName(event);
   for (const action of actions.values()) if (action.key && action.key.split(' ').includes(name)) return action;
   return null;
 }
+
+const FREE_ITEM = 'button:not([aria-disabled="true"])';
 
 /** Makes the menus of the header, filled anew each time that one is opened. */
 export function makeMenus() {
@@ -62,7 +68,7 @@ export function makeMenus() {
       if (event.newState === 'open') fillMenu(list, place, button);
     });
     list.addEventListener('toggle', (event) => {
-      if (event.newState === 'open') list.querySelector('button:not(:disabled)')?.focus();
+      if (event.newState === 'open') list.querySelector(FREE_ITEM)?.focus();
     });
     list.addEventListener('keydown', (event) => menuKey(event, list, button));
     $('menus').append(button, list);
@@ -77,9 +83,10 @@ function fillMenu(list, place, button) {
     if (group !== null && group !== action.group) items.push(make('hr', { role: 'separator' }));
     ({ group } = action);
     const item = actionButton(action, { role: 'menuitem', tabindex: '-1' });
-    item.disabled = !isFree(action);
+    const free = isFree(action);
+    if (!free) item.setAttribute('aria-disabled', 'true'); // it keeps the focus, and with it the keys of the menu
     item.append(make('kbd', {}, (action.key ?? '').split(' ')[0]));
-    item.addEventListener('click', () => list.hidePopover());
+    item.addEventListener('click', () => { if (free) list.hidePopover(); });
     items.push(item);
   }
   list.replaceChildren(...items);
@@ -96,18 +103,34 @@ function menuKey(event, list, button) {
   }
   if (!way) return;
   event.preventDefault();
-  const items = [...list.querySelectorAll('button:not(:disabled)')];
+  const items = [...list.querySelectorAll(FREE_ITEM)];
   items.at((items.indexOf(document.activeElement) + way) % items.length)?.focus();
+}
+
+// The keys that an element leaves to the page: of a field of text few, of a choice those with Ctrl.
+function isLeft(target, name) {
+  if (/^(Ctrl\+S|Escape)$/.test(name) || !takesKeys(target)) return true;
+  return !isTyping(target) && name.startsWith('Ctrl+');
 }
 
 /** Hears keys everywhere but in fields and open dialogs. */
 export function hearKeys() {
   addEventListener('keydown', (event) => {
     if (document.querySelector('dialog[open]') || event.defaultPrevented) return;
+    /** @type {any} */
+    const menu = document.querySelector('.menu:popover-open');
+    if (menu && event.key === 'Escape') {
+      event.preventDefault();
+      return void menu.hidePopover();
+    }
     const action = actionOfKey(event);
-    if (!action || (isTyping(event.target) && !/^(Ctrl\+S|Escape)$/.test(keyName(event)))) return;
-    if (!isFree(action)) return;
+    if (!action || !isLeft(event.target, keyName(event)) || !isFree(action)) return;
     event.preventDefault();
     action.run(event);
   });
+  // What was chosen with the mouse lets the keys go to the picture again.
+  let isByPointer = false;
+  addEventListener('pointerdown', () => { isByPointer = true; }, true);
+  addEventListener('keydown', () => { isByPointer = false; }, true);
+  addEventListener('change', (/** @type {any} */ event) => { if (isByPointer && event.target.matches('#work select')) event.target.blur(); });
 }

@@ -109,7 +109,7 @@ export function addViewActions() {
   const view = (fields) => addAction({ place: 'view', ...fields });
   view({ id: 'zoom-in', name: 'Larger', key: '+ =', run: () => zoomBy(1) });
   view({ id: 'zoom-out', name: 'Smaller', key: '-', run: () => zoomBy(-1) });
-  view({ id: 'fit', name: 'Fit', key: 'z', run: () => { sheet.geometry.fit(); sheet.redrawAll(); } });
+  view({ id: 'fit', name: 'Fit', key: 'z', run: () => sheet.fit() });
   view({ id: 'letters', name: 'Letters in cells and clues', key: 'Ctrl+L', group: 'show', run: () => {
     sheet.geometry.letters = !sheet.geometry.letters;
     sheet.resized();

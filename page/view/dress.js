@@ -1,15 +1,26 @@
 // Colours of the open document: in words, and as the look of an element.
 
+import { make } from '../base/elements.js';
 import { cssOf, inkOn, nameOf } from '../document/colours.js';
 import { LETTERS } from '../document/limits.js';
 import { bench } from '../engine/bench.js';
 
 export const wordOf = (letter) => (letter === '.' ? 'background' : letter);
 
+/** A colour's name in a document: its own, else a plain one. */
+export function inkName(doc, letter) {
+  const at = LETTERS.indexOf(letter);
+  return doc.inks?.[at]?.name || nameOf(doc.colours[at], doc.maxval);
+}
+
 /** A colour's letter and name in the open document. */
-export function colourText(letter) {
-  const { colours, maxval } = bench.state;
-  return `${wordOf(letter)}, ${nameOf(colours[LETTERS.indexOf(letter)], maxval)}`;
+export const colourText = (letter) => `${wordOf(letter)}, ${inkName(bench.state, letter)}`;
+
+/** A colour of a document by its swatch and its name. */
+export function swatchChip(doc, letter) {
+  const chip = make('span', { class: 'swatch-chip' }, make('span', { class: 'swatch', 'aria-hidden': 'true' }), inkName(doc, letter));
+  chip.firstChild.style.background = cssOf(doc.colours[LETTERS.indexOf(letter)], doc.maxval);
+  return chip;
 }
 
 /** Gives an element the colour of a letter. */

@@ -40,6 +40,7 @@ export function cellText(row, col) {
     `Row ${row + 1}, column ${col + 1}: ${colourText(sheet.letterAt(row, col))}`,
     sheet.isOpen(row, col) ? 'needs guessing' : 'settled',
     ...(state.givens.has(index) ? ['given'] : []),
+    ...(state.locks.has(index) ? ['locked'] : []),
     ...(rival ? [`${sheet.other ? 'your' : 'the other'} picture has ${colourText(rival)}`] : []),
   ].join('; ');
 }
@@ -99,7 +100,7 @@ function besideLine(axis, line, col) {
 }
 
 const STEPS = { ArrowUp: [-1, 0], ArrowDown: [1, 0], ArrowLeft: [0, -1], ArrowRight: [0, 1], PageUp: [-10, 0], PageDown: [10, 0], Home: [0, -MOST_CELLS], End: [0, MOST_CELLS] };
-const DRAWING = new Set(['pencil', 'pin', 'line', 'rectangle', 'box', 'select']);
+const DRAWING = new Set(['pencil', 'pin', 'lock', 'line', 'rectangle', 'box', 'select']);
 
 function gridKey(event) {
   if (!bench.state || event.altKey || event.metaKey) return;
@@ -125,7 +126,7 @@ function gridKey(event) {
 function useAtCursor() {
   if (tools.drag) return void endDrag();
   beginDrag({ ...cursor });
-  if (tools.drag && (tools.name === 'pencil' || tools.name === 'pin')) endDrag();
+  if (tools.drag && ['pencil', 'pin', 'lock'].includes(tools.name)) endDrag();
 }
 
 function gridKeyUp(event) {

@@ -6,11 +6,13 @@ import { on } from '../base/events.js';
 import { many } from '../base/words.js';
 import { eightBits, hexOf, tripleOf } from '../document/colours.js';
 import { LETTERS, MOST_COLOURS } from '../document/limits.js';
+import { nearPairs } from '../document/near.js';
 import { reordered } from '../document/shapes.js';
 import { bench } from '../engine/bench.js';
+import { inksOf } from '../formats/webpbn.js';
 import { addAction } from './actions.js';
 import { openDialog } from './dialogs.js';
-import { colourText, dress } from './dress.js';
+import { colourText, dress, inkName } from './dress.js';
 import { setDown } from './select.js';
 import { heard, sendStroke, tools, useColour } from './tools.js';
 
@@ -18,6 +20,10 @@ const palette = {
   row: make('div', { id: 'palette', role: 'radiogroup', 'aria-label': 'Colour' }),
   text: make('p', { id: 'colour-text', class: 'faint' }),
   picker: make('input', { id: 'picker', type: 'color', 'aria-label': 'The chosen colour' }),
+  name: make('input', { id: 'ink-name', type: 'text', maxlength: '40', 'aria-label': 'Name of the colour' }),
+  sign: make('input', { id: 'ink-sign', type: 'text', maxlength: '2', 'aria-label': 'Sign of the colour in XML' }),
+  locked: make('input', { id: 'ink-locked', type: 'checkbox' }),
+  near: make('p', { id: 'near', role: 'status' }),
 };
 
 function showPalette() {
@@ -45,6 +51,52 @@ function markColour() {
   palette.picker.value = hexOf(colours[LETTERS.indexOf(tools.colour)], maxval);
   const count = bench.state.picture.reduce((sum, row) => sum + row.split(tools.colour).length - 1, 0);
   palette.text.textContent = `${colourText(tools.colour)}: ${many(count, 'cell')}`;
+  const ink = bench.state.inks[LETTERS.indexOf(tools.colour)] ?? {};
+  const usual = inksOf(bench.state)[LETTERS.indexOf(tools.colour)];
+  if (document.activeElement !== palette.name) palette.name.value = ink.name ?? '';
+  if (document.activeElement !== palette.sign) palette.sign.value = ink.sign ?? '';
+  palette.name.placeholder = usual.name;
+  palette.sign.placeholder = usual.sign;
+  palette.locked.checked = ink.locked === true;
+  showNear();
+}
+
+// Colours that a solver may take for one another, in words; '' where there are none.
+export function nearText(doc) {
+  const name = (letter) => (letter === '.' ? 'the background' : `“${inkName(doc, letter)}” (${letter})`);
+  const pairs = nearPairs(doc).map(([one, other]) => `${name(one)} and ${name(other)}`);
+  if (!pairs.length) return '';
+  const more = pairs.length > 2 ? `, and ${many(pairs.length - 2, 'more pair')}` : '';
+  return `Too much alike to be told apart: ${pairs.slice(0, 2).join('; ')}${more}.`;
+}
+
+let nearShown = [];
+function showNear() {
+  const { colours, picture } = bench.state;
+  if (nearShown[0] === colours && nearShown[1] === picture) return;
+  nearShown = [colours, picture];
+  palette.near.textContent = nearText(bench.state);
+}
+
+// What the page alone keeps of the chosen colour.
+function changeInk(change) {
+  const at = LETTERS.indexOf(tools.colour);
+  setDown();
+  return heard(bench.become((doc) => ({ ...doc, inks: doc.colours.map((_, one) => (one === at ? change(doc.inks[one] ?? {}) : doc.inks[one] ?? {})) })));
+}
+
+function changeName() {
+  const name = palette.name.value.trim();
+  const other = inksOf(bench.state).find((ink, at) => at !== LETTERS.indexOf(tools.colour) && ink.name === name);
+  if (other) return say(`Another colour is named “${name}”.`, 'alarm');
+  return changeInk(({ name: before, ...ink }) => (name ? { ...ink, name } : ink));
+}
+
+function changeSign() {
+  const [sign = ''] = palette.sign.value.trim();
+  if (sign && '?|\\[]'.includes(sign)) return say(`“${sign}” means something else in XML.`, 'alarm');
+  if (sign && inksOf(bench.state).some((ink, at) => at !== LETTERS.indexOf(tools.colour) && ink.sign === sign)) return say(`Another colour has the sign “${sign}”.`, 'alarm');
+  return changeInk(({ sign: before, ...ink }) => (sign ? { ...ink, sign } : ink));
 }
 
 // A colour picked with eight bits in the picture's own samples; a picture with coarser ones is opened anew with eight bits.
@@ -137,7 +189,8 @@ export function makePalette() {
   const more = make('div', { class: 'group' });
   const opens = make('button', { type: 'button', id: 'colours-open', 'aria-expanded': 'false', onclick: () => opens.setAttribute('aria-expanded', $('colours').classList.toggle('open')) }, 'Edit');
   opens.setAttribute('aria-label', 'Edit the colours');
-  $('colours').append(make('h2', {}, 'Colours'), palette.row, opens, palette.text, make('div', { class: 'group' }, make('label', {}, 'Change ', palette.picker)), more);
+  $('colours').append(make('h2', {}, 'Colours'), palette.row, opens, palette.text, more, make('div', { class: 'group' }, make('label', {}, 'Change ', palette.picker), make('label', { title: 'No repair changes cells of this colour' }, palette.locked, 'Locked')),
+    make('div', { class: 'group' }, make('label', {}, 'Name ', palette.name), make('label', { title: 'One sign for each cell in XML' }, 'Sign ', palette.sign)), palette.near);
   more.id = 'colour-more';
   const add = (id, name, run, can) => addAction({ id, name, place: 'colour-more', run, can });
   add('colour-add', 'Add', addColour, () => bench.state.colours.length < MOST_COLOURS);
@@ -146,10 +199,13 @@ export function makePalette() {
   add('colour-earlier', '◂ Earlier', () => moveColour(-1));
   add('colour-later', 'Later ▸', () => moveColour(1));
   palette.picker.addEventListener('change', changeColour);
+  palette.name.addEventListener('change', changeName);
+  palette.sign.addEventListener('change', changeSign);
+  palette.locked.addEventListener('change', () => changeInk(({ locked, ...ink }) => (palette.locked.checked ? { ...ink, locked: true } : ink)));
   radioGroup(palette.row, (button) => useColour(button.dataset.letter));
   let shown = '';
   on('shown', (state) => {
-    const key = [state.maxval, ...state.colours].join(';');
+    const key = [state.maxval, ...state.colours, JSON.stringify(state.inks)].join(';');
     if (key !== shown) showPalette();
     else markColour();
     shown = key;

@@ -5,7 +5,7 @@ import { withoutGestures } from '../base/elements.js';
 import { tell } from '../base/events.js';
 import { sheet } from '../draw/sheet.js';
 import { bench } from '../engine/bench.js';
-import { isTyping } from './actions.js';
+import { takesKeys } from './actions.js';
 import { cursor, gridCell, moveCursor } from './grid.js';
 import { setDown } from './select.js';
 import { alongDrag, beginDrag, dropDrag, endDrag, sendStroke, tools, useColour } from './tools.js';
@@ -181,7 +181,7 @@ export function hearPointers() {
     if (way) zoomAt(sheet.geometry.step(way, 8), event.clientX, event.clientY);
   }, { passive: false });
   addEventListener('keydown', (/** @type {any} */ event) => {
-    if (event.key !== ' ' || isTyping(event.target) || event.target.closest?.('button, summary, dialog')) return;
+    if (event.key !== ' ' || takesKeys(event.target) || event.target.closest?.('button, summary, dialog')) return;
     if (!event.repeat) Object.assign(space, { isDown: true, pans: false });
     if (event.target === document.body) event.preventDefault();
     sheet.view.classList.add('may-pan');

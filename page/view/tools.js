@@ -19,6 +19,7 @@ export const TOOLS = {
   recolour: { name: 'Recolour', key: 'e', hint: 'Every cell of the colour pointed at takes the chosen one.' },
   select: { name: 'Select', key: 's', hint: 'Drag a rectangle; drag it to move it. Enter sets it down, Escape takes the move back.' },
   pin: { name: 'Give cells', key: 'g', hint: 'A given cell is printed with the puzzle. Drag to give, or to take back.' },
+  lock: { name: 'Lock cells', key: 'k', hint: 'A locked cell is never changed by a repair. Drag to lock, or to unlock.' },
   why: { name: 'Why', key: 'w', hint: 'Point at a cell: why does it not have another colour?' },
 };
 
@@ -49,6 +50,9 @@ export function forgetReason() {
 
 const indexAt = ({ row, col }) => row * bench.state.columns + col;
 
+// The set of places that a tool marks or takes marks from.
+const MARKS = { pin: 'givens', lock: 'locks' };
+
 /** Begins a drag at a cell. */
 export function beginDrag(at) {
   if (!bench.state) return;
@@ -58,8 +62,8 @@ export function beginDrag(at) {
   if (tools.name === 'select') return beginSelect(at);
   if (tools.name === 'bucket') return paintCells(bucketCells(sheet.doc.picture, at));
   if (tools.name === 'recolour') return recolourAt(at);
-  const isPin = tools.name === 'pin';
-  tools.drag = { tool: tools.name, from: at, to: at, letter: tools.colour, touched: new Set(), gives: isPin && !sheet.doc.givens.has(indexAt(at)) };
+  const marks = MARKS[tools.name];
+  tools.drag = { tool: tools.name, from: at, to: at, letter: tools.colour, touched: new Set(), gives: marks !== undefined && !sheet.doc[marks].has(indexAt(at)) };
   alongDrag(at);
 }
 
@@ -68,10 +72,10 @@ export function alongDrag(at) {
   const { drag } = tools;
   if (!drag) return;
   if (drag.tool === 'select') return alongSelect(at);
-  if (drag.tool === 'pencil' || drag.tool === 'pin') for (const cell of lineCells(drag.to, at)) drag.touched.add(indexAt(cell));
+  if (drag.tool === 'pencil' || MARKS[drag.tool]) for (const cell of lineCells(drag.to, at)) drag.touched.add(indexAt(cell));
   else drag.touched = new Set(cellsOfShape(drag.tool, drag.from, at).map(indexAt));
   drag.to = at;
-  if (drag.tool === 'pin') {
+  if (MARKS[drag.tool]) {
     sheet.boxes = [...drag.touched].map((index) => { const [row, col] = [Math.floor(index / bench.state.columns), index % bench.state.columns]; return { top: row, left: col, bottom: row, right: col }; });
     sheet.drawMarks();
   } else sheet.preview(new Map([...drag.touched].map((index) => [index, drag.letter])));
@@ -88,16 +92,21 @@ export function endDrag() {
   if (!drag) return;
   if (drag.tool === 'select') return endSelect();
   tools.drag = null;
-  if (drag.tool === 'pin') {
-    sheet.boxes = [];
-    const places = [...drag.touched].sort((a, b) => a - b);
-    return sendStroke((doc) => places.filter((place) => doc.givens.has(place) !== drag.gives).map((place) => `${drag.gives ? 'pin' : 'unpin'} ${placeOf(doc, place)}`));
-  }
+  if (MARKS[drag.tool]) return endMarks(drag);
   const done = paintPlaces(drag.touched, drag.letter);
   sheet.overlay = new Map();
   sheet.update();
   sheet.redraw();
   return done;
+}
+
+// Gives or locks the cells of a drag, or takes that back.
+function endMarks({ tool, gives, touched }) {
+  sheet.boxes = selectionBoxes();
+  const places = [...touched].sort((a, b) => a - b);
+  if (tool === 'pin') return sendStroke((doc) => places.filter((place) => doc.givens.has(place) !== gives).map((place) => `${gives ? 'pin' : 'unpin'} ${placeOf(doc, place)}`));
+  setDown();
+  return heard(bench.become((doc) => ({ ...doc, locks: new Set(gives ? [...doc.locks, ...places] : [...doc.locks].filter((place) => !touched.has(place))) })));
 }
 
 /** Drops what was begun. */

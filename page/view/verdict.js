@@ -147,6 +147,7 @@ function showVerdict(state) {
   $('verdict-short').textContent = verdictShort(state);
   $('open').textContent = `${number(state.open)} of ${many(state.rows * state.columns, 'cell')}`;
   $('changed').textContent = [numbersOf('row', state.changed.rows), numbersOf('column', state.changed.columns)].filter(Boolean).join('; ') || 'none';
+  $('changed').title = $('changed').textContent;
   if (word !== 'ambiguous') sheet.other = false;
   showVerdictButtons(word);
 }

@@ -5,8 +5,7 @@ import { on } from '../base/events.js';
 import { LETTERS } from '../document/limits.js';
 import { sheet } from '../draw/sheet.js';
 import { bench } from '../engine/bench.js';
-import { wordOf } from './dress.js';
-import { fixChip } from './fixing.js';
+import { swatchChip } from './dress.js';
 import { forgetReason, tools } from './tools.js';
 
 const why = { asked: null };
@@ -27,8 +26,7 @@ async function whyAt(row, col) {
 
 function whyItem(reason) {
   const mark = () => markReason(reason);
-  const item = make('button', { type: 'button', onpointerenter: mark, onfocus: mark, onclick: mark }, fixChip(bench.state, reason.letter), ` ${whyText(reason)}`);
-  return make('p', {}, item);
+  return make('p', {}, make('button', { type: 'button', onpointerenter: mark, onfocus: mark, onclick: mark }, swatchChip(bench.state, reason.letter), ' ', ...whyParts(reason, bench.state)));
 }
 
 function markReason(reason) {
@@ -36,12 +34,20 @@ function markReason(reason) {
   sheet.redraw();
 }
 
-function whyText(reason) {
-  if (reason.word === 'possible') return 'is left here: no line excludes it.';
-  if (reason.word === 'given') return 'is excluded: the cell is given.';
-  const line = `${reason.axis === 'r' ? 'row' : 'column'} ${reason.at}`;
-  const from = reason.premises.map((premise) => `${reason.axis === 'r' ? 'column' : 'row'} ${premise.at} is ${[...premise.letters].map(wordOf).join(' or ')}`).join(', ');
-  return `is excluded by ${line}${from ? `, where ${from}` : ' alone'}.`;
+// The colours of a premise that the palette has: the session leaves those open that no line has excluded, also such as it has not.
+export const premiseLetters = (premise, doc) => [...premise.letters].filter((letter) => LETTERS.indexOf(letter) < doc.colours.length);
+
+// What is said of a reason, with each colour by its swatch.
+function whyParts(reason, doc) {
+  if (reason.word === 'possible') return ['is possible here: no line excludes it.'];
+  if (reason.word === 'given') return ['is excluded: the cell is given.'];
+  const [axis, other] = reason.axis === 'r' ? ['row', 'column'] : ['column', 'row'];
+  const parts = [`is excluded by ${axis} ${reason.at}`];
+  reason.premises.forEach((premise, at) => {
+    parts.push(at === 0 ? ', where ' : ', ', `${other} ${premise.at} is `);
+    premiseLetters(premise, doc).forEach((letter, one) => parts.push(...(one ? [' or '] : []), swatchChip(doc, letter)));
+  });
+  return [...parts, reason.premises.length ? '.' : ' alone.'];
 }
 
 function forgetWhy() {
