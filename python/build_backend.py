@@ -2,8 +2,10 @@
 
 import base64
 import hashlib
+import os
 import re
 import sysconfig
+import time
 import zipfile
 from pathlib import Path
 
@@ -13,26 +15,31 @@ LIBRARY = "libnonobench.so"
 CARRIED = (".py", ".html", ".css", ".js")
 TAGS = "Wheel-Version: 1.0\nGenerator: nonobench\nRoot-Is-Purelib: {}\nTag: {}\n"
 METADATA = "Metadata-Version: 2.1\nName: {name}\nVersion: {version}\nSummary: {description}\nRequires-Python: {python}\n"
+# The first day that an archive can name: what is packed has this one, or that of SOURCE_DATE_EPOCH, so that its bytes are the same each time.
+FIRST_DAY = 315532800
 
 
 def build_wheel(wheel_directory, config_settings=None, metadata_directory=None):
-    """Writes the wheel into a folder, and answers its name."""
+    """Writes the wheel into a folder, and answers its name. The setting `platform` names the platform of a library that is packed."""
     project = _project()
     files = _package()
     is_pure = f"nonobench/{LIBRARY}" not in files
-    tag = "py3-none-" + ("any" if is_pure else re.sub(r"\W", "_", sysconfig.get_platform()))
+    platform = (config_settings or {}).get("platform", sysconfig.get_platform())
+    tag = "py3-none-" + ("any" if is_pure else re.sub(r"\W", "_", platform))
     title = "{name}-{version}".format(**project)
     readme = (HERE / "README.md").read_text(encoding="utf-8")
-    more = "".join(_extra_lines(project["extras"])) + "Description-Content-Type: text/markdown\n\n"
+    more = "".join([*_lines_about(project), *_extra_lines(project["extras"])]) + "Description-Content-Type: text/markdown\n\n"
     files[f"{title}.dist-info/METADATA"] = f"{METADATA.format(**project)}{more}{readme}".encode()
     files[f"{title}.dist-info/entry_points.txt"] = f"[console_scripts]\n{project['scripts']}\n".encode()
+    if (HERE / "NOTICES").is_file():
+        files[f"{title}.dist-info/NOTICES"] = (HERE / "NOTICES").read_bytes()
     files[f"{title}.dist-info/WHEEL"] = TAGS.format(str(is_pure).lower(), tag).encode()
     record = f"{title}.dist-info/RECORD"
     files[record] = "".join([*map(_line, files, files.values()), f"{record},,\n"]).encode()
     name = f"{title}-{tag}.whl"
     with zipfile.ZipFile(Path(wheel_directory, name), "w", zipfile.ZIP_DEFLATED) as wheel:
         for place, content in files.items():
-            wheel.writestr(place, content)
+            wheel.writestr(_entry(place), content)
     return name
 
 
@@ -43,12 +50,22 @@ def _project():
     tables = dict(re.findall(r"^\[([\w.-]+)\]\n((?:(?!\[).+\n)*)", text, re.MULTILINE))
     extras = re.findall(r"^([\w-]+) = \[(.*)\]$", tables.get("project.optional-dependencies", ""), re.MULTILINE)
     scripts = re.findall(r'^([\w-]+) = "(.*)"$', tables.get("project.scripts", ""), re.MULTILINE)
+    listed = {name: re.findall(r'"([^"]+)"', words) for name, words in re.findall(r"^(\w+) = \[([^]]*)\]$", tables["project"], re.MULTILINE)}
     return {
         **project,
+        **listed,
+        "urls": re.findall(r'^(\w+) = "(.*)"$', tables.get("project.urls", ""), re.MULTILINE),
         "python": project["requires-python"],
         "extras": {name: re.findall(r'"([^"]+)"', words) for name, words in extras},
         "scripts": "\n".join(f"{name} = {call}" for name, call in scripts),
     }
+
+
+def _lines_about(project):
+    """The lines of the metadata that tell what the package is."""
+    yield f"Keywords: {','.join(project['keywords'])}\n"
+    yield from (f"Classifier: {it}\n" for it in project["classifiers"])
+    yield from (f"Project-URL: {name}, {place}\n" for name, place in project["urls"])
 
 
 def _extra_lines(extras):
@@ -66,6 +83,15 @@ def _package():
     packed = {file.relative_to(HERE).as_posix(): file.read_bytes() for file in files}
     libraries = [place for place in (sources / LIBRARY, HERE.parent / "c" / "out" / LIBRARY) if place.is_file()][:1]
     return {**packed, **{f"nonobench/{LIBRARY}": place.read_bytes() for place in libraries}}
+
+
+def _entry(place):
+    """The place of a file in the wheel: readable by all, and of a day that is always the same."""
+    entry = zipfile.ZipInfo(place, time.gmtime(int(os.environ.get("SOURCE_DATE_EPOCH", FIRST_DAY)))[:6])
+    entry.compress_type = zipfile.ZIP_DEFLATED
+    entry.create_system = 3
+    entry.external_attr = 0o100644 << 16
+    return entry
 
 
 def _line(place, content):

@@ -14,12 +14,16 @@ const EXAMPLES = ['heart', 'mushroom', 'boat'];
 
 const read = (...parts) => readFileSync(join(root, ...parts), 'utf8');
 
-// The commit that the files are of, where they are in a repository.
-function commitOf() {
+// What git calls the folders that the page is made of, where they are in a repository. A commit's name would be another one as soon
+// as the page is a part of it.
+function treesOf() {
+  const folders = ['crates', 'web', 'page', 'examples'];
   try {
-    return execFileSync('git', ['-C', root, 'rev-parse', '--short=12', 'HEAD'], { encoding: 'utf8', stdio: ['ignore', 'pipe', 'ignore'] }).trim();
+    const names = folders.map((folder) => `HEAD:${folder}`);
+    const said = execFileSync('git', ['-C', root, 'rev-parse', ...names], { encoding: 'utf8', stdio: ['ignore', 'pipe', 'ignore'] });
+    return Object.fromEntries(said.trim().split('\n').map((name, at) => [folders[at], name.slice(0, 12)]));
   } catch {
-    return '';
+    return {};
   }
 }
 
@@ -42,7 +46,7 @@ const policyOf = (code, style) => [
 function pageText(version) {
   const packed = gzipSync(readFileSync(join(folder, 'nonobench.wasm')), { level: 9 });
   packed[9] = 255; // the system that packed it
-  const built = { module: packed.toString('base64'), packed: 'gzip', worker: script(join(root, 'page', 'engine', 'worker.js')), version, commit: commitOf() };
+  const built = { module: packed.toString('base64'), packed: 'gzip', worker: script(join(root, 'page', 'engine', 'worker.js')), version, trees: treesOf() };
   const icon = Buffer.from(read('page', 'icon.svg')).toString('base64');
   // What must not stand in a script within HTML; esbuild takes care of the end of the script.
   const code = `\n${script(entry).replaceAll('<!--', '<\\!--')}\n`;
