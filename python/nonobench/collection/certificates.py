@@ -42,25 +42,38 @@ def givens_of(certificate: bytes) -> list[tuple[int, int]]:
 
 
 def write(path: str, certificate: str) -> str:
-    """Writes a certificate, whole or not at all. Answers why it could not be written; empty where it was."""
-    new = f"{path}.{os.getpid()}.new"
+    """Writes a certificate. Answers why it could not be written, and then nothing is left of it; empty where it was.
+
+    One that is there already stays until the new one is whole. A new file is written in its place: its row comes later, so that
+    `--resume` does it again where a run ends in between.
+    """
+    data = certificate.encode("ascii")
     try:
         try:
-            handle = os.open(new, os.O_WRONLY | os.O_CREAT | os.O_EXCL | os.O_NOFOLLOW, 0o666)
+            _write_new(path, data)
         except FileNotFoundError:
             os.makedirs(os.path.dirname(path), exist_ok=True)
-            handle = os.open(new, os.O_WRONLY | os.O_CREAT | os.O_EXCL | os.O_NOFOLLOW, 0o666)
-        try:
-            data = memoryview(certificate.encode("ascii"))
-            while data:
-                data = data[os.write(handle, data) :]
-        finally:
-            os.close(handle)
-        os.replace(new, path)
+            _write_new(path, data)
+        except FileExistsError:
+            _write_new(f"{path}.{os.getpid()}.new", data)
+            os.replace(f"{path}.{os.getpid()}.new", path)
     except (OSError, ValueError) as error:
-        _remove(new)
         return f"{UNWRITTEN}: {one_line(getattr(error, 'strerror', None) or str(error))}"
     return ""
+
+
+def _write_new(path: str, data: bytes) -> None:
+    """Writes a file that is not there yet, or none."""
+    handle = os.open(path, os.O_WRONLY | os.O_CREAT | os.O_EXCL | os.O_CLOEXEC, 0o666)
+    try:
+        left = memoryview(data)
+        while left:
+            left = left[os.write(handle, left) :]
+    except OSError:
+        os.unlink(path)
+        raise
+    finally:
+        os.close(handle)
 
 
 def delivered(answer: Answer, to: Optional[str]) -> str:
@@ -69,13 +82,6 @@ def delivered(answer: Answer, to: Optional[str]) -> str:
     number = row.get("puzzle", 1)
     note = write(f"{to if number == 1 else f'{to}.{number}'}.cert", unpacked(answer.certificate))
     return text_of({**row, "note": note}) if note else answer.text
-
-
-def _remove(path: str) -> None:
-    try:
-        os.unlink(path)
-    except (OSError, ValueError):
-        pass
 
 
 def packed(certificate: str) -> str:

@@ -17,7 +17,7 @@ from .outputs import CLOSED, Failure, Lines, Sheet, Table, kept_folder, lines_of
 from .progress import Progress
 from .rows import row_of
 from .serving import FULL, Settings, Task
-from .tally import Tally
+from .tally import ERRORS, Tally
 from .workers import Answer, Broken, Pool
 
 MOST_WAITING = 64 << 20  # bytes of rows that wait for one before them
@@ -47,7 +47,7 @@ def main(words: Optional[list[str]] = None) -> int:
         return Run(options).merge() if options.is_merge else Run(options).audit()
     except (Failure, Broken) as error:
         print(f"nonobench-audit: {error}", file=sys.stderr)
-        return 3
+        return ERRORS
     except Stopped as error:
         return error.status
 
@@ -181,24 +181,27 @@ class Run:
 
     def _guarded(self, work: Callable[[], None]) -> int:
         """Does the work, and ends what is written whatever comes: what is done is kept."""
-        is_whole, status = False, 0
+        failures: list[Exception] = []
+        status, is_whole = 0, False
         try:
             work()
             is_whole = True
-        except Stopped as error:
-            status = error.status
+        except Stopped as stopped:
+            status = stopped.status
+        except (Failure, Broken) as error:
+            failures.append(error)
+        if status:
             for number in sorted(self._complete):
                 self._release(number)
-        finally:
-            failures = self._close(is_whole)
+        failures += self._close(is_whole)
         self._progress.close()
-        for error in failures:
+        for error in dict.fromkeys(map(str, failures)):
             print(f"nonobench-audit: {error}", file=sys.stderr)
-        self._summary(is_whole)
-        return status or (3 if failures else self._tally.status())
+        self._summary(is_whole, bool(status))
+        return status or (ERRORS if failures else self._tally.status())
 
-    def _close(self, is_whole: bool) -> list[Failure]:
-        failures = []
+    def _close(self, is_whole: bool) -> list[Exception]:
+        failures: list[Exception] = []
         for sink in self._sinks:
             if not isinstance(sink, Table):
                 try:
@@ -262,9 +265,9 @@ class Run:
         for sink in self._sinks:
             sink.put(text)
 
-    def _summary(self, is_whole: bool) -> None:
+    def _summary(self, is_whole: bool, is_stopped: bool) -> None:
         options, summary = self._options, self._tally.summary()
-        self._tally.warn(options, is_whole)
+        self._tally.warn(options, is_whole, is_stopped)
         if options.is_quiet or "-" in (options.jsonl, options.csv):
             return
         table = next((sink for sink in self._sinks if isinstance(sink, Table)), None)

@@ -58,14 +58,14 @@ class Tally:
             lines.append(f"besides: {_counted(self._flaws, sorted(self._flaws))}")
         return "\n".join(lines)
 
-    def warn(self, options: Options, is_whole: bool) -> None:
+    def warn(self, options: Options, is_whole: bool, is_stopped: bool) -> None:
         """Says on standard error what kept the run from judging all."""
         lines = [f"{count} not read, since {name} is not installed" for name, count in sorted(self._missing.items())]
         if self._unwritten:
             lines.append(f"certificates not written: {self._unwritten}")
         if not self.total and is_whole:
             lines.append(f"no puzzles in {', '.join(options.paths)}")
-        if not is_whole:
+        if is_stopped:
             again = " (--resume goes on)" if options.jsonl not in (None, "-") else ""
             lines.append(f"stopped after {self.total} puzzles{again}")
         for line in lines:

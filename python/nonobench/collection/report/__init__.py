@@ -2,6 +2,7 @@
 
 from __future__ import annotations
 
+import contextlib
 import os
 import re
 import secrets
@@ -63,7 +64,8 @@ class Report:
                 pass
             raise error if isinstance(error, Failure) else failure(self._name, error) from error
         finally:
-            self._rows.close()
+            with contextlib.suppress(OSError):
+                self._rows.close()
 
     def _make(self, is_whole: bool) -> None:
         parts = {name: (_FOLDER / name).read_text(encoding="utf-8") for name in ("report.css", "report.js")}

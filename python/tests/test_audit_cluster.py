@@ -1,0 +1,74 @@
+"""Tests of nonobench-audit over a Dask scheduler: cd python && python3 -m unittest tests/test_audit_cluster.py
+
+A scheduler and workers of this machine. tests/audit_machines.sh has several hosts, and cuts one off.
+"""
+
+import os
+import signal
+import socket
+import subprocess
+import sys
+import time
+import unittest
+from pathlib import Path
+
+sys.path.insert(0, str(Path(__file__).resolve().parent))
+from audit_parts import AMBIGUOUS, UNIQUE, Case, p3, webpbn  # noqa: E402
+
+
+class Cluster(Case):
+    """A collection, a scheduler, and workers that come and go."""
+
+    def setUp(self):
+        super().setUp()
+        with socket.socket() as free:
+            free.bind(("127.0.0.1", 0))
+            self.address = f"tcp://127.0.0.1:{free.getsockname()[1]}"
+        port = self.address.rpartition(":")[2]
+        self.begin("scheduler", "--host", "127.0.0.1", "--port", port, "--no-dashboard", "--no-show")
+
+    def begin(self, kind, *words):
+        """A scheduler or a worker."""
+        command = [sys.executable, "-m", f"distributed.cli.dask_{kind}", *words]
+        (self.folder / "dask").mkdir(exist_ok=True)
+        process = subprocess.Popen(command, cwd=self.folder / "dask", env=self.env(), stdout=subprocess.DEVNULL, stderr=subprocess.DEVNULL)
+        self.addCleanup(process.wait)
+        self.addCleanup(process.terminate)
+        return process
+
+    def worker(self):
+        return self.begin("worker", self.address, "--nthreads", "1", "--no-nanny", "--no-dashboard")
+
+    def fill(self):
+        for at in range(700):
+            self.put(f"{at % 5}/{at:03}.ppm", p3(UNIQUE if at % 4 else AMBIGUOUS))
+        self.put("set.xml", "<puzzleset>" + webpbn(UNIQUE) + webpbn(AMBIGUOUS) + "</puzzleset>")
+        self.put("bad.png", b"no image")
+        os.symlink("nowhere", self.site / "gone.ppm")
+
+    def test_the_same_bytes_whatever_workers_do(self):
+        self.fill()
+        words = ["site", "--allow", "1000", "--certify"]
+        self.run_audit(*words, "certs", "--jsonl", "here", status=3)
+        first = self.worker()
+        run = self.start(*words, "more", "--jsonl", "there", "--scheduler", self.address)
+        deadline = time.monotonic() + 120
+        while time.monotonic() < deadline and not ((self.folder / "there").exists() and (self.folder / "there").stat().st_size):
+            time.sleep(0.1)
+        self.worker()
+        first.send_signal(signal.SIGKILL)
+        said = run.communicate(timeout=240)[1]
+        self.assertEqual(run.returncode, 3, said)
+        self.assertEqual((self.folder / "there").read_bytes(), (self.folder / "here").read_bytes())
+        for name in ("certs", "more"):
+            self.assertEqual(len(list((self.folder / name).rglob("*.cert"))), 525 + 1)
+
+    def test_no_scheduler(self):
+        self.put("one.ppm", p3(UNIQUE))
+        said = self.run_audit("site", "--scheduler", "tcp://127.0.0.1:1", status=3).stderr
+        self.assertIn("nonobench-audit: no scheduler answers at tcp://127.0.0.1:1", said)
+        self.assertIn("nonobench-audit: no scheduler", self.run_audit("site", "--scheduler", "nonsense://", status=3).stderr)
+
+
+if __name__ == "__main__":
+    unittest.main()
