@@ -152,8 +152,13 @@ class Audit:
     certificate: Optional[bytes] = None
 
 
-def verdict_of(text: str) -> Verdict:
+_UNIQUE = Verdict(Ruling.UNIQUE)
+
+
+def verdict_of(text: bytes) -> Verdict:
     """The verdict that a text tells."""
-    first, *rows = text.splitlines()
+    if text == b"unique\n":
+        return _UNIQUE
+    first, *rows = text.decode("ascii").splitlines()
     ruling = Ruling(first.split(" ")[0])
     return Verdict(ruling, tuple(rows) if ruling is Ruling.AMBIGUOUS else None)

@@ -59,7 +59,7 @@ class Questions:
         """
         picture, certificate, places = bytes_of(picture), bytes_of(certificate), _places(published)
         (text,) = self._ask(CHECK, picture, background, certificate)
-        result = result_of(text, certificate)
+        result = result_of(text.decode("ascii"), certificate)
         if places is not None:
             for line, given in enumerate(result.givens, 2):
                 if given not in places:
@@ -68,7 +68,7 @@ class Questions:
 
     def clues(self, picture: Bytes, background: Optional[Colour] = None) -> Clues:
         """The clues of a picture."""
-        return clues_of(self._say(picture, background, "clues\n")[-1])
+        return clues_of(self._say(picture, background, b"clues\n")[-1].decode("ascii"))
 
     def verdict(self, picture: Bytes, allowance: Optional[int] = None, background: Optional[Colour] = None) -> Verdict:
         """Whether another picture has the clues of this one.
@@ -76,45 +76,45 @@ class Questions:
         The allowance, 0 to 99,999, is how many splits the search of a part may make. Without one the search goes on to its end,
         which may take very long; `Worker` bounds the time. Raises ValueError for another allowance.
         """
-        return verdict_of(self._say(picture, background, _allow(allowance), "verdict\n")[-1])
+        return verdict_of(self._say(picture, background, _allow(allowance) + b"verdict\n")[-1])
 
     def certify(self, picture: Bytes, background: Optional[Colour] = None) -> Optional[bytes]:
         """A certificate of a picture, which gives no cell, or None where another picture has its clues. It may take very long."""
-        text = self._say(picture, background, "certify\n")[-1]
-        return None if text == "ambiguous\n" else text.encode("ascii")
+        text = self._say(picture, background, b"certify\n")[-1]
+        return None if text == b"ambiguous\n" else text
 
     def audit(self, picture: Bytes, allowance: Optional[int] = None, background: Optional[Colour] = None) -> Audit:
         """Verdict and certificate of a picture that is opened once. There is a certificate where the ruling is UNIQUE.
 
         The allowance is that of `verdict`; to make a certificate has no bound of its own.
         """
-        texts = self._say(picture, background, _allow(allowance), "verdict\n", "certify\n")
-        is_unique = texts[-1].startswith("nonocert ")
-        verdict = verdict_of(texts[-2 if is_unique else -1])
-        return Audit(verdict, texts[-1].encode("ascii") if is_unique else None)
+        texts = self._say(picture, background, _allow(allowance) + b"verdict\ncertify\n")
+        if texts[-1].startswith(b"nonocert "):
+            return Audit(verdict_of(texts[-2]), texts[-1])
+        return Audit(verdict_of(texts[-1]))
 
-    def _say(self, picture: Bytes, background: Optional[Colour], *lines: str) -> list[str]:
+    def _say(self, picture: Bytes, background: Optional[Colour], lines: bytes) -> list[bytes]:
         """What a bench on a picture answers to each line, until one is refused or tells that there is no certificate.
 
         All that is asked here is lawful, so a refusal is one of memory.
         """
-        texts = self._ask(SESSION, bytes_of(picture), background, "".join(lines).encode("ascii"))
-        if texts[-1].startswith("refused: "):
-            if texts[-1] == "refused: Memory\n":
+        texts = self._ask(SESSION, bytes_of(picture), background, lines)
+        if texts[-1].startswith(b"refused: "):
+            if texts[-1] == b"refused: Memory\n":
                 raise MemoryError("nonobench: memory")
-            raise Fault(texts[-1][9:-1], 0, texts[-1][:-1])
+            last = texts[-1].decode("ascii")
+            raise Fault(last[9:-1], 0, last[:-1])
         return texts
 
-    def _ask(self, kind: int, picture: bytes, background: Optional[Colour], rest: bytes) -> list[str]:
+    def _ask(self, kind: int, picture: bytes, background: Optional[Colour], rest: bytes) -> list[bytes]:
         """The texts of an answer. Raises what its status tells."""
-        status, held = self._answer(kind, picture, _word(background), rest)
-        texts = [text.decode("ascii") for text in held]
+        status, texts = self._answer(kind, picture, _word(background), rest)
         if status == MEMORY:
             raise MemoryError("nonobench: memory")
         if status == OPTIONS:
             raise ValueError("background must be a triple of numbers from 0 to 65535")
         if status != DONE:
-            raise fault_of(texts[-1])
+            raise fault_of(texts[-1].decode("ascii"))
         return texts
 
     def _answer(self, kind: int, picture: bytes, background: bytes, rest: bytes) -> tuple[int, list[bytes]]:
@@ -152,13 +152,13 @@ def _places(published: Published) -> Optional[set[tuple[int, int]]]:
     return {(operator.index(row), operator.index(column)) for row, column in published}
 
 
-def _allow(allowance: Optional[int]) -> str:
+def _allow(allowance: Optional[int]) -> bytes:
     """The line that sets an allowance; none where there is none."""
     if allowance is None:
-        return ""
+        return b""
     if not 0 <= allowance <= MOST_ALLOWANCE:
         raise ValueError("allowance must be 0 to 99999")
-    return f"allow {allowance:d}\n"
+    return f"allow {allowance:d}\n".encode("ascii")
 
 
 def _word(background: Optional[Colour]) -> bytes:

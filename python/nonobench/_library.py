@@ -21,6 +21,7 @@ FOLDER = os.path.dirname(os.path.abspath(__file__))
 
 # The room that a text is first taken in.
 ROOM = 4096
+_Buffer = ctypes.c_char * ROOM
 
 
 def _path() -> str:
@@ -70,15 +71,14 @@ def version() -> str:
     return _text(_calls.nonobench_version).decode("ascii")
 
 
-def _text(put: Callable[[ctypes.Array[ctypes.c_char], int], int]) -> bytes:
+def _text(put: Callable[..., int], *words: object) -> bytes:
     """The text that a call puts out, as far as there is room, and answers how many bytes it has."""
-    room = ROOM
-    while True:
-        buffer = ctypes.create_string_buffer(room)
-        size = put(buffer, room)
-        if size <= room:
-            return ctypes.string_at(buffer, size)
-        room = size
+    buffer = _Buffer()
+    size = put(*words, buffer, ROOM)
+    if size > ROOM:
+        buffer = ctypes.create_string_buffer(size)
+        put(*words, buffer, size)
+    return ctypes.string_at(buffer, size)
 
 
 class Desk:
@@ -116,4 +116,4 @@ class Desk:
 
     def text(self) -> bytes:
         """The text of the last call."""
-        return _text(lambda buffer, room: int(_calls.nonobench_take(self._at, buffer, room)))
+        return _text(_calls.nonobench_take, self._at)
