@@ -171,8 +171,9 @@ make_pairs || exit 1
 mkdir "$work/bin"
 cp "$program" "$work/bin/nonobench"
 export PATH=$work/bin:$PATH
+from=$(date +%s.%N)
 "$examples/make-packs" "$work/site" "$work/packs" "$pack" || exit 1
-echo "many machines: $pairs pairs in $(find "$work/packs" -name '*.tar' | wc -l) packs"
+echo "many machines: $pairs pairs in $(find "$work/packs" -name '*.tar' | wc -l) packs, made in $(seconds_since "$from")"
 from=$(date +%s.%N)
 for tar in "$work"/packs/*.tar; do
     mkdir "$work/unpacked" && tar -xf "$tar" -C "$work/unpacked" || exit 1

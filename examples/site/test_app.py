@@ -1,7 +1,9 @@
 """Tests of the example site by Flask's own client: PYTHONPATH=python python3 examples/site/test_app.py"""
 
 import io
+import itertools
 import os
+import random
 import re
 import signal
 import tempfile
@@ -22,7 +24,7 @@ EMPTY_CERT = b"nonocert 2\ngiven 1 2\nline r 1\nline c 1\nline r 2\ndone\n"
 ALL_CERT = b"nonocert 2\ngiven 1 1\ngiven 1 2\ngiven 2 1\ngiven 2 2\ndone\n"
 
 
-class Site(unittest.TestCase):
+class Case(unittest.TestCase):
     """A site with an empty database."""
 
     def setUp(self):
@@ -35,6 +37,10 @@ class Site(unittest.TestCase):
     def bring(self, picture, certificate, title="Duck", name="picture"):
         files = {"picture": (io.BytesIO(picture), name), "certificate": (io.BytesIO(certificate), "x"), "title": title}
         return self.client.post("/puzzles", data=files, content_type="multipart/form-data")
+
+
+class Site(Case):
+    """What is taken, refused and shown."""
 
     def assert_refused(self, answer, reason, status=422):
         self.assertEqual(answer.status_code, status)
@@ -202,6 +208,71 @@ class Site(unittest.TestCase):
     @unittest.skipUnless(site.Image is None, "there is Pillow")
     def test_no_images(self):
         self.assert_refused(self.bring(site.PNG, DIAGONAL_CERT), "This site reads no PNG, since Pillow is not installed.")
+
+
+def certificate_of(picture, givens):
+    """A certificate of a picture with some cells given; empty where there is none."""
+    desk_lines = "".join(f"pin {row} {column}\n" for row, column in givens) + "certify\n"
+    with nonobench._library.Desk() as desk:
+        status, handle = desk.open(picture, b"")
+        if status or desk.say(handle, desk_lines.encode()):
+            return b""
+        return desk.text()[3 * len(givens):]
+
+
+class Shown(Case):
+    """Whatever was uploaded: what a stored puzzle's page shows has exactly one solution, found by trying all."""
+
+    COLOURS = ("0 0 0", "255 0 0", "0 0 255", "1 0 0", "250 250 250", "255 255 254", "0 140 0", "20 20 20")
+
+    def random_pair(self, source):
+        """A small picture, and a certificate that is right, of other cells, or marred."""
+        rows, columns = source.randint(1, 3), source.randint(1, 3)
+        inks = ["255 255 255", *source.sample(self.COLOURS, 2)]
+        cells = [source.choice(inks) for _ in range(rows * columns)]
+        picture = f"P3 {columns} {rows} 255 {' '.join(cells)}\n".encode()
+        places = [(row, column) for row in range(1, rows + 1) for column in range(1, columns + 1)]
+        certificate = certificate_of(picture, sorted(source.sample(places, source.randint(0, len(places)))))
+        if source.random() < 0.3:
+            certificate = source.choice([ALL_CERT, EMPTY_CERT, GIVEN_CERT, DIAGONAL_CERT])
+        return picture, certificate
+
+    def solutions(self, page):
+        """How many pictures have the clues of a page, and the colours of its given cells."""
+        head, body = page.split("<tbody>")
+        clue = r'<span style="background: (rgb\([^)]*\)); color: \w+">(\d+)</span>'
+        columns = [tuple(re.findall(clue, found)) for found in re.findall("<th>(.+?)</th>", head.replace("<th></th>", ""))]
+        lines = re.findall("<tr>(.+?)</tr>", body, re.DOTALL)
+        rows = [tuple(re.findall(clue, re.search("<th>(.*?)</th>", line, re.DOTALL)[1])) for line in lines]
+        given = [re.search(r"(?:background: (rgb.*?\)).*)?>(.?)$", cell).groups() for line in lines
+                 for cell in re.findall("<td(.*?)</td>", line, re.DOTALL)]
+        inks = {"rgb(255, 255, 255)", *(ink for clues in (rows, columns) for line in clues for ink, _ in line)}
+        choices = [[ink] if mark else inks for ink, mark in given]
+        found = 0
+        for cells in itertools.product(*choices):
+            picture = [cells[at:at + len(columns)] for at in range(0, len(cells), len(columns))]
+            found += [clue_of(line) for line in picture] == rows and [clue_of(line) for line in zip(*picture)] == columns
+        return found
+
+    def test_by_trying_all(self):
+        source = random.Random(int(os.environ.get("SEED", "1")))
+        stored = refused = 0
+        for _ in range(int(os.environ.get("CASES", "150"))):
+            pair = self.random_pair(source)
+            answer = self.bring(*pair)
+            self.assertIn(answer.status_code, (303, 409, 422), answer.text)
+            if answer.status_code == 303:
+                page = self.client.get(answer.headers["Location"]).text
+                self.assertEqual(self.solutions(page), 1, (pair, page))
+            stored += answer.status_code == 303
+            refused += answer.status_code == 422
+        self.assertGreater(min(stored, refused), 10)
+
+
+def clue_of(line):
+    """The blocks of a line, a colour and a length each, as a page has them."""
+    blocks = [(ink, str(len(list(cells)))) for ink, cells in itertools.groupby(line)]
+    return tuple(block for block in blocks if block[0] != "rgb(255, 255, 255)")
 
 
 if __name__ == "__main__":
