@@ -227,8 +227,8 @@ class Shown(Case):
 
     def random_pair(self, source):
         """A small picture, and a certificate that is right, of other cells, or marred."""
-        rows, columns = source.randint(1, 3), source.randint(1, 3)
-        inks = ["255 255 255", *source.sample(self.COLOURS, 2)]
+        rows, columns = source.randint(1, 3), source.randint(2, 3)
+        inks = ["255 255 255", *source.sample(self.COLOURS, source.choice([1, 1, 2]))]
         cells = [source.choice(inks) for _ in range(rows * columns)]
         picture = f"P3 {columns} {rows} 255 {' '.join(cells)}\n".encode()
         places = [(row, column) for row in range(1, rows + 1) for column in range(1, columns + 1)]
@@ -238,7 +238,8 @@ class Shown(Case):
         return picture, certificate
 
     def solutions(self, page):
-        """How many pictures have the clues of a page, and the colours of its given cells."""
+        """How many pictures have the clues of a page, and the colours of its given cells, for who sees no small differences."""
+        page = re.sub(r"rgb\((\d+), (\d+), (\d+)\)", lambda found: "rgb({}, {}, {})".format(*(int(sample) // 32 for sample in found.groups())), page)
         head, body = page.split("<tbody>")
         clue = r'<span style="background: (rgb\([^)]*\)); color: \w+">(\d+)</span>'
         columns = [tuple(re.findall(clue, found)) for found in re.findall("<th>(.+?)</th>", head.replace("<th></th>", ""))]
@@ -246,7 +247,7 @@ class Shown(Case):
         rows = [tuple(re.findall(clue, re.search("<th>(.*?)</th>", line, re.DOTALL)[1])) for line in lines]
         given = [re.search(r"(?:background: (rgb.*?\)).*)?>(.?)$", cell).groups() for line in lines
                  for cell in re.findall("<td(.*?)</td>", line, re.DOTALL)]
-        inks = {"rgb(255, 255, 255)", *(ink for clues in (rows, columns) for line in clues for ink, _ in line)}
+        inks = {SEEN_WHITE, *(ink for clues in (rows, columns) for line in clues for ink, _ in line)}
         choices = [[ink] if mark else inks for ink, mark in given]
         found = 0
         for cells in itertools.product(*choices):
@@ -269,10 +270,14 @@ class Shown(Case):
         self.assertGreater(min(stored, refused), 10)
 
 
+# White as Shown.solutions sees it.
+SEEN_WHITE = "rgb(7, 7, 7)"
+
+
 def clue_of(line):
     """The blocks of a line, a colour and a length each, as a page has them."""
     blocks = [(ink, str(len(list(cells)))) for ink, cells in itertools.groupby(line)]
-    return tuple(block for block in blocks if block[0] != "rgb(255, 255, 255)")
+    return tuple(block for block in blocks if block[0] != SEEN_WHITE)
 
 
 if __name__ == "__main__":
