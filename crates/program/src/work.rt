@@ -1,9 +1,11 @@
-//! What the words ask for, done with what the files hold: a session, a check, or the clues of the input.
+//! What the words ask for, done with what the files hold that they name: a session, a check, or the clues of the input.
 
 ghost use Rattle.program_options.specs.Options.{IsLawful};
 ghost use Rattle.command_line.specs.Words.{IsLawfulTask};
-ghost use Rattle.nonobench.specs.Work.{CarriesOut, ShowsClues, Works};
+ghost use Rattle.program.specs.Work.{CarriesOut, ShowsClues, Works};
+ghost use Rattle.program.specs.World.{world};
 
+use crate::files::{Files, read_file};
 use crate::input::read_input;
 use answers::{Options, ProgramFault, run_check, run_clues, start_bench};
 use command_line::Task;
@@ -12,26 +14,37 @@ use session::run_session;
 use std::alloc::Global;
 use std::io::{Read, Write};
 
-/// Does what the words ask for. `file` and `cert` are what the files that they name hold, and nothing is looked at where
-/// they name none. The fault is that of the file, the certificate or the input, of reading or writing, or `Memory`.
-pub fn carry_out<R: Read, W: Write>(
+/// Does what the words ask for, with what the files hold that they name; a check reads the picture's file first. The fault is
+/// that of the file, the certificate or the input, of reading or writing, or `Memory`. Where a file is not read, the input was
+/// left alone and nothing was written.
+pub fn carry_out<F: Files, R: Read, W: Write>(
     alloc: Global,
     task: &Task<'_>,
-    file: &[u8],
-    cert: &[u8],
+    files: &mut F,
     reader: &mut R,
     writer: &mut W,
 ) -> Result<(), ProgramFault>
     requires { IsLawfulTask task.now }
-    ensures { CarriesOut
-        (R.remaining reader.old) (R.remaining reader.new)
-        (W.contents writer.old) (W.contents writer.new)
-        task.now file.now cert.now result }
+    ensures { CarriesOut (F.held files.old)
+        (world (F.opened files.old) (R.remaining reader.old) (W.contents writer.old))
+        (world (F.opened files.new) (R.remaining reader.new) (W.contents writer.new))
+        task.now result }
 {
     match task {
         Task::Clues => show_clues(alloc, reader, writer),
-        Task::Work { options, .. } => run_work(alloc, file, *options, reader, writer),
-        Task::Check { background, .. } => run_check(alloc, file, cert, *background, writer),
+        Task::Work { file, options } => {
+            let file = read_file(alloc, files, file)?;
+            run_work(alloc, &file, *options, reader, writer)
+        }
+        Task::Check {
+            file,
+            cert,
+            background,
+        } => {
+            let file = read_file(alloc, files, file)?;
+            let cert = read_file(alloc, files, cert)?;
+            run_check(alloc, &file, &cert, *background, writer)
+        }
         Task::Help(text) => Ok(send(text.as_bytes(), writer)?),
     }
 }

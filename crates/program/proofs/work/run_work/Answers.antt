@@ -1,7 +1,7 @@
 use Rattle.std.proofs.Common.{rules, Ok, Err, ap, ◌∙◌}
 use Rattle.std.proofs.lemmas.Result.{err_from_is_err_and}
-use Rattle.nonobench.proofs.WorkLemmas.{broke_off, ran}
-use Rattle.nonobench.proofs.work.run_work.Goals as goal
+use Rattle.program.proofs.WorkLemmas.{broke_off, ran}
+use Rattle.program.proofs.work.run_work.Goals as goal
 
 pub returns-in_err-run_session : goal.returns-in_err-run_session
 returns-in_err-run_session g c =

@@ -6,7 +6,7 @@ use Rattle.session.specs.Session.{Runs}
 use Rattle.program_options.specs.declared.fault.ProgramFault.{ProgramFault}
 use Rattle.program_options.specs.declared.options.Options.{Options}
 use Rattle.program_options.specs.Faults.{session_fault_of}
-use Rattle.nonobench.specs.Work.{RunsOn, Works}
+use Rattle.program.specs.Work.{RunsOn, Works}
 use Rattle.answers.specs.Start.{IsStarted}
 
 pub ran : (had have held holds : Option (List ℕ)) (file : List ℕ) (options : Options) (fresh last : Seen) (answered ended : Result (Unit {0}) SessionFault)

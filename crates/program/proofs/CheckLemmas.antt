@@ -1,0 +1,59 @@
+-- A check of two files.
+use Rattle.std.proofs.Common.{◌≡◌, ℕ, List, [], ◌∷◌, Option, Result, Err, IfErr, OnOk, inl, inr, sym, subst}
+use Rattle.std.specs.Prelude.{◌⊎◌}
+use Rattle.std.specs.Borrow.{Bor}
+use Rattle.picture.specs.declared.rgb.Rgb.{Rgb}
+use Rattle.program_options.specs.declared.fault.ProgramFault.{ProgramFault}
+use Rattle.program_options.specs.declared.fault.ProgramFault.TheVariants.{Memory, Write}
+use Rattle.command_line.specs.declared.words.Task.{Task}
+use Rattle.command_line.specs.declared.words.Task.TheVariants.{Check}
+use Rattle.answers.specs.Check.{IsCheckOf, IsOnlyPicture, IsProofOf, WritesBy}
+use Rattle.program.specs.Files.{Held, IsContent, IsUnreadFile, Names}
+use Rattle.program.specs.Work.{CarriesOut}
+use Rattle.program.specs.World.{World, world}
+use Rattle.program.proofs.FileLemmas.{keeps_same, names_both}
+
+-- two files were opened, what they hold was the same for both, and this is what the first gave
+pub record AreBoth (held later : List ℕ → Held) (opened between after : Option (List (List ℕ))) (path cert : List ℕ) (file : List ℕ) : Type 0 where
+  pub content : IsContent (held path) file
+  pub first : Names opened between (path ∷ [])
+  pub keeps : (name : List ℕ) → later name ≡ held name
+  pub next : Names between after (cert ∷ [])
+
+pub half_read : (held later : List ℕ → Held) (opened between after : Option (List (List ℕ))) (input output : Option (List ℕ)) (task : Task) (path cert : Bor (List ℕ)) (background : Option Rgb) (file : List ℕ) (fault : ProgramFault) (r : Result (Unit {0}) ProgramFault)
+    → task ≡ Check path cert background → AreBoth held later opened between after path.now cert.now file → IsUnreadFile (later cert.now) fault → r ≡ Err fault
+    → CarriesOut held (world opened input output) (world after input output) task r
+half_read held later opened between after input output task path cert background file fault r is both unread failed =
+    let before : World = world opened input output in
+    let behind : World = world after input output in
+    let here : CarriesOut held before behind (Check path cert background) r = inr (inl (record {
+      file = file;
+      content = both.content;
+      stopped = record {
+        fault = fault;
+        is = failed;
+        unread = subst (λ (h : Held). IsUnreadFile h fault) (both.keeps cert.now) unread;
+        only = record { names = names_both opened between after path.now cert.now both.first both.next; input = keeps_same input; output = keeps_same output };
+      };
+    })) in
+    subst (λ (t : Task). CarriesOut held before behind t r) (sym is) here
+
+pub checked : (held later : List ℕ → Held) (opened between after : Option (List (List ℕ))) (input output written : Option (List ℕ)) (task : Task) (path cert : Bor (List ℕ)) (background : Option Rgb) (file cert_bytes seen cert_seen : List ℕ) (r : Result (Unit {0}) ProgramFault)
+    → task ≡ Check path cert background → AreBoth held later opened between after path.now cert.now file → IsContent (later cert.now) cert_bytes → seen ≡ file → cert_seen ≡ cert_bytes
+    → WritesBy output written r (IsCheckOf seen background cert_seen) → (IsProofOf seen background cert_seen → IfErr r (λ e. (e ≡ Memory) ⊎ (e ≡ Write))) → OnOk r (IsOnlyPicture seen background cert_seen)
+    → CarriesOut held (world opened input output) (world after input written) task r
+checked held later opened between after input output written task path cert background file cert_bytes seen cert_seen r is both certificate same cert_same writes only unique =
+    let before : World = world opened input output in
+    let behind : World = world after input written in
+    let here : CarriesOut held before behind (Check path cert background) r = inr (inr (record {
+      file = seen;
+      cert = cert_seen;
+      content = subst (IsContent (held path.now)) (sym same) both.content;
+      cert_content = subst (IsContent (held cert.now)) (sym cert_same) (subst (λ (h : Held). IsContent h cert_bytes) (both.keeps cert.now) certificate);
+      names = names_both opened between after path.now cert.now both.first both.next;
+      input = keeps_same input;
+      writes = writes;
+      only = only;
+      unique = unique;
+    })) in
+    subst (λ (t : Task). CarriesOut held before behind t r) (sym is) here

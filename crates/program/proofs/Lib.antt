@@ -1,0 +1,5 @@
+pub mod CheckLemmas
+pub mod EndLemmas
+pub mod FileLemmas
+pub mod RunLemmas
+pub mod WorkLemmas

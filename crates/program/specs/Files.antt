@@ -1,0 +1,50 @@
+-- What the names of files hold, which of them were opened, and what a file's bytes are.
+use Rattle.std.specs.Prelude.{◌≡◌, ◌⊎◌, ℕ, ◌<◌, ◌≤◌, List, ◌++◌, length, Option, None, Some, Result, Ok, Err, IfSome}
+use Rattle.std.proofs.Common.{Vec, Global}
+use Rattle.program_options.specs.declared.fault.ProgramFault.{ProgramFault}
+use Rattle.program_options.specs.declared.fault.ProgramFault.TheVariants.{Memory, TooLong, Read}
+
+-- What a name holds: nobody knows; or no file; or a file with these bytes.
+pub data Held : Type 0 where
+  Unknown : Held
+  Missing : Held
+  Holds : List ℕ → Held
+
+-- a file that was opened gives these bytes, and there is one
+abbrev pub IsOpened : Held → Option (List ℕ) → Type 0
+IsOpened Unknown given = Unit {0}
+IsOpened Missing given = ⊥
+IsOpened (Holds bytes) given = given ≡ Some bytes
+
+-- a file that could not be opened is not there
+abbrev pub IsAbsent : Held → Type 0
+IsAbsent Unknown = Unit {0}
+IsAbsent Missing = Unit {0}
+IsAbsent (Holds bytes) = ⊥
+
+-- these names were opened, in this order
+abbrev pub Names : Option (List (List ℕ)) → Option (List (List ℕ)) → List (List ℕ) → Type 0
+Names None new paths = Unit {0}
+Names (Some before) None paths = ⊥
+Names (Some before) (Some after) paths = after ≡ before ++ paths
+
+-- why an input is not read to its end: it is too long, a read failed, or memory ran out
+abbrev pub IsUnread : Option (List ℕ) → ProgramFault → Type 0
+IsUnread had fault = ((fault ≡ TooLong) × IfSome had (λ input. 16777216 < length input)) ⊎ ((fault ≡ Read) ⊎ (fault ≡ Memory))
+
+-- the bytes of a name's file
+abbrev pub IsContent : Held → List ℕ → Type 0
+IsContent Unknown bytes = Unit {0}
+IsContent Missing bytes = ⊥
+IsContent (Holds held) bytes = bytes ≡ held
+
+-- why a name's file is not read
+abbrev pub IsUnreadFile : Held → ProgramFault → Type 0
+IsUnreadFile Unknown fault = IsUnread None fault
+IsUnreadFile Missing fault = fault ≡ Read
+IsUnreadFile (Holds held) fault = IsUnread (Some held) fault
+
+-- a name's file is read: its bytes, which are not too many, or why it is not
+abbrev pub ReadsFile : Held → Result (Vec ℕ Global) ProgramFault → Type 0
+ReadsFile held (Ok bytes) = IsContent held bytes.items × (length bytes.items ≤ 16777216)
+ReadsFile held (Err fault) = IsUnreadFile held fault

@@ -1,0 +1,5 @@
+pub mod Ending
+pub mod Files
+pub mod Run
+pub mod Work
+pub mod World

@@ -1,0 +1,48 @@
+//! How the program ends: what it says of a fault, and its status.
+
+ghost use Rattle.std.specs.Prelude.{◌≡◌, true, OnOk};
+ghost use Rattle.std.specs.Io.KnownBytes.{Appends};
+ghost use Rattle.std.specs.Process.{exit_status};
+ghost use Rattle.program.specs.Ending.{fault_line, line_after, status_after};
+
+use answers::ProgramFault;
+use std::io;
+use std::io::Write;
+use std::process::ExitCode;
+
+/// The status with which the program ends, and whether all was told that there was to tell.
+#[derive(Drop)]
+pub struct Ended {
+    pub code: ExitCode,
+    pub told: bool,
+}
+
+/// Says a fault on standard error, and gives the status: 0 where there is none, else the fault's.
+pub fn end_with<W: Write>(outcome: Result<(), ProgramFault>, errors: &mut W) -> Ended
+    ensures code { exit_status result.code ≡ status_after outcome }
+    ensures line { result.told ≡ true
+        → Appends (W.contents errors.old) (W.contents errors.new) (line_after outcome) }
+{
+    let Err(fault) = outcome else {
+        return Ended {
+            code: ExitCode::from(0),
+            told: true,
+        };
+    };
+    let told = tell(&fault, errors).is_ok();
+    Ended {
+        code: ExitCode::from(fault.status()),
+        told,
+    }
+}
+
+// What the parser of the words says is said as it is, every other fault in a line.
+fn tell<W: Write>(fault: &ProgramFault, errors: &mut W) -> io::Result<()>
+    ensures { OnOk result
+        (Appends (W.contents errors.old) (W.contents errors.new) (fault_line fault.now)) }
+{
+    match fault {
+        ProgramFault::Words(text) => write!(errors, "{text}"),
+        _ => writeln!(errors, "nonobench: {fault}"),
+    }
+}
