@@ -37,7 +37,7 @@ export function closeFix() {
 
 const fixSays = (text) => { if ($('fix-said')) $('fix-said').textContent = text; };
 
-const LONGER = 'A longer time, chosen at “Search after each stroke”, may find some.';
+const LONGER = 'A longer “Search time” may find some.';
 
 // Gives cells in which the pictures differ, as one stroke. Where time ends before they suffice, the next time goes on from there.
 async function giveCells() {

@@ -25,10 +25,11 @@ const KEEPING = [
 const part = (title, ...content) => make('section', {}, make('h3', {}, title), ...content);
 const paragraphs = (texts) => texts.map((text) => make('p', {}, text));
 
-/** What this page is: its version, and the commit that it was made of. */
+/** What this page is: its version, and the names that git has for the folders that it was made of. */
 function versionText() {
-  const { version, commit } = built();
-  return `nonobench ${version ?? ''}${commit ? `, commit ${commit}` : ''}. It runs in your browser alone and sends nothing.`;
+  const { version, trees = {} } = built();
+  const made = Object.entries(trees).map(([folder, name]) => `${folder} ${String(name).slice(0, 12)}`).join(', ');
+  return `nonobench ${version ?? ''}. It runs in your browser alone and sends nothing.${made ? ` Made of ${made}: git’s names for these folders.` : ''}`;
 }
 
 function showGuide() {

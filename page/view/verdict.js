@@ -64,7 +64,7 @@ function makeVerdictPanel() {
       make('dl', {}, make('dt', { id: 'open-name' }, 'Need guessing'), make('dd', { id: 'open' }), make('dt', {}, 'Clues that changed'), make('dd', { id: 'changed' })),
       make('p', {}, make('label', {}, 'Show ', choiceOf('hatching', HATCHINGS, (value) => setHatching(value)))),
       make('p', { id: 'legend', class: 'faint' }),
-      make('p', {}, make('label', {}, 'Search after each stroke ', choiceOf('seconds', TIMES, setSeconds)))),
+      make('p', {}, make('label', {}, 'Search time ', choiceOf('seconds', TIMES, setSeconds)))),
   );
   $('audit').append(make('p', { id: 'verdict-heard', class: 'unseen', role: 'status' }));
   $('seconds').value = verdictView.seconds;
@@ -195,7 +195,7 @@ export async function certificateText() {
   verdictView.ended = null;
   const text = await searches.certify();
   const why = {
-    time: `No certificate was found within ${number(secondsChosen())} s. Choose a longer time at “Search after each stroke”.`,
+    time: `No certificate was found within ${number(secondsChosen())} s. Choose a longer “Search time”.`,
     stopped: 'The search for a certificate was stopped.',
     stroke: 'The search for a certificate was ended by a stroke.',
   }[verdictView.ended];
