@@ -12,6 +12,7 @@ import { showStart, startStart } from './start/start.js';
 import { actionButton, actions, hearKeys, makeMenus } from './view/actions.js';
 import { addEditActions, addKeys, addPictureActions, addViewActions } from './view/commands.js';
 import { cursor, gridCell, makeGrid } from './view/grid.js';
+import { addHelpActions } from './view/help.js';
 import { makeMinimap } from './view/minimap.js';
 import { makePalette } from './view/palette.js';
 import { makeCellPanel, makeLinesPanel, makeToolBar } from './view/panels.js';
@@ -40,6 +41,7 @@ addEditActions();
 addPictureActions();
 addViewActions();
 addKeys();
+addHelpActions();
 makeQuickButtons();
 hearKeys();
 hearPointers();
@@ -78,6 +80,6 @@ function hearBench() {
     for (const id of ['undo', 'redo']) $('quick').querySelector(`[data-action="${id}"]`).disabled = !actions.get(id).can();
   });
   on('busy', (is) => sheet.stage.setAttribute('aria-busy', is));
-  on('recovered', () => say('The engine had to be started again. Nothing of the picture is lost.'));
-  on('lost', (fault) => say(`The engine does not start (${fault.text ?? fault.message}). Save the picture and reload the page.`, 'alarm'));
+  on('recovered', () => say('The engine was restarted. Nothing was lost.'));
+  on('lost', (fault) => say(`The engine could not be started (${fault.text ?? fault.message}). Save the picture and reload the page.`, 'alarm'));
 }

@@ -2,7 +2,7 @@
 // that stay under the pointer, certificates, warnings, and marks that are seen. Each is a test of the runner tests/page_test.mjs.
 import assert from 'node:assert/strict';
 import { clean, downloaded, drop, fresh, goOn, isKept, isOpen, menu, said } from './page_hands.mjs';
-import { SLACK, ppmOf } from './page_trial.mjs';
+import { SLACK, noise, ppmOf } from './page_trial.mjs';
 
 const MIXED = ['..aa....bb', '.abba..b.b', 'a.bba.bb..', '..aaa.b...', '...a..cc..'];
 const cards = (page) => page.run(async () => (await keep.keeper.cards()).map(({ name, isSaved, verdict }) => ({ name, isSaved, verdict })));
@@ -146,12 +146,12 @@ export async function panelsStay({ trial, page }) {
 
 /** A picture that is fitted stays under the pointer while it is painted, also once its clues grow. */
 export async function pictureStays({ trial, page }) {
-    await trial.open(ppmOf(Array(15).fill('.'.repeat(20))), 'stays');
+    await page.click('#new-go');
+    await isOpen(page);
     const place = () => page.run(() => [sheet.geometry.x(0), sheet.geometry.y(0), sheet.geometry.cell].join());
     const before = await place();
-    let state = 5;
-    const random = (below) => (state = (state * 48271) % 2147483647) % below;
-    for (let at = 0; at < 80; at++) await trial.drag([[1 + random(15), 1 + random(20)]]);
+    for (let col = 1; col <= 19; col += 2) await trial.drag([[8, col]]); // ten blocks where there was room for few
+    for (let row = 1; row <= 15; row += 2) await trial.drag([[row, 10]]);
     assert.equal(await place(), before);
     assert.equal(await page.run(() => sheet.geometry.wantsFit), true, 'the clues have grown past their room');
     await page.click('[data-tool="line"]');
@@ -204,20 +204,29 @@ export async function warned({ browser, url, folder }) {
     await page.close();
 }
 
-/** Why tells of colours of the palette alone, by name. */
+/** Why tells of colours of the palette alone, by name, where the session leaves others open too. */
 export async function whyNames({ trial, page }) {
-    await trial.open(ppmOf(['aa.', '.bb', 'a.b']), 'why');
-    await trial.judged();
-    for (let row = 1; row <= 3; row++) {
-        for (let col = 1; col <= 3; col++) {
-            await page.press('w');
-            await trial.drag([[row, col]]);
-            await page.until((wanted) => document.querySelector('#why h3')?.textContent.startsWith(wanted), 3000 * SLACK, `Row ${row}, column ${col}`);
-            const names = await page.run(() => [...document.querySelectorAll('#why .swatch-chip')].map((one) => one.textContent));
-            assert.ok(names.length >= 2 && names.every((name) => ['white', 'black', 'red'].includes(name)), names.join());
-            assert.doesNotMatch(await trial.text('#why'), /\bor [c-o]\b/);
-        }
+    // Painted stroke by stroke, the bench keeps reasons with as little as they need: a cell that is no background, or no black, for one.
+    await trial.open(ppmOf(Array(6).fill('......')), 'why');
+    await page.run(() => bench.stroke(['colour add 0 0 0', 'colour add 200 40 40']));
+    const rows = noise(6, 6, '.ab.', 1);
+    for (const [row, line] of rows.entries()) {
+        for (const [col, letter] of [...line].entries()) if (letter !== '.') await page.run((one) => bench.stroke([one]), `paint ${row + 1} ${col + 1} ${letter}`);
     }
+    const asked = await page.run(async () => {
+        const lines = [];
+        for (let row = 1; row <= 6; row++) for (let col = 1; col <= 6; col++) for (const letter of '.ab') lines.push(`why ${row} ${col} ${letter}`);
+        const answers = [await bench.ask(lines)].flat();
+        const at = answers.findIndex((one) => one.premises?.some((premise) => /[c-o]/.test(premise.letters)));
+        return at < 0 ? null : lines[at].split(' ').slice(1, 3).map(Number);
+    });
+    assert.ok(asked, 'some reason leaves a colour open that the palette does not have');
+    await page.press('w');
+    await trial.drag([asked]);
+    await page.until((wanted) => document.querySelector('#why h3')?.textContent.startsWith(wanted), 3000 * SLACK, `Row ${asked[0]}, column ${asked[1]}`);
+    assert.doesNotMatch(await trial.text('#why'), /\b[c-o]\b/);
+    const names = await page.run(() => [...document.querySelectorAll('#why .swatch-chip')].map((one) => one.textContent));
+    assert.ok(names.length >= 3 && names.every((name) => ['white', 'black', 'red'].includes(name)), names.join());
 }
 
 /** A given cell has its mark on the page, in Play and on paper, also one of the background; colours that are alike are told. */

@@ -3,7 +3,7 @@
 let read = null;
 
 /** What the build put into the page: `module` (packed), `worker`, `version`, `trees`. Empty where there is no page. */
-const built = () => (read ??= JSON.parse(globalThis.document?.getElementById('built')?.textContent.trim() || '{}'));
+export const built = () => (read ??= JSON.parse(globalThis.document?.getElementById('built')?.textContent.trim() || '{}'));
 let moduleBytes = null; // a promise of the module's bytes
 let workerUrl = null;
 

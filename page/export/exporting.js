@@ -97,7 +97,7 @@ async function printPuzzle() {
   const title = make('input', { type: 'text', value: bench.state.about.title || bench.name, maxlength: '200' });
   const letters = make('input', { type: 'checkbox' });
   const solution = make('input', { type: 'checkbox', checked: true });
-  const content = make('div', { class: 'rows' }, make('label', {}, 'Title', title), make('label', {}, letters, 'Letters in place of colours, for black and white'), make('label', {}, solution, 'The solution on a second sheet'));
+  const content = make('div', { class: 'rows' }, make('label', {}, 'Title', title), make('label', {}, letters, 'Letters instead of colours, for black and white'), make('label', {}, solution, 'The solution on a second sheet'));
   for (const warning of [WARNINGS[bench.state.verdict.word], nearText(bench.state)]) if (warning) content.append(make('p', { class: 'wrong' }, warning));
   const go = await openDialog({ title: 'Print', content, buttons: [{ name: 'Print …', value: true, main: true }] });
   if (!go) return;

@@ -63,15 +63,15 @@ class Importing {
   make() {
     const { columns, rows, sharp, colours } = this.proposal;
     const { width, height } = this.full;
-    this.source = make('canvas', { id: 'import-source', 'aria-label': 'The image. Drag to take a part of it.', role: 'img' });
-    this.preview = make('canvas', { id: 'import-preview', 'aria-label': 'The puzzle that comes of it', role: 'img' });
+    this.source = make('canvas', { id: 'import-source', 'aria-label': 'The image. Drag to select a part of it.', role: 'img' });
+    this.preview = make('canvas', { id: 'import-preview', 'aria-label': 'The puzzle', role: 'img' });
     this.facts = make('p', { role: 'status', class: 'faint', id: 'import-facts' });
     this.swatches = make('div', { class: 'swatches', role: 'group', 'aria-label': 'Background' });
     const crop = make('fieldset', {}, make('legend', {}, 'Part of the image, in pixels'),
       this.field('left', { label: 'Left', min: '0', max: width - 1, value: 0 }), this.field('top', { label: 'Top', min: '0', max: height - 1, value: 0 }),
       this.field('wide', { label: 'Width', min: '1', max: width, value: width }), this.field('high', { label: 'Height', min: '1', max: height, value: height }),
-      make('div', { class: 'ground' }, make('button', { type: 'button', onclick: () => this.take({ x: 0, y: 0, width, height }) }, 'All of it'),
-        make('button', { type: 'button', id: 'import-trim', onclick: () => this.take(withoutMargin(this.full)) }, 'Without its margin')));
+      make('div', { class: 'ground' }, make('button', { type: 'button', onclick: () => this.take({ x: 0, y: 0, width, height }) }, 'Whole image'),
+        make('button', { type: 'button', id: 'import-trim', onclick: () => this.take(withoutMargin(this.full)) }, 'Trim the margin')));
     const size = make('fieldset', {}, make('legend', {}, 'Cells'),
       this.field('columns', { label: 'Columns', min: '1', max: MOST_CELLS, value: columns, id: 'import-columns' }), this.field('rows', { label: 'Rows', min: '1', max: MOST_CELLS, value: rows, id: 'import-rows' }),
       this.tick('keeps', 'Keep proportions', true), this.tick('sharp', 'Pixel art: one pixel for each cell', sharp));
@@ -79,7 +79,7 @@ class Importing {
     this.threshold = make('input', { type: 'range', min: '1', max: '255', value: '128', id: 'import-threshold' });
     for (const name of ['colours', 'threshold']) this[name].addEventListener('input', () => this.change(name));
     this.count = make('output', {}, String(colours));
-    this.onlyTwo = make('div', { class: 'ground' }, make('label', {}, 'Dark is below', this.threshold), this.tick('inverted', 'Draw the light part'));
+    this.onlyTwo = make('div', { class: 'ground' }, make('label', {}, 'Dark below', this.threshold), this.tick('inverted', 'Draw the light parts'));
     this.shows = make('input', { type: 'checkbox', 'aria-label': 'Show the background as another colour' });
     this.shown = make('input', { type: 'color', value: '#ffffff', 'aria-label': 'Colour of the background' });
     this.shows.addEventListener('input', () => this.change('shows'));
@@ -92,7 +92,7 @@ class Importing {
       this.tick('two', 'Two colours, by lightness'), this.onlyTwo,
       make('div', { class: 'ground' }, 'Background', this.swatches), make('label', {}, this.shows, 'Show the background as', this.shown));
     this.content = make('div', { class: 'importing' },
-      make('div', { class: 'pictures' }, make('figure', {}, this.source, make('figcaption', {}, 'Drag over the image to take a part of it.')), make('figure', {}, this.preview, this.facts)),
+      make('div', { class: 'pictures' }, make('figure', {}, this.source, make('figcaption', {}, 'Drag over the image to select a part of it.')), make('figure', {}, this.preview, this.facts)),
       make('div', { class: 'choices' }, size, inks, crop));
     this.hearCrop();
   }
@@ -304,8 +304,8 @@ class Importing {
 /** Lets the user make a puzzle of an image; answers whether one was opened. */
 export async function importImage(image, name) {
   const importing = new Importing(image);
-  const doc = await openDialog({ title: `${name}: a picture into a puzzle`, content: importing.content, wide: true, buttons: [{ name: 'Make the puzzle', value: () => importing.finished(), main: true }] });
+  const doc = await openDialog({ title: `${name}: turn the image into a puzzle`, content: importing.content, wide: true, buttons: [{ name: 'Create the puzzle', value: () => importing.finished(), main: true }] });
   if (!doc || !(await openDoc(doc, { name, isSaved: false }))) return false;
-  say(`${name} is a puzzle now: the menu File exports and prints it.`);
+  say(`“${name}” is a puzzle now. Export or print it from the menu File.`);
   return true;
 }

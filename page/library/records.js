@@ -1,19 +1,32 @@
 // Records: what the library keeps of a picture, as a plain value. A record has the document and the documents that its strokes
 // lead back and forth to; a card is what the list shows of it.
 
-import { docOf, packedDoc, patchOf, patched, unpackedDoc } from '../document/document.js';
+import { docOf, packedDoc, patchOf, patched, sameDoc, unpackedDoc } from '../document/document.js';
 
 const MOST_SIGNS = 200000; // of the strokes of one record; older ones are left out
 
 export const newId = () => `${Date.now().toString(36)}-${Math.floor(Math.random() * 2 ** 40).toString(36)}`;
+
+// Patches that were made before, by the document that they lead to: of a stroke they stay the same.
+const known = new WeakMap();
+
+// What leads from a document to another, with how much room it takes.
+function patchTo(from, to) {
+  const before = known.get(to);
+  if (before?.from === from) return before;
+  const patch = patchOf(from, to);
+  const made = { from, patch, size: JSON.stringify(patch).length };
+  known.set(to, made);
+  return made;
+}
 
 // What leads from a document to others, one after the other, as far as there is room.
 function patchesTo(doc, others, room) {
   const patches = [];
   let [from, left] = [doc, room];
   for (const to of others) {
-    const patch = patchOf(from, to);
-    left -= JSON.stringify(patch).length;
+    const { patch, size } = patchTo(from, to);
+    left -= size;
     if (left < 0) break;
     patches.push(patch);
     from = to;
@@ -32,7 +45,8 @@ function docsOf(doc, patches) {
 
 /** The record of an open document: `open` has its state, name, isSaved, past and future, as a bench does. */
 export function recordOf(open, id, when = Date.now()) {
-  const doc = docOf(open.state);
+  const last = open.past.at(-1)?.after;
+  const doc = last && sameDoc(last, open.state) ? last : docOf(open.state);
   const past = patchesTo(doc, [...open.past].reverse().map((stroke) => stroke.before), MOST_SIGNS);
   const future = patchesTo(doc, [...open.future].reverse().map((stroke) => stroke.after), past.left);
   return { version: 2, id, name: open.name, when, isSaved: open.isSaved, doc: packedDoc(doc), past: past.patches, future: future.patches };

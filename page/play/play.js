@@ -41,7 +41,7 @@ function playBar() {
     make('h2', {}, 'Play'),
     playButton('play-undo', 'Undo', () => playTurn('past', 'future')), playButton('play-redo', 'Redo', () => playTurn('future', 'past')),
     playButton('play-check', 'Check', checkPlay, { title: 'Marks the cells that are wrong' }),
-    playButton('play-clear', 'Begin again', clearPlay),
+    playButton('play-clear', 'Start over', clearPlay),
     playButton('play-smaller', '−', () => zoomPlay(-1), { 'aria-label': 'Smaller cells' }), playButton('play-larger', '+', () => zoomPlay(1), { 'aria-label': 'Larger cells' }),
     playButton('play-close', 'Back to the picture', () => $('play-room').close()));
 }
@@ -126,7 +126,7 @@ export function afterPlay() {
   const solved = clues.rows.every((blocks, row) => isMet(blocks, play.marks[row])) && clues.columns.every((blocks, col) => isMet(blocks, playColumn(col)));
   if (solved && !play.isSolved) {
     const other = play.marks.some((row, at) => row.some((mark, col) => (mark === '?' ? '.' : mark) !== play.state.picture[at][col]));
-    playSays(other ? 'Solved, with another picture than yours.' : 'Solved.');
+    playSays(other ? 'Solved, but with a picture other than yours.' : 'Solved.');
   } else if (!solved) playSays('');
   play.isSolved = solved;
   $('play-undo').disabled = !play.past.length;

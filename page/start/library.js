@@ -19,7 +19,7 @@ function ageText(when, now = Date.now()) {
   return unit ? `${many(Math.floor(age / unit), name)} ago` : name;
 }
 
-const VERDICTS = { unique: '✓ unique', ambiguous: '≠ ambiguous', undecided: '? undecided' };
+const VERDICTS = { unique: '✓\u00a0unique', ambiguous: '≠\u00a0ambiguous', undecided: '?\u00a0undecided' };
 const ORDERS = {
   when: ['Newest first', (a, b) => b.when - a.when],
   name: ['By name', (a, b) => a.name.localeCompare(b.name)],
@@ -71,7 +71,7 @@ function showCards() {
   const items = found.slice(0, view.shown).map(tileOf);
   const left = found.length - items.length;
   const more = make('li', {}, make('button', { type: 'button', onclick: () => { view.shown += 4 * FIRST; showCards(); } }, `Show ${many(left, 'more picture')}`));
-  view.list.replaceChildren(...items, ...(left > 0 ? [more] : []), ...(found.length ? [] : [make('li', { class: 'faint' }, `No picture is named “${wanted}”.`)]));
+  view.list.replaceChildren(...items, ...(left > 0 ? [more] : []), ...(found.length ? [] : [make('li', { class: 'faint' }, `No picture matches “${wanted}”.`)]));
 }
 
 async function showRoom(keeper) {
@@ -92,10 +92,11 @@ async function showRoom(keeper) {
 
 function tileOf(card) {
   const isOpen = card.id === keep.id && bench.state !== null;
-  const facts = [`${card.doc.columns} by ${card.doc.rows}`, VERDICTS[card.verdict], card.grade, isOpen ? 'open here' : ageText(card.when), card.isSaved ? '' : 'not in a file'].filter(Boolean).join(', ');
+  const facts = [`${card.doc.columns} by ${card.doc.rows}`, VERDICTS[card.verdict], card.grade].filter(Boolean).join(', ');
+  const when = [isOpen ? 'open here' : ageText(card.when), card.isSaved ? '' : 'not in a file'].filter(Boolean).join(', ');
   const open = () => (isOpen ? view.goBack() : openRecord(card.id));
   return make('li', { class: 'tile' },
-    make('button', { type: 'button', class: 'kept', 'data-id': card.id, onclick: open }, smallPicture(card.doc), make('span', {}, make('b', {}, card.name), make('span', { class: 'faint' }, facts))),
+    make('button', { type: 'button', class: 'kept', 'data-id': card.id, onclick: open }, smallPicture(card.doc), make('span', {}, make('b', {}, card.name), make('span', { class: 'faint' }, facts), make('span', { class: 'faint' }, when))),
     menuOf(card, isOpen));
 }
 

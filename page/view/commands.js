@@ -11,7 +11,7 @@ import { cursor } from './grid.js';
 import { goToNext } from './minimap.js';
 import { showCell } from './panels.js';
 import { zoomBy } from './pointer.js';
-import { clearSelected, dropSelection, lift, moveFloat, pasteRows, selection, setDown, showSelection, transform } from './select.js';
+import { clearSelected, copyToClipboard, dropSelection, lift, moveFloat, pasteRows, selection, setDown, showSelection, transform } from './select.js';
 import { dropDrag, forgetReason, heard, sendStroke, tools, useColour, useTool } from './tools.js';
 
 function undoStroke() {
@@ -33,12 +33,12 @@ export function addEditActions() {
   edit({ id: 'redo', name: 'Redo', key: 'Ctrl+Y Ctrl+Shift+Z', run: () => { setDown(); heard(bench.redo()); }, can: () => bench.future.length > 0 });
   edit({ id: 'select-all', name: 'Select all', key: 'Ctrl+A', group: 'select', run: selectAll });
   edit({ id: 'select-none', name: 'Select nothing', group: 'select', run: () => { setDown(); dropSelection(); }, can: hasBox });
-  edit({ id: 'copy', name: 'Copy (Ctrl+C)', group: 'select', run: () => document.execCommand('copy') });
-  edit({ id: 'cut', name: 'Cut (Ctrl+X)', group: 'select', run: () => document.execCommand('cut'), can: hasBox });
+  edit({ id: 'copy', name: 'Copy (Ctrl+C)', group: 'select', run: () => copyToClipboard(false) });
+  edit({ id: 'cut', name: 'Cut (Ctrl+X)', group: 'select', run: () => copyToClipboard(true), can: hasBox });
   edit({ id: 'paste', name: 'Paste text…', group: 'select', run: pasteByDialog });
   edit({ id: 'clear', name: 'Clear the selection', key: 'Delete Backspace', group: 'select', run: clearSelected, can: hasBox });
-  addAction({ id: 'drop', name: 'Drop what was begun', key: 'Escape', run: () => { dropDrag(); if (!dropSelection()) forgetReason(); } });
-  addAction({ id: 'set-down', name: 'Set down', key: 'Enter', run: setDown, can: () => selection.rows !== null });
+  addAction({ id: 'drop', name: 'Cancel', key: 'Escape', run: () => { dropDrag(); if (!dropSelection()) forgetReason(); } });
+  addAction({ id: 'set-down', name: 'Place', key: 'Enter', run: setDown, can: () => selection.rows !== null });
 }
 
 function selectAll() {
@@ -53,7 +53,7 @@ async function pasteByDialog() {
   const rows = () => rowsOfText(field.value, bench.state.colours.length);
   const done = await openDialog({
     title: 'Paste text',
-    content: make('div', {}, make('p', {}, 'A row for each line, a letter for each cell: a dot is the background, a to o are the colours.'), field),
+    content: make('div', {}, make('p', {}, 'One line for each row, one letter for each cell: a dot is the background, a to o are the colours.'), field),
     buttons: [{ name: 'Paste', value: rows, main: true, test: () => (rows() ? '' : 'These are not rows of letters of this palette.') }],
   });
   if (done) pasteRows(done);
@@ -98,7 +98,7 @@ async function resizeByDialog() {
   const chosen = () => places[Number(anchor.querySelector(':checked').value)];
   const done = await openDialog({
     title: 'Resize',
-    content: make('div', {}, make('p', {}, make('label', {}, 'Columns ', columns), ' ', make('label', {}, 'Rows ', rows)), make('p', {}, 'The picture stays at:'), anchor),
+    content: make('div', {}, make('p', {}, make('label', {}, 'Columns ', columns), ' ', make('label', {}, 'Rows ', rows)), make('p', {}, 'Keep the picture at the:'), anchor),
     buttons: [{ name: 'Resize', main: true, value: () => ({ columns: Number(columns.value), rows: Number(rows.value), ...chosen() }), test: () => (isSize(columns) && isSize(rows) ? '' : `Both are 1 to ${MOST_CELLS}.`) }],
   });
   if (!done || (done.rows === doc.rows && done.columns === doc.columns)) return;
@@ -116,20 +116,20 @@ export function addViewActions() {
     showCell();
   } });
   for (const scheme of ['light', 'dark', '']) {
-    view({ id: `scheme-${scheme || 'system'}`, name: { light: 'Light', dark: 'Dark', '': 'Light or dark as the system' }[scheme], needs: false, group: 'scheme', run: () => {
+    view({ id: `scheme-${scheme || 'system'}`, name: { light: 'Light', dark: 'Dark', '': 'Light or dark like the system' }[scheme], needs: false, group: 'scheme', run: () => {
       document.documentElement.dataset.scheme = scheme;
       if (sheet.state) sheet.redrawAll();
     } });
   }
   view({ id: 'next', name: 'Next differing or open cell', key: 'n', group: 'go', run: goToNextCell });
-  view({ id: 'next-open', name: 'Next open cell', key: 'Shift+N N', group: 'go', run: () => goToNext((row, col) => bench.state.map[row][col] === '?', 'No cell needs guessing.') });
+  view({ id: 'next-open', name: 'Next open cell', key: 'Shift+N N', group: 'go', run: () => goToNext((row, col) => bench.state.map[row][col] === '?', 'No cell is open.') });
 }
 
 // A differing cell where there is another picture; else an open one.
 function goToNextCell() {
   const { verdict, picture, map } = bench.state;
   if (verdict.other) return goToNext((row, col) => verdict.other[row][col] !== picture[row][col], 'No cell differs.');
-  return goToNext((row, col) => map[row][col] === '?', 'No cell needs guessing.');
+  return goToNext((row, col) => map[row][col] === '?', 'No cell is open.');
 }
 
 export function addKeys() {
@@ -137,22 +137,11 @@ export function addKeys() {
     addAction({ id: `colour-${at}`, name: `Colour ${at}`, key: at < 10 ? String(at) : null, run: () => useColour(LETTERS[at]) });
   }
   addAction({ id: 'colour-next', name: 'Next colour', key: ']', run: () => stepColour(1) });
-  addAction({ id: 'colour-before', name: 'Colour before', key: '[', run: () => stepColour(-1) });
-  addAction({ id: 'take-colour', name: 'Take the colour of the cell', key: 'i', run: () => useColour(sheet.letterAt(cursor.row, cursor.col)) });
-  addAction({ id: 'keys', name: 'Keys', key: '?', place: 'help', needs: false, run: showKeys });
+  addAction({ id: 'colour-before', name: 'Previous colour', key: '[', run: () => stepColour(-1) });
+  addAction({ id: 'take-colour', name: 'Pick the colour of the cell', key: 'i', run: () => useColour(sheet.letterAt(cursor.row, cursor.col)) });
 }
 
 function stepColour(by) {
   const count = bench.state.colours.length;
   useColour(LETTERS[(LETTERS.indexOf(tools.colour) + by + count) % count]);
-}
-
-function showKeys() {
-  const list = make('dl', { class: 'keys' });
-  const fixed = [['Arrows', 'move; with Shift they draw'], ['Space, Enter', 'use the tool at the cell'], ['Ctrl+C, X, V', 'copy, cut and paste, also as text'],
-    ['Space and drag', 'move the view; also two fingers or the middle button'], ['Wheel', 'zoom; with Shift across'], ['Right button, Alt', 'take the colour of a cell'], ['Home, End, Page', 'jump']];
-  for (const [key, what] of fixed) list.append(make('dt', {}, key), make('dd', {}, what));
-  for (const action of actions.values()) if (action.key && !/^colour-[0-9]/.test(action.id)) list.append(make('dt', {}, action.key.replace(' ', ' or ')), make('dd', {}, action.name));
-  list.append(make('dt', {}, '0 to 9'), make('dd', {}, 'choose a colour; 0 is the background'));
-  openDialog({ title: 'Keys', content: list, wide: true, buttons: [{ name: 'Close', value: null, main: true }] });
 }

@@ -19,7 +19,7 @@ export function openFix() {
   $('fix').hidden = false;
   $('fix').replaceChildren(
     make('h3', {}, 'Fix it'),
-    make('p', {}, 'Two ways to make it the only solution: give cells, which are printed with the puzzle, or repaint one.'),
+    make('p', {}, 'Two ways to make your picture the only solution: give cells, which are printed with the puzzle, or repaint one.'),
     make('div', { class: 'group' },
       make('button', { type: 'button', id: 'fix-give', onclick: giveCells }, 'Give cells'),
       make('button', { type: 'button', id: 'fix-paint', onclick: findRepaints }, 'Find cells to repaint'),
@@ -37,7 +37,7 @@ export function closeFix() {
 
 const fixSays = (text) => { if ($('fix-said')) $('fix-said').textContent = text; };
 
-const LONGER = 'A longer time, chosen at “Search after a stroke”, may find some.';
+const LONGER = 'A longer “Search time” may find some.';
 
 // Gives cells in which the pictures differ, as one stroke. Where time ends before they suffice, the next time goes on from there.
 async function giveCells() {
@@ -47,12 +47,12 @@ async function giveCells() {
   const version = searches.version;
   const found = await searches.job('Looking for cells to give', secondsChosen(), (copy) => givensFor(copy, state, state.verdict.other));
   if (version !== searches.version) return;
-  if (!found?.isEnough && verdictView.ended === 'stopped') return fixSays('Stopped before there were cells enough.');
+  if (!found?.isEnough && verdictView.ended === 'stopped') return fixSays('Stopped before enough cells were found.');
   if (!found) return fixSays(`No cells were found in this time. ${LONGER}`);
   const { cells, isEnough } = found;
   setDown();
   await bench.stroke(cells.map((index) => `pin ${placeOf(state, index)}`));
-  say(`${many(cells.length, 'cell')} given${isEnough ? '' : ', which do not suffice yet: “Fix it” goes on from here'}. One undo takes ${cells.length === 1 ? 'it' : 'them'} back.`);
+  say(`${many(cells.length, 'cell')} given${isEnough ? '' : ', not enough yet: “Fix it” goes on from here'}. One undo takes ${cells.length === 1 ? 'it' : 'them'} back.`);
 }
 
 // Lists single cells whose repaint makes the picture unique.
@@ -64,7 +64,7 @@ async function findRepaints() {
   verdictView.ended = null;
   const found = await searches.job('Looking for cells to repaint', secondsChosen(), (copy) => repaintsFor(copy, state, state.verdict.other, (one) => listRepaint(state, one)));
   if (version !== searches.version) return;
-  const none = verdictView.ended ? `No single repaint was found in this time. ${LONGER}` : 'No single repaint was found.';
+  const none = verdictView.ended ? `No single repaint was found in this time. ${LONGER}` : 'No single repaint makes it unique.';
   fixSays(found?.length ? `${many(found.length, 'repaint')} found. Choose one to paint it; point at one to see it first.` : none);
 }
 

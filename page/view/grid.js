@@ -38,7 +38,7 @@ export function cellText(row, col) {
   const rival = sheet.rivalAt(row, col);
   return [
     `Row ${row + 1}, column ${col + 1}: ${colourText(sheet.letterAt(row, col))}`,
-    sheet.isOpen(row, col) ? 'needs guessing' : 'settled',
+    sheet.isOpen(row, col) ? (state.verdict.word === 'unique' ? 'needs guessing' : 'open') : 'settled',
     ...(state.givens.has(index) ? ['given'] : []),
     ...(state.locks.has(index) ? ['locked'] : []),
     ...(rival ? [`${sheet.other ? 'your' : 'the other'} picture has ${colourText(rival)}`] : []),

@@ -149,7 +149,7 @@ async function askColour(title, text) {
 async function mergeColour() {
   const from = tools.colour;
   if (from === '.') return say('The background cannot be merged into another colour.', 'alarm');
-  const into = await askColour('Merge this colour', `All cells of ${colourText(from)} become another colour, and it leaves the palette.`);
+  const into = await askColour('Merge this colour', `All cells of ${colourText(from)} get another colour, and it is removed from the palette.`);
   if (into) removeColour(from, into);
 }
 
@@ -158,7 +158,7 @@ function removeColour(letter, into = '.') {
   setDown();
   const at = LETTERS.indexOf(letter);
   const without = (doc) => reordered(doc, [...doc.colours.keys()].filter((one) => one !== at), LETTERS.indexOf(into));
-  return becomeOpened((doc) => (at < doc.colours.length ? without(doc) : null), 'The colour left the palette, and those behind it have other letters now. Undo takes it back.');
+  return becomeOpened((doc) => (at < doc.colours.length ? without(doc) : null), 'The colour was removed; those after it have new letters. Undo brings it back.');
 }
 
 function deleteColour() {
@@ -177,7 +177,7 @@ function moveColour(by) {
     return reordered(doc, order);
   };
   tools.colour = LETTERS[to];
-  return becomeOpened((doc) => (Math.max(at, to) < doc.colours.length ? exchanged(doc) : null), 'The colours stand in another order now. Undo takes it back.');
+  return becomeOpened((doc) => (Math.max(at, to) < doc.colours.length ? exchanged(doc) : null), 'The colours are in a new order. Undo reverts it.');
 }
 
 async function becomeOpened(doc, text) {

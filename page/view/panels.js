@@ -3,6 +3,7 @@
 import { $, make, say } from '../base/elements.js';
 import { on } from '../base/events.js';
 import { MOST_CELLS } from '../document/limits.js';
+import { svgPart } from '../draw/papers.js';
 import { sheet } from '../draw/sheet.js';
 import { bench } from '../engine/bench.js';
 import { clueText } from '../engine/opening.js';
@@ -14,9 +15,16 @@ import { TOOLS, sendStroke, tools, useTool } from './tools.js';
 
 const bar = { row: make('div', { id: 'tool-row', role: 'radiogroup', 'aria-label': 'Tool' }), hint: make('p', { id: 'hint', class: 'faint' }) };
 
+// The picture of a tool beside its name: lines on a field of 16 by 16.
+function iconOf(name, { icon }) {
+  const svg = svgPart('svg', { viewBox: '0 0 16 16', width: 16, height: 16, class: 'icon', 'aria-hidden': 'true' });
+  svg.append(svgPart('path', { d: icon, fill: name === 'box' ? 'currentColor' : 'none', stroke: 'currentColor', 'stroke-width': 1.5, 'stroke-linecap': 'round', 'stroke-linejoin': 'round' }));
+  return svg;
+}
+
 export function makeToolBar() {
   for (const [name, tool] of Object.entries(TOOLS)) {
-    bar.row.append(make('button', { type: 'button', role: 'radio', 'data-tool': name, title: tool.hint, 'aria-keyshortcuts': tool.key }, make('span', {}, tool.name), make('kbd', { 'aria-hidden': 'true' }, tool.key)));
+    bar.row.append(make('button', { type: 'button', role: 'radio', 'data-tool': name, title: tool.hint, 'aria-keyshortcuts': tool.key }, iconOf(name, tool), make('span', {}, tool.name), make('kbd', { 'aria-hidden': 'true' }, tool.key)));
     addAction({ id: `tool-${name}`, name: tool.name, key: tool.key, run: () => useTool(name) });
   }
   $('tools').append(bar.row, bar.hint);

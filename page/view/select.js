@@ -138,7 +138,7 @@ export function pasteRows(rows) {
   selection.under = bench.seen().picture;
   selection.box = { top: at.top, left: at.left, bottom: at.top + rows.length - 1, right: at.left + rows[0].length - 1 };
   showSelection();
-  say('Drag it where it belongs; Enter sets it down, Escape drops it.');
+  say('Drag it into place. Enter places it, Escape cancels.');
 }
 
 // Does something to what is selected, which floats from then on.
@@ -166,7 +166,22 @@ function copySelected(event, cuts) {
   event.preventDefault();
   event.clipboardData.setData('text/plain', `${rows.join('\n')}\n`);
   if (cuts && selection.box) clearSelected();
-  say(`${cuts && selection.box ? 'Cut' : 'Copied'}: ${rows.length} rows of ${rows[0].length} cells.`);
+  sayCopied(rows, cuts && selection.box);
+}
+
+const sayCopied = (rows, isCut) => say(`${isCut ? 'Cut' : 'Copied'}: ${rows.length} rows of ${rows[0].length} cells.`);
+
+/** Copies what is selected, or the whole picture, to the clipboard; `cuts` clears it too. */
+export async function copyToClipboard(cuts) {
+  const rows = selectedRows() ?? bench.seen().picture;
+  try {
+    await navigator.clipboard.writeText(`${rows.join('\n')}\n`);
+  } catch {
+    say('The browser does not let the page copy. Use Ctrl+C.', 'alarm');
+    return;
+  }
+  sayCopied(rows, cuts && selection.box !== null);
+  if (cuts && selection.box) clearSelected();
 }
 
 /** Hears the browser's copy, cut and paste, and keeps the selection in the picture. */

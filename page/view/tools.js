@@ -11,16 +11,16 @@ import { bench } from '../engine/bench.js';
 import { alongSelect, beginSelect, endSelect, selectionBoxes, setDown } from './select.js';
 
 export const TOOLS = {
-  pencil: { name: 'Pencil', key: 'p', hint: 'Drag to paint. The right button or Alt takes the colour of a cell.' },
-  line: { name: 'Line', key: 'l', hint: 'Drag from end to end.' },
-  rectangle: { name: 'Rectangle', key: 'r', hint: 'Drag from corner to corner: an outline.' },
-  box: { name: 'Filled rectangle', key: 'f', hint: 'Drag from corner to corner: filled.' },
-  bucket: { name: 'Bucket', key: 'b', hint: 'Fills the cells of one colour that hang together.' },
-  recolour: { name: 'Recolour', key: 'e', hint: 'Every cell of the colour pointed at takes the chosen one.' },
-  select: { name: 'Select', key: 's', hint: 'Drag a rectangle; drag it to move it. Enter sets it down, Escape takes the move back.' },
-  pin: { name: 'Give cells', key: 'g', hint: 'A given cell is printed with the puzzle. Drag to give, or to take back.' },
-  lock: { name: 'Lock cells', key: 'k', hint: 'A locked cell is never changed by a repair. Drag to lock, or to unlock.' },
-  why: { name: 'Why', key: 'w', hint: 'Point at a cell: why does it not have another colour?' },
+  pencil: { icon: 'M2.5 13.5l.8-3.6 7.6-7.6 2.8 2.8-7.6 7.6z', name: 'Pencil', key: 'p', hint: 'Drag to paint. The right button or Alt picks the colour of a cell.' },
+  line: { icon: 'M2.5 13.5l11-11', name: 'Line', key: 'l', hint: 'Drag from end to end.' },
+  rectangle: { icon: 'M2.5 3.5h11v9h-11z', name: 'Rectangle', key: 'r', hint: 'Drag from corner to corner: an outline.' },
+  box: { icon: 'M2.5 3.5h11v9h-11z', name: 'Filled rectangle', key: 'f', hint: 'Drag from corner to corner: filled.' },
+  bucket: { icon: 'M7.5 2.5l6 6-5 5-6-6zM2.5 7.5h9M13.5 11v2.5', name: 'Bucket', key: 'b', hint: 'Fills connected cells of one colour.' },
+  recolour: { icon: 'M2.5 2.5h6v6h-6zM7.5 10.5v3h6v-6h-3', name: 'Recolour', key: 'e', hint: 'Turns all cells of the colour you point at into the chosen one.' },
+  select: { icon: 'M2.5 5v-2.5h2.5M8 2.5h0M11 2.5h2.5v2.5M13.5 8v0M13.5 11v2.5h-2.5M8 13.5h0M5 13.5h-2.5v-2.5M2.5 8v0', name: 'Select', key: 's', hint: 'Drag to select a rectangle; drag it to move it. Enter places it, Escape cancels the move.' },
+  pin: { icon: 'M8 2l5 6-5 6-5-6z', name: 'Give cells', key: 'g', hint: 'Given cells are printed with the puzzle. Drag to give cells, or to take them back.' },
+  lock: { icon: 'M3.5 7.5h9v6h-9zM5.5 7.5v-2a2.5 2.5 0 015 0v2', name: 'Lock cells', key: 'k', hint: 'No repair changes a locked cell. Drag to lock cells, or to unlock them.' },
+  why: { icon: 'M5.3 6a2.7 2.7 0 115.4 0c0 2.2-2.7 2.2-2.7 4.2M8 13.2v.3', name: 'Why', key: 'w', hint: 'Point at a cell to see why it cannot have another colour.' },
 };
 
 export const tools = { name: 'pencil', colour: 'a', drag: null };

@@ -13,7 +13,7 @@ import { actionButton, actions, addAction } from './actions.js';
 import { closeFix, openFix } from './fixing.js';
 
 const TIMES = [['5', '5 s'], ['30', '30 s'], ['', 'until stopped']];
-const HATCHINGS = [['off', 'off'], ['differing', 'cells that differ'], ['open', 'open cells']];
+const HATCHINGS = [['off', 'the picture alone'], ['differing', 'cells that differ'], ['open', 'open cells']];
 
 // A choice that the browser keeps where it can.
 function keptChoice(name, values, first) {
@@ -61,10 +61,10 @@ function makeVerdictPanel() {
       make('p', { id: 'verdict-why' }),
       make('div', { id: 'verdict-do', class: 'group' }),
       make('div', { id: 'fix', hidden: true }),
-      make('dl', {}, make('dt', {}, 'Need guessing'), make('dd', { id: 'open' }), make('dt', {}, 'Clues that changed'), make('dd', { id: 'changed' })),
-      make('p', {}, make('label', {}, 'Hatching ', choiceOf('hatching', HATCHINGS, (value) => setHatching(value)))),
+      make('dl', {}, make('dt', { id: 'open-name' }, 'Need guessing'), make('dd', { id: 'open' }), make('dt', {}, 'Clues that changed'), make('dd', { id: 'changed' })),
+      make('p', {}, make('label', {}, 'Show ', choiceOf('hatching', HATCHINGS, (value) => setHatching(value)))),
       make('p', { id: 'legend', class: 'faint' }),
-      make('p', {}, make('label', {}, 'Search after a stroke ', choiceOf('seconds', TIMES, setSeconds)))),
+      make('p', {}, make('label', {}, 'Search time ', choiceOf('seconds', TIMES, setSeconds)))),
   );
   $('audit').append(make('p', { id: 'verdict-heard', class: 'unseen', role: 'status' }));
   $('seconds').value = verdictView.seconds;
@@ -98,8 +98,8 @@ function showHatching(state) {
   $('hatching').value = sheet.hatching;
   $('legend').textContent = {
     off: '',
-    differing: state.verdict.other ? 'framed: the other picture has the colour in the corner' : 'no other picture is known',
-    open: 'hatched: not settled line by line, a solver has to guess',
+    differing: state.verdict.other ? 'Framed cells differ: the other picture has the colour in the corner.' : 'No other picture is known.',
+    open: state.verdict.word === 'unique' ? 'Hatched cells are not settled line by line: a solver has to guess.' : 'Hatched cells are not settled line by line.',
   }[sheet.hatching];
   sheet.redraw();
 }
@@ -129,12 +129,12 @@ function verdictTexts(state) {
   const size = state.rows * state.columns;
   if (verdict.word === 'unique') {
     const with_ = givens.size ? ` and the ${givens.size === 1 ? 'given cell' : `${number(givens.size)} given cells`}` : '';
-    return ['✓ Unique', `No other picture has these clues${with_}. ${open ? `${number(open)} of ${number(size)} cells need guessing.` : 'It is solved line by line, without guessing.'}`];
+    return ['✓ Unique', `No other picture has these clues${with_}. ${open ? `${number(open)} of ${number(size)} cells need guessing.` : 'Line logic solves it, without guessing.'}`];
   }
   if (verdict.word === 'ambiguous') return ['≠ Ambiguous', `Another picture has these clues too. It differs in ${many(differCount(state), 'cell')}.`];
-  if (searches.running?.judges) return ['… Searching', 'No other picture is found so far.'];
+  if (searches.running?.judges) return ['… Searching', 'No other picture found so far.'];
   const why = { time: `within ${number(secondsChosen())} s`, stopped: 'before it was stopped' }[verdictView.ended];
-  return ['? Undecided', why ? `Neither another picture nor a proof was found ${why}.` : 'Neither another picture nor a proof is found yet.'];
+  return ['? Undecided', why ? `Neither another picture nor a proof was found ${why}.` : 'Neither another picture nor a proof has been found yet.'];
 }
 
 function showVerdict(state) {
@@ -145,6 +145,7 @@ function showVerdict(state) {
   $('verdict').textContent = title;
   $('verdict-why').textContent = told;
   $('verdict-short').textContent = verdictShort(state);
+  $('open-name').textContent = word === 'unique' ? 'Need guessing' : 'Open cells';
   $('open').textContent = `${number(state.open)} of ${many(state.rows * state.columns, 'cell')}`;
   $('changed').textContent = [numbersOf('row', state.changed.rows), numbersOf('column', state.changed.columns)].filter(Boolean).join('; ') || 'none';
   $('changed').title = $('changed').textContent;
@@ -194,7 +195,7 @@ export async function certificateText() {
   verdictView.ended = null;
   const text = await searches.certify();
   const why = {
-    time: `No certificate was found within ${number(secondsChosen())} s. A longer time can be chosen at “Search after a stroke”.`,
+    time: `No certificate was found within ${number(secondsChosen())} s. Choose a longer “Search time”.`,
     stopped: 'The search for a certificate was stopped.',
     stroke: 'The search for a certificate was ended by a stroke.',
   }[verdictView.ended];
@@ -206,7 +207,7 @@ const isWord = (word) => bench.state?.verdict.word === word;
 function nextHatching() {
   const names = HATCHINGS.map(([value]) => value);
   setHatching(names[(names.indexOf(sheet.hatching) + 1) % names.length]);
-  say(`Hatching: ${HATCHINGS.find(([value]) => value === sheet.hatching)[1]}.`);
+  say(`Shown: ${HATCHINGS.find(([value]) => value === sheet.hatching)[1]}.`);
 }
 
 // For those who hear the page: the verdict, where it is another one. Those who see it read it in the panel, and what the line
@@ -226,7 +227,7 @@ export function startVerdict() {
     { id: 'fix', name: 'Fix it …', run: () => openFix(), can: () => isWord('ambiguous') },
     { id: 'search', name: 'Search for another picture', run: () => searches.judge(), can: () => isWord('undecided') && !searches.running },
     { id: 'stop', name: 'Stop the search', key: '.', run: () => searches.stop(), can: () => searches.running !== null },
-    { id: 'hatching', name: 'Hatching: off, differing, open', key: 'h', run: nextHatching },
+    { id: 'hatching', name: 'Show open cells, or those that differ', key: 'h', run: nextHatching },
   ]) addAction({ place: 'check', ...action });
   on('stroke', () => searches.strokeBegun());
   on('closed', () => searches.shown(null));
