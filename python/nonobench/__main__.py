@@ -2,7 +2,6 @@
 
 import importlib.metadata
 import importlib.util
-import sys
 
 import nonobench
 
@@ -37,4 +36,4 @@ def _version(name: str) -> str:
 
 
 if __name__ == "__main__":
-    sys.exit(main())
+    main()

@@ -53,8 +53,8 @@ class Files(Case):
         self.put("cut.png", png(8, 8, zlib.compress(os.urandom(0) + bytes(range(200))))[:70])
         self.put("empty.png", b"")
         self.put("huge.png", png(60_000, 60_000, black))
-        self.put("bomb.png", png(8, 8, bomb(256)))
-        self.put("text.png", png(8, 8, black, chunk(b"zTXt", b"k\0\0" + bomb(256))))
+        self.put("bomb.png", png(8, 8, bomb(64)))
+        self.put("text.png", png(8, 8, black, chunk(b"zTXt", b"k\0\0" + bomb(64))))
         self.put("whole.png", png(8, 8, black))
         errors = self.errors("--memory", "256")
         self.assertRegex(errors["cut.png"], "^the image is not read: ")
@@ -229,7 +229,7 @@ class Outputs(Case):
             process.stdout = open(os.devnull)
 
     def test_two_runs_on_one_output(self):
-        self.put("hard.ppm", p3_of_letters(chequered(60, 4)))
+        self.put("zero.ppm", p3_of_letters(chequered(60, 4)))
         outputs = ["--jsonl", "rows", "--csv", "rows.csv", "--html", "report.html", "--certify", "certs"]
         first = self.start("site", "--seconds", "300", *outputs)
         deadline = time.monotonic() + 60
@@ -292,18 +292,19 @@ class Processes(Case):
 
     def test_too_much_memory(self):
         self.put("a.ppm", p3(UNIQUE))
-        self.put("b.ppm", b"P3 1 1 1 1 1 1".ljust(16_777_216))
+        # Elements of some 500 bytes each, of a puzzle that has no end.
+        self.put("b.xml", "<puzzleset><puzzle>" + "".join(f'<a{at} b="{at}"/>' for at in range(190_000)))
         self.put("c.ppm", p3(UNIQUE))
-        rows = self.rows("site", "--memory", "64", "--jobs", "1", status=3)
+        rows = self.rows("site", "--memory", "128", "--jobs", "1", status=3)
         self.assertEqual([row["verdict"] for row in rows.values()], ["unique", "error", "unique"])
-        self.assertEqual(rows["site/b.ppm"]["error"], "out of memory: more than 64 MiB")
+        self.assertEqual(rows["site/b.xml"]["error"], "out of memory: more than 128 MiB")
 
     def test_a_set_with_puzzles_without_end(self):
         letters = "".join(f'<color name="{letter}" char="{letter}">{at}{at}0000</color>' for at, letter in enumerate("abc", 3))
         image = "".join(f"|{row}|" for row in chequered(60, 4))
         hard = f'<puzzle>{letters}<solution type="goal"><image>{image}</image></solution></puzzle>'
         self.put("set.xml", "<puzzleset>" + webpbn(UNIQUE) + hard + webpbn(AMBIGUOUS) + hard + "</puzzleset>")
-        rows = self.rows("site", "--seconds", "0.5", "--jobs", "1", status=1)
+        rows = self.rows("site", "--seconds", "3", "--jobs", "1", status=1)
         self.assertEqual([row["verdict"] for row in rows.values()], ["unique", "undecided", "ambiguous", "undecided"])
         self.assertEqual([row.get("more", False) for row in rows.values()], [True, True, True, False])
 

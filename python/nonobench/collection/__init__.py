@@ -7,6 +7,15 @@ and writes rows is plain Python, and tested. Beside Python it takes Pillow for i
 tqdm for the bar, distributed for more machines; each is asked for only where it is needed.
 """
 
-from .running import main
+from __future__ import annotations
+
+from typing import Optional
 
 __all__ = ["main"]
+
+
+def main(words: Optional[list[str]] = None) -> int:
+    """Runs nonobench-audit, and answers its status."""
+    from .running import main as run  # here, since the processes that judge need little of it
+
+    return run(words)

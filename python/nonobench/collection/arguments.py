@@ -174,7 +174,7 @@ def _allowance(word: str) -> int:
 
 
 def _memory(word: str) -> int:
-    return _whole(word, 64, 1 << 20)
+    return _whole(word, 128, 1 << 20)
 
 
 def _seconds(word: str) -> float:

@@ -58,11 +58,12 @@ class Cluster:
     def start(self) -> None:
         """Finds the scheduler."""
         try:
-            from distributed import Client
+            import distributed
         except ImportError:
             raise Failure(str(Missing("distributed", "reaches Dask's workers", "cluster"))) from None
         try:
-            self._client = Client(self._address, timeout=CONNECTING, set_as_default=False)
+            connect: Any = distributed.Client
+            self._client = connect(self._address, timeout=CONNECTING, set_as_default=False)
         except (OSError, ValueError, asyncio.TimeoutError) as error:
             raise Failure(f"no scheduler answers at {self._address}: {error}") from error
 
@@ -92,7 +93,8 @@ class Cluster:
 
     def _room(self) -> int:
         """How many packs are out at once: some for each thread of the workers that are there now."""
-        return 4 + 2 * sum(self._client.nthreads().values())
+        threads: dict[str, int] = self._client.nthreads()
+        return 4 + 2 * sum(threads.values())
 
     def _submit(self, tasks: list[Task], answers: list[Answer]) -> Flying:
         import marshal
@@ -125,12 +127,12 @@ def _packs(tasks: Iterator[Task], settings: Settings) -> Iterator[tuple[list[Tas
         try:
             certificates = tuple((number, readers.bytes_of(file)) for number, file in task.certificates)
             givens, background = (None if file is None else readers.bytes_of(file) for file in (task.givens, task.background))
-            task = task._replace(file=readers.bytes_of(task.file), certificates=certificates, givens=givens, background=background)
+            file = readers.bytes_of(task.file)
         except Unreadable as error:
             answers.append(Answer(task.number, True, "error", unread(task.name, error, settings.has_times)))
         else:
-            pack.append(task)
-            size += len(task.file) + sum(len(file) for _, file in certificates)
+            pack.append(task._replace(file=file, certificates=certificates, givens=givens, background=background))
+            size += len(file) + sum(len(file) for _, file in certificates)
         if len(pack) + len(answers) >= MOST_FILES or size >= MOST_BYTES:
             yield pack, answers
             pack, answers, size = [], [], 0

@@ -47,7 +47,7 @@ def order_of(name: str) -> str:
 def without_nested(paths: list[str]) -> list[str]:
     """The paths in the order of names, each once and without those that lie in another one."""
     kept: list[str] = []
-    for path in sorted(map(os.path.normpath, paths), key=lambda path: order_of(shown(path))):
+    for path in sorted([os.path.normpath(path) for path in paths], key=lambda path: order_of(shown(path))):
         is_here = kept[:1] == ["."] and not os.path.isabs(path) and path.split("/")[0] != ".."
         if not is_here and not (kept and (path == kept[-1] or path.startswith(kept[-1].rstrip("/") + "/"))):
             kept.append(path)

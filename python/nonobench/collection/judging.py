@@ -3,7 +3,7 @@
 from __future__ import annotations
 
 import ctypes
-from typing import NamedTuple, Optional
+from typing import Callable, NamedTuple, Optional
 
 from .._library import _calls
 from .puzzles import Puzzle, Unreadable
@@ -71,7 +71,7 @@ class Desk:
         self._room = room
 
 
-def judge(desk: Desk, puzzle: Puzzle, allowance: Optional[int], tell, is_certified: bool = True) -> Judged:
+def judge(desk: Desk, puzzle: Puzzle, allowance: Optional[int], tell: Callable[[Judged], None], is_certified: bool = True) -> Judged:
     """Judges a puzzle, and makes a certificate of it where it is unique. `tell` gets the verdict before the certificate is made."""
     desk.open(puzzle)
     front = b"".join(b"pin %d %d\n" % place for place in puzzle.givens)

@@ -11,7 +11,7 @@ import stat
 import sys
 import time
 from array import array
-from typing import BinaryIO, Iterator, Optional, Union
+from typing import BinaryIO, Callable, ContextManager, Iterator, Sequence, Union
 
 from .rows import COLUMNS, HEAD, csv_cells, row_of, table_line
 
@@ -192,7 +192,7 @@ class Sheet:
         self._writer = csv.writer(self._text, lineterminator="\r\n")
         self._write(COLUMNS)
 
-    def _write(self, cells) -> None:
+    def _write(self, cells: Sequence[object]) -> None:
         self._text.seek(0)
         self._text.truncate()
         self._writer.writerow(cells)
@@ -214,8 +214,8 @@ class Sheet:
 class Table:
     """Rows as a table on standard output. Where nobody reads it any more, it ends."""
 
-    def __init__(self, clear) -> None:
-        self._output: Optional[Output] = Output("-")
+    def __init__(self, clear: Callable[[], ContextManager[None]]) -> None:
+        self._output = Output("-")
         self._clear = clear  # takes a bar away before lines are printed
         self.is_closed = False
         self._put(HEAD)
@@ -245,7 +245,7 @@ class Table:
         if not self.is_closed:
             self._guard(self._output.close)
 
-    def _guard(self, write) -> None:
+    def _guard(self, write: Callable[[], None]) -> None:
         try:
             with self._clear():
                 write()

@@ -5,7 +5,7 @@ from __future__ import annotations
 import contextlib
 import sys
 import time
-from typing import Iterator, Optional
+from typing import Any, Iterator, Optional
 
 from .tally import Tally
 
@@ -66,7 +66,7 @@ class Progress:
             self._bar.close()
 
 
-def _bar():
+def _bar() -> Any:
     try:
         from tqdm import tqdm
     except ImportError:

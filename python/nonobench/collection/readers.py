@@ -30,7 +30,7 @@ def ground_of(word: str) -> Ground:
     return Ground((red, green, blue))
 
 
-def bytes_of(path: str, most: int = MOST_BYTES) -> bytes:
+def bytes_of(path: Union[str, bytes], most: int = MOST_BYTES) -> bytes:
     """The bytes of a file. Pipes, devices and folders are none, and nothing waits for one."""
     try:
         handle = os.open(path, os.O_RDONLY | os.O_NONBLOCK | os.O_CLOEXEC)
@@ -40,9 +40,9 @@ def bytes_of(path: str, most: int = MOST_BYTES) -> bytes:
                 raise Unreadable("this is no file" if not stat.S_ISDIR(found.st_mode) else "this folder is not read")
             if found.st_size > most:
                 raise Unreadable(f"more than {most} bytes")
-            data = os.read(handle, most + 1)
+            data = os.read(handle, found.st_size)
             while len(data) < found.st_size:
-                more = os.read(handle, most + 1 - len(data))
+                more = os.read(handle, found.st_size - len(data))
                 if not more:
                     break
                 data += more
@@ -58,16 +58,17 @@ def puzzles_of(data: bytes, suffix: str, ground: Ground, givens: bytes = b"") ->
 
     The first bytes tell what a file is. Its suffix counts where they do not.
     """
-    kind = images.format_of(data)
-    if kind is not None:
+    if data.startswith(b"P3") and suffix != ".non":
+        puzzle = Puzzle(data, background=first_triple(data) if ground.is_corner else ground.triple)
+    elif (kind := images.format_of(data)) is not None:
         puzzle = images.puzzle_of_image(data, kind, ground.triple, ground.is_corner)
     elif _is_xml(data):
         yield from webpbn.puzzles_of_xml(data)
         return
     elif suffix == ".non":
         puzzle = Puzzle(data, is_non=True)
-    elif data.startswith(b"P3") or suffix not in NAMED:
-        puzzle = Puzzle(data, background=first_triple(data) if ground.is_corner else ground.triple)
+    elif suffix not in NAMED:
+        puzzle = Puzzle(data)
     else:
         raise Unreadable(f"this does not begin as {NAMED[suffix]} does")
     if givens:

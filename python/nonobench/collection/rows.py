@@ -73,7 +73,7 @@ def map_of(report: str, rows: int, columns: int) -> list[str]:
 
 def name_of(row: Row) -> str:
     """What a puzzle is called: its file, and its number where the file has several."""
-    return f"{row['file']}#{row['puzzle']}" if "puzzle" in row else row["file"]
+    return f"{row['file']}#{row['puzzle']}" if "puzzle" in row else str(row["file"])
 
 
 def certificate_words(row: Row) -> str:
@@ -130,7 +130,7 @@ def _escaped(sign: str) -> str:
 
 def csv_cells(row: Row) -> list[Any]:
     """The cells of a row in the order of COLUMNS. A text that a spreadsheet would take for a formula begins with an apostrophe."""
-    cells = {**row, "near_colours": " ".join(row.get("near", ())), "certificate": certificate_words(row)}
+    cells: Row = {**row, "near_colours": " ".join(row.get("near", ())), "certificate": certificate_words(row)}
     cells.update({f"grade_{name}": figure for name, figure in row.get("figures", {}).items()})
     cells["rows"], cells["columns"] = row.get("rows", ""), row.get("columns", "")
     cells["givens"] = len(row.get("givens", ()))

@@ -92,7 +92,7 @@ class Run:
         try:
             source.start()
             self._open()
-            if options.is_resumed:
+            if options.is_resumed and options.jsonl is not None:
                 self._earlier = Earlier(options.jsonl)
             self._count_files()
             tasks = self._tasks(settings)
@@ -195,8 +195,8 @@ class Run:
                 self._release(number)
         failures += self._close(is_whole)
         self._progress.close()
-        for error in dict.fromkeys(map(str, failures)):
-            print(f"nonobench-audit: {error}", file=sys.stderr)
+        for words in dict.fromkeys(map(str, failures)):
+            print(f"nonobench-audit: {words}", file=sys.stderr)
         self._summary(is_whole, bool(status))
         return status or (ERRORS if failures else self._tally.status())
 
@@ -219,6 +219,7 @@ class Run:
             self._size += len(answer.text) + len(answer.certificate)
             if answer.is_last:
                 self._complete.add(answer.number)
+                self._progress.file()
             while self._next in self._complete:
                 self._release(self._next)
                 self._next += 1
@@ -239,25 +240,26 @@ class Run:
             self._deliver_answer(answer)
         self._complete.discard(number)
         self._kept.pop(number, None)
-        self._progress.file()
 
     def _deliver_answer(self, answer: Answer) -> None:
         self._size -= len(answer.text) + len(answer.certificate)
         if answer.verdict == "same":
+            assert self._earlier is not None and self._lines is not None
             for place in self._kept[answer.number].places:
-                self._keep(place)
+                self._keep(self._earlier.text(place), self._lines, place)
         elif answer.verdict != "none":
             text = answer.text
             if answer.certificate:
                 text = certificates.delivered(answer, self._kept[answer.number].to)
             self._deliver(answer.verdict, text)
 
-    def _keep(self, place: int) -> None:
-        text = self._earlier.text(place)
-        self._lines.keep(place)
+    def _keep(self, text: str, lines: Lines, place: int) -> None:
+        """Delivers a row of an earlier run, which stays where it is."""
         self._tally.put(row_of(text)["verdict"], text)
         for sink in self._sinks:
-            if sink is not self._lines:
+            if sink is lines:
+                lines.keep(place)
+            else:
                 sink.put(text)
 
     def _deliver(self, verdict: str, text: str) -> None:

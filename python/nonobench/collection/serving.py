@@ -6,6 +6,7 @@ The process that asks ends this one where a puzzle takes too long, so every line
 from __future__ import annotations
 
 import ctypes
+import gc
 import hashlib
 import marshal
 import os
@@ -19,7 +20,7 @@ from typing import Any, BinaryIO, Iterator, NamedTuple, Optional, Union
 
 from .._grade import NoGrade, grade_of
 from . import certificates, readers
-from .judging import Desk, judge
+from .judging import Desk, Judged, judge
 from .puzzles import Missing, Puzzle, Unreadable, one_line
 from .rows import FIGURES, Row, judged_row, map_of, text_of
 
@@ -28,6 +29,7 @@ MOMENT = 0.03  # seconds until a line goes out
 LONG = 0.02  # seconds after which a verdict goes out before its certificate is made
 FULL, GLANCE = 0, 1
 FEW_SPLITS = 100  # of a puzzle that took too long, to tell at least its size and what line logic leaves open
+SPARE = 8 << 20  # bytes
 DIES_WITH_PARENT = 1  # of prctl: PR_SET_PDEATHSIG
 
 File = Union[str, bytes]
@@ -71,6 +73,7 @@ def serve() -> None:
     settings = Settings(*_receive(questions))
     resource.setrlimit(resource.RLIMIT_AS, (settings.memory << 20, settings.memory << 20))
     resource.setrlimit(resource.RLIMIT_CORE, (0, 0))
+    gc.set_threshold(20_000)
     judging = Judging(settings, answers)
     answers.put(0, "ready", "")
     while True:
@@ -88,6 +91,15 @@ def _receive(stream: BinaryIO) -> Any:
     if len(head) < HEAD.size:
         return None
     return marshal.loads(stream.read(HEAD.unpack(head)[0]))
+
+
+class About(NamedTuple):
+    """What a row says of its file, and when it was begun."""
+
+    front: Row
+    kind: str  # `more` or `last`
+    content: str
+    begun: float
 
 
 class Answers:
@@ -135,9 +147,28 @@ class Judging:
         self._answers = answers
         self._ground = readers.ground_of(settings.ground)
         self._desk = Desk()
+        self._spare = bytes(SPARE)  # let go where memory is out, so that this can be told
 
     def answer(self, task: Task) -> None:
         """Answers the puzzles of a file."""
+        try:
+            self._answer(task)
+        except MemoryError:  # in reading it
+            self._spare = b""
+            row = {"file": task.name, "verdict": "error", "error": self._too_much()}
+            self._answers.put(task.number, "last", "error", text_of(row))
+            self._leave(task)
+
+    def _too_much(self) -> str:
+        return f"out of memory: more than {self._settings.memory} MiB"
+
+    def _leave(self, task: Task) -> None:
+        """Ends the process, whose memory may be in pieces, before it begins another file."""
+        self._answers.put(task.number, "bye", "")
+        self._answers.flush()
+        os._exit(0)
+
+    def _answer(self, task: Task) -> None:
         begun = time.perf_counter()
         try:
             data, givens, background = (_bytes(file) for file in (task.file, task.givens, task.background))
@@ -164,8 +195,8 @@ class Judging:
                 front["puzzle"] = number
             if has_more:
                 front["more"] = True
-            kind = "more" if has_more else "last"
-            self._judge(task, (front, kind, content, begun), puzzle, certificates.get(number))
+            about = About(front, "more" if has_more else "last", content, begun)
+            self._judge(task, about, puzzle, certificates.get(number))
             if task.mode == GLANCE:
                 return
             begun = time.perf_counter()
@@ -181,9 +212,8 @@ class Judging:
                 raise Unreadable(f"the file of its background {error}") from error
         return readers.puzzles_of(data, os.path.splitext(name)[1].lower(), ground, givens)
 
-    def _judge(self, task: Task, about: tuple, puzzle: Union[Puzzle, Unreadable], certificate: Optional[bytes]) -> None:
+    def _judge(self, task: Task, about: About, puzzle: Union[Puzzle, Unreadable], certificate: Optional[bytes]) -> None:
         """Puts the row of one puzzle."""
-        front, kind, content, begun = about
         made = ""
         try:
             if isinstance(puzzle, Unreadable):
@@ -194,29 +224,27 @@ class Judging:
             if isinstance(error, Missing):
                 row["missing"] = error.library
         except MemoryError:
-            row = {"verdict": "error", "error": f"out of memory: more than {self._settings.memory} MiB"}
-        self._put(task, about, row, kind, made)
-        if row.get("error", "").startswith("out of memory"):
-            self._answers.put(task.number, "bye", "")
-            self._answers.flush()
-            os._exit(0)
+            self._spare = b""
+            row = {"verdict": "error", "error": self._too_much()}
+        self._put(task, about, row, about.kind, made)
+        if row.get("error") == self._too_much():
+            self._leave(task)
 
-    def _put(self, task: Task, about: tuple, row: Row, kind: str, certificate: str = "") -> None:
-        front, _, content, begun = about
+    def _put(self, task: Task, about: About, row: Row, kind: str, certificate: str = "") -> None:
         if self._settings.has_times:
-            row["seconds"] = round(time.perf_counter() - begun, 6)
-        row["content"], row["made"] = content, self._settings.made
+            row["seconds"] = round(time.perf_counter() - about.begun, 6)
+        row["content"], row["made"] = about.content, self._settings.made
         if row["verdict"] == "undecided":
             row["limit"] = self._settings.limit
-        self._answers.put(task.number, kind, row["verdict"], text_of({**front, **row}), certificate)
+        self._answers.put(task.number, kind, row["verdict"], text_of({**about.front, **row}), certificate)
 
-    def _row(self, task: Task, about: tuple, puzzle: Puzzle, beside: Optional[bytes]) -> tuple[Row, str]:
+    def _row(self, task: Task, about: About, puzzle: Puzzle, beside: Optional[bytes]) -> tuple[Row, str]:
         """The row of a puzzle, and its certificate where that goes back."""
         settings, desk = self._settings, self._desk
 
-        def tell(known) -> None:
-            if time.perf_counter() - about[3] > LONG:
-                self._put(task, about, judged_row(puzzle, known), "known", about[1])
+        def tell(known: Judged) -> None:
+            if time.perf_counter() - about.begun > LONG:
+                self._put(task, about, judged_row(puzzle, known), "known", about.kind)
                 self._answers.flush()
 
         judged = judge(desk, puzzle, FEW_SPLITS if task.mode == GLANCE else settings.allowance, tell, task.mode == FULL)
@@ -232,7 +260,8 @@ class Judging:
             row["certificate"] = certificates.told(desk, text, puzzle, beside)
         if task.to is None or not judged.certificate:
             return row, ""
-        name = task.to if about[0].get("puzzle", 1) == 1 else f"{task.to}.{about[0]['puzzle']}"
+        number = about.front.get("puzzle", 1)
+        name = task.to if number == 1 else f"{task.to}.{number}"
         if settings.is_inline:
             return row, certificates.packed(judged.certificate)
         note = certificates.write(f"{name}.cert", judged.certificate)
@@ -273,7 +302,7 @@ def _content(*files: bytes) -> str:
     return hashlib.blake2b(b":".join((front, *files)), digest_size=16).hexdigest()
 
 
-def _grade(puzzle: Puzzle, row: Row, judged) -> Row:
+def _grade(puzzle: Puzzle, row: Row, judged: Judged) -> Row:
     """The grade of a puzzle with one solution. Where the plain solver ends elsewhere than the proved map, there is none."""
     settled = map_of(judged.report, row["rows"], row["columns"])
     try:

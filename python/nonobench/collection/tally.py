@@ -4,6 +4,7 @@ from __future__ import annotations
 
 import sys
 from collections import Counter
+from typing import Iterable
 
 from .arguments import Options
 from .rows import GRADES, UNWRITTEN, VERDICTS, flaws_of, row_of
@@ -15,10 +16,10 @@ class Tally:
     """How many puzzles have which verdict, grade and flaw."""
 
     def __init__(self) -> None:
-        self._verdicts: Counter = Counter()
-        self._grades: Counter = Counter()
-        self._flaws: Counter = Counter()
-        self._missing: Counter = Counter()
+        self._verdicts: Counter[str] = Counter()
+        self._grades: Counter[str] = Counter()
+        self._flaws: Counter[str] = Counter()
+        self._missing: Counter[str] = Counter()
         self._unwritten = 0
 
     def put(self, verdict: str, text: str) -> None:
@@ -72,5 +73,5 @@ class Tally:
             print(f"nonobench-audit: {line}", file=sys.stderr)
 
 
-def _counted(counts: Counter, names) -> str:
+def _counted(counts: Counter[str], names: Iterable[str]) -> str:
     return ", ".join(f"{name} {counts[name]}" for name in names if counts[name])

@@ -14,6 +14,7 @@ from .puzzles import MOST_CELLS, MOST_COLOURS, WHITE, Missing, Puzzle, Triple, U
 
 MOST_ELEMENTS = 200_000  # in one puzzle
 MOST_DEPTH = 32
+NO_MEMORY = 1  # an error of expat
 GIVENS = "givens"
 BLACK: Triple = (0, 0, 0)
 Signs = list[list[str]]
@@ -40,12 +41,14 @@ def puzzles_of_xml(data: bytes) -> Iterator[Puzzle | Unreadable]:
     except DefusedXmlException as error:
         raise Unreadable(f"the XML is not read: it declares entities ({type(error).__name__})") from error
     except (ElementTree.ParseError, ValueError, LookupError) as error:
+        if getattr(error, "code", 0) == NO_MEMORY:
+            raise MemoryError from error
         raise Unreadable(f"the XML is not read: {one_line(str(error))}") from error
 
 
 def _puzzles(events: Any) -> Iterator[Puzzle | Unreadable]:
     depth = elements = found = 0
-    outer = None
+    outer: Any = None
     for event, element in events:
         if event == "start":
             depth += 1
@@ -178,7 +181,8 @@ def _clues(element: Any, axis: str, usual: str) -> Optional[list[list[tuple[int,
 
 def _compare(cells: list[list[str]], ground: str, clues: dict[str, Any]) -> None:
     """Clues that stand in the file must be those of the goal."""
-    for axis, lines in (("rows", cells), ("columns", list(zip(*cells)))):
+    columns: list[list[str]] = list(map(list, zip(*cells)))
+    for axis, lines in (("rows", cells), ("columns", columns)):
         if clues[axis] is not None and clues[axis] != [_blocks(line, ground) for line in lines]:
             raise Unreadable(f"the clues of the {axis} are not those of the solution")
 

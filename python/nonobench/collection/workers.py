@@ -12,7 +12,7 @@ import sys
 import time
 from collections import deque
 from pathlib import Path
-from typing import Callable, Iterator, NamedTuple, Optional
+from typing import Any, Callable, Iterator, NamedTuple, Optional
 
 from .rows import Row, text_of
 from .serving import FULL, GLANCE, HEAD, Settings, Task
@@ -51,8 +51,10 @@ class Hand:
         self.process = subprocess.Popen(
             [sys.executable, "-I", "-c", _START.format(package, more)], stdin=subprocess.PIPE, stdout=subprocess.PIPE, bufsize=0
         )
-        os.set_blocking(self.process.stdin.fileno(), False)
-        os.set_blocking(self.process.stdout.fileno(), False)
+        assert self.process.stdin is not None and self.process.stdout is not None
+        self.questions, self.answers = self.process.stdin, self.process.stdout
+        os.set_blocking(self.questions.fileno(), False)
+        os.set_blocking(self.answers.fileno(), False)
         self.tasks: deque[Task] = deque()
         self.out = bytearray()
         self.torn = b""
@@ -64,7 +66,7 @@ class Hand:
         self.known: Optional[list[str]] = None  # the row of the puzzle whose certificate is being made
         self.send(tuple(settings))
 
-    def send(self, value: object) -> None:
+    def send(self, value: Any) -> None:
         """Puts a value on its way."""
         packed = marshal.dumps(value)
         self.out += HEAD.pack(len(packed)) + packed
@@ -74,7 +76,7 @@ class Hand:
         """Sends as much as there is room for."""
         try:
             while self.out:
-                del self.out[: os.write(self.process.stdin.fileno(), self.out[:ROOM])]
+                del self.out[: os.write(self.questions.fileno(), self.out[:ROOM])]
         except BlockingIOError:
             pass
         except BrokenPipeError:
@@ -83,8 +85,8 @@ class Hand:
     def end(self) -> int:
         """Ends the process, and answers its status."""
         self.process.kill()
-        for stream in (self.process.stdin, self.process.stdout):
-            stream.close()
+        self.questions.close()
+        self.answers.close()
         return self.process.wait()
 
 
@@ -134,9 +136,9 @@ class Pool:
         """The processes that said something, within a moment."""
         with selectors.PollSelector() as selector:
             for hand in self._hands:
-                selector.register(hand.process.stdout, selectors.EVENT_READ, hand)
+                selector.register(hand.answers, selectors.EVENT_READ, hand)
                 if hand.out:
-                    selector.register(hand.process.stdin, selectors.EVENT_WRITE, hand)
+                    selector.register(hand.questions, selectors.EVENT_WRITE, hand)
             ready = selector.select(TICK)
         for key, mask in ready:
             if mask & selectors.EVENT_WRITE:
@@ -148,7 +150,7 @@ class Pool:
             size = max(1, min(MOST_PACKED, int(PACK_SECONDS / hand.cost)))
             if hand.is_left or hand.out or len(hand.tasks) > size // 2:
                 continue
-            pack = []
+            pack: list[Task] = []
             while len(pack) < size and (task := self._next()) is not None:
                 pack.append(task)
             if pack:
@@ -168,7 +170,7 @@ class Pool:
 
     def _read(self, hand: Hand) -> Iterator[Answer]:
         try:
-            data = os.read(hand.process.stdout.fileno(), ROOM)
+            data = os.read(hand.answers.fileno(), ROOM)
         except BlockingIOError:
             return
         if not data:
@@ -253,28 +255,28 @@ class Pool:
             self._again.appendleft(tasks.pop())
 
     def _blame(self, hand: Hand, task: Task, why: str, is_late: bool) -> Iterator[Answer]:
+        """What becomes of a puzzle whose process was ended, or ended: it is told, or tried once more."""
         if hand.known is not None:
             _, _, verdict, text, kind = hand.known
-            row = {**json.loads(text), "note": f"its certificate: {why}"}
-            yield Answer(task.number, kind != "more", verdict, text_of(row))
-            if kind == "more":
-                self._again.appendleft(task._replace(start=row["puzzle"] + 1, mode=FULL))
+            row: Row = {**json.loads(text), "note": f"its certificate: {why}"}
+            yield from self._give_up(task, row, kind == "more")
         elif is_late and task.mode == FULL:
             self._again.appendleft(task._replace(mode=GLANCE))
         elif not is_late and (task.number, task.start) not in self._died:
             self._died.add((task.number, task.start))
             self._again.appendleft(task)
         else:
-            verdict = "undecided" if is_late else "error"
             has_more = hand.reached == task.start
-            row: Row = {"file": task.name}
+            row = {"file": task.name}
             if has_more or task.start > 1:
                 row["puzzle"] = task.start
             if has_more:
                 row["more"] = True
-            row.update(verdict=verdict, error=why)
-            if verdict == "undecided":
-                row["limit"] = self._settings.limit
-            yield Answer(task.number, not has_more, verdict, text_of(row))
-            if has_more:
-                self._again.appendleft(task._replace(start=task.start + 1, mode=FULL))
+            row.update(verdict="undecided", error=why, limit=self._settings.limit) if is_late else row.update(verdict="error", error=why)
+            yield from self._give_up(task, row, has_more)
+
+    def _give_up(self, task: Task, row: Row, has_more: bool) -> Iterator[Answer]:
+        """Tells the row of a puzzle whose process is gone. The puzzles after it are still to come."""
+        yield Answer(task.number, not has_more, row["verdict"], text_of(row))
+        if has_more:
+            self._again.appendleft(task._replace(start=row["puzzle"] + 1, mode=FULL))

@@ -29,9 +29,9 @@ class Report:
         self._title = title
         self._output = Output(f"{name}.new")
         self._rows = tempfile.TemporaryFile(dir=os.path.dirname(name) or ".")
-        self._verdicts: Counter = Counter()
-        self._grades: Counter = Counter()
-        self._sides: Counter = Counter()
+        self._verdicts: Counter[str] = Counter()
+        self._grades: Counter[str] = Counter()
+        self._sides: Counter[tuple[int, str]] = Counter()
 
     def put(self, text: str) -> None:
         """Puts a row."""
