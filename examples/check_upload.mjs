@@ -26,12 +26,18 @@ function leave(text, status) {
 // Hands the files to a thread, and tells what it answers.
 function ask(picture, certificate, givens) {
   const worker = new Worker(new URL(import.meta.url), { workerData: { picture, certificate, givens } });
+  let isTold = false;
   const tell = (isTaken, text) => {
+    if (isTold) return;
+    isTold = true;
     clearTimeout(limit);
     process.exitCode = isTaken ? 0 : 1;
     console.log(isTaken ? 'taken:' : 'refused:', text.trimEnd());
   };
-  const limit = setTimeout(() => worker.terminate().then(() => tell(false, 'took too long')), MOST_MILLISECONDS);
+  const limit = setTimeout(() => {
+    tell(false, 'took too long');
+    worker.terminate();
+  }, MOST_MILLISECONDS);
   worker.once('message', ({ accepted, text }) => tell(accepted, text));
   worker.once('error', (error) => tell(false, error.message));
 }
