@@ -10,7 +10,12 @@ def _leave_current_folder() -> None:
     sys.path[:] = [path for path in sys.path if os.path.abspath(path or ".") != here or here == package]
 
 
-if __name__ == "__main__":
+if __name__ != "__main__":
+    # The package has a call of this name too, and an import of this module must not take its place.
+    from ._calls import audit
+
+    sys.modules[__name__] = audit  # type: ignore[assignment]
+else:
     _leave_current_folder()
     from nonobench.collection import main
 

@@ -4,6 +4,7 @@ What is expected stands in tests/cases/, or follows from docs/FORMATS.md by hand
 (CASES=number) are compared with what the program prints; the seed is 1 (SEED=number).
 """
 
+import importlib
 import os
 import pickle
 import random
@@ -160,6 +161,11 @@ class Answers(unittest.TestCase):
                 call(b"P4")
         with self.assertRaises(ValueError):
             nonobench.audit(tile, -1)
+
+    def test_the_call_stays_where_the_module_is_imported(self):
+        # `python3 -m nonobench.audit` has the name of a call.
+        self.assertIs(importlib.import_module("nonobench.audit"), nonobench.audit)
+        self.assertEqual(nonobench.audit(DIAGONAL).verdict.ruling, Ruling.AMBIGUOUS)
 
     def test_undecided(self):
         # As in tests/sessions/allowance.out.
