@@ -8,7 +8,7 @@ import { fileURLToPath } from 'node:url';
 import '../page/test/limits.mjs';
 
 const page = fileURLToPath(new URL('../page/', import.meta.url));
-const ROOMS = ['base', 'document', 'formats', 'engine', 'grade', 'repair', 'walk', 'draw', 'view', 'play', 'library', 'import', 'export', 'start']; // from below
+const ROOMS = ['base', 'document', 'formats', 'grade', 'repair', 'walk', 'engine', 'draw', 'view', 'play', 'library', 'import', 'export', 'start']; // from below
 const modules = readdirSync(page, { recursive: true }).filter((file) => file.endsWith('.js') && !file.startsWith('test/')).sort();
 const read = (file) => readFileSync(join(page, file), 'utf8');
 const importsOf = (file) => [...read(file).matchAll(/^(?:import|export)\b[^;]*?from '([^']+)';$|^import '([^']+)';$/gm)].map((found) => found[1] ?? found[2]);

@@ -4,13 +4,13 @@
 import { $, make, say } from '../base/elements.js';
 import { on } from '../base/events.js';
 import { many, number } from '../base/words.js';
+import { cellsThatDiffer } from '../document/shapes.js';
 import { sheet } from '../draw/sheet.js';
 import { bench } from '../engine/bench.js';
 import { startEngine } from '../engine/client.js';
-import { cellsThatDiffer } from '../engine/fix.js';
 import { Searches } from '../engine/searches.js';
 import { actionButton, actions, addAction } from './actions.js';
-import { closeFix, openFix } from './fixing.js';
+import { canFix, closeFix, openFix } from './fixing.js';
 
 const TIMES = [['5', '5 s'], ['30', '30 s'], ['', 'until stopped']];
 const HATCHINGS = [['off', 'off'], ['differing', 'cells that differ'], ['open', 'open cells']];
@@ -149,10 +149,10 @@ function showVerdict(state) {
   $('changed').textContent = [numbersOf('row', state.changed.rows), numbersOf('column', state.changed.columns)].filter(Boolean).join('; ') || 'none';
   $('changed').title = $('changed').textContent;
   if (word !== 'ambiguous') sheet.other = false;
-  showVerdictButtons(word);
+  showVerdictButtons();
 }
 
-function showVerdictButtons(word) {
+function showVerdictButtons() {
   for (const button of $('verdict-do').children) {
     const action = actions.get(button.dataset.action);
     button.hidden = !action.can();
@@ -162,7 +162,7 @@ function showVerdictButtons(word) {
     }
     if (action.id === 'search') button.textContent = verdictView.seconds === '' ? 'Search until stopped' : `Search for ${verdictView.seconds} s`;
   }
-  if (word !== 'ambiguous') closeFix();
+  if (!canFix()) closeFix();
 }
 
 // ---- what runs
@@ -223,7 +223,7 @@ function sayVerdict(state) {
 export function startVerdict() {
   for (const action of [
     { id: 'other', name: 'Show the other picture', key: 'x', run: () => showOther(!sheet.other), can: () => isWord('ambiguous') },
-    { id: 'fix', name: 'Fix it …', run: () => openFix(), can: () => isWord('ambiguous') },
+    { id: 'fix', name: 'Fix it …', run: () => openFix(), can: canFix },
     { id: 'search', name: 'Search for another picture', run: () => searches.judge(), can: () => isWord('undecided') && !searches.running },
     { id: 'stop', name: 'Stop the search', key: '.', run: () => searches.stop(), can: () => searches.running !== null },
     { id: 'hatching', name: 'Hatching: off, differing, open', key: 'h', run: nextHatching },
