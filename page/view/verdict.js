@@ -61,7 +61,7 @@ function makeVerdictPanel() {
       make('p', { id: 'verdict-why' }),
       make('div', { id: 'verdict-do', class: 'group' }),
       make('div', { id: 'fix', hidden: true }),
-      make('dl', {}, make('dt', {}, 'Need guessing'), make('dd', { id: 'open' }), make('dt', {}, 'Clues that changed'), make('dd', { id: 'changed' })),
+      make('dl', {}, make('dt', {}, 'Grade'), make('dd', { id: 'grade' }), make('dt', {}, 'Need guessing'), make('dd', { id: 'open' }), make('dt', {}, 'Clues that changed'), make('dd', { id: 'changed' })),
       make('p', {}, make('label', {}, 'Hatching ', choiceOf('hatching', HATCHINGS, (value) => setHatching(value)))),
       make('p', { id: 'legend', class: 'faint' }),
       make('p', {}, make('label', {}, 'Search after a stroke ', choiceOf('seconds', TIMES, setSeconds)))),
@@ -249,5 +249,5 @@ export function startVerdict() {
 /** Fills the panel. */
 export function showVerdictPanel() {
   makeVerdictPanel();
-  for (const id of ['other', 'fix', 'search', 'play']) $('verdict-do').append(actionButton(actions.get(id)));
+  for (const id of ['other', 'fix', 'search', 'play', 'walk']) $('verdict-do').append(actionButton(actions.get(id)));
 }
