@@ -4,7 +4,6 @@
 import { $, make, say } from '../base/elements.js';
 import { on } from '../base/events.js';
 import { many, number } from '../base/words.js';
-import { nameOf } from '../document/colours.js';
 import { placeOf } from '../document/document.js';
 import { LETTERS } from '../document/limits.js';
 import { cellsThatDiffer } from '../document/shapes.js';
@@ -59,7 +58,6 @@ function choices() {
     make('p', {}, make('label', {}, 'Symmetry ', choice('fix-mirror', MIRRORS, fixing.mirror, (value) => { fixing.mirror = value; }))),
     make('div', { class: 'group' }, button('fix-lock', 'Lock all but the selection', lockOutside), button('fix-unlock', 'Unlock all', unlock)),
     make('p', { id: 'fix-locks', class: 'faint' }),
-    make('div', { id: 'fix-colours', role: 'group', 'aria-label': 'Colours that may change' }),
   ];
 }
 
@@ -80,25 +78,11 @@ function lockOutside() {
 
 const unlock = () => bench.become((doc) => ({ ...doc, locks: new Set(), inks: doc.inks.map(({ locked: _, ...ink }) => ink) }));
 
-function lockColour(at, locked) {
-  return bench.become((doc) => {
-    const inks = doc.colours.map((_, index) => ({ ...doc.inks[index] }));
-    inks[at] = { ...inks[at], locked };
-    return { ...doc, inks };
-  });
-}
-
 function showLocks() {
   const { state } = bench;
   if (!state || !$('fix-locks')) return;
-  $('fix-locks').textContent = state.locks.size ? `${many(state.locks.size, 'cell')} locked.` : 'No cell is locked.';
-  const used = new Set(['.', ...state.picture.join('')]);
-  $('fix-colours').replaceChildren(...state.colours.flatMap((triple, at) => {
-    if (!used.has(LETTERS[at])) return [];
-    const name = state.inks[at]?.name ?? nameOf(triple, state.maxval);
-    const box = make('input', { type: 'checkbox', checked: !state.inks[at]?.locked, onchange: (event) => lockColour(at, !event.target.checked) });
-    return [make('label', {}, box, ` ${name} may change`)];
-  }));
+  const colours = state.inks.filter((ink) => ink.locked).length;
+  $('fix-locks').textContent = `Locked: ${many(state.locks.size, 'cell')}, ${many(colours, 'colour')}. Cells are locked by the tool Lock cells (k), colours in the palette.`;
 }
 
 /** What may change, as page/repair/board.js takes it. */
