@@ -137,3 +137,21 @@ export async function walkOfAGuess({ trial, page }) {
     await said(page, '^Step 0 of');
     await page.press('Escape');
 }
+
+/** The grade goes where it is asked for: onto the printed sheet, into the description, and beside the picture in the library. */
+export async function gradeGoesOut({ trial, page }) {
+    await trial.open(ppmOf(['.a.', 'aa.', '...']), 'small');
+    await trial.judged();
+    await page.until(() => document.getElementById('grade').textContent.startsWith('easy'), 20000 * SLACK);
+    await page.run(() => { window.print = () => { window.isPrinted = true; }; runAction('print'); });
+    await page.until(() => document.querySelector('#print-grade'), 3000 * SLACK);
+    await page.click('#print-grade');
+    await page.click('dialog button.main');
+    await page.until(() => window.isPrinted, 5000 * SLACK);
+    assert.match(await page.run(() => document.querySelector('.printed p').textContent), /3 by 3, easy/);
+    await page.run(() => { runAction('about'); });
+    for (let twice = 0; twice < 2; twice++) await page.click('#about-grade');
+    await page.click('dialog button.main');
+    await trial.settled();
+    assert.equal(await page.run(() => bench.state.about.description), 'Grade: easy: rounds 2, evaluations 8, longest wait 2', 'once');
+}

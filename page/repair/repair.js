@@ -57,7 +57,7 @@ async function forOneSolution(search, limit) {
   const draw = drawing();
   await search.all(1, Infinity, MOST_ONES);
   if (search.isDone) return;
-  await search.all(2, 350, MOST_TWOS);
+  await search.all(2, 450, MOST_TWOS);
   if (search.isDone) return;
   const isDusty = search.openAtFirst > DUSTY;
   await descend(search, isDusty, { draw });
