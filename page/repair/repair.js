@@ -12,7 +12,7 @@ import { Judge, SpentError } from './judge.js';
 import { Search } from './search.js';
 
 const MOST_ONES = 24; // repairs of one cell that are listed
-const MOST_TWOS = 8; // repairs of two
+const MOST_TWOS = 24; // repairs of two
 const STEPS = 40; // of a dive
 const ROUNDS = 12; // of random dives
 const DUSTY = 120; // open cells from which on a picture is loose

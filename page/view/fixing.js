@@ -16,7 +16,7 @@ import { searches, secondsChosen, verdictView } from './verdict.js';
 
 const GOALS = [['unique', 'one solution'], ['lines', 'no guessing']];
 const MIRRORS = [['', 'as it comes'], ['x', 'left and right the same'], ['y', 'top and bottom the same']];
-const MOST_SHOWN = 12;
+const MOST_SHOWN = 24;
 const FEW = 8; // cells: what needs more is too loose
 const SPARE = 2; // seconds that a search in the worker has left to end by itself
 const LONGER = 'A longer time, chosen at “Search after a stroke”, may find some.';
