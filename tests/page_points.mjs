@@ -6,6 +6,7 @@ import { fileURLToPath } from 'node:url';
 import { clean, downloaded, examples, fresh, isKept, isOpen } from './page_hands.mjs';
 import { Hands } from './page_inputs.mjs';
 import { hard } from './page_meaning.mjs';
+import { mendingPoint, walkingPoint } from './page_mending.mjs';
 import { SIZES, SLACK, noise, ppmOf } from './page_trial.mjs';
 import { pause } from './page_browser.mjs';
 
@@ -256,7 +257,7 @@ async function wayOut(hands, { own }) {
     assert.match(await trial.text('.printed text'), /^\d+[a-o]$/, 'letters for colours');
 }
 
-const POINTS = { 'a way in': wayIn, 'a picture into a puzzle': intoPuzzle, 'never lost': neverLost, 'searches that stop': stoppable, drawing, 'large pictures': large, meaning, 'out of the page': wayOut };
+const POINTS = { 'a way in': wayIn, 'a picture into a puzzle': intoPuzzle, 'never lost': neverLost, 'searches that stop': stoppable, drawing, 'large pictures': large, meaning, mending: mendingPoint, 'the solving path': walkingPoint, 'out of the page': wayOut };
 const INPUTS = { small: ['mouse', 'keys'], large: ['mouse', 'keys'], phone: ['touch', 'keys'] };
 const columns = Object.entries(INPUTS).flatMap(([size, inputs]) => inputs.map((input) => ({ size, input, name: `${SIZES[size].width} by ${SIZES[size].height}, ${input}` })));
 

@@ -1,9 +1,8 @@
-// Tests of the page's searches in the second worker, of the ways to make a picture unique, and of what a solver's marks cross
-// off. The pictures are worked by hand. Run: node --test tests/page_searches.mjs
+// Tests of the page's searches in the second worker, and of what a solver's marks cross off. The pictures are worked by hand. Run: node --test tests/page_searches.mjs
 import assert from 'node:assert/strict';
 import { test } from 'node:test';
 import '../page/test/limits.mjs';
-import { cellsThatDiffer, givensFor, repaintsFor } from '../page/engine/fix.js';
+import { cellsThatDiffer } from '../page/document/shapes.js';
 import { Searches } from '../page/engine/searches.js';
 import { crossedOff, isMet, marksOf } from '../page/play/crossing.js';
 
@@ -20,6 +19,12 @@ function engineOf(texts, log) {
             log.push(lines.join('; '));
             const text = texts.shift();
             return text === undefined ? new Promise(() => {}) : Promise.resolve(text);
+        },
+        call(name, fields, told) {
+            log.push(`${name} ${JSON.stringify(fields)}`);
+            const value = texts.shift();
+            for (const one of value?.tells ?? []) told(one);
+            return value === undefined ? new Promise(() => {}) : Promise.resolve(value.ok);
         },
         end: () => log.push('end'),
     };
@@ -94,76 +99,34 @@ test('lack of memory is told', async () => {
     assert.deepEqual(seen.failed, ['memory ran out']);
 });
 
-// A copy that tries all pictures of its size: for few cells alone.
-function smallCopy(state) {
-    const held = { rows: state.picture.map((row) => [...row]), pins: new Set(state.givens) };
-    const clue = (cells) => cells.join('').match(/([^.])\1*/g)?.join(' ') ?? '';
-    const cluesOf = (rows) => [...rows.map(clue), '|', ...rows[0].map((_, col) => clue(rows.map((row) => row[col])))].join(',');
-    const letters = '.ab';
-    const judge = () => {
-        const wanted = cluesOf(held.rows);
-        const count = state.rows * state.columns;
-        for (let code = 0; code < letters.length ** count; code++) {
-            const cells = Array.from({ length: count }, (_, at) => letters[Math.floor(code / letters.length ** at) % letters.length]);
-            const rows = held.rows.map((_, at) => cells.slice(at * state.columns, (at + 1) * state.columns));
-            const same = rows.every((row, at) => row.every((letter, col) => letter === held.rows[at][col]));
-            const fits = [...held.pins].every((index) => cells[index] === held.rows[Math.floor(index / state.columns)][index % state.columns]);
-            if (!same && fits && cluesOf(rows) === wanted) return { word: 'ambiguous', other: rows.map((row) => row.join('')) };
-        }
-        return { word: 'unique' };
-    };
-    let before = null;
-    const one = (line) => {
-        const [word, ...rest] = line.split(' ');
-        const [row, col] = rest.map(Number);
-        if (word === 'pin') held.pins.add((row - 1) * state.columns + col - 1);
-        if (word === 'unpin') held.pins.delete((row - 1) * state.columns + col - 1);
-        if (word === 'paint') { before = held.rows.map((cells) => [...cells]); held.rows[row - 1][col - 1] = rest[2]; }
-        if (word === 'undo') held.rows = before;
-        return word === 'verdict' ? judge() : { kind: 'ok' };
-    };
-    return { found: null, notes: [], changes() {}, note(text) { this.notes.push(text); }, async say(...lines) { return lines.map(one); }, async verdict() { return judge(); } };
-}
-
-test('two squares that turn each want one given', async () => {
-    const state = stateOf(['a...', '.a..', '..a.']);
-    const copy = smallCopy(state);
-    const { other } = await copy.verdict();
-    const { cells: given, isEnough } = await givensFor(copy, state, other);
-    assert.equal(isEnough, true);
-    const judged = smallCopy({ ...state, givens: new Set(given) });
-    assert.equal((await judged.verdict()).word, 'unique');
-    for (const one of given) assert.equal((await smallCopy({ ...state, givens: new Set(given.filter((cell) => cell !== one)) }).verdict()).word, 'ambiguous');
-    assert.deepEqual(copy.found, { cells: given, isEnough });
+test('a long call tells what it finds, and the copy is opened anew after it', async () => {
+    const { searches, log } = searchesOf([{ tells: [{ found: 1 }, { found: 2 }], ok: 3 }, 'ok\nunique\n']);
+    const heard = [];
+    assert.equal(await searches.job('Repair', 60, (copy) => copy.work('repair', { goal: 'unique' }, (one) => heard.push(one.found))), 3);
+    assert.deepEqual(heard, [1, 2]);
+    await searches.judge();
+    assert.equal(log.filter((line) => line === 'open').length, 2);
 });
 
-test('cells that were found when time ends are kept, and told not to suffice', async () => {
-    const state = stateOf(['a...', '.a..', '..a.']);
-    const copy = smallCopy(state);
-    const { verdict } = copy;
-    const { other } = await verdict();
-    const answers = [verdict, () => Promise.reject(new Error('time'))]; // the first cell does not suffice, and then time ends
-    copy.verdict = () => answers.shift()();
-    await assert.rejects(givensFor(copy, state, other), /time/);
-    assert.deepEqual([copy.found.cells.length, copy.found.isEnough], [2, false]);
+test('a job without a name is not told, neither its end nor its failure', async () => {
+    const { searches, seen } = searchesOf([{ ok: { none: 'certificate' } }, 'refused: Memory\n']);
+    assert.equal(await searches.job('', 60, (copy) => copy.grade({})), null);
+    assert.deepEqual([seen.told, seen.ended, seen.failed], [[], [], []]);
+    const stopped = searchesOf([]);
+    const job = stopped.searches.job('', 60, (copy) => copy.grade({}));
+    await pause(20);
+    stopped.searches.strokeBegun();
+    assert.equal(await job, null);
+    assert.deepEqual([stopped.seen.told, stopped.seen.ended], [[], []]);
 });
 
-test('repaints that make it unique, those near a differing cell first', async () => {
-    const state = stateOf(['a..', '.a.', '...']);
-    const copy = smallCopy(state);
-    const { other } = await copy.verdict();
-    const told = [];
-    const found = await repaintsFor(copy, state, other, (one) => told.push(one));
-    assert.ok(found.length > 0);
-    assert.deepEqual(told, found);
-    assert.ok(cellsThatDiffer(state.picture, other).includes(found[0].index));
-    for (const { index, letter } of found) {
-        const painted = state.picture.map((row) => [...row]);
-        painted[Math.floor(index / 3)][index % 3] = letter;
-        assert.equal((await smallCopy(stateOf(painted.map((row) => row.join('')))).verdict()).word, 'unique');
-    }
-    const given = await repaintsFor(smallCopy(state), { ...state, givens: new Set([0, 1, 2, 3, 4, 5, 6, 7, 8]) }, other);
-    assert.deepEqual(given, [], 'a given keeps its colour');
+test('a grade asks for a certificate only where one is wanted', async () => {
+    const { searches, log } = searchesOf([{ ok: { word: 'easy' } }]);
+    assert.deepEqual(await searches.job('', 60, (copy) => copy.grade({})), { word: 'easy' });
+    assert.equal(log.includes('certify'), false);
+    const guess = searchesOf([{ ok: { none: 'certificate' } }, 'nonocert 1\ndone\n', { ok: { word: 'expert' } }]);
+    assert.deepEqual(await guess.searches.job('', 60, (copy) => copy.grade({ picture: 'x' })), { word: 'expert' });
+    assert.equal(guess.log.at(-1), 'grade {"puzzle":{"picture":"x","certificate":"nonocert 1\\ndone\\n"}}');
 });
 
 test('what differs', () => {

@@ -8,6 +8,7 @@ import * as lasting from './page_lasting.mjs';
 import * as looks from './page_looks.mjs';
 import * as loss from './page_loss.mjs';
 import * as meaning from './page_meaning.mjs';
+import * as mending from './page_mending.mjs';
 import * as out from './page_out.mjs';
 import * as phone from './page_phone.mjs';
 import * as points from './page_points.mjs';
@@ -17,8 +18,8 @@ import * as ways from './page_ways.mjs';
 const [folder, ...only] = [resolve(process.argv[2]), ...process.argv.slice(3)];
 const url = hookedPage(process.env.PAGE, folder);
 const isWanted = (name) => !only.length || only.some((one) => name === one || (one.endsWith(':') && name.startsWith(one)));
-const tests = Object.entries({ ...drawing, ...lasting, ...loss, ...meaning, ...ways, ...stored, ...out, ...looks, ...phone, ...points.tests })
-    .filter(([name, test]) => typeof test === 'function' && name !== 'hard' && isWanted(name));
+const tests = Object.entries({ ...drawing, ...lasting, ...loss, ...meaning, ...mending, ...ways, ...stored, ...out, ...looks, ...phone, ...points.tests })
+    .filter(([name, test]) => typeof test === 'function' && name !== 'hard' && !name.endsWith('Point') && isWanted(name));
 const browser = new Browser();
 const passed = new Set();
 let failed = 0;

@@ -119,3 +119,9 @@ export function reordered(doc, order, into = 0) {
   const inks = (doc.inks ?? []).length ? order.map((at) => doc.inks[at] ?? {}) : [];
   return { ...doc, inks, colours: order.map((at) => doc.colours[at]), picture: doc.picture.map((row) => [...row].map((letter) => letters[LETTERS.indexOf(letter)]).join('')) };
 }
+
+/** The cells (row * columns + column) in which two pictures of one size differ. */
+export function cellsThatDiffer(picture, other) {
+  const columns = picture[0].length;
+  return picture.flatMap((row, at) => [...row].flatMap((letter, col) => (letter === other[at][col] ? [] : [at * columns + col])));
+}

@@ -52,6 +52,7 @@ export class Client {
   hear(data) {
     const item = this.waiting.get(data?.id);
     if (!item) return;
+    if (data.told) return item.told?.(data.told);
     this.waiting.delete(data.id);
     if (!data.fault) return item.resolve(data.ok);
     const fault = new EngineFault({ kind: String(data.fault.kind), text: String(data.fault.text) });
@@ -59,18 +60,19 @@ export class Client {
     if (fault.kind === 'ended') this.end(fault.text);
   }
 
-  post(call, fields) {
+  post(call, fields, told = null) {
     if (this.isEnded) return Promise.reject(new EngineFault({ kind: 'ended', text: 'the worker has ended' }));
     const id = ++this.last;
     return new Promise((resolve, reject) => {
-      this.waiting.set(id, { resolve, reject });
+      this.waiting.set(id, { resolve, reject, told });
       this.worker.postMessage({ id, call, ...fields });
     });
   }
 
-  async call(name, fields = {}) {
+  /** Calls the worker. `told` hears what a long call finds before its end. */
+  async call(name, fields = {}, told = null) {
     await this.ready;
-    return this.post(name, fields);
+    return this.post(name, fields, told);
   }
 
   open(file, options) {

@@ -51,6 +51,21 @@ class Copy {
     return verdict;
   }
 
+  /** A long call of the worker on the copy: `told` hears what it finds. From there on the copy is another picture. */
+  async work(name, fields, told) {
+    this.changes();
+    return this.searches.within(this.run, this.run.engine.call(name, fields, told));
+  }
+
+  /** A grade, of what the state says and a certificate where one is wanted: `puzzle` as page/grade has it. */
+  async grade(puzzle) {
+    const first = await this.searches.within(this.run, this.run.engine.call('grade', { puzzle }));
+    if (first.none !== 'certificate') return first;
+    const [answer] = await this.say('certify');
+    if (answer.kind !== 'text') return first;
+    return this.searches.within(this.run, this.run.engine.call('grade', { puzzle: { ...puzzle, certificate: answer.text } }));
+  }
+
   /** Tells how far the search is. */
   note(text) {
     this.run.note = text;
@@ -125,7 +140,7 @@ export class Searches {
 
   /**
    * Runs a job on a copy of the present picture, within so many seconds. Ended before, it gives what it found so far or
-   * null. `judges` says that its end is a verdict.
+   * null. `judges` says that its end is a verdict. A job without a name is not told: it gives way to all others.
    */
   async job(name, seconds, work, judges = false) {
     clearTimeout(this.waits);
@@ -140,13 +155,13 @@ export class Searches {
       return await work(await this.copied(run), run);
     } catch (fault) {
       this.discard(run);
-      if (!(fault instanceof Ended)) this.hooks.failed(name, fault);
+      if (!(fault instanceof Ended) && name) this.hooks.failed(name, fault);
       return fault.why === 'time' || fault.why === 'stopped' ? run.found : null;
     } finally {
       clearInterval(run.clock);
       if (this.running === run) {
         this.running = null;
-        this.hooks.told(null);
+        if (run.name) this.hooks.told(null);
       }
     }
   }
@@ -175,7 +190,7 @@ export class Searches {
     if (this.running !== run) return;
     const elapsed = (performance.now() - run.from) / 1000;
     if (elapsed >= run.seconds) this.end('time');
-    else this.hooks.told({ name: run.name, elapsed, seconds: run.seconds, note: run.note });
+    else if (run.name) this.hooks.told({ name: run.name, elapsed, seconds: run.seconds, note: run.note });
   }
 
   // Ends what runs together with its worker.
@@ -186,6 +201,7 @@ export class Searches {
     clearInterval(run.clock);
     this.discard(run);
     run.reject(new Ended(why));
+    if (!run.name) return;
     this.hooks.told(null);
     this.hooks.ended(run.name, why, run);
   }

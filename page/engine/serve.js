@@ -1,4 +1,9 @@
-// What a worker does: one engine and one bench. It gets {id, call, ...} and answers {id, ok} or {id, fault: {kind, text}}.
+// What a worker does: one engine and one bench. It gets {id, call, ...} and answers {id, ok} or {id, fault: {kind, text}}; before
+// that a long call tells what it finds, {id, told}.
+
+import { gradeOf } from '../grade/grade.js';
+import { Board } from '../repair/board.js';
+import { give, repair } from '../repair/repair.js';
 
 /** Lets a worker's scope answer calls; `load` makes an engine of the module's bytes, as web/nonobench.mjs has it. */
 export function serve(scope, load) {
@@ -21,16 +26,26 @@ export function serve(scope, load) {
     check({ picture, certificate, background, givens }) {
       return engine.check(picture, certificate, { background, givens });
     },
+    repair({ board, goal, seconds }, told) {
+      return repair({ board: new Board(board), goal, seconds, say }, { found: (found) => told({ found }), nearer: (nearer) => told({ nearer }) });
+    },
+    give({ board, goal, seconds }, told) {
+      return give({ board: new Board(board), goal, seconds, say }, { found: (found) => told({ found }) });
+    },
+    grade({ puzzle }) {
+      return gradeOf(puzzle);
+    },
     close() {
       opened?.close();
       opened = null;
       return true;
     },
   };
+  const say = (lines) => opened.say(lines.map((line) => `${line}\n`).join(''));
   scope.onmessage = async ({ data }) => {
     const { id, call, ...fields } = data;
     try {
-      scope.postMessage({ id, ok: await calls[call](fields) });
+      scope.postMessage({ id, ok: await calls[call](fields, (told) => scope.postMessage({ id, told })) });
     } catch (fault) {
       scope.postMessage({ id, fault: { kind: fault.kind ?? 'ended', text: String(fault.text ?? fault.message ?? fault) } });
     }

@@ -15,6 +15,7 @@ import { addAction, runAction } from '../view/actions.js';
 import { openDialog } from '../view/dialogs.js';
 import { inkName } from '../view/dress.js';
 import { nearText } from '../view/palette.js';
+import { gradeAtHand, gradeLine } from '../view/grading.js';
 import { asSeen, heard } from '../view/tools.js';
 import { certificateText } from '../view/verdict.js';
 
@@ -83,10 +84,10 @@ function printedLegend(doc, letters) {
 }
 
 /** Fills the part of the page that is printed: the puzzle, and on wish the solution on a second sheet. */
-function fillPrint({ title, letters, solution }) {
+function fillPrint({ title, letters, solution, grade = '' }) {
   const { doc, clues } = puzzleAtHand();
   const by = doc.about.author ? `, by ${doc.about.author}` : '';
-  const facts = `${doc.columns} by ${doc.rows}${doc.givens.size ? `, ${many(doc.givens.size, 'cell')} given (◆)` : ''}${by}`;
+  const facts = `${doc.columns} by ${doc.rows}${doc.givens.size ? `, ${many(doc.givens.size, 'cell')} given (◆)` : ''}${grade ? `, ${grade}` : ''}${by}`;
   const sheets = [make('section', { class: 'printed' }, make('h1', {}, title), make('p', {}, facts), svgOfPaper(paperOf({ doc, clues }, { letters })), printedLegend(doc, letters))];
   if (solution) sheets.push(make('section', { class: 'printed' }, make('h1', {}, `${title}: solution`), svgOfPaper(paperOf({ doc, clues }, { letters, solution: true, clues: false }))));
   $('print').replaceChildren(...sheets);
@@ -98,15 +99,21 @@ async function printPuzzle() {
   const letters = make('input', { type: 'checkbox' });
   const solution = make('input', { type: 'checkbox', checked: true });
   const content = make('div', { class: 'rows' }, make('label', {}, 'Title', title), make('label', {}, letters, 'Letters instead of colours, for black and white'), make('label', {}, solution, 'The solution on a second sheet'));
+  const graded = gradeAtHand();
+  const grade = make('input', { type: 'checkbox', id: 'print-grade' });
+  if (graded) content.append(make('label', {}, grade, `The grade: ${graded.word}`));
   for (const warning of [WARNINGS[bench.state.verdict.word], nearText(bench.state)]) if (warning) content.append(make('p', { class: 'wrong' }, warning));
   const go = await openDialog({ title: 'Print', content, buttons: [{ name: 'Print …', value: true, main: true }] });
   if (!go) return;
-  fillPrint({ title: title.value || bench.name, letters: letters.checked, solution: solution.checked });
+  fillPrint({ title: title.value || bench.name, letters: letters.checked, solution: solution.checked, grade: graded && grade.checked ? graded.word : '' });
   globalThis.print();
 }
 
 const ABOUT_FIELDS = { title: 'Title', author: 'Author', copyright: 'Copyright', description: 'Description', note: 'Note' };
 const LONG_FIELDS = ['description', 'note'];
+
+// A description with the grade as its last line, in place of an earlier one.
+const withGrade = (text) => [...text.split('\n').filter((line) => line && !line.startsWith('Grade: ')), `Grade: ${gradeLine()}`].join('\n');
 
 /** Asks for the texts about the puzzle, which go into its files and on the printed sheet, and for the name of the file. */
 async function askAbout() {
@@ -114,7 +121,10 @@ async function askAbout() {
   const field = (name) => (LONG_FIELDS.includes(name) ? make('textarea', { rows: 3, maxlength: '5000' }, about[name] ?? '') : make('input', { type: 'text', value: about[name] ?? '', maxlength: '500' }));
   const fields = Object.keys(ABOUT_FIELDS).map((name) => [name, field(name)]);
   const file = make('input', { type: 'text', value: bench.name, maxlength: '80' });
+  const description = fields.find(([name]) => name === 'description')[1];
+  const addGrade = () => { description.value = withGrade(description.value); };
   const content = make('div', { class: 'rows' }, ...fields.map(([name, input]) => make('label', {}, ABOUT_FIELDS[name], input)), make('label', {}, 'Name of the file', file));
+  if (gradeAtHand()) content.append(make('button', { type: 'button', id: 'about-grade', onclick: addGrade }, 'Put the grade into the description'));
   if (!(await openDialog({ title: 'About the puzzle', content, buttons: [{ name: 'OK', value: true, main: true }] }))) return;
   const texts = Object.fromEntries(fields.map(([name, input]) => [name, input.value.trim()]).filter(([, text]) => text));
   const without = (doc) => Object.fromEntries(Object.entries(doc.about).filter(([name]) => !(name in ABOUT_FIELDS)));

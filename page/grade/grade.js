@@ -14,7 +14,7 @@ const BOUNDS = {
  * Line logic on a puzzle: rounds of all rows from the top and then all columns from the left, until no line is left to look at.
  * `heard(line, round, narrowing)` is called after each look, with the round's number from 1.
  */
-export function solveByLines(narrowing, heard = () => {}) {
+export function solveByLines(narrowing, heard = null) {
   const { puzzle } = narrowing;
   const figures = { rounds: 0, evaluations: 0, wait: 0 };
   let waited = 0;
@@ -30,7 +30,7 @@ export function solveByLines(narrowing, heard = () => {}) {
         figures.wait = Math.max(figures.wait, waited);
         waited = 0;
       }
-      heard(line, round, narrowing);
+      heard?.(line, round, narrowing);
     }
     figures.evaluations += looks;
   }

@@ -7,7 +7,7 @@ const ALL_COLOURS = 0xffff;
 
 /** Colour numbers, row by row, of a picture of letters: '.' is the background, 'a' to 'o' are 1 to 15. */
 export function cellsOf(picture) {
-  return Uint8Array.from(picture.join(''), (letter) => LETTERS.indexOf(letter));
+  return Uint8Array.from([...picture.join('')], (letter) => LETTERS.indexOf(letter));
 }
 
 /** How many candidates a mask has. */
@@ -23,7 +23,12 @@ const isSettled = (mask) => (mask & (mask - 1)) === 0;
 export class Puzzle {
   /** `clues` are those of the lines, where they are known already. */
   constructor(rows, columns, cells, givens = [], clues = null) {
-    Object.assign(this, { rows, columns, cells, givens: [...givens], lines: rows + columns, mask: null });
+    this.rows = rows;
+    this.columns = columns;
+    this.cells = cells;
+    this.givens = [...givens];
+    this.lines = rows + columns;
+    this.mask = null;
     this.clues = clues ?? Array.from({ length: this.lines }, (_, line) => this.clueAt(line));
   }
 
@@ -71,7 +76,10 @@ export class Narrowing {
   #out = new Uint16Array(120);
 
   constructor(puzzle, masks = puzzle.candidates()) {
-    Object.assign(this, { puzzle, masks, changed: [], settled: [] });
+    this.puzzle = puzzle;
+    this.masks = masks;
+    this.changed = [];
+    this.settled = [];
     this.open = masks.reduce((count, mask) => count + (isSettled(mask) ? 0 : 1), 0);
     this.openIn = new Int32Array(puzzle.lines);
     masks.forEach((mask, index) => { if (!isSettled(mask)) this.#count(index, 1); });

@@ -26,7 +26,7 @@ function readLines(certificate) {
  * Follows a certificate from its root, `heard(item, depth, narrowing)` at each line before it is taken. A branch that was ended
  * gives its place to the next one: the branches of a split stand one behind the other.
  */
-export function follow(puzzle, certificate, heard = () => {}) {
+export function follow(puzzle, certificate, heard) {
   const lines = readLines(certificate);
   const givens = lines.filter(({ word }) => word === 'given').map(({ row, column }) => (row - 1) * puzzle.columns + column - 1);
   const rooted = new Puzzle(puzzle.rows, puzzle.columns, puzzle.cells, givens);

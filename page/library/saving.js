@@ -170,6 +170,7 @@ export function startSaving() {
     showFileName();
   });
   on('judged', () => { if (!keep.isPaused) keep.now(); });
+  on('graded', (grade) => { if (grade && !keep.isPaused) keep.graded(grade.word); });
   on('kept', showFileName);
   on('closed', showFileName);
   addEventListener('beforeunload', (event) => {

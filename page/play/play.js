@@ -10,30 +10,36 @@ import { selection } from '../view/select.js';
 import { asSeen } from '../view/tools.js';
 import { searches } from '../view/verdict.js';
 import { isMet, marksOf } from './crossing.js';
+import { nextHint } from './hints.js';
 import { drawPlay, fitPlay, movePlay, zoomPlay } from './playdraw.js';
+import { endWalk, isWalking, startWalk, walkBar, walkKey } from './walking.js';
 
-export const play = { state: null, marks: [], letter: 'a', past: [], future: [], wrong: new Set(), at: { row: 0, col: 0 }, side: 24, drag: null, isSolved: false };
+export const play = { state: null, marks: [], letter: 'a', past: [], future: [], wrong: new Set(), at: { row: 0, col: 0 }, side: 24, drag: null, isSolved: false, shown: null, heat: null, hint: null };
 
 async function openPlay() {
   if (selection.rows || bench.queue.length) await asSeen();
   const { state } = bench;
-  Object.assign(play, { state, marks: marksOf(state), letter: state.colours.length > 1 ? 'a' : '.', past: [], future: [], wrong: new Set(), at: { row: 0, col: 0 }, drag: null, isSolved: false });
+  Object.assign(play, { state, marks: marksOf(state), letter: state.colours.length > 1 ? 'a' : '.', past: [], future: [], wrong: new Set(), at: { row: 0, col: 0 }, drag: null, isSolved: false, shown: null, heat: null, hint: null });
   searches.stop();
   const dialog = make('dialog', { id: 'play-room', 'aria-label': 'Play' });
-  dialog.append(playBar(), make('p', { id: 'play-said', role: 'status' }), playBoard(), make('div', { id: 'play-palette', role: 'radiogroup', 'aria-label': 'Colour' }));
-  dialog.addEventListener('close', () => dialog.remove());
+  dialog.append(playBar(), walkBar(), make('p', { id: 'play-said', role: 'status' }), playBoard(), make('div', { id: 'play-palette', role: 'radiogroup', 'aria-label': 'Colour' }));
+  dialog.addEventListener('close', () => {
+    endWalk();
+    dialog.remove();
+  });
   dialog.addEventListener('keydown', playKey);
   $('dialogs').append(dialog);
   dialog.showModal();
   playPalette();
   fitPlay();
   $('play-field').focus({ preventScroll: true });
+  $('play-board').scrollTo(0, 0);
   const { word } = state.verdict;
   const told = word === 'unique' ? 'One solution. Good luck.' : word === 'ambiguous' ? 'This puzzle has more than one solution.' : 'It is not known whether this puzzle has one solution.';
   playSays(`${told}${state.givens.size ? ' Cells with a diamond ◆ are given.' : ''}`);
 }
 
-const playSays = (text) => { $('play-said').textContent = text; };
+export const playSays = (text) => { $('play-said').textContent = text; };
 const playButton = (id, name, run, more = {}) => make('button', { type: 'button', id, onclick: run, ...more }, name);
 
 function playBar() {
@@ -41,7 +47,8 @@ function playBar() {
     make('h2', {}, 'Play'),
     playButton('play-undo', 'Undo', () => playTurn('past', 'future')), playButton('play-redo', 'Redo', () => playTurn('future', 'past')),
     playButton('play-check', 'Check', checkPlay, { title: 'Marks the cells that are wrong' }),
-    playButton('play-clear', 'Start over', clearPlay),
+    playButton('play-hint', 'Hint', hintPlay, { title: 'Which line tells more; again: which cells; again: why' }),
+    playButton('play-clear', 'Start over', clearPlay), playButton('play-walk', 'Walk through', startWalk),
     playButton('play-smaller', '−', () => zoomPlay(-1), { 'aria-label': 'Smaller cells' }), playButton('play-larger', '+', () => zoomPlay(1), { 'aria-label': 'Larger cells' }),
     playButton('play-close', 'Back to the picture', () => $('play-room').close()));
 }
@@ -87,9 +94,11 @@ function choosePlay(letter) {
 
 const playPlace = (index) => [Math.floor(index / play.state.columns), index % play.state.columns];
 
-// A stroke of marks: cells with what stood there before.
+// A stroke of marks: cells with what stood there before. On the solving path nothing is marked.
 function markPlay(cells, mark) {
   const stroke = [];
+  if (isWalking()) return stroke;
+  play.shown = null;
   for (const index of cells) {
     const [row, col] = playPlace(index);
     if (play.state.givens.has(index) || play.marks[row][col] === mark) continue;
@@ -108,7 +117,7 @@ function keepPlay(stroke) {
 }
 
 function playTurn(from, to) {
-  const stroke = play[from].pop();
+  const stroke = isWalking() ? null : play[from].pop();
   if (!stroke) return;
   for (const { index, before, after } of stroke) {
     const [row, col] = playPlace(index);
@@ -141,6 +150,13 @@ function checkPlay() {
   }));
   playSays(play.wrong.size ? `${many(play.wrong.size, 'cell')} wrong.` : 'Nothing is wrong so far.');
   drawPlay();
+}
+
+function hintPlay() {
+  const { text, shown } = nextHint();
+  play.shown = shown;
+  drawPlay();
+  playSays(text);
 }
 
 function clearPlay() {
@@ -182,6 +198,22 @@ function endPlay() {
 }
 
 const playFingers = new Map();
+const fingersApart = () => {
+  const [one, other] = [...playFingers.values()];
+  return Math.hypot(one.clientX - other.clientX, one.clientY - other.clientY);
+};
+let pinched = 0; // pixels between two fingers at the last step of the zoom
+
+// Two fingers that go apart, or together, zoom a step each time that their distance is another one.
+function pinchPlay() {
+  const apart = fingersApart();
+  if (pinched === 0 || apart === 0) pinched = apart;
+  const way = apart > pinched * 1.2 ? 1 : apart < pinched / 1.2 ? -1 : 0;
+  if (way === 0) return;
+  pinched = apart;
+  zoomPlay(way);
+}
+
 const playPointer = {
   pointerdown(event) {
     event.preventDefault();
@@ -200,6 +232,7 @@ const playPointer = {
   pointermove(event) {
     const before = playFingers.get(event.pointerId);
     if (before && playFingers.size > 1) {
+      pinchPlay();
       $('play-board').scrollBy((before.clientX - event.clientX) / playFingers.size, (before.clientY - event.clientY) / playFingers.size);
       playFingers.set(event.pointerId, event);
       return;
@@ -209,19 +242,22 @@ const playPointer = {
   },
   pointerup(event) {
     playFingers.delete(event.pointerId);
+    pinched = 0;
     endPlay();
   },
   pointercancel(event) {
     playFingers.delete(event.pointerId);
+    pinched = 0;
     endPlay();
   },
 };
 
 const PLAY_STEPS = { ArrowUp: [-1, 0], ArrowDown: [1, 0], ArrowLeft: [0, -1], ArrowRight: [0, 1], PageUp: [-10, 0], PageDown: [10, 0], Home: [0, -MOST_CELLS], End: [0, MOST_CELLS] };
 function playKey(event) {
+  if (!event.ctrlKey && !event.metaKey && !event.altKey && walkKey(event)) return event.preventDefault();
   const step = event.target === $('play-field') ? PLAY_STEPS[event.key] : null;
   const way = event.ctrlKey || event.metaKey ? { z: event.shiftKey ? 'redo' : 'undo', y: 'redo' }[event.key.toLowerCase()] : null;
-  if (!way && (event.ctrlKey || event.metaKey || event.altKey)) return;
+  if (!way && (event.ctrlKey || event.metaKey || event.altKey)) return undefined;
   if (way) playTurn(...(way === 'undo' ? ['past', 'future'] : ['future', 'past']));
   else if (step) movePlay({ row: clamp(play.at.row + step[0], 0, play.state.rows - 1), col: clamp(play.at.col + step[1], 0, play.state.columns - 1) }, true);
   else if (event.target === $('play-field') && (event.key === ' ' || event.key === 'Enter')) { beginPlay(play.at, play.letter); endPlay(); }
@@ -229,11 +265,12 @@ function playKey(event) {
   else if (event.key === 'x') { beginPlay(play.at, '.'); endPlay(); }
   else if (event.key.length === 1 && LETTERS.includes(event.key)) choosePlay(event.key);
   else if (/^[0-9]$/.test(event.key)) choosePlay(LETTERS[Number(event.key)]);
-  else return;
-  event.preventDefault();
+  else return undefined;
+  return event.preventDefault();
 }
 
-/** Adds Play to the menu Check. */
+/** Adds Play and the solving path to the menu Check. */
 export function startPlay() {
   addAction({ id: 'play', name: 'Play', place: 'check', run: openPlay });
+  addAction({ id: 'walk', name: 'Walk through', place: 'check', run: () => openPlay().then(startWalk) });
 }

@@ -9,6 +9,7 @@ import { drawGiven } from '../draw/given.js';
 import { wordOf } from '../view/dress.js';
 import { crossedOff } from './crossing.js';
 import { afterPlay, play, playColumn } from './play.js';
+import { drawShown } from './shown.js';
 
 // Cells without a mark: in the dark a grey from which both black and white stand out.
 const [BLANK, DARK_BLANK] = [[255, 254, 251], [118, 122, 128]];
@@ -154,6 +155,7 @@ function drawPlayField() {
     }
   }
   pen.globalAlpha = 1;
+  drawShown(pen);
   pen.strokeStyle = inks.here;
   pen.lineWidth = 2.5;
   pen.strokeRect(play.at.col * side + 1, play.at.row * side + 1, side - 1, side - 1);

@@ -13,7 +13,10 @@ export class AskError extends Error {}
  */
 export class Asker {
   constructor(board, say, allowance = 300) {
-    Object.assign(this, { board, say, allowance, questions: 0 });
+    this.board = board;
+    this.say = say;
+    this.allowance = allowance;
+    this.questions = 0;
     this.shown = board.cells.slice();
     this.pinned = new Set();
   }

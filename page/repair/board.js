@@ -6,8 +6,10 @@ import { Puzzle } from '../grade/puzzle.js';
 const HALF = 2 ** 26; // two halves of a key, each below this, make a number that is exact
 
 // Numbers below HALF, the same each time.
-function* keys() {
-  for (let state = 12345; ; state = (state * 48271) % 2147483647) yield state % HALF;
+function keys(count) {
+  const found = new Float64Array(count);
+  for (let at = 0, state = 12345; at < count; at++, state = (state * 48271) % 2147483647) found[at] = state % HALF;
+  return found;
 }
 
 /** One change: `codes` are its cells as index * 16 + colour, more than one where symmetry is kept; `pain` ranks it. */
@@ -22,7 +24,13 @@ class Move {
 /** A picture with what may be changed in it. `rule` asks for the damage rule; `mirror` is 'x', 'y' or null. */
 export class Board {
   constructor({ rows, columns, cells, givens = [], lockedCells = [], lockedColours = [], rule = true, mirror = null }) {
-    Object.assign(this, { rows, columns, cells, rule, mirror, lines: rows + columns, givens: [...givens] });
+    this.rows = rows;
+    this.columns = columns;
+    this.cells = cells;
+    this.rule = rule;
+    this.mirror = mirror;
+    this.lines = rows + columns;
+    this.givens = [...givens];
     this.isLocked = new Uint8Array(cells.length);
     for (const index of [...givens, ...lockedCells]) this.isLocked[index] = 1;
     this.isLockedColour = new Uint8Array(16);
@@ -140,8 +148,7 @@ export class Candidate {
     this.moves = [];
     this.high = 0;
     this.low = 0;
-    const next = keys();
-    this.#keys = Float64Array.from({ length: board.cells.length * 16 * 2 }, () => next.next().value);
+    this.#keys = keys(board.cells.length * 16 * 2);
     this.clues = Array.from({ length: board.lines }, () => null);
   }
 

@@ -79,7 +79,11 @@ function heaviest(sets, given) {
 /** The search for the fewest cells to be given until the verdict is unique. `hooks.found({ given, isLeast })` hears what suffices. */
 export class Giving {
   constructor(board, asker, limit, hooks) {
-    Object.assign(this, { board, asker, hooks, sets: [], check: () => limit.check(asker.questions) });
+    this.board = board;
+    this.asker = asker;
+    this.hooks = hooks;
+    this.sets = [];
+    this.check = () => limit.check(asker.questions);
   }
 
   // The verdict's word where these cells are given. A second picture is a further set.

@@ -9,14 +9,20 @@ export class SpentError extends Error {}
 /** What is known of a candidate: whether it meets the goal, and if not, how far it is from it. */
 class Finding {
   constructor({ isGoal = false, isUndecided = false, open = 0, differing = 0, witnesses = [], openCells = [] }) {
-    Object.assign(this, { isGoal, isUndecided, open, differing, witnesses, openCells });
+    this.isGoal = isGoal;
+    this.isUndecided = isUndecided;
+    this.open = open;
+    this.differing = differing;
+    this.witnesses = witnesses;
+    this.openCells = openCells;
   }
 }
 
 /** Judges candidates: for the goal 'unique' by questions, for 'lines' by the plain solver, and by a question where that says yes. */
 export class Judge {
   constructor(asker, goal) {
-    Object.assign(this, { asker, goal });
+    this.asker = asker;
+    this.goal = goal;
   }
 
   async judge(candidate) {

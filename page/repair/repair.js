@@ -12,7 +12,7 @@ import { Judge, SpentError } from './judge.js';
 import { Search } from './search.js';
 
 const MOST_ONES = 24; // repairs of one cell that are listed
-const MOST_TWOS = 8; // repairs of two
+const MOST_TWOS = 24; // repairs of two
 const STEPS = 40; // of a dive
 const ROUNDS = 12; // of random dives
 const DUSTY = 120; // open cells from which on a picture is loose
@@ -21,7 +21,10 @@ const MOST_QUESTIONS = 2000;
 /** The end of a search: by the clock, or by the number of questions. */
 class Limit {
   constructor({ seconds, questions = MOST_QUESTIONS, now = () => performance.now() }) {
-    Object.assign(this, { questions, now, from: now(), seconds });
+    this.questions = questions;
+    this.now = now;
+    this.from = now();
+    this.seconds = seconds;
   }
 
   /** Milliseconds so far. */
@@ -54,7 +57,7 @@ async function forOneSolution(search, limit) {
   const draw = drawing();
   await search.all(1, Infinity, MOST_ONES);
   if (search.isDone) return;
-  await search.all(2, 350, MOST_TWOS);
+  await search.all(2, 450, MOST_TWOS);
   if (search.isDone) return;
   const isDusty = search.openAtFirst > DUSTY;
   await descend(search, isDusty, { draw });
@@ -103,17 +106,17 @@ function proposalOf(candidate, goal) {
  * Looks for repairs until the time is up, the questions are spent or nothing smaller is left. Answers `{ best, proved, questions,
  * isThrough }`: how many changes the smallest has (or null), and up to how many were tried in vain.
  */
-export async function repair({ board, goal, say, allowance, ...bounds }, { found = () => {}, nearer = () => {} } = {}) {
-  const limit = new Limit(bounds);
-  const asker = new Asker(board, say, allowance);
+export async function repair({ board, goal, say, seconds, ...bounds }, { found = null, nearer = null } = {}) {
+  const limit = new Limit({ seconds, ...bounds });
+  const asker = new Asker(board, say);
   let nearest = Infinity;
   const tried = (finding, candidate) => {
     const far = goal === 'lines' ? finding.open : finding.differing;
     if (far >= nearest || candidate.codes.length > 8) return;
     nearest = far;
-    nearer({ ...proposalOf(candidate, goal), open: finding.open, differing: finding.differing });
+    nearer?.({ ...proposalOf(candidate, goal), open: finding.open, differing: finding.differing });
   };
-  const search = new Search(board, new Judge(asker, goal), limit, { found: (candidate) => found(proposalOf(candidate, goal)), tried });
+  const search = new Search(board, new Judge(asker, goal), limit, { found: (candidate) => found?.(proposalOf(candidate, goal)), tried });
   let isThrough = true;
   try {
     await (goal === 'lines' ? forLines : forOneSolution)(search, limit);
@@ -121,18 +124,19 @@ export async function repair({ board, goal, say, allowance, ...bounds }, { found
     if (!(error instanceof SpentError)) throw error;
     isThrough = false;
   }
+  await asker.restore();
   return { best: search.best ? search.size : null, proved: search.proved, questions: asker.questions, isThrough };
 }
 
 /** Looks for few cells to be given. Answers `{ given, isLeast, questions }`: the fewest found or null, and whether fewer cannot do. */
-export async function give({ board, goal, say, allowance, ...bounds }, { found = () => {} } = {}) {
-  const limit = new Limit(bounds);
-  const asker = new Asker(board, say, allowance);
+export async function give({ board, goal, say, seconds, ...bounds }, { found = null } = {}) {
+  const limit = new Limit({ seconds, ...bounds });
+  const asker = new Asker(board, say);
   let last = { given: null, isLeast: false };
   const hooks = {
     found(one) {
       last = one;
-      found(one);
+      found?.(one);
     },
   };
   try {
@@ -140,5 +144,6 @@ export async function give({ board, goal, say, allowance, ...bounds }, { found =
   } catch (error) {
     if (!(error instanceof SpentError)) throw error;
   }
+  await asker.restore();
   return { ...last, questions: asker.questions };
 }

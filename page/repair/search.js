@@ -11,7 +11,10 @@ const KNOWN = 24; // living witnesses looked at in an exact search
 /** One search. `hooks.found(candidate)` hears each repair, `hooks.tried(finding, candidate)` what misses the goal. */
 export class Search {
   constructor(board, judge, limit, hooks) {
-    Object.assign(this, { board, judge, limit, hooks });
+    this.board = board;
+    this.judge = judge;
+    this.limit = limit;
+    this.hooks = hooks;
     this.candidate = new Candidate(board);
     this.pool = new Pool();
     this.best = null; // the moves of the smallest repair
@@ -22,6 +25,7 @@ export class Search {
     this.isCut = false;
     this.isSure = true; // no candidate was left undecided
     this.visited = new Set();
+    this.openAtFirst = null; // cells of the board's picture
   }
 
   get size() {

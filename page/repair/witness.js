@@ -29,7 +29,11 @@ export function haveSameClue(one, two, size) {
 /** Cells that share lines, each with a value: another colour, or the mask of its candidates. */
 export class Witness {
   constructor(board, cells, values, codes, isMask) {
-    Object.assign(this, { board, cells, values, codes, isMask });
+    this.board = board;
+    this.cells = cells;
+    this.values = values;
+    this.codes = codes;
+    this.isMask = isMask;
     this.inLine = new Map(); // line: positions in `cells`
     cells.forEach((index, at) => {
       for (const one of board.linesOf(index)) {

@@ -1,103 +1,233 @@
-// The panel 'Fix it' of an ambiguous picture: cells to be given until it is unique, or single cells to be repainted.
+// The panel 'Fix it': proposals of cells to repaint, or to give, until the picture is the only solution or needs no guessing. They
+// are compared side by side; one click takes one, and one undo takes it back.
 
 import { $, make, say } from '../base/elements.js';
-import { many } from '../base/words.js';
-import { cssOf, inkOn } from '../document/colours.js';
+import { on } from '../base/events.js';
+import { many, number } from '../base/words.js';
 import { placeOf } from '../document/document.js';
 import { LETTERS } from '../document/limits.js';
+import { cellsThatDiffer } from '../document/shapes.js';
 import { sheet } from '../draw/sheet.js';
 import { bench } from '../engine/bench.js';
-import { givensFor, repaintsFor } from '../engine/fix.js';
-import { setDown } from './select.js';
+import { cellsOf } from '../grade/puzzle.js';
+import { proposalItem } from './proposals.js';
+import { selection, setDown } from './select.js';
 import { searches, secondsChosen, verdictView } from './verdict.js';
 
-let fixPreview = false;
+const GOALS = [['unique', 'one solution'], ['lines', 'no guessing']];
+const MIRRORS = [['', 'as it comes'], ['x', 'left and right the same'], ['y', 'top and bottom the same']];
+const MOST_SHOWN = 24;
+const FEW = 8; // cells: what needs more is too loose
+const SPARE = 2; // seconds that a search in the worker has left to end by itself
+const LONGER = 'A longer “Search time” may find some.';
+const LOOSE = `More than ${FEW} cells: the picture is too loose. A bolder threshold at import, or thicker lines, may help more.`;
+
+// What was found for the picture at hand, and what was asked for.
+const fixing = { goal: 'unique', rule: true, mirror: '', found: [], kept: new Set(), near: null, frame: 0, previews: false };
+
+/** Whether there is something to mend. */
+export const canFix = () => bench.state !== null && (bench.state.verdict.word !== 'unique' || bench.state.open > 0);
+
+const option = (chosen) => ([value, name]) => make('option', { value, selected: value === chosen }, name);
+const choice = (id, values, chosen, change) => make('select', { id, onchange: (event) => change(event.target.value) }, ...values.map(option(chosen)));
+const button = (id, name, run) => make('button', { type: 'button', id, onclick: run }, name);
 
 export function openFix() {
   const { state } = bench;
-  if (!state?.verdict.other) return;
+  if (!canFix()) return;
+  fixing.goal = state.verdict.word === 'unique' ? 'lines' : 'unique';
   $('fix').hidden = false;
   $('fix').replaceChildren(
     make('h3', {}, 'Fix it'),
-    make('p', {}, 'Two ways to make your picture the only solution: give cells, which are printed with the puzzle, or repaint one.'),
+    make('p', {}, 'Repaint a few cells, or give some: these are printed with the puzzle.'),
+    make('p', {}, make('label', {}, 'Until it has ', choice('fix-goal', GOALS, fixing.goal, (value) => { fixing.goal = value; }))),
+    make('details', { id: 'fix-more' }, make('summary', {}, 'What may be repainted'), ...choices()),
     make('div', { class: 'group' },
-      make('button', { type: 'button', id: 'fix-give', onclick: giveCells }, 'Give cells'),
-      make('button', { type: 'button', id: 'fix-paint', onclick: findRepaints }, 'Find cells to repaint'),
-      make('button', { type: 'button', id: 'fix-close', onclick: closeFix }, 'Close')),
+      button('fix-paint', 'Find cells to repaint', findRepairs), button('fix-give', 'Give cells', giveCells), button('fix-close', 'Close', closeFix)),
     make('p', { id: 'fix-said', role: 'status' }),
-    make('ul', { id: 'fix-list', 'aria-label': 'Cells to repaint' }),
+    make('ul', { id: 'fix-list', 'aria-label': 'Proposals' }),
   );
-  $('fix-give').focus();
+  showLocks();
+  $('fix-paint').focus();
 }
+
+function choices() {
+  const rule = make('input', { type: 'checkbox', id: 'fix-rule', checked: fixing.rule, onchange: (event) => { fixing.rule = event.target.checked; } });
+  return [
+    make('p', {}, make('label', {}, rule, ' Only to a neighbour’s colour, and no new lone pixel')),
+    make('p', {}, make('label', {}, 'Symmetry ', choice('fix-mirror', MIRRORS, fixing.mirror, (value) => { fixing.mirror = value; }))),
+    make('div', { class: 'group' }, button('fix-lock', 'Lock all but the selection', lockOutside), button('fix-unlock', 'Unlock all', unlock)),
+    make('p', { id: 'fix-locks', class: 'faint' }),
+  ];
+}
+
+// ---- locks
+
+function lockOutside() {
+  const { box } = selection;
+  if (!box) return fixSays('Select the part that may change first (s).');
+  return bench.become((doc) => {
+    const locks = new Set();
+    for (let place = 0; place < doc.rows * doc.columns; place++) {
+      const [row, col] = [Math.floor(place / doc.columns), place % doc.columns];
+      if (row < box.top || row > box.bottom || col < box.left || col > box.right) locks.add(place);
+    }
+    return { ...doc, locks };
+  });
+}
+
+const unlock = () => bench.become((doc) => ({ ...doc, locks: new Set(), inks: doc.inks.map(({ locked: _, ...ink }) => ink) }));
+
+function showLocks() {
+  const { state } = bench;
+  if (!state || !$('fix-locks')) return;
+  const colours = state.inks.filter((ink) => ink.locked).length;
+  $('fix-locks').textContent = `Locked: ${many(state.locks.size, 'cell')}, ${many(colours, 'colour')}. Cells are locked by the tool Lock cells (k), colours in the palette.`;
+}
+
+/** What may change, as page/repair/board.js takes it. */
+function boardOf(state) {
+  return {
+    rows: state.rows, columns: state.columns, cells: cellsOf(state.picture), givens: [...state.givens], lockedCells: [...state.locks],
+    lockedColours: state.colours.flatMap((_, at) => (state.inks[at]?.locked ? [at] : [])), rule: fixing.rule, mirror: fixing.mirror || null,
+  };
+}
+
+// ---- searching
 
 export function closeFix() {
   if ($('fix')) $('fix').hidden = true;
-  showPreview(null);
+  preview(null);
 }
 
 const fixSays = (text) => { if ($('fix-said')) $('fix-said').textContent = text; };
 
-const LONGER = 'A longer “Search time” may find some.';
+// Runs a call of the worker on the picture at hand; null where another picture is shown by then.
+async function searched(name, work) {
+  setDown();
+  await bench.rest();
+  const { state } = bench;
+  fixSays('');
+  verdictView.ended = null;
+  const { version } = searches;
+  const done = await searches.job(name, secondsChosen() + SPARE, (copy) => work(copy, state));
+  return version === searches.version && bench.state ? { done, state } : null;
+}
 
-// Gives cells in which the pictures differ, as one stroke. Where time ends before they suffice, the next time goes on from there.
+// Gives the fewest cells that suffice, as one stroke.
 async function giveCells() {
-  const { state } = bench;
-  fixSays('');
-  verdictView.ended = null;
-  const version = searches.version;
-  const found = await searches.job('Looking for cells to give', secondsChosen(), (copy) => givensFor(copy, state, state.verdict.other));
-  if (version !== searches.version) return;
-  if (!found?.isEnough && verdictView.ended === 'stopped') return fixSays('Stopped before enough cells were found.');
-  if (!found) return fixSays(`No cells were found in this time. ${LONGER}`);
-  const { cells, isEnough } = found;
+  const { goal } = fixing;
+  const run = await searched('Looking for cells to give', (copy, state) => copy.work('give', { board: boardOf(state), goal, seconds: secondsChosen() }, ({ found }) => {
+    copy.found = found;
+    copy.note(`${many(found.given.length, 'cell')} suffice`);
+  }));
+  if (!run) return;
+  if (!run.done?.given) return fixSays(verdictView.ended === 'stopped' ? 'Stopped before there were cells enough.' : `No cells were found in this time. ${LONGER}`);
+  await takeGivens(run.state, run.done);
+}
+
+async function takeGivens(state, { given, isLeast }) {
   setDown();
-  await bench.stroke(cells.map((index) => `pin ${placeOf(state, index)}`));
-  say(`${many(cells.length, 'cell')} given${isEnough ? '' : ', not enough yet: “Fix it” goes on from here'}. One undo takes ${cells.length === 1 ? 'it' : 'them'} back.`);
+  await bench.stroke(given.map((index) => `pin ${placeOf(state, index)}`));
+  say(`${many(given.length, 'cell')} given${isLeast ? ': no fewer do' : ''}. One undo takes ${given.length === 1 ? 'it' : 'them'} back.`);
 }
 
-// Lists single cells whose repaint makes the picture unique.
-async function findRepaints() {
-  const { state } = bench;
-  const version = searches.version;
-  $('fix-list').replaceChildren();
-  fixSays('');
-  verdictView.ended = null;
-  const found = await searches.job('Looking for cells to repaint', secondsChosen(), (copy) => repaintsFor(copy, state, state.verdict.other, (one) => listRepaint(state, one)));
-  if (version !== searches.version) return;
-  const none = verdictView.ended ? `No single repaint was found in this time. ${LONGER}` : 'No single repaint makes it unique.';
-  fixSays(found?.length ? `${many(found.length, 'repaint')} found. Choose one to paint it; point at one to see it first.` : none);
+// Lists proposals, while they are found: the smallest and least seen first.
+async function findRepairs() {
+  Object.assign(fixing, { found: fixing.found.filter((one) => fixing.kept.has(one)), near: null });
+  showFound();
+  const { goal } = fixing;
+  const run = await searched('Looking for repairs', async (copy, state) => {
+    const board = boardOf(state);
+    const told = ({ found, nearer }) => {
+      if (found) add(state, found);
+      else fixing.near = nearer;
+      copy.note(noteOf(state, goal));
+    };
+    const given = await copy.work('give', { board, goal, seconds: Math.min(2, secondsChosen() / 4) }, () => {});
+    if (given.given) add(state, given);
+    return copy.work('repair', { board, goal, seconds: Math.max(1, secondsChosen() - 2) }, told);
+  });
+  if (run) tellFound(run.state, run.done, goal);
 }
 
-function listRepaint(state, one) {
-  const { index, letter } = one;
-  const [row, col] = [Math.floor(index / state.columns), index % state.columns];
-  const before = state.picture[row][col];
-  const show = () => showPreview(one);
-  const hide = () => showPreview(null);
-  const hears = { onclick: () => paintRepaint(state, one), onpointerenter: show, onfocus: show, onpointerleave: hide, onblur: hide };
-  const button = make('button', { type: 'button', ...hears },
-    `Row ${row + 1}, column ${col + 1}: `, fixChip(state, before), ' to ', fixChip(state, letter));
-  $('fix-list').append(make('li', {}, button));
+function add(state, one) {
+  fixing.found.push({ ...one, state });
+  if (!fixing.frame) fixing.frame = requestAnimationFrame(showFound);
 }
 
-export function fixChip(state, letter) {
-  const triple = state.colours[LETTERS.indexOf(letter)];
-  const chip = make('span', { class: 'chip' }, letter === '.' ? 'background' : letter);
-  chip.style.background = cssOf(triple, state.maxval);
-  chip.style.color = inkOn(triple, state.maxval);
-  return chip;
+const repaints = () => fixing.found.filter(({ cells }) => cells).sort((one, other) => one.cells.length - other.cells.length || one.pain - other.pain);
+
+// How far a search is, for the line that tells what runs.
+function noteOf(state, goal) {
+  const [best] = repaints();
+  if (best) return `${many(best.cells.length, 'cell')} to repaint`;
+  const { near } = fixing;
+  if (!near) return '';
+  const now = goal === 'lines' ? state.open : state.verdict.other ? cellsThatDiffer(state.picture, state.verdict.other).length : null;
+  const left = goal === 'lines' ? near.open : near.differing;
+  return `${goal === 'lines' ? 'cells to guess' : 'other solutions differ in'} ${now === null ? '' : `${number(now)} → `}${number(left)}`;
 }
 
-/** Shows a cell with a colour that it does not have, or takes that back. */
-function showPreview(one) {
-  if (one) sheet.reveal(Math.floor(one.index / bench.state.columns), one.index % bench.state.columns);
-  if (one || fixPreview) sheet.preview(one ? new Map([[one.index, one.letter]]) : null);
-  fixPreview = one !== null;
+function tellFound(state, done, goal) {
+  showFound();
+  const [best] = repaints();
+  if (!best) {
+    const near = noteOf(state, goal);
+    const ended = verdictView.ended || !done?.isThrough;
+    return fixSays(`No repaint was found${ended ? ' in this time' : ''}. ${near ? `Nearest: ${near}. ` : ''}${ended ? LONGER : LOOSE}`);
+  }
+  const least = done && done.proved >= best.cells.length - 1 ? ' None is smaller.' : '';
+  const loose = best.cells.length > FEW ? ` ${LOOSE}` : '';
+  return fixSays(`${many(repaints().length, 'proposal')} found.${least}${loose} Choose one to paint it; point at one to see it first.`);
 }
 
-async function paintRepaint(state, { index, letter }) {
-  showPreview(null);
+// ---- the list
+
+function showFound() {
+  fixing.frame = 0;
+  if (!$('fix-list')) return;
+  const [best] = repaints();
+  const shown = repaints().filter((one) => one.cells.length <= best.cells.length + 1 || fixing.kept.has(one)).slice(0, MOST_SHOWN);
+  const given = fixing.found.filter((one) => one.given);
+  const hears = { take, keep, preview, isKept: (one) => fixing.kept.has(one) };
+  $('fix-list').replaceChildren(...[...shown, ...given.slice(-1)].map((one) => proposalItem(one, hears)));
+}
+
+function keep(one, is) {
+  if (is) fixing.kept.add(one);
+  else fixing.kept.delete(one);
+}
+
+/** Shows a proposal on the sheet, or takes that back. */
+function preview(one) {
+  if (one?.cells && bench.state) {
+    const [{ index }] = one.cells;
+    sheet.reveal(Math.floor(index / bench.state.columns), index % bench.state.columns);
+    sheet.preview(new Map(one.cells.map(({ index: place, colour }) => [place, LETTERS[colour]])));
+  } else if (fixing.previews) sheet.preview(null);
+  fixing.previews = Boolean(one?.cells);
+}
+
+async function take(one) {
+  preview(null);
+  if (one.given) return takeGivens(one.state, one);
   setDown();
-  await bench.stroke([`paint ${placeOf(state, index)} ${letter}`]);
-  say('Repainted. One undo takes it back.');
+  await bench.stroke(one.cells.map(({ index, colour }) => `paint ${placeOf(one.state, index)} ${LETTERS[colour]}`));
+  say(`${many(one.cells.length, 'cell')} repainted. One undo takes ${one.cells.length === 1 ? 'it' : 'them'} back.`);
+}
+
+/** Forgets proposals for a picture that is another one now. */
+export function startFixing() {
+  let before = null;
+  on('shown', (state) => {
+    showLocks();
+    const isSame = before && before.picture.join() === state.picture.join() && before.givens.size === state.givens.size;
+    before = state;
+    if (isSame) return;
+    Object.assign(fixing, { found: [], kept: new Set(), near: null });
+    if ($('fix-list')) showFound();
+    fixSays('');
+  });
+  on('closed', closeFix);
 }

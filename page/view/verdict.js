@@ -4,13 +4,13 @@
 import { $, make, say } from '../base/elements.js';
 import { on } from '../base/events.js';
 import { many, number } from '../base/words.js';
+import { cellsThatDiffer } from '../document/shapes.js';
 import { sheet } from '../draw/sheet.js';
 import { bench } from '../engine/bench.js';
 import { startEngine } from '../engine/client.js';
-import { cellsThatDiffer } from '../engine/fix.js';
 import { Searches } from '../engine/searches.js';
 import { actionButton, actions, addAction } from './actions.js';
-import { closeFix, openFix } from './fixing.js';
+import { canFix, closeFix, openFix } from './fixing.js';
 
 const TIMES = [['5', '5 s'], ['30', '30 s'], ['', 'until stopped']];
 const HATCHINGS = [['off', 'the picture alone'], ['differing', 'cells that differ'], ['open', 'open cells']];
@@ -61,7 +61,7 @@ function makeVerdictPanel() {
       make('p', { id: 'verdict-why' }),
       make('div', { id: 'verdict-do', class: 'group' }),
       make('div', { id: 'fix', hidden: true }),
-      make('dl', {}, make('dt', { id: 'open-name' }, 'Need guessing'), make('dd', { id: 'open' }), make('dt', {}, 'Clues that changed'), make('dd', { id: 'changed' })),
+      make('dl', {}, make('dt', {}, 'Grade'), make('dd', { id: 'grade' }), make('dt', { id: 'open-name' }, 'Need guessing'), make('dd', { id: 'open' }), make('dt', {}, 'Clues that changed'), make('dd', { id: 'changed' })),
       make('p', {}, make('label', {}, 'Show ', choiceOf('hatching', HATCHINGS, (value) => setHatching(value)))),
       make('p', { id: 'legend', class: 'faint' }),
       make('p', {}, make('label', {}, 'Search time ', choiceOf('seconds', TIMES, setSeconds)))),
@@ -150,10 +150,10 @@ function showVerdict(state) {
   $('changed').textContent = [numbersOf('row', state.changed.rows), numbersOf('column', state.changed.columns)].filter(Boolean).join('; ') || 'none';
   $('changed').title = $('changed').textContent;
   if (word !== 'ambiguous') sheet.other = false;
-  showVerdictButtons(word);
+  showVerdictButtons();
 }
 
-function showVerdictButtons(word) {
+function showVerdictButtons() {
   for (const button of $('verdict-do').children) {
     const action = actions.get(button.dataset.action);
     button.hidden = !action.can();
@@ -163,7 +163,7 @@ function showVerdictButtons(word) {
     }
     if (action.id === 'search') button.textContent = verdictView.seconds === '' ? 'Search until stopped' : `Search for ${verdictView.seconds} s`;
   }
-  if (word !== 'ambiguous') closeFix();
+  if (!canFix()) closeFix();
 }
 
 // ---- what runs
@@ -224,7 +224,7 @@ function sayVerdict(state) {
 export function startVerdict() {
   for (const action of [
     { id: 'other', name: 'Show the other picture', key: 'x', run: () => showOther(!sheet.other), can: () => isWord('ambiguous') },
-    { id: 'fix', name: 'Fix it …', run: () => openFix(), can: () => isWord('ambiguous') },
+    { id: 'fix', name: 'Fix it …', run: () => openFix(), can: canFix },
     { id: 'search', name: 'Search for another picture', run: () => searches.judge(), can: () => isWord('undecided') && !searches.running },
     { id: 'stop', name: 'Stop the search', key: '.', run: () => searches.stop(), can: () => searches.running !== null },
     { id: 'hatching', name: 'Show open cells, or those that differ', key: 'h', run: nextHatching },
@@ -250,5 +250,5 @@ export function startVerdict() {
 /** Fills the panel. */
 export function showVerdictPanel() {
   makeVerdictPanel();
-  for (const id of ['other', 'fix', 'search', 'play']) $('verdict-do').append(actionButton(actions.get(id)));
+  for (const id of ['other', 'fix', 'search', 'play', 'walk']) $('verdict-do').append(actionButton(actions.get(id)));
 }

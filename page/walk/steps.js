@@ -144,7 +144,8 @@ export function treeSteps(puzzle, certificate) {
 /** The path: steps with what each cell can be after so many of them. */
 export class Walk {
   constructor(puzzle, steps) {
-    Object.assign(this, { puzzle, steps });
+    this.puzzle = puzzle;
+    this.steps = steps;
     this.known = { at: 0, masks: puzzle.candidates() };
   }
 

@@ -1,0 +1,169 @@
+// Walk through: the solving path on the field, step by step, with a slider, the hardest step, and the heat map.
+
+import { $, make } from '../base/elements.js';
+import { clamp, number } from '../base/words.js';
+import { LETTERS } from '../document/limits.js';
+import { nameOf } from '../document/colours.js';
+import { searches } from '../view/verdict.js';
+import { Walk, bookSteps, easiestSteps, roundsOf, treeSteps } from '../walk/steps.js';
+import { puzzleOf, stepText } from './hints.js';
+import { play, playSays } from './play.js';
+import { drawPlay } from './playdraw.js';
+
+const ORDERS = [['easiest', 'the easiest line next'], ['book', 'in the order of the proof']];
+const PACE = 900; // milliseconds a step
+const MOST_REASONS = 30000; // that are asked for
+const AT_ONCE = 400; // questions in one text
+
+const walking = { walk: null, at: 0, timer: 0, order: 'easiest', marks: null };
+
+/** Whether the path is shown in place of the player's marks. */
+export const isWalking = () => walking.walk !== null;
+
+const button = (id, name, run, more = {}) => make('button', { type: 'button', id, onclick: run, ...more }, name);
+
+/** The bar of the path, which is hidden until it is walked. */
+export function walkBar() {
+  return make('div', { id: 'walk-bar', class: 'group', hidden: true },
+    button('walk-back', '◂', () => goTo(walking.at - 1), { 'aria-label': 'A step back' }),
+    make('input', { type: 'range', id: 'walk-at', min: 0, value: 0, 'aria-label': 'Step', oninput: (event) => goTo(Number(event.target.value)) }),
+    button('walk-on', '▸', () => goTo(walking.at + 1), { 'aria-label': 'A step on' }),
+    button('walk-play', 'Play', turnPlaying), button('walk-hardest', 'Hardest step', () => goTo(walking.walk.hardest)),
+    make('label', {}, 'Order ', make('select', { id: 'walk-order', onchange: (event) => begin(event.target.value) }, ...ORDERS.map(([value, name]) => make('option', { value }, name)))),
+    make('label', {}, make('input', { type: 'checkbox', id: 'walk-heat', onchange: showHeat }), ' Heat map'),
+    button('walk-end', 'Solve it yourself', endWalk));
+}
+
+/** Begins the path from the empty puzzle; the player's marks come back at its end. */
+export async function startWalk() {
+  walking.marks ??= play.marks;
+  $('walk-bar').hidden = false;
+  await begin(walking.order);
+  $('walk-at').focus();
+}
+
+async function begin(order) {
+  stopPlaying();
+  walking.order = order;
+  $('walk-order').value = order;
+  const { state } = play;
+  const puzzle = puzzleOf(state);
+  playSays('Looking for the path …');
+  const lines = order === 'book' ? await stepsOfBook(puzzle, state) : easiestSteps(puzzle);
+  const tree = state.open > 0 && state.verdict.word === 'unique' ? await searches.certify() : null;
+  if (!$('walk-bar') || play.state !== state) return;
+  walking.walk = new Walk(puzzle, [...lines, ...(tree ? treeSteps(puzzle, tree) : [])]);
+  $('walk-at').max = walking.walk.steps.length;
+  goTo(0);
+}
+
+// The session's reasons of all cells, asked of the second worker; the easiest order where that would be too many.
+async function stepsOfBook(puzzle, state) {
+  const used = [...new Set(['.', ...state.picture.join('')])];
+  const asked = [];
+  puzzle.cells.forEach((colour, index) => {
+    for (const letter of used) if (LETTERS.indexOf(letter) !== colour) asked.push({ index, colour: LETTERS.indexOf(letter), line: `why ${Math.floor(index / state.columns) + 1} ${(index % state.columns) + 1} ${letter}` });
+  });
+  if (asked.length > MOST_REASONS) return easiestSteps(puzzle);
+  const answers = await searches.job('Asking for reasons', Infinity, async (copy) => {
+    const all = [];
+    for (let at = 0; at < asked.length; at += AT_ONCE) all.push(...await copy.say(...asked.slice(at, at + AT_ONCE).map(({ line }) => line)));
+    return all;
+  });
+  return answers ? bookSteps(puzzle, asked.flatMap((one, at) => reasonOf(puzzle, one, answers[at]))) : easiestSteps(puzzle);
+}
+
+// A session's answer as a reason of the path; none where the colour is left, or a given excludes it.
+function reasonOf(puzzle, { index, colour }, answer) {
+  if (answer.kind !== 'why' || answer.word !== 'by') return [];
+  const line = answer.axis === 'r' ? answer.at - 1 : puzzle.rows + answer.at - 1;
+  const [first, step] = puzzle.placeOf(line);
+  const premises = answer.premises.map(({ at, letters }) => ({
+    index: first + (at - 1) * step,
+    mask: [...letters].reduce((mask, letter) => mask | (1 << LETTERS.indexOf(letter)), 0),
+  }));
+  return [{ index, colour, line, premises }];
+}
+
+// ---- steps
+
+function textOf(step) {
+  const { state } = play;
+  const place = (index) => `row ${Math.floor(index / state.columns) + 1}, column ${(index % state.columns) + 1}`;
+  const line = (at) => (at < state.rows ? `row ${at + 1}` : `column ${at - state.rows + 1}`);
+  if (step.kind === 'suppose') return `Suppose ${place(step.index)} is ${step.colour === 0 ? 'background' : nameOf(state.colours[step.colour], state.maxval)} …`;
+  if (step.kind === 'dead') return `… then ${line(step.line)} cannot be filled: it is not so.`;
+  if (step.kind === 'done') return '… and this is the picture.';
+  return stepText(step);
+}
+
+function goTo(at) {
+  const { walk } = walking;
+  if (!walk) return;
+  walking.at = clamp(at, 0, walk.steps.length);
+  const masks = walk.after(walking.at);
+  const letter = (mask) => (mask && !(mask & (mask - 1)) ? LETTERS[31 - Math.clz32(mask)] : '?');
+  const { columns, rows } = play.state;
+  play.marks = Array.from({ length: rows }, (_, row) => Array.from(masks.subarray(row * columns, (row + 1) * columns), letter));
+  const step = walking.at > 0 ? walk.steps[walking.at - 1] : null;
+  play.shown = step && { line: step.line ?? null, cells: step.settled, premises: step.premises };
+  $('walk-at').value = walking.at;
+  $('walk-back').disabled = walking.at === 0;
+  $('walk-on').disabled = walking.at === walk.steps.length;
+  playSays(`Step ${number(walking.at)} of ${number(walk.steps.length)}${step ? `: ${textOf(step)}` : ': the empty puzzle.'}`);
+  if (walking.at === walk.steps.length) stopPlaying();
+  drawPlay();
+}
+
+function turnPlaying() {
+  if (walking.timer) return stopPlaying();
+  if (walking.at === walking.walk?.steps.length) goTo(0);
+  $('walk-play').textContent = 'Pause';
+  walking.timer = setInterval(() => goTo(walking.at + 1), PACE);
+}
+
+function stopPlaying() {
+  clearInterval(walking.timer);
+  walking.timer = 0;
+  if ($('walk-play')) $('walk-play').textContent = 'Play';
+}
+
+function showHeat() {
+  play.heat = $('walk-heat').checked ? roundsOf(puzzleOf(play.state)) : null;
+  drawPlay();
+  if (play.heat) playSays('The number in a cell is the round in which it falls; ? needs a guess.');
+}
+
+/** Ends the path: the player's marks stand again. */
+export function endWalk() {
+  stopPlaying();
+  if (walking.marks) play.marks = walking.marks;
+  Object.assign(walking, { walk: null, marks: null, at: 0 });
+  Object.assign(play, { shown: null, heat: null });
+  if (!$('walk-bar')) return;
+  $('walk-bar').hidden = true;
+  $('walk-heat').checked = false;
+  playSays('');
+  drawPlay();
+  $('play-field').focus({ preventScroll: true });
+}
+
+const KEYS = { ArrowLeft: -1, ArrowRight: 1, PageUp: -10, PageDown: 10 };
+
+/** Takes a key of the path; answers whether it was one. */
+export function walkKey(event) {
+  if (!isWalking()) return false;
+  if (event.target === $('walk-order') || event.target === $('walk-at')) return event.target !== $('walk-order') && event.key in KEYS ? step(event.key) : false;
+  if (event.key in KEYS) return step(event.key);
+  if (event.key === 'Home') goTo(0);
+  else if (event.key === 'End') goTo(walking.walk.steps.length);
+  else if (event.key === ' ' && event.target === $('play-field')) turnPlaying();
+  else if (event.key === 'h') goTo(walking.walk.hardest);
+  else return false;
+  return true;
+}
+
+function step(key) {
+  goTo(walking.at + KEYS[key]);
+  return true;
+}

@@ -1,0 +1,64 @@
+// The grade beside the verdict: worked out in the second worker once the hand rests, never on the way of a stroke.
+
+import { $ } from '../base/elements.js';
+import { on, tell } from '../base/events.js';
+import { many, number } from '../base/words.js';
+import { bench } from '../engine/bench.js';
+import { gradeText } from '../grade/grade.js';
+import { searches, secondsChosen } from './verdict.js';
+
+const REST = 700; // milliseconds without a stroke or a search
+const MOST_SECONDS = 5; // for a certificate
+
+const grading = { of: null, grade: null, waits: 0 };
+
+const isSame = (one, other) => one !== null && one.picture === other.picture && one.givens === other.givens;
+
+/** The grade of the picture at hand, or null where there is none yet. */
+export const gradeAtHand = () => (bench.state && grading.of && isSame(grading.of, bench.state) && !grading.grade.none ? grading.grade : null);
+
+/** The grade in one line with its figures, or '' where there is none. */
+export const gradeLine = () => (gradeAtHand() ? gradeText(gradeAtHand()) : '');
+
+// The figures in words.
+function figuresText({ rounds, evaluations, wait, open, splits, depth }) {
+  const lines = `${many(rounds, 'round')}, ${many(evaluations, 'line')} looked at, longest wait ${number(wait)}`;
+  return open ? `${number(open)} cells to guess, ${many(splits, 'split')}, depth ${number(depth)}; ${lines}` : lines;
+}
+
+function showGrade() {
+  const grade = gradeAtHand();
+  $('grade').textContent = grade ? `${grade.word} (${figuresText(grade)})` : '–';
+  $('grade').title = grade ? 'Worked out by a plain solver; not proved.' : 'Only a puzzle with one solution has a grade.';
+}
+
+// Waits for rest. Any other search comes first.
+function schedule() {
+  clearTimeout(grading.waits);
+  if (bench.state?.verdict.word === 'unique' && !(grading.of && isSame(grading.of, bench.state))) grading.waits = setTimeout(work, REST);
+}
+
+async function work() {
+  const { state } = bench;
+  if (!state) return;
+  if (searches.running || bench.running) return schedule();
+  const puzzle = { picture: state.picture, givens: [...state.givens], verdict: state.verdict.word, map: state.map };
+  const grade = await searches.job('', Math.min(MOST_SECONDS, secondsChosen()), (copy) => copy.grade(puzzle));
+  if (bench.state && isSame(bench.state, state) && (grade || !searches.running)) {
+    Object.assign(grading, { of: state, grade: grade ?? { none: 'time' } });
+    if (grade?.none === 'map') console.error('The plain solver ends elsewhere than the proved map.');
+    showGrade();
+    tell('graded', gradeAtHand());
+  } else schedule();
+}
+
+/** Hears verdicts. */
+export function startGrading() {
+  on('stroke', () => clearTimeout(grading.waits));
+  for (const name of ['shown', 'judged']) {
+    on(name, () => {
+      showGrade();
+      schedule();
+    });
+  }
+}
