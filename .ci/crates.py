@@ -13,7 +13,7 @@ ROOT = Path(__file__).resolve().parent.parent
 README = ROOT / 'crates' / 'README.md'
 HEAD = '''# Crates
 
-For somebody who looks for a place in the code: the crates in reading order. [ARCHITECTURE.md](../docs/ARCHITECTURE.md) has their doors, `crates.txt` what they stand on. Made by `.ci/crates.py --write`.
+For somebody who looks for a place in the code: the crates in reading order. [ARCHITECTURE.md](../docs/ARCHITECTURE.md) names their main items, and `crates.txt` what they depend on. Made by `.ci/crates.py --write`.
 
 '''
 

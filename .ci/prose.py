@@ -3,16 +3,16 @@
 
 For each *.md of the repository, or those that are named: a sentence above 40 words, a stiff phrase, a link or a path that
 does not exist. Of some documents also:
-- README.md: a command that the gate does not run, too long sentences in the mean;
-- docs/PROOF.md: a line of a clause that stands in no source;
+- README.md: a command that CI does not run, sentences that are too long on average;
+- docs/PROOF.md: a line of a clause that is in no source;
 - docs/PROMISES.md: a call or a clause that no source has;
 - docs/DEFINITIONS.md: a name that is not defined in the folders of its section;
 - docs/MUST_FAIL.md: an edit without its row, or a row without its edit;
-- docs/TRUST.md: a file that has another number of lines than is told behind its name.
+- docs/TRUST.md: a file that has another number of lines than is written after its name.
 
 A sentence's words are those that have a letter or a digit. And the file KIT must have a line with the logic that `rt version`
-tells, where there is an rt. It counts, and with --words lists, the words for which INSTEAD has a better one; in the documents
-that CLEAN names each of these is a fault.
+prints, where there is an rt. It counts, and with --words lists, the words for which INSTEAD has a better one; in the documents
+that CLEAN names, each of these counts as a fault. A document that has none left is to be named there.
 
 A block of README.md that begins with ```sh is run by .ci/tutorial, so its commands pass. A block that begins with
 ```sh build holds commands that only build or serve; each must begin as one of BUILDS. No other block may be named sh.
@@ -31,26 +31,51 @@ MOST_WORDS = 40
 README_MEAN = 16
 STIFF = ["want of memory", "for want of", "wanting", "is had", "are had", "was had", "be had", "in front of which",
          "behind which", "thereof", "therein", "whereof", "hereby", "wherein"]
-# Words of our own that a reader of other documentation does not know, as regular expressions, each with the usual word.
+# Private, clipped or archaic words, which a reader of other documentation does not expect, as regular expressions, each with the
+# usual word.
 INSTEAD = {
-    r"lack of memory|refused memory": "out of memory",
+    r"lack of memory|refused memory|(?<!of )memory (?:is|was) refused|memory lacks": "out of memory",
     r"growths?(?: of memory)?(?: (?:is|are|be|was|were))? refused|refused growths?": "failed allocation",
+    r"growths?(?: of memory)?": "allocation, increase",
     r"by chance": "random",
-    r"(?:by |against )?a listing(?: of)?|listings": "brute force",
+    r"(?:by |against )?a listing(?: of)?|listings|by listing": "brute force",
     r"the gate(?:'s)?|of the gate": "CI",
     r"(?:the|with the|a) kit(?:'s)?|kits": "toolchain",
     r"is told by|are told by|told by": "is defined by, follows from",
+    r"(?:is|are|was|were) told": "is said, is named",
     r"wrong words|the words that|mistake in the words|reads? the words": "arguments",
+    r"without words|words? (?:on|of) the command line": "arguments",
     r"faults?": "error",
     r"hang together": "connected",
     r"stands? (?:behind|in front of)": "follows, precedes",
+    r"stands? (?:on|in|at|below|above|beside|once)": "is in, depends on, occurs",
     r"behind": "after",
     r"comes to (?:its|an) end": "ends",
     r"in the mean": "on average",
-    r"dearer|dearest": "costs more",
+    r"dear|dearer|dearest": "costs more, expensive",
     r"told anew|judged anew|made anew|read anew": "again",
+    r"handed (?:in|over|on)|hands? (?:over|on)|hand(?:s|ed)? (?:it|them) (?:over|on)": "passed, passes",
+    r"a first part|a front|fronts of": "a prefix",
+    r"speaks? of": "is about, mentions",
+    r"aloud": "explains",
+    r"the same of": "the same for",
+    r"at the most": "at most",
+    r"thrice": "three times",
+    r"by rising|rising (?:number|place|order)s?": "ascending",
+    r"heeds?|heeding": "follows, agrees with",
+    r"passed over": "skipped",
+    r"goes round|going round": "in rounds",
+    r"taken off": "removed, subtracted",
+    r"(?:for|of|so) who": "whoever",
+    r"(?<!there )is no (?:part|picture|number|colour|edit|text|command|given|puzzle|program)": "is not a",
+    r"instructions a byte": "per",
 }
-CLEAN: set[str] = set()
+CLEAN = {os.path.join(*path.split("/")) for path in """
+    CHANGELOG.md CONTRIBUTING.md RELEASING.md docs/ARCHITECTURE.md docs/AUDIT.md docs/COMPARISON.md docs/DECISIONS.md
+    docs/DEFINITIONS.md docs/FORMATS.md docs/GLOSSARY.md docs/MUST_FAIL.md docs/PROMISES.md docs/PROOF.md docs/WEB.md
+    examples/README.md measure/README.md packages/README.md packages/linux/README.md packages/npm/README.md page/README.md
+    python/README.md tests/README.md
+""".split()}
 # Documents that a script makes of the sources, which says itself whether they are in order.
 MADE = {os.path.join("docs", "BASE.md")}
 # Folders in which a path that is named must exist, and commands that build, prove or serve rather than answer.

@@ -1,16 +1,16 @@
 /* Checks certificates of nonograms, and judges pictures, in a program of your own: over libnonobench, which is proved.
  *
- * Link with libnonobench.a or libnonobench.so (c/build). There are two layers. The proved calls answer on a desk; the functions
- * at the end of this file each make a desk, ask once and end it, and suit most programs.
+ * Link with libnonobench.a or libnonobench.so (c/build). There are two layers. The proved calls work on a desk. The functions at
+ * the end of this file each make a desk, ask one question and end the desk; they suit most programs.
  *
- * What is proved is each call of the library, from the bytes that it is handed to its status and text: docs/PROMISES.md has the
- * clauses. An accepted certificate says that no other picture of that size has the clues and the colours in its givens.
- * What nothing checks is the caller's word:
- *   - a pointer leads to as many bytes as the length beside it says. In a call of the library it is not null, even beside the
- *     length 0; but at a null nonobench_end does nothing. The functions at the end of this file take a null beside the length 0,
- *     and refuse one beside a length above 0;
- *   - a desk's cell holds what nonobench_start put there until nonobench_end, and calls with one desk come one after another;
- *   - what a call writes to lies apart from all else that it is handed.
+ * Each call of the library is proved, from the bytes that it is passed to its status and text: docs/PROMISES.md has the clauses.
+ * An accepted certificate proves that no other picture of that size has the clues and the colours in its givens.
+ * Nothing checks that the caller meets its obligations:
+ *   - a pointer leads to as many bytes as the length that goes with it says. In a call of the library it is not null, even with
+ *     the length 0; only nonobench_end accepts a null and does nothing. The functions at the end of this file accept a null with
+ *     the length 0, and refuse one with a length above 0;
+ *   - a desk's cell holds what nonobench_start put there until nonobench_end, and calls on one desk come one after another;
+ *   - what a call writes to does not overlap anything else that it is passed.
  * The functions at the end of this file are C (c/pair.c), and tested, not proved.
  *
  * The library opens no file, prints nothing and keeps nothing outside its desks. So threads with a desk each are independent.
@@ -30,23 +30,23 @@ extern "C" {
 /* The version of this header. That of the library is asked for by nonobench_version. */
 #define NONOBENCH_VERSION "0.2.0"
 
-/* How many bytes a picture or a certificate has at the most, as for the program. The library itself takes any length. */
+/* How many bytes a picture or a certificate may have, as for the program. The library itself accepts any length. */
 #define NONOBENCH_MOST_BYTES ((size_t)16777216)
 
 /* What a call answers. */
 enum {
     NONOBENCH_DONE = 0,    /* done; a certificate is accepted */
-    NONOBENCH_REFUSED = 1, /* picture, puzzle or certificate is refused; the text is what the program says behind `nonobench: ` */
-    NONOBENCH_MEMORY = 4,  /* memory was refused; of nonobench_say also: the lines have more than 4294963200 bytes */
+    NONOBENCH_REFUSED = 1, /* picture, puzzle or certificate is refused; the text is what the program says after `nonobench: ` */
+    NONOBENCH_MEMORY = 4,  /* out of memory; of nonobench_say also: the lines have more than 4294963200 bytes */
     NONOBENCH_CLOSED = 5,  /* no bench has the handle */
     NONOBENCH_OPTIONS = 6  /* background, history or allowance is of another form; of the functions at the end of this file,
-                              also: a null stands beside a length above 0 */
+                              also: a null comes with a length above 0 */
 };
 
 /* ---- the calls of the library */
 
-/* Copies the library's version as far as there is room, as `nonobench --version` prints it behind the name, and answers how many
- * bytes it has. No NUL is put behind it. It needs no desk. */
+/* Copies the library's version as far as there is room, as `nonobench --version` prints it after the name, and answers how many
+ * bytes it has. No NUL is added. It needs no desk. */
 size_t nonobench_version(uint8_t *out, size_t room);
 
 /* Benches under handles, and the text of the last call. Made by nonobench_start alone. */
@@ -58,16 +58,16 @@ uint32_t nonobench_start(nonobench_desk **desk);
 /* Ends a desk with all its benches. At a null it does nothing. */
 void nonobench_end(nonobench_desk *desk);
 
-/* Opens a bench on a P3 picture, or a .non text where `non` is true. `background` is a word as 255,0,0, and empty for white;
- * `history` is 1 to 1000. Puts the bench's handle, and 0 where none is opened. */
+/* Opens a bench on a P3 picture, or a .non text where `non` is true. `background` is a text such as 255,0,0, or empty for white;
+ * `history` is 1 to 1000. Stores the bench's handle, or 0 if none is opened. */
 uint32_t nonobench_open(nonobench_desk **desk, const uint8_t *file, size_t size, bool non, const uint8_t *background,
                         size_t background_size, uint32_t history, uint32_t *handle);
 
 /* Answers lines of commands as a session does (docs/FORMATS.md). The answers are the text. */
 uint32_t nonobench_say(nonobench_desk **desk, uint32_t handle, const uint8_t *lines, size_t size);
 
-/* Copies the text of the last call as far as there is room, and answers how many bytes it has. No NUL is put behind it. There is
- * no text behind the statuses MEMORY, CLOSED and OPTIONS; but of MEMORY from nonobench_say it is the answers that found room. */
+/* Copies the text of the last call as far as there is room, and answers how many bytes it has. No NUL is added. There is no text
+ * after the statuses MEMORY, CLOSED and OPTIONS; but after MEMORY from nonobench_say it is the answers that found room. */
 size_t nonobench_take(nonobench_desk **desk, uint8_t *out, size_t room);
 
 /* Ends a bench. */
@@ -79,7 +79,7 @@ uint32_t nonobench_check(nonobench_desk **desk, const uint8_t *picture, size_t p
 
 /* ---- one question each: C, tested and not proved */
 
-/* Where a text is put. `size` becomes the bytes of the whole text. As much as fits is put at `at`, with a NUL behind it. */
+/* Where a text is put. `size` becomes the bytes of the whole text. As much as fits is put at `at`, followed by a NUL. */
 typedef struct nonobench_text {
     char *at;
     size_t room; /* with the NUL; 0 where `at` is null */
@@ -97,15 +97,15 @@ typedef enum nonobench_ruling {
     NONOBENCH_AMBIGUOUS
 } nonobench_ruling;
 
-/* What stands beside a picture and its certificate. With all of it zero the background is white and no cell is published. */
+/* What goes with a picture and its certificate. If all of it is zero, the background is white and no cell is published. */
 typedef struct nonobench_options {
-    const char *background;           /* as 255,0,0, or null for white */
+    const char *background;           /* such as 255,0,0, or null for white */
     const nonobench_place *published; /* the cells that you publish with their colours, in any order */
     size_t published_count;
-    bool any_given; /* accept a certificate whatever cells it gives: for who then publishes those (nonobench_givens) */
+    bool any_given; /* accept a certificate whatever cells it gives: for whoever then publishes these (nonobench_givens) */
 } nonobench_options;
 
-/* Checks a certificate of a P3 picture: DONE where it is accepted. A puzzle is unique WITH the cells that its certificate gives,
+/* Checks a certificate of a P3 picture: DONE if it is accepted. A puzzle is unique WITH the cells that its certificate gives,
  * and these may be all cells. So one that gives a cell which is not published is REFUSED, with the text
  * `certificate UnpublishedGiven at line N`, which the program does not have. `options` and `text` may be null, and then no cell
  * is published. The text is the line that the program prints, or why picture or certificate is refused. */
@@ -113,33 +113,33 @@ uint32_t nonobench_check_pair(const void *picture, size_t picture_size, const vo
                               const nonobench_options *options, nonobench_text *text);
 
 /* Reads the places of the givens of a certificate that was accepted, or refused for one of them, as many as there is room for,
- * and answers how many there are. Of other bytes the answer means nothing, but nothing outside them is read. */
+ * and answers how many there are. For other bytes the answer has no meaning, but nothing outside them is read. */
 size_t nonobench_givens(const void *certificate, size_t size, nonobench_place *places, size_t room);
 
-/* The clues of a P3 picture, a line each, as the program prints them. `background` is as 255,0,0, or null for white. */
+/* The clues of a P3 picture, a line each, as the program prints them. `background` is such as 255,0,0, or null for white. */
 uint32_t nonobench_clues(const void *picture, size_t size, const char *background, nonobench_text *text);
 
 /* Whether another picture has the clues of a P3 picture. `allowance`, 0 to 99999, is how many splits the search of a part may
- * make, and below 0 there is no such bound: then a call may take very long. The text is what a session answers to `verdict`;
- * where the ruling is AMBIGUOUS its rows are another picture. `ruling` and `text` may be null. */
+ * make; below 0 there is no such bound, and a call may take very long. The text is what a session answers to `verdict`;
+ * if the ruling is AMBIGUOUS, its rows are another picture. `ruling` and `text` may be null. */
 uint32_t nonobench_verdict(const void *picture, size_t size, const char *background, int32_t allowance, nonobench_ruling *ruling,
                            nonobench_text *text);
 
-/* A ruling, and a certificate where it is UNIQUE. */
+/* A ruling, and a certificate if it is UNIQUE. */
 typedef struct nonobench_audited {
     nonobench_ruling ruling;
-    char *certificate;       /* with a NUL behind it, for free(); null where there is none */
+    char *certificate;       /* followed by a NUL, for free(); null if there is none */
     size_t certificate_size; /* without the NUL */
 } nonobench_audited;
 
-/* A certificate of a P3 picture, which gives no cell. It has no bound, so it may take very long. Where another picture has the
+/* A certificate of a P3 picture, which gives no cell. It has no bound, so it may take very long. If another picture has the
  * clues, the ruling is AMBIGUOUS and there is no certificate. The text is `unique` or `ambiguous` with a line feed, or why the
  * picture is refused; `text` may be null. */
 uint32_t nonobench_certify(const void *picture, size_t size, const char *background, nonobench_audited *found,
                            nonobench_text *text);
 
 /* Verdict and certificate of a P3 picture that is opened once. Allowance and text are as for nonobench_verdict. There is a
- * certificate where the ruling is UNIQUE; making it has no bound of its own. */
+ * certificate if the ruling is UNIQUE; making it has no bound. */
 uint32_t nonobench_audit(const void *picture, size_t size, const char *background, int32_t allowance, nonobench_audited *found,
                          nonobench_text *text);
 
