@@ -80,7 +80,7 @@ function listRepaint(state, one) {
   $('fix-list').append(make('li', {}, button));
 }
 
-export function fixChip(state, letter) {
+function fixChip(state, letter) {
   const triple = state.colours[LETTERS.indexOf(letter)];
   const chip = make('span', { class: 'chip' }, letter === '.' ? 'background' : letter);
   chip.style.background = cssOf(triple, state.maxval);
