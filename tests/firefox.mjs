@@ -245,10 +245,25 @@ const steps = {
         await page.click('#out [data-action="certificate"]');
         assert.match((await downloaded('.xml')).toString(), /<puzzleset>/);
         assert.match((await downloaded('.ppm')).toString(), /^P3\n/);
-        assert.match((await downloaded('.non')).toString(), /^width 10\nheight 5\nrows\n/);
+        assert.match((await downloaded('.non')).toString(), /^title "Key"\nwidth 10\nheight 5\nrows\n/);
         assert.match((await downloaded('.cert')).toString(), /^nonocert 2\ngiven 1 3\ngiven 1 5\n/);
         const png = await downloaded('-cells.png');
         assert.deepEqual([png.readUInt32BE(16), png.readUInt32BE(20)], [10, 5]);
+    },
+    async 'a certificate is checked, and the library goes out as an archive and comes back'({ page, trial }) {
+        const certificate = await downloaded('.cert');
+        await drop(page, 'key.cert', certificate);
+        await page.until(() => document.getElementById('said').textContent.includes('only solution with its given cells'), 8000);
+        await page.run(() => runAction('new'));
+        await page.until(() => document.querySelector('#library .kept'), 5000);
+        const count = await page.run(async () => (await keep.keeper.cards()).length);
+        await page.click('#library-export');
+        await drop(page, 'all.zip', await downloaded('.zip'));
+        await page.until((wanted) => document.getElementById('said').textContent.includes(`${wanted} picture`), 8000, count);
+        assert.equal(await page.run(async () => (await keep.keeper.cards()).length), 2 * count);
+        await page.click('#start-back');
+        await isOpen(page);
+        assert.equal((await trial.state()).columns, 10);
     },
     async 'the puzzle and its solution are printed, a page each'({ browser, page }) {
         await page.run(() => { window.print = () => {}; });

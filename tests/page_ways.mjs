@@ -118,10 +118,29 @@ export async function otherMaxval({ page, folder, trial }) {
     assert.deepEqual((await trial.state()).colours, [[255, 255, 255], [255, 119, 0]]);
 }
 
+/** A photo of more pixels than a camera's is made smaller while it is read, and becomes a puzzle. */
+export async function largePhoto({ page }) {
+    await page.run(async () => {
+        const canvas = Object.assign(document.createElement('canvas'), { width: 6000, height: 4000 });
+        const pen = canvas.getContext('2d');
+        pen.fillStyle = '#fff';
+        pen.fillRect(0, 0, 6000, 4000);
+        pen.fillStyle = '#c02020';
+        pen.fillRect(0, 0, 3000, 4000);
+        const blob = await new Promise((go) => canvas.toBlob(go, 'image/jpeg'));
+        takeFile(new File([blob], 'photo.jpg', { type: 'image/jpeg' }));
+    });
+    await page.until(() => document.querySelector('dialog[open] .importing'), 20000 * SLACK);
+    await page.press('Enter');
+    await isOpen(page);
+    const { rows, columns, picture } = await page.run(() => bench.state);
+    assert.deepEqual([columns, rows, new Set(picture).size, /^(.)\1{19}(.)\2{19}$/.test(picture[0])], [40, 27, 1, true]);
+}
+
 /** What is no picture, or too large, is told and changes nothing. */
 export async function refusedFiles({ page, folder }) {
-    const head = Buffer.concat([Buffer.from('\x89PNG\r\n\x1a\n\0\0\0\rIHDR', 'latin1'), Buffer.from([0, 0, 0x13, 0x88, 0, 0, 0, 10, 8, 2, 0, 0, 0, 0, 0, 0, 0])]);
-    const tries = { 'large.png': [head, /5000 by 10 pixels/], 'broken.png': [Buffer.concat([head.subarray(0, 16), Buffer.from([0, 0, 0, 9, 0, 0, 0, 9]), head.subarray(24)]), /browser does not read/], 'long.bin': [Buffer.alloc(17 << 20, 65), /16 MiB/], 'noise.bin': [Buffer.from([0, 1, 2, 3, 255]), /no picture and no puzzle/], 'bad.ppm': ['P3 2 2 255 1 2 x', /no number/], 'bad.xml': ['<puzzle><b>', /not closed/], 'bad.non': ['width 2\nheight 1\nrows\n3\ncolumns\n1\n1\n', /longer than its line|not opened/], 'empty': ['', /no picture and no puzzle/] };
+    const head = Buffer.concat([Buffer.from('\x89PNG\r\n\x1a\n\0\0\0\rIHDR', 'latin1'), Buffer.from([0, 0, 0x4e, 0x20, 0, 0, 0x4e, 0x20, 8, 2, 0, 0, 0, 0, 0, 0, 0])]);
+    const tries = { 'large.png': [head, /20000 by 20000 pixels; at most 100,000,000/], 'broken.png': [Buffer.concat([head.subarray(0, 16), Buffer.from([0, 0, 0, 9, 0, 0, 0, 9]), head.subarray(24)]), /browser does not read/], 'long.bin': [Buffer.alloc(17 << 20, 65), /16 MiB/], 'noise.bin': [Buffer.from([0, 1, 2, 3, 255]), /no picture and no puzzle/], 'bad.ppm': ['P3 2 2 255 1 2 x', /no number/], 'bad.xml': ['<puzzle><b>', /not closed/], 'bad.non': ['width 2\nheight 1\nrows\n3\ncolumns\n1\n1\n', /longer than its line|not opened/], 'empty': ['', /no picture and no puzzle/] };
     for (const [name, [content, wanted]] of Object.entries(tries)) {
         await page.run(() => { document.getElementById('said').textContent = ''; });
         await drop(page, folder, name, content);

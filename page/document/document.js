@@ -19,7 +19,7 @@ export const ABOUT = ['title', 'author', 'authorid', 'copyright', 'description',
 export const pageOf = ({ about = {}, inks = [], locks = NONE, extras = null }) => ({ about, inks, locks, extras });
 
 /** What the module holds of a document. */
-export const benchPartOf = ({ rows, columns, maxval, colours, picture, givens }) => ({ rows, columns, maxval, colours, picture, givens });
+const benchPartOf = ({ rows, columns, maxval, colours, picture, givens }) => ({ rows, columns, maxval, colours, picture, givens });
 
 /** The document alone of a value that has more, a state for one. */
 export const docOf = (value) => ({ ...benchPartOf(value), ...pageOf(value) });

@@ -1,7 +1,6 @@
 // The cells on their canvas: only those are drawn whose look has changed. A cell's look is a number: its letter, whether it
 // is hatched, the other picture's letter, whether it is given or locked. The lines between cells lie beside them and stay.
 
-import { clamp } from '../base/words.js';
 import { cssOf, inkOn } from '../document/colours.js';
 import { LETTERS } from '../document/limits.js';
 import { drawGiven } from './given.js';

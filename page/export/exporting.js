@@ -3,7 +3,7 @@
 
 import { $, make, say } from '../base/elements.js';
 import { bareName, clamp, many } from '../base/words.js';
-import { nameOf, plainHexOf } from '../document/colours.js';
+import { plainHexOf } from '../document/colours.js';
 import { docOf, eightBitDoc, sameDoc } from '../document/document.js';
 import { LETTERS } from '../document/limits.js';
 import { canvasOfPaper, paperOf, svgOfPaper, svgPart } from '../draw/papers.js';

@@ -3,11 +3,11 @@
 
 import { $, make, say } from '../base/elements.js';
 import { tell } from '../base/events.js';
-import { bareName, many } from '../base/words.js';
+import { bareName, many, number } from '../base/words.js';
 import { FileFault } from '../document/limits.js';
 import { penOf } from '../draw/small.js';
 import { startEngine } from '../engine/client.js';
-import { MOST_BYTES_READ, boundSides } from '../formats/ppm.js';
+import { MOST_BYTES_READ } from '../formats/ppm.js';
 import { keep } from '../library/keep.js';
 import { faultText, openDoc } from '../library/open.js';
 import { recordOfDoc } from '../library/records.js';
@@ -99,20 +99,37 @@ async function openNon(text, name, page, handle = null) {
   return openDoc(doc, { name, handle, form: 'non' });
 }
 
+const MOST_DECODED = 100e6; // pixels of an image file, which the browser unpacks
+const MOST_SIDE = 2048; // pixels a side that a larger one is made smaller to: more than the dialog works on
+
+/**
+ * How an image of that size is decoded: a large one smaller, by its width alone, so that a photo that is turned keeps its shape.
+ * @param {number[]} size
+ * @returns {ImageBitmapOptions}
+ */
+function decoding(size) {
+  const [width, height] = size;
+  if (width < 1 || height < 1) throw new FileFault('the picture has no pixels');
+  if (width * height > MOST_DECODED) throw new FileFault(`the picture is ${width} by ${height} pixels; at most ${number(MOST_DECODED)} in all are read`);
+  const scale = MOST_SIDE / Math.max(width, height);
+  return scale < 1 ? { resizeWidth: Math.max(1, Math.round(width * scale)), resizeQuality: 'high' } : {};
+}
+
 /** The pixels of an image file, after the size in its head was looked at. */
 async function imageOfFile(file, bytes, kind) {
   const size = sizeOfImage(bytes, kind);
   if (!size) throw new FileFault('its size is not told at its beginning');
-  boundSides(...size);
+  const options = decoding(size);
   let bitmap;
   try {
-    bitmap = await createImageBitmap(file instanceof Blob && file.type ? file : new Blob([bytes], { type: `image/${kind}` }));
+    bitmap = await createImageBitmap(file instanceof Blob && file.type ? file : new Blob([bytes], { type: `image/${kind}` }), options);
   } catch {
     throw new FileFault('the browser does not read this picture');
   }
-  boundSides(bitmap.width, bitmap.height); // a photo that was turned has its sides the other way round
-  const pen = penOf(bitmap.width, bitmap.height);
-  pen.drawImage(bitmap, 0, 0);
+  const scale = Math.min(1, MOST_SIDE / Math.max(bitmap.width, bitmap.height)); // where the browser did not make it smaller
+  const pen = penOf(Math.max(1, Math.round(bitmap.width * scale)), Math.max(1, Math.round(bitmap.height * scale)));
+  pen.imageSmoothingQuality = 'high';
+  pen.drawImage(bitmap, 0, 0, pen.canvas.width, pen.canvas.height);
   bitmap.close();
   const { data } = pen.getImageData(0, 0, pen.canvas.width, pen.canvas.height);
   return { width: pen.canvas.width, height: pen.canvas.height, data };

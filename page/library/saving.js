@@ -62,7 +62,7 @@ function leftOutOfNon(doc) {
 }
 
 /** What a form has no place for of a document, in words; '' where it holds all of it. */
-export function leftOut(form, doc) {
+function leftOut(form, doc) {
   if (form === 'xml') return leavesOut(doc) ? 'solutions that do not fit the picture any more' : '';
   return form === 'ppm' ? leftOutOfPpm(doc) : leftOutOfNon(doc);
 }

@@ -28,7 +28,7 @@ const ORDERS = {
 };
 
 /** A number of bytes in words. */
-export function bytesText(bytes) {
+function bytesText(bytes) {
   const step = bytes < 1000 ? 0 : bytes < 1e6 ? 1 : bytes < 1e9 ? 2 : 3;
   return `${(bytes / 1000 ** step).toFixed(step && bytes / 1000 ** step < 10 ? 1 : 0)} ${['bytes', 'kB', 'MB', 'GB'][step]}`;
 }

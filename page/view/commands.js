@@ -5,7 +5,7 @@ import { LETTERS, MOST_CELLS, MOST_COLOURS } from '../document/limits.js';
 import { resized, rowsOfText, shifted, turned } from '../document/shapes.js';
 import { sheet } from '../draw/sheet.js';
 import { bench } from '../engine/bench.js';
-import { actions, addAction } from './actions.js';
+import { addAction } from './actions.js';
 import { openDialog } from './dialogs.js';
 import { cursor } from './grid.js';
 import { goToNext } from './minimap.js';

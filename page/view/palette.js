@@ -14,7 +14,7 @@ import { addAction } from './actions.js';
 import { openDialog } from './dialogs.js';
 import { colourText, dress, inkName } from './dress.js';
 import { setDown } from './select.js';
-import { heard, sendStroke, tools, useColour } from './tools.js';
+import { heard, tools, useColour } from './tools.js';
 
 const palette = {
   row: make('div', { id: 'palette', role: 'radiogroup', 'aria-label': 'Colour' }),

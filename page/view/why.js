@@ -35,7 +35,7 @@ function markReason(reason) {
 }
 
 // The colours of a premise that the palette has: the session leaves those open that no line has excluded, also such as it has not.
-export const premiseLetters = (premise, doc) => [...premise.letters].filter((letter) => LETTERS.indexOf(letter) < doc.colours.length);
+const premiseLetters = (premise, doc) => [...premise.letters].filter((letter) => LETTERS.indexOf(letter) < doc.colours.length);
 
 // What is said of a reason, with each colour by its swatch.
 function whyParts(reason, doc) {
