@@ -14,7 +14,7 @@ tag=na$$
 declare -A started
 export PYTHONPATH=$root/python PYTHONDONTWRITEBYTECODE=1
 # How soon a host that is cut off is noticed, and how often a worker tells that it is there.
-export DASK_DISTRIBUTED__COMM__TIMEOUTS__TCP=5s DASK_DISTRIBUTED__SCHEDULER__WORKER_TTL=10s
+export DASK_DISTRIBUTED__COMM__TIMEOUTS__TCP=12s DASK_DISTRIBUTED__SCHEDULER__WORKER_TTL=15s
 
 leave_out() {
     echo "audit machines: left out, since $1"
@@ -70,7 +70,7 @@ worker() {
 }
 
 rows() {
-    wc -l 2>/dev/null <"$work/there" || echo 0
+    if [ -f "$work/there" ]; then wc -l <"$work/there"; else echo 0; fi
 }
 
 # Waits until there are so many rows, or the run has ended.

@@ -64,7 +64,7 @@ class Cluster:
         try:
             connect: Any = distributed.Client
             self._client = connect(self._address, timeout=CONNECTING, set_as_default=False)
-        except (OSError, ValueError, asyncio.TimeoutError) as error:
+        except Exception as error:  # whatever the way there fails by
             raise Failure(f"no scheduler answers at {self._address}: {error}") from error
 
     def answers(self, tasks: Iterator[Task], is_full: Callable[[], bool] = bool) -> Iterator[Optional[Answer]]:

@@ -23,7 +23,7 @@ from .workers import Answer, Broken, Pool
 MOST_WAITING = 64 << 20  # bytes of rows that wait for one before them
 
 
-class Stopped(Exception):
+class Stopped(BaseException):
     """The run is to end: by Ctrl-C, or since the machine wants it to."""
 
     def __init__(self, number: int) -> None:
