@@ -11,8 +11,8 @@ does not exist. Of some documents also:
 - docs/TRUST.md: a file that has another number of lines than is written after its name.
 
 A sentence's words are those that have a letter or a digit. And the file KIT must have a line with the logic that `rt version`
-prints, where there is an rt. It counts, and with --words lists, the words for which INSTEAD has a better one; in the documents
-that CLEAN names, each of these counts as a fault. A document that has none left is to be named there.
+prints, where there is an rt. It counts, and with --words lists, the words for which INSTEAD has a better one; each of these is a
+fault, but for sentences that come from the heads of crates.
 
 A block of README.md that begins with ```sh is run by .ci/tutorial, so its commands pass. A block that begins with
 ```sh build holds commands that only build or serve; each must begin as one of BUILDS. No other block may be named sh.
@@ -70,12 +70,8 @@ INSTEAD = {
     r"(?<!there )is no (?:part|picture|number|colour|edit|text|command|given|puzzle|program)": "is not a",
     r"instructions a byte": "per",
 }
-CLEAN = {os.path.join(*path.split("/")) for path in """
-    CHANGELOG.md CONTRIBUTING.md RELEASING.md docs/ARCHITECTURE.md docs/AUDIT.md docs/COMPARISON.md docs/DECISIONS.md
-    docs/DEFINITIONS.md docs/FORMATS.md docs/GLOSSARY.md docs/MUST_FAIL.md docs/PROMISES.md docs/PROOF.md docs/WEB.md
-    examples/README.md measure/README.md packages/README.md packages/linux/README.md packages/npm/README.md page/README.md
-    python/README.md tests/README.md
-""".split()}
+# Documents whose sentences come from the heads of crates: their words count, and are no faults.
+OF_CRATES = {os.path.join("crates", "README.md")}
 # Documents that a script makes of the sources, which says itself whether they are in order.
 MADE = {os.path.join("docs", "BASE.md")}
 # Folders in which a path that is named must exist, and commands that build, prove or serve rather than answer.
@@ -290,7 +286,7 @@ def faults_of(name):
                 yield number, f"a path to nothing: {match}"
     if name in OF_DOCUMENT:
         yield from OF_DOCUMENT[name](lines)
-    if name in CLEAN:
+    if name not in OF_CRATES:
         yield from better_words(name)
     if name == os.path.join("docs", "PROOF.md"):
         known = sources()
