@@ -2,6 +2,7 @@
 
 from __future__ import annotations
 
+import _thread
 import math
 import operator
 import os
@@ -12,7 +13,7 @@ import threading
 import time
 import weakref
 from types import TracebackType
-from typing import Optional
+from typing import Callable, Optional, TypeVar
 
 from ._calls import Questions
 from ._library import FOLDER, PATH
@@ -87,8 +88,8 @@ class Worker(Questions):
             # The process is this call's alone until its answer has been read whole. Whatever is raised before, it never goes back.
             process, self._process = self._process, None
             try:
-                if not process or process.has_ended():
-                    process = _started(self._memory)
+                if not process or not process.is_waiting():
+                    process = _uninterrupted(lambda: _Process(self._memory))
                 self._number += 1
                 answer = process.ask(self._number, kind, (picture, background, rest), self._seconds)
             except BaseException as error:
@@ -108,22 +109,33 @@ class _Late(Exception):
     """There is no answer in time."""
 
 
-def _started(memory: int) -> _Process:
-    """A process that was started in a thread of its own, since what a signal raises is raised in the main thread alone: there it
-    might be raised while a process is there that nothing knows yet.
+Made = TypeVar("Made")
+
+
+def _uninterrupted(call: Callable[[], Made]) -> Made:
+    """What a call makes in a thread of its own: what a signal's handler raises is raised in the main thread alone.
+
+    There it may be raised between any two steps, also within `subprocess` and `threading`: a process that was just started would
+    be known to nobody, or a lock of theirs would stay taken. Here the main thread takes no lock but one of this call.
     """
-    made: list[_Process] = []
-    raised: list[Exception] = []
+    made: list[Made] = []
+    raised: list[BaseException] = []
+    done = _thread.allocate_lock()
 
-    def start() -> None:
+    def run() -> None:
         try:
-            made.append(_Process(memory))
-        except Exception as error:
+            made.append(call())
+        except BaseException as error:
             raised.append(error)
+        finally:
+            done.release()
 
-    thread = threading.Thread(target=start, daemon=True)
-    thread.start()
-    thread.join()
+    done.acquire()
+    try:
+        _thread.start_new_thread(run, ())
+    except RuntimeError:  # no thread is started any more where the program ends
+        run()
+    done.acquire()
     if raised:
         raise raised[0]
     return made[0]
@@ -147,9 +159,16 @@ class _Process:
         """The process's number."""
         return self._process.pid
 
-    def has_ended(self) -> bool:
-        """Whether it ended by itself."""
-        return self._process.poll() is not None
+    def is_waiting(self) -> bool:
+        """Whether it waits for a question: it has not ended, and nothing of another answer is there."""
+        self._stream.settimeout(0)
+        try:
+            self._stream.recv(1, socket.MSG_PEEK)
+        except BlockingIOError:
+            return True
+        except OSError:
+            pass
+        return False
 
     def why(self) -> Exception:
         """What is told of a process that ended in the middle of a question: by status 1 Python tells what its program raised."""
@@ -196,6 +215,10 @@ class _Process:
 def _end(process: subprocess.Popen[bytes], stream: socket.socket, owner: int) -> None:
     """Ends a process. In a child that was forked, this closes the child's end of the stream, and the process goes on."""
     stream.close()
-    if os.getpid() == owner:
+
+    def end() -> None:
         process.kill()
         process.wait()
+
+    if os.getpid() == owner:
+        _uninterrupted(end)

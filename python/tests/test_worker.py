@@ -207,8 +207,10 @@ class Interrupts(unittest.TestCase):
     def test_an_answer_with_another_number_is_refused(self):
         with nonobench.Worker(seconds=300) as worker:
             worker.clues(DIAGONAL)
-            # A question whose answer nobody takes.
+            # A question whose answer nobody takes, and which comes so late that nothing is there yet when the next one is asked.
+            os.kill(worker._process.pid, signal.SIGSTOP)
             worker._process._stream.sendall(nonobench.worker.QUESTION.pack(77, 1, 300, len(DIAGONAL), 0, len(GIVEN)) + DIAGONAL + GIVEN)
+            threading.Timer(0.5, os.kill, (worker._process.pid, signal.SIGCONT)).start()
             with self.assertRaisesRegex(RuntimeError, "^the worker answered question 77 in place of 2$"):
                 worker.check(TILE, b"junk", published=nonobench.ANY_GIVEN)
             with self.assertRaisesRegex(CertificateFault, "NotCert"):
@@ -225,6 +227,18 @@ class Interrupts(unittest.TestCase):
             signal.setitimer(signal.ITIMER_REAL, 0.2)
             with self.assertRaisesRegex(TimeoutError, "^the handler's own$"):
                 worker.clues(DIAGONAL)
+
+    def test_an_answer_that_lies_there_is_not_taken(self):
+        with nonobench.Worker(seconds=300) as worker:
+            worker.clues(DIAGONAL)
+            process = worker._process
+            process._stream.sendall(nonobench.worker.QUESTION.pack(2, 1, 300, len(DIAGONAL), 0, len(GIVEN)) + DIAGONAL + GIVEN)
+            while process.is_waiting():
+                time.sleep(0.01)
+            # It even has the number of the next question.
+            with self.assertRaisesRegex(CertificateFault, "NotCert"):
+                worker.check(TILE, b"junk", published=nonobench.ANY_GIVEN)
+            self.assertNotEqual(worker._process.pid, process.pid)
 
     def test_an_interrupted_process_is_ended(self):
         with nonobench.Worker(seconds=300) as worker:
