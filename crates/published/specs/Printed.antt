@@ -1,0 +1,35 @@
+-- The law of printed bytes: what two sessions write, byte for byte, is what a check accepts.
+use Rattle.std.specs.Prelude.{◌≡◌, ℕ, false, List, [], Option, Some, codes, Ok}
+use Rattle.live_audit.specs.Bench.{Seen}
+use Rattle.session.specs.Refusal.{memory_line}
+use Rattle.session.specs.Session.{Runs}
+use Rattle.program_options.specs.declared.options.Options.{Options}
+use Rattle.answers.specs.Start.{IsStarted}
+use Rattle.published.specs.Laws.{AreAccepted}
+
+-- A session that was given this input alone, on a bench in a state, ended without a fault, and wrote these bytes: not that
+-- memory ran out.
+pub record HasWritten (input : List ℕ) (at : Seen) (bytes : List ℕ) : Type 0 where
+  pub left : Option (List ℕ)
+  pub last : Seen
+  pub runs : Runs (Some input) left (Some []) (Some bytes) at last (Ok tt)
+  pub made : bytes ≡ memory_line → ⊥
+
+-- Of one document, the session `write ppm` wrote the picture, and the session `certify` the certificate: it did not say that
+-- there is another picture.
+pub record ArePrinted (s : Seen) (picture cert : List ℕ) : Type 0 where
+  pub at_picture : Seen
+  pub same_picture : at_picture.history ≡ s.history
+  pub writes : HasWritten (codes "write ppm\n") at_picture picture
+  pub at_cert : Seen
+  pub same_cert : at_cert.history ≡ s.history
+  pub certifies : HasWritten (codes "certify\n") at_cert cert
+  pub not_ambiguous : cert ≡ codes "ambiguous\n" → ⊥
+
+-- What was printed of a bench's document is accepted.
+abbrev pub PrintedAreAccepted : Seen → Type 0
+PrintedAreAccepted s = (picture cert : List ℕ) → ArePrinted s picture cert → AreAccepted s.history.document picture cert
+
+-- Benches that are started with one P3 file and the same options have one history, so one document.
+abbrev pub OneFileIsOneDocument : Type 0
+OneFileIsOneDocument = (file : List ℕ) (options : Options) (one other : Seen) → options.non ≡ false → IsStarted file options one → IsStarted file options other → one.history ≡ other.history
