@@ -2,7 +2,9 @@
 use Rattle.std.specs.Prelude.{◌≡◌, ℕ, false, List, [], Option, Some, codes, Ok}
 use Rattle.live_audit.specs.Bench.{Seen}
 use Rattle.session.specs.Refusal.{memory_line}
-use Rattle.session.specs.Session.{Runs}
+use Rattle.live_audit.specs.Verdict.{IsOtherFor}
+use Rattle.command_text.specs.declared.command.Command.TheVariants as command
+use Rattle.session.specs.Session.{Runs, SaysTo}
 use Rattle.program_options.specs.declared.options.Options.{Options}
 use Rattle.answers.specs.Start.{IsStarted}
 use Rattle.published.specs.Laws.{AreAccepted}
@@ -33,3 +35,13 @@ PrintedAreAccepted s = (picture cert : List ℕ) → ArePrinted s picture cert �
 -- Benches that are started with one P3 file and the same options have one history, so one document.
 abbrev pub OneFileIsOneDocument : Type 0
 OneFileIsOneDocument = (file : List ℕ) (options : Options) (one other : Seen) → options.non ≡ false → IsStarted file options one → IsStarted file options other → one.history ≡ other.history
+
+-- Where there is no other picture for a bench's document, what `certify` and `write ppm` say of it is accepted, so there is a
+-- certificate.
+abbrev pub UniqueArePublished : Seen → Type 0
+UniqueArePublished s =
+    ((other : List (List ℕ)) → IsOtherFor s.history.document other → ⊥)
+    → (at_picture behind_picture at_cert behind_cert : Seen) (picture cert : List ℕ)
+    → at_picture.history ≡ s.history → SaysTo at_picture command.WritePpm picture behind_picture
+    → at_cert.history ≡ s.history → SaysTo at_cert command.Certify cert behind_cert
+    → AreAccepted s.history.document picture cert

@@ -1,7 +1,7 @@
 //! Laws of what is published and checked. A function only looks at most, and its contract is the law.
 
 ghost use Rattle.published.specs.Laws.{PairsAreAccepted};
-ghost use Rattle.published.specs.Printed.{OneFileIsOneDocument, PrintedAreAccepted};
+ghost use Rattle.published.specs.Printed.{OneFileIsOneDocument, PrintedAreAccepted, UniqueArePublished};
 ghost use Rattle.published.specs.Solution.{PlainLinesAreOneSolution, PublishedAreSolved};
 
 use certificate::laws::round_trip as certificates_are_read;
@@ -26,7 +26,18 @@ pub fn published_pairs_are_accepted<E: LineEngine + Drop, A: Agenda + Drop>(benc
     let _ = (document.palette.len(), document.picture.height());
 }
 
-/// The same by the bytes that sessions write: where a session that is given `write ppm` alone wrote the picture, and one that is
+/// Every unique picture can be published: where there is no other picture for the document of a bench, what `certify` says of
+/// it is a certificate, and with what `write ppm` says `run_check` accepts it, unless memory runs out.
+pub fn unique_pictures_are_published<E: LineEngine + Drop, A: Agenda + Drop>(bench: &Bench<E, A>)
+    ensures { UniqueArePublished bench.now }
+{
+    certificates_are_read();
+    pictures_are_read();
+    let document = bench.document();
+    let _ = (document.palette.len(), document.picture.height());
+}
+
+/// The same as of published pairs by the bytes that sessions write: where a session that is given `write ppm` alone wrote the picture, and one that is
 /// given `certify` alone the certificate, and neither says `refused: Memory` nor the second `ambiguous`, then these bytes are a
 /// pair that `run_check` accepts, with the background of the bench's document. The sessions may run on benches of their own that
 /// have this bench's history, as those have that are started with one P3 file (`one_file_is_one_document`).
