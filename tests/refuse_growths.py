@@ -61,6 +61,14 @@ verdict
 '''.splitlines()
 
 
+# A certificate: a verdict after one that was refused is the verdict before it.
+CERTIFIED = b'''allow 0
+verdict
+certify
+verdict
+'''.splitlines()
+
+
 class Wrong(Exception):
     """A run that is not as it must be."""
 
@@ -185,10 +193,18 @@ class Session:
         got = dialogue.ask(line)
         if got == WANTED:
             self.shows(dialogue, at)
+            self.judges(dialogue, at)
             got = dialogue.ask(line)
         if got != self.answers[at] and (got is not None or at > 0):
             raise Wrong(f'{line!r} is answered by {got!r}')
         return got is not None
+
+    def judges(self, dialogue, at):
+        """Stops where the verdict after a certificate that was refused is not the one that was asked for before it."""
+        if self.lines[at] == b'certify' and at > 0 and self.lines[at - 1] == b'verdict':
+            got = dialogue.ask(b'verdict')
+            if got != self.answers[at - 1]:
+                raise Wrong(f'the refused line {at + 1} has changed the verdict to {got!r}')
 
     def shows(self, dialogue, at):
         """Stops where another thing is shown than in front of a line with ample memory."""
@@ -244,7 +260,7 @@ def sessions(folder):
     for path in sorted(EXAMPLES.glob('*.session')):
         yield f'session {path.stem}', opened(path.stem), path.read_bytes().splitlines()
     yield 'session of a day', ['work', str(EXAMPLES / 'diagonal.ppm'), '--history', '20'], DAY
-    for name, lines in (('parts', PARTS), ('a report', REPORTED)):
+    for name, lines in (('parts', PARTS), ('a report', REPORTED), ('a certificate', CERTIFIED)):
         yield f'session of {name}', ['work', str(TESTS / 'parts.ppm')], lines
     puzzle = folder / 'puzzle'
     text = (EXAMPLES / 'key.non').read_bytes().splitlines(keepends=True)

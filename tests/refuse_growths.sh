@@ -3,8 +3,8 @@
 # or ask for help, checks of certificates, and sessions on pictures and puzzles.
 # A run that answers once must end with status 1, the line `nonobench: memory` and nothing of an answer; so must a session whose
 # file is not open yet. A command of a session must be answered
-# by `refused: Memory` alone, after which clues, map and picture are as before, and the command is answered when it is said
-# again, as are all behind it. A growth may also be refused without a trace, where the program can go on with less memory than
+# by `refused: Memory` alone, after which clues, map and picture are as before, and after `certify` the verdict; and the command is
+# answered when it is said again, as are all behind it. A growth may also be refused without a trace, where the program can go on with less memory than
 # it asked for: then all is as with ample memory.
 # Usage: tests/refuse_growths.sh [WORD ..]   (all runs, or those whose names hold a word; PROGRAM names another program than
 # the proved one)

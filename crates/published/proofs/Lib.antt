@@ -1,2 +1,3 @@
 pub mod PairLemmas
+pub mod PrintLemmas
 pub mod SolutionLemmas

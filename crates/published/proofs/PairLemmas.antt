@@ -17,9 +17,11 @@ use Rattle.edits.specs.Design.{Design, design_of}
 use Rattle.edits.specs.History.{History}
 use Rattle.live_audit.specs.Bench.{Seen}
 use Rattle.live_audit.specs.Certify.{Certifies, NamesMarks}
+use Rattle.live_audit.specs.Verdict.{IsOtherFor}
 use Rattle.session.specs.Session.{certified_text, content}
 use Rattle.answers.specs.Check.{IsCheck, IsCheckOf, accepted_text}
 use Rattle.published.specs.Laws.{AreAccepted, ArePublished, PairsAreAccepted, background_in}
+use Rattle.published.specs.Printed.{UniqueArePublished}
 use Rattle.published.specs.Solution.{IsSolved, PublishedAreSolved}
 use Rattle.published.proofs.SolutionLemmas.{solved_pair}
 
@@ -71,3 +73,19 @@ accepted seen read s document e palette is picture cert p = (both seen read s do
 
 pub made : ((d : Content) → pictures.IsUngiven d → pictures.IsReadAgain d) → ((cert : Certificate) → IsCert cert → certificates.IsReadAgain cert) → (s : Seen) (document : Document) → design_of document ≡ s.history.document → IsPalette document.palette → IsPicture document.picture → PublishedAreSolved s
 made seen read s document e palette is picture cert p = (both seen read s document e palette is picture cert p).1
+
+-- ---- where there is no other picture
+
+found_unique : ((d : Content) → pictures.IsUngiven d → pictures.IsReadAgain d) → ((cert : Certificate) → IsCert cert → certificates.IsReadAgain cert) → (d : Design) (picture cert : List ℕ) (found : Option Certificate) → IsPalette d.colours → IsPicture d.rows
+    → picture ≡ ppm_text (content d) → cert ≡ certified_text found → Certifies d found → ((other : List (List ℕ)) → IsOtherFor d other → ⊥) → AreAccepted d picture cert
+found_unique seen read d picture cert None palette is p t c alone = absurd (alone c.0 c.1)
+found_unique seen read d picture cert (Some found) palette is p t c alone = (pair seen read d picture cert found palette is p t c).0
+
+pub unique : ((d : Content) → pictures.IsUngiven d → pictures.IsReadAgain d) → ((cert : Certificate) → IsCert cert → certificates.IsReadAgain cert) → (s : Seen) (document : Document) → design_of document ≡ s.history.document → IsPalette document.palette → IsPicture document.picture → UniqueArePublished s
+unique seen read s document e palette is alone at_picture behind_picture at_cert behind_cert picture cert same_picture writes same_cert c =
+    let d = s.history.document in
+    let colours : IsPalette d.colours = subst (λ (x : Design). IsPalette x.colours) e palette in
+    let rows : IsPicture d.rows = subst (λ (x : Design). IsPicture x.rows) e is in
+    let shown : picture ≡ ppm_text (content d) = writes.0 ∙ ap (λ (h : History). ppm_text (content h.document)) same_picture in
+    let right : Certifies d c.0 = subst (λ (h : History). Certifies h.document c.0) same_cert c.1.0 in
+    found_unique seen read d picture cert c.0 colours rows shown c.1.1.0 right alone

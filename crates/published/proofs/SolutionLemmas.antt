@@ -1,24 +1,22 @@
 -- A check's line without givens, and what is published where nothing is given.
-use Rattle.std.proofs.Common.{◌≡◌, ℕ, ◌+◌, ◌-◌, ◌<◌, ◌⊎◌, List, [], ◌∷◌, ◌++◌, length, codes, decimal, Option, Some, None, Ok, Result, refl, sym, ap, subst, ◌∙◌, arith, inl, inr, length-append}
+use Rattle.std.proofs.Common.{◌≡◌, ℕ, ◌+◌, ◌-◌, ◌⊎◌, List, [], ◌∷◌, ◌++◌, length, codes, decimal, Some, Ok, Result, refl, ap, subst, ◌∙◌, arith, inl, inr, length-append}
 use Rattle.std.proofs.lemmas.Bool.{cases_eq}
-use Rattle.picture.specs.declared.rgb.Rgb.{Rgb}
 use Rattle.picture.specs.CellSet.{no_cells}
 use Rattle.picture.specs.Document.{Content, ordered_of}
 use Rattle.clues.specs.ClueBook.{clues_of}
-use Rattle.clues.specs.Solution.{IsOnlySolution, Solves}
+use Rattle.clues.specs.Solution.{IsOnlySolution}
 use Rattle.ppm_text.specs.declared.fault.PpmFault.{PpmFault}
 use Rattle.ppm_text.specs.Ppm.{ppm_of}
 use Rattle.cert_text.specs.declared.tree_line.CellNumber.{CellNumber}
 use Rattle.cert_text.specs.declared.fault.CertFault.{CertFault}
 use Rattle.cert_text.specs.Cert.{Certificate}
-use Rattle.certificate.specs.Puzzle.{HasCellNumbers, IsAmong, IsNamed, IsUnique, numbered}
+use Rattle.certificate.specs.Puzzle.{HasCellNumbers, IsAmong, IsUnique, numbered}
 use Rattle.cert_text.specs.Text.{cert_of}
 use Rattle.edits.specs.Design.{Design}
-use Rattle.live_audit.specs.Bench.{IsGiven, Seen}
 use Rattle.live_audit.specs.Certify.{IsCertificateFor, NamesMarks, ordered}
 use Rattle.answers.specs.Check.{IsCheck, IsCheckOf, IsOnlyPicture, accepted_text, givens_text}
-use Rattle.published.specs.Laws.{AreAccepted, background_in}
-use Rattle.published.specs.Solution.{GivesNothing, HasOneSolution, IsSolved, PlainLinesAreOneSolution, nowhere, plain_line}
+use Rattle.published.specs.Laws.{background_in}
+use Rattle.published.specs.Solution.{GivesNothing, IsSolved, PlainLinesAreOneSolution, nowhere, plain_line}
 
 -- ---- the line
 

@@ -1,6 +1,7 @@
 //! Laws of what is published and checked. A function only looks at most, and its contract is the law.
 
 ghost use Rattle.published.specs.Laws.{PairsAreAccepted};
+ghost use Rattle.published.specs.Printed.{OneFileIsOneDocument, PrintedAreAccepted, UniqueArePublished};
 ghost use Rattle.published.specs.Solution.{PlainLinesAreOneSolution, PublishedAreSolved};
 
 use certificate::laws::round_trip as certificates_are_read;
@@ -24,6 +25,33 @@ pub fn published_pairs_are_accepted<E: LineEngine + Drop, A: Agenda + Drop>(benc
     let document = bench.document();
     let _ = (document.palette.len(), document.picture.height());
 }
+
+/// Every unique picture can be published: where there is no other picture for the document of a bench, what `certify` says of
+/// it is a certificate, and with what `write ppm` says `run_check` accepts it, unless memory runs out.
+pub fn unique_pictures_are_published<E: LineEngine + Drop, A: Agenda + Drop>(bench: &Bench<E, A>)
+    ensures { UniqueArePublished bench.now }
+{
+    certificates_are_read();
+    pictures_are_read();
+    let document = bench.document();
+    let _ = (document.palette.len(), document.picture.height());
+}
+
+/// The same as of published pairs by the bytes that sessions write: where a session that is given `write ppm` alone wrote the picture, and one that is
+/// given `certify` alone the certificate, and neither says `refused: Memory` nor the second `ambiguous`, then these bytes are a
+/// pair that `run_check` accepts, with the background of the bench's document. The sessions may run on benches of their own that
+/// have this bench's history, as those have that are started with one P3 file (`one_file_is_one_document`).
+pub fn printed_bytes_are_accepted<E: LineEngine + Drop, A: Agenda + Drop>(bench: &Bench<E, A>)
+    ensures { PrintedAreAccepted bench.now }
+{
+    published_pairs_are_accepted(bench);
+}
+
+#[tactic(auto, using(crate::proofs::PrintLemmas::one_document))]
+/// Benches that are started with one P3 file and the same options have one history, so one document.
+pub fn one_file_is_one_document()
+    ensures { OneFileIsOneDocument }
+{}
 
 #[tactic(auto, using(crate::proofs::SolutionLemmas::plain_lines))]
 /// Where a check answers Ok, and its line is `certificate accepted` alone, the picture's clues have one solution.
