@@ -82,7 +82,7 @@ async function neverLost(hands, { own }) {
     assert.equal((await trial.picture()).join('').replaceAll('.', ''), '', 'taken back');
     if (hands.byKeys) await page.press('Control+s');
     else await hands.menu('file', 'save');
-    assert.match((await downloaded(page, own, '.ppm')).content.toString(), /^P3\n/);
+    assert.match((await downloaded(page, own, '.xml')).content.toString(), /<puzzleset>/);
 }
 
 /** A search that does not end is stopped, and a stroke ends one too. */

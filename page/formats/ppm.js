@@ -41,7 +41,7 @@ class PpmTokens {
 }
 
 /** Refuses sides that no image here may have. */
-export function boundSides(width, height) {
+function boundSides(width, height) {
   if (width < 1 || height < 1) throw new FileFault('The picture has no pixels.');
   if (width > MOST_PIXELS || height > MOST_PIXELS) {
     throw new FileFault(`The picture is ${width} by ${height} pixels; at most ${number(MOST_PIXELS)} a side are read.`);

@@ -53,15 +53,15 @@ export class Keeper {
 
   /** The cards of all records, the newest first. One that is missing is made of its record. */
   async cards() {
-    const cards = new Map();
-    for (const id of await this.ids(CARD)) cards.set(id, readCard(await this.shelf.get(CARD + id).catch(() => null)));
-    const ids = await this.ids(RECORD);
-    const missing = ids.filter((id) => !cards.get(id));
-    for (const id of missing) {
-      const value = await this.shelf.get(RECORD + id).catch(() => null);
-      cards.set(id, readRecord(value) ? readCard(cardOf(value)) : null);
-    }
-    return ids.map((id) => cards.get(id)).filter(Boolean).sort((a, b) => b.when - a.when);
+    const cardIn = async (id) => readCard(await this.shelf.get(CARD + id).catch(() => null)) ?? this.cardAnew(id);
+    const cards = await Promise.all((await this.ids(RECORD)).map(cardIn));
+    return cards.filter(Boolean).sort((a, b) => b.when - a.when);
+  }
+
+  // A card of a record that has none, or a damaged one; null where the record is damaged too.
+  async cardAnew(id) {
+    const value = await this.shelf.get(RECORD + id).catch(() => null);
+    return readRecord(value) ? readCard(cardOf(value)) : null;
   }
 
   /** A record, read, or null where it is none. */
