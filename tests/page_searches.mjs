@@ -109,24 +109,31 @@ test('a long call tells what it finds, and the copy is opened anew after it', as
 });
 
 test('a job without a name is not told, neither its end nor its failure', async () => {
-    const { searches, seen } = searchesOf([{ ok: { none: 'certificate' } }, 'refused: Memory\n']);
-    assert.equal(await searches.job('', 60, (copy) => copy.grade({})), null);
+    const { searches, seen } = searchesOf(['refused: Memory\n']);
+    assert.equal(await searches.grade({ map: ['?'] }, 60), null);
     assert.deepEqual([seen.told, seen.ended, seen.failed], [[], [], []]);
     const stopped = searchesOf([]);
-    const job = stopped.searches.job('', 60, (copy) => copy.grade({}));
+    const job = stopped.searches.grade({ map: ['?'] }, 60);
     await pause(20);
     stopped.searches.strokeBegun();
     assert.equal(await job, null);
     assert.deepEqual([stopped.seen.told, stopped.seen.ended], [[], []]);
 });
 
-test('a grade asks for a certificate only where one is wanted', async () => {
+test('a grade asks for a certificate only where a cell is open', async () => {
     const { searches, log } = searchesOf([{ ok: { word: 'easy' } }]);
-    assert.deepEqual(await searches.job('', 60, (copy) => copy.grade({})), { word: 'easy' });
-    assert.equal(log.includes('certify'), false);
-    const guess = searchesOf([{ ok: { none: 'certificate' } }, 'nonocert 1\ndone\n', { ok: { word: 'expert' } }]);
-    assert.deepEqual(await guess.searches.job('', 60, (copy) => copy.grade({ picture: 'x' })), { word: 'expert' });
-    assert.equal(guess.log.at(-1), 'grade {"puzzle":{"picture":"x","certificate":"nonocert 1\\ndone\\n"}}');
+    assert.deepEqual(await searches.grade({ map: ['a.'] }, 60), { word: 'easy' });
+    assert.deepEqual(log, ['start', 'grade {"puzzle":{"map":["a."]}}'], 'nothing is opened for it');
+    const guess = searchesOf(['nonocert 1\ndone\n', { ok: { word: 'expert' } }]);
+    assert.deepEqual(await guess.searches.grade({ map: ['?'] }, 60), { word: 'expert' });
+    assert.equal(guess.log.at(-1), 'grade {"puzzle":{"map":["?"],"certificate":"nonocert 1\\ndone\\n"}}');
+});
+
+test('a grade of line logic goes on below a stroke', async () => {
+    const { searches, log } = searchesOf([]);
+    searches.grade({ map: ['a.'] }, 60);
+    searches.strokeBegun();
+    assert.equal(log.includes('end'), false);
 });
 
 test('what differs', () => {

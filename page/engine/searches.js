@@ -57,15 +57,6 @@ class Copy {
     return this.searches.within(this.run, this.run.engine.call(name, fields, told));
   }
 
-  /** A grade, of what the state says and a certificate where one is wanted: `puzzle` as page/grade has it. */
-  async grade(puzzle) {
-    const first = await this.searches.within(this.run, this.run.engine.call('grade', { puzzle }));
-    if (first.none !== 'certificate') return first;
-    const [answer] = await this.say('certify');
-    if (answer.kind !== 'text') return first;
-    return this.searches.within(this.run, this.run.engine.call('grade', { puzzle: { ...puzzle, certificate: answer.text } }));
-  }
-
   /** Tells how far the search is. */
   note(text) {
     this.run.note = text;
@@ -132,6 +123,21 @@ export class Searches {
       this.tellVerdict(version, answer.kind === 'text' ? { kind: 'verdict', word: 'unique' } : await copy.verdict());
       return answer.text ?? null;
     }, true);
+  }
+
+  /**
+   * A grade, `puzzle` being as page/grade has it, or null. Where line logic solves the puzzle that is a moment of the second worker,
+   * which a stroke does not end. Else it is a job without a name, for it asks for a certificate.
+   */
+  async grade(puzzle, seconds) {
+    if (!puzzle.map.some((row) => row.includes('?'))) {
+      this.engine ??= this.hooks.start();
+      return this.engine.call('grade', { puzzle }).catch(() => null);
+    }
+    return this.job('', seconds, async (copy, run) => {
+      const [answer] = await copy.say('certify');
+      return this.within(run, run.engine.call('grade', { puzzle: { ...puzzle, certificate: answer.text ?? null } }));
+    });
   }
 
   tellVerdict(version, verdict) {

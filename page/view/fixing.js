@@ -222,7 +222,7 @@ export function startFixing() {
   let before = null;
   on('shown', (state) => {
     showLocks();
-    const isSame = before && before.picture.join() === state.picture.join() && before.givens.size === state.givens.size;
+    const isSame = before !== null && before.givens === state.givens && before.picture.length === state.picture.length && before.picture.every((row, at) => row === state.picture[at]);
     before = state;
     if (isSame) return;
     Object.assign(fixing, { found: [], kept: new Set(), near: null });

@@ -7,7 +7,7 @@ import { bench } from '../engine/bench.js';
 import { gradeText } from '../grade/grade.js';
 import { searches, secondsChosen } from './verdict.js';
 
-const REST = 700; // milliseconds without a stroke or a search
+const REST = 1000; // milliseconds without a stroke or a search
 const MOST_SECONDS = 5; // for a certificate
 
 const grading = { of: null, grade: null, waits: 0 };
@@ -43,7 +43,7 @@ async function work() {
   if (!state) return;
   if (searches.running || bench.running) return schedule();
   const puzzle = { picture: state.picture, givens: [...state.givens], verdict: state.verdict.word, map: state.map };
-  const grade = await searches.job('', Math.min(MOST_SECONDS, secondsChosen()), (copy) => copy.grade(puzzle));
+  const grade = await searches.grade(puzzle, Math.min(MOST_SECONDS, secondsChosen()));
   if (bench.state && isSame(bench.state, state) && (grade || !searches.running)) {
     Object.assign(grading, { of: state, grade: grade ?? { none: 'time' } });
     if (grade?.none === 'map') console.error('The plain solver ends elsewhere than the proved map.');
