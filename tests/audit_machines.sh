@@ -66,7 +66,7 @@ begin() {
 }
 
 worker() {
-    begin "worker$1" "$1" worker tcp://198.18.1.1:8786 --nthreads 1 --no-nanny --listen-address "tcp://198.18.1.$(($1 + 1)):0"
+    begin "worker$1" "$1" worker tcp://198.18.1.1:8786 --nthreads 1 --no-nanny --host "198.18.1.$(($1 + 1))"
 }
 
 rows() {
@@ -104,6 +104,6 @@ echo "audit machines: three hosts, of which one joined late: $(rows) rows, statu
 if cmp "$work/here" "$work/there" && diff -r "$work/certs" "$work/more"; then
     echo "audit machines: the same bytes"
 else
-    tail -n 5 "$work"/*.log
+    tail -n 25 "$work"/*.log
     exit 1
 fi
