@@ -13,7 +13,7 @@ import time
 from array import array
 from typing import BinaryIO, Callable, ContextManager, Iterator, Sequence, Union
 
-from .rows import COLUMNS, HEAD, csv_cells, row_of, table_line
+from .rows import COLUMNS, HEAD, Row, csv_cells, table_line
 
 SOME = 1 << 16  # bytes that are written together
 MOMENT = 0.25  # seconds until a row is in its file
@@ -116,7 +116,7 @@ class Lines:
         if is_resumed:
             self._end = _cut_torn_line(self._output.file, name)
 
-    def put(self, text: str) -> None:
+    def put(self, text: str, row: Row) -> None:
         """Puts a new row."""
         line = text.encode("ascii") + b"\n"
         self._order.append(self._end)
@@ -198,9 +198,9 @@ class Sheet:
         self._writer.writerow(cells)
         self._output.put(self._text.getvalue().encode("utf-8"))
 
-    def put(self, text: str) -> None:
+    def put(self, text: str, row: Row) -> None:
         """Puts a row."""
-        self._write(csv_cells(row_of(text)))
+        self._write(csv_cells(row))
 
     def flush(self) -> None:
         """Writes what has waited for a moment."""
@@ -224,11 +224,10 @@ class Table:
     def _put(self, line: str) -> None:
         self._output.put((line + "\n").encode(sys.stdout.encoding or "utf-8", "backslashreplace"))
 
-    def put(self, text: str) -> None:
+    def put(self, text: str, row: Row) -> None:
         """Puts a row."""
-        if self.is_closed:
-            return
-        self._guard(lambda: self._put(table_line(row_of(text))))
+        if not self.is_closed:
+            self._guard(lambda: self._put(table_line(row)))
 
     def say(self, lines: str) -> None:
         """Puts lines that are no rows."""

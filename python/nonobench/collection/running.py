@@ -76,6 +76,7 @@ class Run:
         self._progress = Progress(options.is_quiet or options.is_merge, self._tally)
         self._lines: Optional[Lines] = None
         self._sinks: list[Any] = []
+        self._reads_rows = False  # whether more is written than the rows' own texts
         self._earlier: Optional[Earlier] = None
         self._kept: dict[int, Kept] = {}
         self._waiting: dict[int, list[Answer]] = {}
@@ -149,6 +150,7 @@ class Run:
             self._sinks.append(Report(options.html, options.title))
         if not self._sinks and not options.is_quiet:
             self._sinks.append(Table(self._progress.aside))
+        self._reads_rows = any(sink is not self._lines for sink in self._sinks)
 
     def _count_files(self) -> None:
         """Counts the files beside the run, so that it can be told how long it takes."""
@@ -255,17 +257,19 @@ class Run:
 
     def _keep(self, text: str, lines: Lines, place: int) -> None:
         """Delivers a row of an earlier run, which stays where it is."""
-        self._tally.put(row_of(text)["verdict"], text)
+        row = row_of(text)
+        self._tally.put(row["verdict"], text)
         for sink in self._sinks:
             if sink is lines:
                 lines.keep(place)
             else:
-                sink.put(text)
+                sink.put(text, row)
 
     def _deliver(self, verdict: str, text: str) -> None:
         self._tally.put(verdict, text)
+        row = row_of(text) if self._reads_rows else {}
         for sink in self._sinks:
-            sink.put(text)
+            sink.put(text, row)
 
     def _summary(self, is_whole: bool, is_stopped: bool) -> None:
         options, summary = self._options, self._tally.summary()

@@ -14,7 +14,7 @@ from typing import Any, Optional
 from ..._library import version
 from ..outputs import Failure, Output, failure
 from ..puzzles import Missing
-from ..rows import FIGURES, GRADES, VERDICTS, Row, certificate_words, name_of, near_words, printable, row_of, text_of
+from ..rows import FIGURES, GRADES, VERDICTS, Row, certificate_words, name_of, near_words, printable, text_of
 
 SIDES = (10, 15, 20, 25, 30, 40, 60, 120)  # the longer sides that puzzles are counted by
 _FOLDER = Path(__file__).resolve().parent
@@ -33,9 +33,8 @@ class Report:
         self._grades: Counter[str] = Counter()
         self._sides: Counter[tuple[int, str]] = Counter()
 
-    def put(self, text: str) -> None:
+    def put(self, text: str, row: Row) -> None:
         """Puts a row."""
-        row = row_of(text)
         verdict = row["verdict"]
         self._verdicts[verdict] += 1
         if "grade" in row:
