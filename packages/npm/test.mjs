@@ -2,7 +2,7 @@
 // as packages/npm/stage makes it. The arguments are compared with those of the native program; .ci/cases and .ci/examples run both.
 import assert from 'node:assert/strict';
 import { spawn, spawnSync } from 'node:child_process';
-import { constants, closeSync, mkdtempSync, openSync, readFileSync, rmSync, symlinkSync, mkdirSync, writeFileSync, writeSync } from 'node:fs';
+import { mkdirSync, mkdtempSync, readFileSync, rmSync, symlinkSync, writeFileSync } from 'node:fs';
 import { tmpdir } from 'node:os';
 import { dirname, join, resolve } from 'node:path';
 import test from 'node:test';
@@ -67,9 +67,11 @@ test('a word of the program is no name of an object', () => {
   }
 });
 
-// Starts the program, and gathers what it prints.
-function started(args, options = {}) {
-  const child = spawn(process.execPath, [program, ...args], { stdio: ['pipe', 'pipe', 'pipe'], ...options });
+// Starts the program, and gathers what it prints. It is killed where the test ends before it. `front` is what starts node.
+function started(t, args, front = []) {
+  const [first, ...others] = [...front, process.execPath, program, ...args];
+  const child = spawn(first, others, { stdio: ['pipe', 'pipe', 'pipe'] });
+  t.after(() => child.kill('SIGKILL'));
   const said = { out: '', err: '' };
   child.stdout.on('data', (bytes) => { said.out += bytes; });
   child.stderr.on('data', (bytes) => { said.err += bytes; });
@@ -82,8 +84,8 @@ function started(args, options = {}) {
   return child;
 }
 
-test('each line is answered before the next one comes', { timeout: 60000 }, async () => {
-  const child = started(['work', example('diagonal.ppm')]);
+test('each line is answered before the next one comes', { timeout: 60000 }, async (t) => {
+  const child = started(t, ['work', example('diagonal.ppm')]);
   child.stdin.write('verdict\npai');
   await child.printed('unique\n');
   child.stdin.write('nt 1 1 .\n');
@@ -93,16 +95,14 @@ test('each line is answered before the next one comes', { timeout: 60000 }, asyn
 });
 
 test('a stream that does not wait is waited for', { timeout: 60000 }, async (t) => {
-  const pipe = join(ownFolder(t), 'pipe');
-  assert.equal(spawnSync('mkfifo', [pipe]).status, 0);
-  const end = openSync(pipe, constants.O_RDWR | constants.O_NONBLOCK);
-  const child = started(['work', example('diagonal.ppm')], { stdio: [end, 'pipe', 'pipe'] });
-  await new Promise((done) => { setTimeout(done, 700); });
-  writeSync(end, 'verdict\n');
-  await child.printed('unique\n');
-  child.kill('SIGTERM');
-  assert.deepEqual(await child.ended, { status: null, signal: 'SIGTERM', out: 'unique\n', err: '' });
-  closeSync(end);
+  if (spawnSync('python3', ['--version']).status !== 0) return t.skip('no python3');
+  const front = ['python3', '-c', 'import os, sys; os.set_blocking(0, False); os.execvp(sys.argv[1], sys.argv[1:])'];
+  const child = started(t, ['work', example('diagonal.ppm')], front);
+  child.stdin.write('undo\n');
+  await child.printed('refused: UndoEmpty\n');
+  await new Promise((done) => { setTimeout(done, 500); });
+  child.stdin.end('verdict\n');
+  return assert.deepEqual(await child.ended, { status: 0, signal: null, out: 'refused: UndoEmpty\nunique\n', err: '' });
 });
 
 // A board of squares of two by two cells, whose verdict takes longer than anybody waits.
@@ -114,7 +114,7 @@ function chequered() {
 test('Ctrl-C ends a search', { timeout: 60000 }, async (t) => {
   const picture = join(ownFolder(t), 'board.ppm');
   writeFileSync(picture, chequered());
-  const child = started(['work', picture]);
+  const child = started(t, ['work', picture]);
   child.stdin.write('undo\nverdict\n');
   await child.printed('refused: UndoEmpty\n');
   await new Promise((done) => { setTimeout(done, 1000); });
@@ -122,8 +122,8 @@ test('Ctrl-C ends a search', { timeout: 60000 }, async (t) => {
   assert.deepEqual(await child.ended, { status: null, signal: 'SIGINT', out: 'refused: UndoEmpty\n', err: '' });
 });
 
-test('a line without an end takes no memory', { timeout: 120000 }, async () => {
-  const child = started(['work', example('diagonal.ppm')]);
+test('a line without an end takes no memory', { timeout: 120000 }, async (t) => {
+  const child = started(t, ['work', example('diagonal.ppm')]);
   const piece = Buffer.alloc(1 << 20, 'x');
   for (let time = 0; time < 200; time += 1) {
     if (!child.stdin.write(piece)) await new Promise((done) => { child.stdin.once('drain', done); });
