@@ -136,6 +136,9 @@ export async function panelsStay({ trial, page }) {
         await trial.judged();
         assert.equal(await places(), before, lines[0]);
     }
+    await page.run(() => bench.stroke(['fill 1 1 5 10 a', 'paint 3 3 b']));
+    await page.until(() => !['–', ''].includes(document.getElementById('grade')?.textContent ?? 'no grade'), 15000 * SLACK); // it comes once the hand rests
+    assert.equal(await places(), before, 'graded');
     for (let count = 5; count <= 13; count++) {
         await page.click('[data-action="colour-add"]');
         await trial.settled();
