@@ -7,7 +7,7 @@ cd "$(dirname "$0")/.."
 root=$(pwd)
 made=$(realpath "${1:-dist}")
 certificate=("$root"/examples/diagonal.{ppm,cert})
-count=200
+count=100
 work=$(mktemp -d)
 trap 'rm -rf "$work"' EXIT
 
