@@ -35,6 +35,9 @@ WHITE = (255, 255, 255)
 UNSEEN = {"Cc", "Cf", "Cn", "Co", "Cs"}
 JOINERS = "\u200c\u200d"
 
+# Letters and a sign that show nothing: fillers of Hangul, and the empty cell of Braille.
+BLANK = dict.fromkeys(map(ord, "\u115f\u1160\u2800\u3164\uffa0"), " ")
+
 # `shown` is the sum of the picture as it is shown: what makes two puzzles one, whatever cells their certificates give.
 TABLE = """
 CREATE TABLE IF NOT EXISTS published (
@@ -115,6 +118,8 @@ def picture_of(file):
         with Image.open(io.BytesIO(file), formats=["PNG"]) as image:
             if max(image.size) > MOST_CELLS:
                 raise Refused(WORDS["TooLarge"])
+            if image.mode[0] in "IF":  # samples of 16 bits
+                image = image.point(lambda sample: sample * (1 / 257)).convert("L")
             flat = Image.new("RGBA", image.size, "white")
             flat.alpha_composite(image.convert("RGBA"))
     except Refused:
@@ -169,7 +174,8 @@ def refuse_no_puzzle(picture, givens):
 
 def title_of(text):
     """A title that is shown as it is: without control characters, and without those that turn the direction of writing."""
-    seen = "".join(sign for sign in " ".join(text.split()) if sign in JOINERS or unicodedata.category(sign) not in UNSEEN)
+    words = text.translate(BLANK).split()
+    seen = "".join(sign for sign in " ".join(words) if sign in JOINERS or unicodedata.category(sign) not in UNSEEN)
     seen = seen[:MOST_TITLE].strip()
     return seen if any(unicodedata.category(sign)[0] in "LNPS" for sign in seen) else "Without a title"
 

@@ -125,6 +125,8 @@ class Site(Case):
             ("\u0645\u06cc\u200c\u062e\u0648\u0627\u0647\u0645", "\u0645\u06cc\u200c\u062e\u0648\u0627\u0647\u0645"),
             ("\u202e\u2066", "Without a title"),
             (" \u200d\u0301 ", "Without a title"),
+            ("\u3164\u2800\uffa0", "Without a title"),
+            ("\u1160a\u3164b\u115f", "a b"),
             ("", "Without a title"),
             ("x" * 500, "x" * 100),
         ):
@@ -204,6 +206,9 @@ class Site(Case):
         self.assert_refused(self.bring(site.PNG, DIAGONAL_CERT), "The image cannot be read.")
         self.assertEqual(self.bring(png(image), DIAGONAL_CERT).status_code, 303)
         self.assertEqual(site.Picture(site.picture_of(png(image))).cells, site.Picture(DIAGONAL).cells)
+        # Samples of 16 bits, of which 65535 is white and 128 * 257 a grey.
+        grey = site.Image.new("I;16", (1, 1), 128 * 257)
+        self.assertEqual(site.Picture(site.picture_of(png(grey))).cells, [(128, 128, 128)])
 
     @unittest.skipUnless(site.Image is None, "there is Pillow")
     def test_no_images(self):
