@@ -213,10 +213,9 @@ class Interrupts(unittest.TestCase):
     def test_an_answer_with_another_number_is_refused(self):
         with nonobench.Worker(seconds=300) as worker:
             worker.clues(DIAGONAL)
-            # A question whose answer nobody takes, and which comes so late that nothing is there yet when the next one is asked.
-            os.kill(worker._process.pid, signal.SIGSTOP)
+            # A question whose answer nobody takes, and is not there yet when the next one is asked.
             worker._process._stream.sendall(nonobench.worker.QUESTION.pack(77, 1, 300, len(DIAGONAL), 0, len(GIVEN)) + DIAGONAL + GIVEN)
-            threading.Timer(0.5, os.kill, (worker._process.pid, signal.SIGCONT)).start()
+            worker._process.is_waiting = lambda: True
             with self.assertRaisesRegex(RuntimeError, "^the worker answered question 77 in place of 2$"):
                 worker.check(TILE, b"junk", published=nonobench.ANY_GIVEN)
             with self.assertRaisesRegex(CertificateFault, "NotCert"):
