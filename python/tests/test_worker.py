@@ -92,8 +92,13 @@ class Workers(unittest.TestCase):
 
     def test_no_standard_streams(self):
         # A program may have closed its own: then the stream has their numbers.
-        program = f"import os, nonobench\nfor at in range(3): os.close(at)\nworker = nonobench.Worker(seconds=300)\n" \
-                  f"os._exit(0 if worker.clues({DIAGONAL!r}) == nonobench.clues({DIAGONAL!r}) else 1)\n"
+        program = textwrap.dedent(f"""
+            import os, nonobench
+            for at in range(3):
+                os.close(at)
+            worker = nonobench.Worker(seconds=300)
+            os._exit(0 if worker.clues({DIAGONAL!r}) == nonobench.clues({DIAGONAL!r}) else 1)
+        """)
         env = {**os.environ, "PYTHONPATH": str(PACKAGE)}
         self.assertEqual(subprocess.run([sys.executable, "-c", program], env=env, check=False).returncode, 0)
 
@@ -121,18 +126,19 @@ class Workers(unittest.TestCase):
             self.assertEqual(worker.clues(DIAGONAL), nonobench.clues(DIAGONAL))
 
     def test_threads(self):
+        asked = [(DIAGONAL, 0), (DIAGONAL, 1), (TILE,)]
         answers = []
         with nonobench.Worker(seconds=300) as worker:
-            threads = [threading.Thread(target=lambda: answers.extend((at, worker.verdict(*asked)) for _ in range(50)))
-                       for at, asked in enumerate([(DIAGONAL, 0), (DIAGONAL, 1), (TILE,)]) for at, asked in [(at, asked)]]
+            threads = [threading.Thread(target=lambda words=words: answers.extend((words, worker.verdict(*words)) for _ in range(50)))
+                       for words in asked]
             for thread in threads:
                 thread.start()
             for thread in threads:
                 thread.join()
         self.assertEqual(len(answers), 150)
-        wanted = [nonobench.verdict(DIAGONAL, 0), nonobench.verdict(DIAGONAL, 1), nonobench.verdict(TILE)]
-        for at, verdict in answers:
-            self.assertEqual(verdict, wanted[at])
+        wanted = {words: nonobench.verdict(*words) for words in asked}
+        for words, verdict in answers:
+            self.assertEqual(verdict, wanted[words])
 
 
 class Interrupt(BaseException):
@@ -207,10 +213,9 @@ class Interrupts(unittest.TestCase):
     def test_an_answer_with_another_number_is_refused(self):
         with nonobench.Worker(seconds=300) as worker:
             worker.clues(DIAGONAL)
-            # A question whose answer nobody takes, and which comes so late that nothing is there yet when the next one is asked.
-            os.kill(worker._process.pid, signal.SIGSTOP)
+            # A question whose answer nobody takes, and is not there yet when the next one is asked.
             worker._process._stream.sendall(nonobench.worker.QUESTION.pack(77, 1, 300, len(DIAGONAL), 0, len(GIVEN)) + DIAGONAL + GIVEN)
-            threading.Timer(0.5, os.kill, (worker._process.pid, signal.SIGCONT)).start()
+            worker._process.is_waiting = lambda: True
             with self.assertRaisesRegex(RuntimeError, "^the worker answered question 77 in place of 2$"):
                 worker.check(TILE, b"junk", published=nonobench.ANY_GIVEN)
             with self.assertRaisesRegex(CertificateFault, "NotCert"):
@@ -283,19 +288,28 @@ class Ends(unittest.TestCase):
             worker.me = worker  # a cycle, so that only the collector finds it
             del worker
         gc.collect()
-        self.assertEqual([pid for pid in pids if is_alive(pid)], [])
+        for pid in pids:
+            self.assert_ends(pid)
         self.assertEqual(len(os.listdir("/proc/self/fd")), before)
 
+    def assert_ends(self, pid):
+        """Waits until a process is gone."""
+        until = time.monotonic() + 60
+        while is_alive(pid) and time.monotonic() < until:
+            time.sleep(0.05)
+        self.assertFalse(is_alive(pid))
+
     def test_a_program_that_ends(self):
-        program = "import nonobench\nworker = nonobench.Worker(seconds=300)\nworker.clues(%r)\nprint(worker._process.pid)\n" % DIAGONAL
-        for end in ("", "import os, signal; os.kill(os.getpid(), signal.SIGKILL)"):
-            run = subprocess.run([sys.executable, "-c", program.replace("print(", "print(flush=True, *(") .replace("pid)\n", "pid,))\n") + end],
-                                 env={**os.environ, "PYTHONPATH": str(PACKAGE)}, capture_output=True, text=True, check=False)
-            pid = int(run.stdout)
-            until = time.monotonic() + 60
-            while is_alive(pid) and time.monotonic() < until:
-                time.sleep(0.05)
-            self.assertFalse(is_alive(pid), end)
+        program = f"""
+            import os, signal, nonobench
+            worker = nonobench.Worker(seconds=300)
+            worker.clues({DIAGONAL!r})
+            print(worker._process.pid, flush=True)
+        """
+        for end in ("", "os.kill(os.getpid(), signal.SIGKILL)"):
+            run = subprocess.run([sys.executable, "-c", textwrap.dedent(program) + end], env={**os.environ, "PYTHONPATH": str(PACKAGE)},
+                                 capture_output=True, text=True, check=False)
+            self.assert_ends(int(run.stdout))
 
 
 # What a stranger may have put into the current folder, or into one of PYTHONPATH. Each file says that it was run.
