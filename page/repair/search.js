@@ -7,6 +7,7 @@ import { Candidate } from './board.js';
 import { Pool } from './witness.js';
 
 const KNOWN = 24; // living witnesses looked at in an exact search
+const LOOKS = 16; // candidates for each look at the clock
 
 /** One search. `hooks.found(candidate)` hears each repair, `hooks.tried(finding, candidate)` what misses the goal. */
 export class Search {
@@ -26,6 +27,7 @@ export class Search {
     this.isSure = true; // no candidate was left undecided
     this.visited = new Set();
     this.openAtFirst = null; // cells of the board's picture
+    this.looks = 0;
   }
 
   get size() {
@@ -91,7 +93,9 @@ export class Search {
     return this.told.size >= this.wanted;
   }
 
+  // The clock is looked at now and then alone: it is slow beside a comparison of clues.
   #isPastItsTime() {
+    if (this.isCut || ++this.looks % LOOKS !== 0) return this.isCut;
     this.check();
     if (this.limit.now() <= this.until) return false;
     this.isCut = true;
