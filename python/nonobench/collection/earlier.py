@@ -4,10 +4,15 @@ from __future__ import annotations
 
 import hashlib
 import os
+import re
 from typing import BinaryIO, Optional
 
 from .outputs import Failure, failure, lines_of
 from .rows import Row, row_of
+
+
+# How a row begins: with its file, and the number of the puzzle where the file has several. The rest is read where it is wanted.
+_FRONT = re.compile(rb'\{"file":("(?:[^"\\]|\\.)*"),(?:"puzzle":([0-9]+),)?"')
 
 
 class Earlier:
@@ -20,11 +25,10 @@ class Earlier:
         except OSError as error:
             raise failure(name, error) from error
         for number, (place, line) in enumerate(lines_of(self._lines), 1):
-            try:
-                row = row_of(line)
-                self._places[_key(row["file"], row.get("puzzle", 1))] = place
-            except (ValueError, KeyError, TypeError):
-                raise Failure(f"{name}: line {number} is no row of an audit") from None
+            front = _FRONT.match(line)
+            if front is None or not line.endswith(b"}\n"):
+                raise Failure(f"{name}: line {number} is no row of an audit")
+            self._places[_key(row_of(front[1]), int(front[2] or 1))] = place
 
     def rows(self, name: str) -> list[tuple[int, Row]]:
         """The rows of a file, each with its place; none where some are missing."""
