@@ -1,0 +1,28 @@
+//! The verdict is true.
+
+ghost use Rattle.std.specs.Prelude.{◌≡◌, ℕ, List, true, false, Some, None, Ok, IfOk, IsSome};
+ghost use Rattle.live_audit.specs.Verdict.{IsOtherFor};
+
+use line_settle::LineEngine;
+use live_audit::{Bench, Verdict};
+use propagate::Agenda;
+use std::alloc::AllocError;
+
+/// Whether the present picture is the only one of its size with its clues and its colours in the givens. None only where an
+/// allowance is set, and a search was broken off at it.
+pub fn is_unique<E: LineEngine + Drop, A: Agenda + Drop>(
+    bench: &mut Bench<E, A>,
+) -> Result<Option<bool>, AllocError>
+    ensures unique { result ≡ Ok (Some true) → (other : List (List ℕ))
+        → IsOtherFor bench.old.history.document other → ⊥ }
+    ensures ambiguous { result ≡ Ok (Some false) → (other : List (List ℕ))
+        × IsOtherFor bench.old.history.document other }
+    ensures decided { bench.old.allowance ≡ None → IfOk result IsSome }
+    ensures same { bench.new.history ≡ bench.old.history }
+{
+    match bench.verdict()? {
+        Verdict::Unique => Ok(Some(true)),
+        Verdict::Ambiguous(_) => Ok(Some(false)),
+        Verdict::Undecided { .. } => Ok(None),
+    }
+}
