@@ -81,29 +81,21 @@ export class Firefox {
 /** The tab, with the calls of a page that a Trial makes. */
 export class Tab {
     constructor(browser) {
-        Object.assign(this, { browser, faults: [], last: 0 });
+        Object.assign(this, { browser, faults: [] });
     }
 
     goto(url) {
         return this.browser.send('WebDriver:Navigate', { url });
     }
 
-    // A script in the page, whose policy lets scripts that stand in it run; its answer comes back as text.
+    // A function run over the page's own objects. The page's policy lets no script into it, so the browser's sandbox runs it.
     async run(what, ...words) {
-        const id = ++this.last;
-        const source = `window.heard ??= {}; (async () => (${what})(...${JSON.stringify(words)}))().then(
-            (value) => { window.heard[${id}] = JSON.stringify({ value }); }, (fault) => { window.heard[${id}] = JSON.stringify({ fault: String(fault.stack ?? fault) }); });`;
-        const put = 'const script = document.createElement("script"); script.textContent = arguments[0]; document.head.append(script); script.remove();';
-        await this.browser.send('WebDriver:ExecuteScript', { script: put, args: [source.replaceAll('</script', '<\\/script')] });
-        for (;;) {
-            const told = await this.browser.send('WebDriver:ExecuteScript', { script: 'return (window.wrappedJSObject ?? window).heard?.[arguments[0]] ?? null;', args: [id] });
-            if (told) {
-                const { value, fault } = JSON.parse(told);
-                if (fault) throw new Error(`in the page: ${fault}`);
-                return value;
-            }
-            await pause(10);
-        }
+        const script = `with (window.wrappedJSObject ?? window) {
+            return Promise.resolve().then(() => (${what})(...JSON.parse(arguments[0]))).then((value) => JSON.stringify({ value }), (fault) => JSON.stringify({ fault: String(fault.stack ?? fault) }));
+        }`;
+        const { value, fault } = JSON.parse(await this.browser.send('WebDriver:ExecuteScript', { script, args: [JSON.stringify(words)] }));
+        if (fault) throw new Error(`in the page: ${fault}`);
+        return value;
     }
 
     async until(what, ms, ...words) {
