@@ -39,6 +39,7 @@ export async function library({ browser, url, folder }) {
     await page.until(() => document.querySelectorAll('#library .kept').length === 2, 5000 * SLACK);
     await page.click('#library-export');
     const { content } = await downloaded(page, own, '.zip');
+    await page.run(() => keep.end()); // the picture at hand would be kept again once it is graded
     await clean(page);
     await drop(page, own, 'all.zip', content);
     await saysThat(page, '31 pictures added to the library');
