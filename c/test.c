@@ -199,6 +199,31 @@ static void test_answers(void) {
 }
 
 /* A black cell, the only picture with its clues. */
+/* Under an allowance of no split, the two pictures with the clues of the diagonal stay undecided: no ruling says more than is found. */
+static void test_undecided(void) {
+    nonobench_ruling ruling = NONOBENCH_UNIQUE;
+    nonobench_audited found;
+    size_t size = strlen(DIAGONAL);
+    expect(nonobench_verdict(DIAGONAL, size, NULL, 0, &ruling, NULL) == NONOBENCH_DONE, "a verdict of no split", "");
+    expect(ruling == NONOBENCH_UNDECIDED, "it is undecided", "");
+    expect(nonobench_audit(DIAGONAL, size, NULL, 0, &found, NULL) == NONOBENCH_DONE, "an audit of no split", "");
+    expect(found.ruling == NONOBENCH_UNDECIDED && !found.certificate, "it is undecided, and has no certificate", "");
+}
+
+/* A place outside of every picture is no cell: row 1 and column 121 is not row 2 and column 1, nor is row 0 the row before. */
+static void test_places_outside(void) {
+    static const char second[] = "nonocert 2\ngiven 2 1\nline r 2\nline c 2\nline r 1\ndone\n";
+    static const nonobench_place outside[] = {{1, 121}, {0, 241}, {121, 1}, {2, 0}, {0, 0}, {1u << 31, 1}}, inside = {2, 1};
+    nonobench_options options = {NULL, outside, sizeof outside / sizeof *outside, false};
+    char said[64];
+    nonobench_text text = {said, sizeof said, 0};
+    size_t size = strlen(DIAGONAL);
+    expect(nonobench_check_pair(DIAGONAL, size, second, strlen(second), &options, &text) == NONOBENCH_REFUSED, "places outside", said);
+    expect(strcmp(said, "certificate UnpublishedGiven at line 2") == 0, "they publish nothing", said);
+    options = (nonobench_options){NULL, &inside, 1, false};
+    expect(nonobench_check_pair(DIAGONAL, size, second, strlen(second), &options, &text) == NONOBENCH_DONE, "the place itself", said);
+}
+
 static const char TILE[] = "P3 1 1 1 0 0 0";
 
 /* Certificates that are made, and checked again. What both calls answer to pictures with and without another one. */
@@ -400,6 +425,8 @@ int main(int count, char **words) {
     run_cases(words[1], "certificates");
     run_cases(words[1], "published");
     test_answers();
+    test_undecided();
+    test_places_outside();
     test_certificates();
     test_bad_input();
     test_nulls();

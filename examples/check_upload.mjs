@@ -23,9 +23,9 @@ function leave(text, status) {
   process.exit(status);
 }
 
-// Hands the files to a thread, and tells what it answers.
-function ask(picture, certificate, givens) {
-  const worker = new Worker(new URL(import.meta.url), { workerData: { picture, certificate, givens } });
+// Hands the module and the files to a thread, and tells what it answers.
+function ask(workerData) {
+  const worker = new Worker(new URL(import.meta.url), { workerData });
   let isTold = false;
   const tell = (isTaken, text) => {
     if (isTold) return;
@@ -46,14 +46,14 @@ if (isMainThread) {
   const names = process.argv.slice(2);
   if (names.length !== 2 && names.length !== 3) leave('PICTURE CERTIFICATE [GIVENS]', 2);
   try {
-    const [picture, certificate, givens = ''] = await Promise.all(names.map((name) => readFile(name)));
-    ask(picture, certificate, placesOf(givens.toString()));
+    names.unshift(process.env.WASM ?? new URL('../web/out/nonobench.wasm', import.meta.url));
+    const [module, picture, certificate, givens = ''] = await Promise.all(names.map((name) => readFile(name)));
+    ask({ module, picture, certificate, givens: placesOf(givens.toString()) });
   } catch (error) {
     leave(error.message, 3);
   }
 } else {
-  const engine = await load(await readFile(process.env.WASM ?? new URL('../web/out/nonobench.wasm', import.meta.url)));
-  const { picture, certificate, givens } = workerData;
+  const { module, picture, certificate, givens } = workerData, engine = await load(module);
   try {
     parentPort.postMessage(engine.check(picture, certificate, { givens }));
   } catch (fault) {

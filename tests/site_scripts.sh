@@ -50,6 +50,9 @@ mkdir unpacked && tar -xf packs/00000.tar -C unpacked
 wanted=$'-- 0 certificate accepted\nbad\\nx 1 nonobench: certificate Ended at line 2\n'
 wanted+=$'good 0 certificate accepted\ngood 0 \\c 1 nonobench: certificate Ended at line 2'
 same 'names with backslashes' 0 "$wanted" unpacked/answer_pack
+mkdir $'site/good\n.'
+pair $'good\n./good' cut
+same 'a name with a line feed' 1 '' "$examples/make-packs" site folded
 echo good >unpacked/names
 printf '#!/bin/sh\nkill -9 $$\n' >unpacked/nonobench
 same 'a program that is killed' 1 'good 137 ' unpacked/answer_pack

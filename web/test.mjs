@@ -642,7 +642,12 @@ test('the sessions of the repository come out as they stand there', async () => 
 
 // Runs the example from a folder, and gives what it printed and its status.
 function uploaded(folder, ...words) {
-  const env = { ...process.env, WASM: resolve(process.env.WASM ?? join(root, 'web', 'out', 'nonobench.wasm')) };
+  return uploadedBy(resolve(process.env.WASM ?? join(root, 'web', 'out', 'nonobench.wasm')), folder, ...words);
+}
+
+// The same by a module of that name.
+function uploadedBy(name, folder, ...words) {
+  const env = { ...process.env, WASM: name };
   const run = spawnSync(process.execPath, [join(root, 'examples', 'check_upload.mjs'), ...words], { cwd: folder, env, encoding: 'utf8' });
   return [run.stdout + run.stderr, run.status];
 }
@@ -664,6 +669,9 @@ test('the example checks an upload in a thread of its own, and its status tells 
     assert.equal(said('none.ppm', 'diagonal.cert')[1], 3);
     assert.equal(said('given.ppm', 'given.cert', cross)[1], 3);
     assert.equal(said('given.ppm')[1], 2);
+    const [text, status] = uploadedBy(join(folder, 'none.wasm'), join(root, 'examples'), 'diagonal.ppm', 'diagonal.cert');
+    assert.match(text, /^check_upload: ENOENT: .*none\.wasm'\n$/);
+    assert.equal(status, 3);
   } finally {
     rmSync(folder, { recursive: true, force: true });
   }

@@ -116,6 +116,10 @@ class Site(Case):
         self.assertEqual(self.bring(CROSS, EMPTY_CERT).status_code, 303)
         self.assertEqual(self.bring(other, EMPTY_CERT).status_code, 303)
         self.assertEqual(self.client.get("/").text.count("<li "), 3)
+        # The same cells in one row and in one column are two puzzles.
+        for size, proof in (("2 1", b"line r 1\n"), ("1 2", b"line c 1\n")):
+            picture = f"P3 {size} 1 0 0 0 0 0 0\n".encode()
+            self.assertEqual(self.bring(picture, b"nonocert 1\n" + proof + b"done\n").status_code, 303)
 
     def test_titles_are_shown_as_they_are(self):
         for text, title in (

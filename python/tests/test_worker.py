@@ -211,15 +211,17 @@ class Interrupts(unittest.TestCase):
         self.assertEqual(children(), [])
 
     def test_an_answer_with_another_number_is_refused(self):
-        with nonobench.Worker(seconds=300) as worker:
-            worker.clues(DIAGONAL)
-            # A question whose answer nobody takes, and is not there yet when the next one is asked.
-            worker._process._stream.sendall(nonobench.worker.QUESTION.pack(77, 1, 300, len(DIAGONAL), 0, len(GIVEN)) + DIAGONAL + GIVEN)
-            worker._process.is_waiting = lambda: True
-            with self.assertRaisesRegex(RuntimeError, "^the worker answered question 77 in place of 2$"):
-                worker.check(TILE, b"junk", published=nonobench.ANY_GIVEN)
-            with self.assertRaisesRegex(CertificateFault, "NotCert"):
-                worker.check(TILE, b"junk", published=nonobench.ANY_GIVEN)
+        for number in (1, 77):  # of the question before, and of none that there was
+            with self.subTest(number), nonobench.Worker(seconds=300) as worker:
+                worker.clues(DIAGONAL)
+                # A question whose answer nobody takes, and is not there yet when the next one is asked.
+                head = nonobench.worker.QUESTION.pack(number, 1, 300, len(DIAGONAL), 0, len(GIVEN))
+                worker._process._stream.sendall(head + DIAGONAL + GIVEN)
+                worker._process.is_waiting = lambda: True
+                with self.assertRaisesRegex(RuntimeError, f"^the worker answered question {number} in place of 2$"):
+                    worker.check(TILE, b"junk", published=nonobench.ANY_GIVEN)
+                with self.assertRaisesRegex(CertificateFault, "NotCert"):
+                    worker.check(TILE, b"junk", published=nonobench.ANY_GIVEN)
 
     def test_what_a_handler_raises_is_raised(self):
         def late(*_):
