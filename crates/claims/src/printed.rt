@@ -1,0 +1,31 @@
+//! Pairs that `write ppm` and `certify` print pass a check.
+
+ghost use Rattle.std.specs.Prelude.{◌≡◌, ◌⊎◌, Some, IfErr};
+ghost use Rattle.program_options.specs.declared.fault.ProgramFault.TheVariants.{Memory, Write as Unwritten};
+ghost use Rattle.published.specs.Laws.{ArePublished, background_in};
+
+use answers::{ProgramFault, run_check};
+use line_settle::LineEngine;
+use live_audit::Bench;
+use picture::Rgb;
+use propagate::Agenda;
+use published::laws::published_pairs_are_accepted;
+use std::alloc::Global;
+use std::io::Write;
+
+/// Checks what `write ppm` and `certify` printed of a bench's document, with that document's background: it is accepted, unless
+/// memory runs out or the line cannot be written.
+pub fn check_printed<E: LineEngine + Drop, A: Agenda + Drop, W: Write>(
+    alloc: Global,
+    bench: &Bench<E, A>,
+    printed: (&[u8], &[u8]),
+    background: Rgb,
+    writer: &mut W,
+) -> Result<(), ProgramFault>
+    requires printed { ArePublished bench.now printed.0.now printed.1.now }
+    requires background { background ≡ background_in bench.now.history.document }
+    ensures { IfErr result (λ e. (e ≡ Memory) ⊎ (e ≡ Unwritten)) }
+{
+    published_pairs_are_accepted(bench);
+    run_check(alloc, printed.0, printed.1, Some(background), writer)
+}
