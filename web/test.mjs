@@ -16,6 +16,8 @@ const root = join(dirname(fileURLToPath(import.meta.url)), '..');
 const bytes = readFileSync(process.env.WASM ?? join(root, 'web', 'out', 'nonobench.wasm'));
 const text = (...parts) => readFileSync(join(root, ...parts), 'utf8');
 const fresh = () => load(bytes);
+// The version of the crates, which the module must tell.
+const [, VERSION] = /VERSION: &str = "([^"]+)"/.exec(text('crates', 'program_options', 'src', 'version.rt'));
 
 // An engine with the plain calls of its module, some of them put in place of its own.
 async function watched(others = {}) {
@@ -235,8 +237,8 @@ test('bytes up to the last of the memory are taken by each plain call, and the h
   assert.equal(calls.nonobench_say(cell, 1, ...last('verdict\n')), 0);
   assert.equal(calls.nonobench_take(cell, BigInt(end() - 3), 3n), 16n);
   assert.equal(new TextDecoder().decode(new Uint8Array(calls.memory.buffer, end() - 3, 3)), 'amb');
-  assert.equal(calls.nonobench_version(BigInt(end() - 3), 3n), 5n);
-  assert.equal(new TextDecoder().decode(new Uint8Array(calls.memory.buffer, end() - 3, 3)), '0.1');
+  assert.equal(calls.nonobench_version(BigInt(end() - 3), 3n), BigInt(VERSION.length));
+  assert.equal(new TextDecoder().decode(new Uint8Array(calls.memory.buffer, end() - 3, 3)), VERSION.slice(0, 3));
 });
 
 test('a null beside a length is refused by each plain call, and nothing is read or written there', async () => {
@@ -257,7 +259,7 @@ test('a null beside a length is refused by each plain call, and nothing is read 
   assert.equal(calls.nonobench_check(cell, file, size, file, size, 0n, 0n), 1);
   const low = () => new Uint8Array(calls.memory.buffer, 0, 8192).slice(), before = low();
   assert.equal(calls.nonobench_take(cell, 0n, 64n), 29n);
-  assert.equal(calls.nonobench_version(0n, 64n), 5n);
+  assert.equal(calls.nonobench_version(0n, 64n), BigInt(VERSION.length));
   assert.deepEqual(low(), before);
 });
 
@@ -352,11 +354,10 @@ test('colours are too near as the cases say, and are shown in eight bits', () =>
 
 test('the version is that of the crates, whole or as far as there is room', async () => {
   const { engine, calls } = await watched();
-  const [, version] = /VERSION: &str = "([^"]+)"/.exec(text('crates', 'program_options', 'src', 'version.rt'));
-  assert.equal(engine.version, version);
+  assert.equal(engine.version, VERSION);
   const out = calls.malloc(16n), bytes = new Uint8Array(calls.memory.buffer, Number(out), 16).fill(0x2d);
-  assert.equal(calls.nonobench_version(out, 3n), BigInt(version.length));
-  assert.equal(new TextDecoder().decode(bytes.subarray(0, 4)), `${version.slice(0, 3)}-`);
+  assert.equal(calls.nonobench_version(out, 3n), BigInt(VERSION.length));
+  assert.equal(new TextDecoder().decode(bytes.subarray(0, 4)), `${VERSION.slice(0, 3)}-`);
 });
 
 // The clauses of the calls say the same, and this is what a host sees.
