@@ -49,8 +49,11 @@ function isNon(bytes) {
   return /^[ \t]*(?:width|height|rows|columns|goal|catalogue|title)\b/m.test(front);
 }
 
+const NONE = new Set();
+
 // The cells that are published, as texts `ROW COLUMN`; null for 'any'.
-function publishedOf(givens = []) {
+function publishedOf(givens) {
+  if (givens === undefined || givens === null) return NONE;
   if (givens === 'any') return null;
   const isCount = (number) => Number.isInteger(number) && number > 0;
   if (!Array.isArray(givens) || !givens.every((place) => Array.isArray(place) && place.length === 2 && place.every(isCount))) {
@@ -112,15 +115,15 @@ class Engine {
    * certificate gives, where its proof holds. 'any' accepts it whatever it gives: for who then publishes these cells.
    */
   check(picture, certificate, options = {}) {
-    const background = this.#background(options.background), published = publishedOf(options.givens ?? undefined);
+    const background = this.#background(options.background), published = publishedOf(options.givens);
     const held = this.#input(certificate), proof = held.buffer instanceof ArrayBuffer ? held : held.slice(); // shared memory may change
     const status = this.#lend([this.#input(picture), proof, background], ([file, cert, word]) =>
       this.#calls.nonobench_check(this.#cell, file.at, file.size, cert.at, cert.size, word.at, word.size));
     if (status === MEMORY || status === OPTIONS) this.#refuse(status);
     const text = this.#text();
     if (status !== DONE) return { accepted: false, status, text, givens: [] };
-    const givens = givensOf(proof), count = /, givens (\d+)\n$/.exec(text)?.[1] ?? 0;
-    if (givens.length !== Number(count)) throw new Fault('ended', `the module tells other givens: ${text}`);
+    const givens = givensOf(proof);
+    if (text !== `certificate accepted${givens.length > 0 ? `, givens ${givens.length}` : ''}\n`) throw new Fault('ended', `the module tells other givens: ${text}`);
     const at = published ? givens.findIndex(([row, column]) => !published.has(`${row} ${column}`)) : -1;
     if (at >= 0) return { accepted: false, status: REFUSED, text: `certificate UnpublishedGiven at line ${at + 2}`, givens };
     return { accepted: true, status, text, givens };
