@@ -276,6 +276,7 @@ uint32_t nonobench_certify(const void *picture, size_t size, const char *backgro
     if (status != NONOBENCH_DONE) return status;
     status = certify(&desk, handle, found, text);
     nonobench_end(desk);
+    if (status != NONOBENCH_DONE) found->ruling = NONOBENCH_UNDECIDED;
     if (status == NONOBENCH_DONE) put(text, found->certificate ? "unique\n" : "ambiguous\n");
     return status;
 }
@@ -290,5 +291,6 @@ uint32_t nonobench_audit(const void *picture, size_t size, const char *backgroun
     status = judge(&desk, handle, allowance, &found->ruling, text);
     if (status == NONOBENCH_DONE && found->ruling == NONOBENCH_UNIQUE) status = certify(&desk, handle, found, text);
     nonobench_end(desk);
+    if (status != NONOBENCH_DONE) found->ruling = NONOBENCH_UNDECIDED;
     return status;
 }
