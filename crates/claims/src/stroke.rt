@@ -1,26 +1,41 @@
 //! A refused edit leaves the bench as it was.
 
-ghost use Rattle.std.specs.Prelude.{◌≡◌, Err, OnErr, IfErr};
-ghost use Rattle.edits.specs.Fault.{edit_fault};
+ghost use Rattle.std.specs.Prelude.{◌≡◌, IfErr, OnErr, OnOk};
+ghost use Rattle.claims.specs.Step.{stroke_of};
 ghost use Rattle.edits.specs.History.{or_memory};
+ghost use Rattle.live_audit.specs.Stroke.{after_stroke, stroke_fault};
 
 use edits::{Edit, EditFault};
 use line_settle::LineEngine;
 use live_audit::Bench;
 use propagate::Agenda;
 
-/// Makes an edit. Where it is refused, the answer is its first error, or that memory ran out; and the document with its history,
-/// the clues, the map and the whole book are as they were.
-pub fn edit_or_keep<E: LineEngine + Drop, A: Agenda + Drop>(
+/// What a designer does to a picture.
+#[derive(Drop)]
+pub enum Step {
+    Edit(Edit),
+    Undo,
+    Redo,
+}
+
+/// Makes a step. Where it is accepted, the history is that after the step. Where it is refused, the answer is its first error, or
+/// that memory ran out; and all but a counter of work is as it was: the history with the document, the clues and the map.
+pub fn step_or_keep<E: LineEngine + Drop, A: Agenda + Drop>(
     bench: &mut Bench<E, A>,
-    edit: &Edit,
+    step: &Step,
 ) -> Result<(), EditFault>
+    ensures accepted { OnOk result
+        (bench.new.history ≡ after_stroke bench.old.history (stroke_of step.now)) }
     ensures first { IfErr result
-        (λ fault. fault ≡ or_memory (edit_fault bench.old.history.document edit.now)) }
+        (λ fault. fault ≡ or_memory (stroke_fault bench.old.history (stroke_of step.now))) }
     ensures history { OnErr result (bench.new.history ≡ bench.old.history) }
     ensures clues { OnErr result (bench.new.clues ≡ bench.old.clues) }
     ensures map { OnErr result (bench.new.book.facts ≡ bench.old.book.facts) }
     ensures all { OnErr result (bench.new ≡ record bench.old { calls = bench.new.calls }) }
 {
-    bench.apply(edit)
+    match step {
+        Step::Edit(edit) => bench.apply(edit),
+        Step::Undo => bench.undo(),
+        Step::Redo => bench.redo(),
+    }
 }

@@ -1,6 +1,6 @@
 //! The verdict is true.
 
-ghost use Rattle.std.specs.Prelude.{◌≡◌, ℕ, List, true, false, Some, None, Ok, IfOk, IsSome};
+ghost use Rattle.std.specs.Prelude.{◌≡◌, ℕ, List, true, false, Some, None, Ok, IfOk, IsSome, OnErr};
 ghost use Rattle.live_audit.specs.Verdict.{IsOtherFor};
 
 use line_settle::LineEngine;
@@ -9,7 +9,7 @@ use propagate::Agenda;
 use std::alloc::AllocError;
 
 /// Whether the present picture is the only one of its size with its clues and its colours in the givens. None only where an
-/// allowance is set, and a search was broken off at it.
+/// allowance is set, and a search was broken off at it. Where memory runs out, all but a counter of work is as it was.
 pub fn is_unique<E: LineEngine + Drop, A: Agenda + Drop>(
     bench: &mut Bench<E, A>,
 ) -> Result<Option<bool>, AllocError>
@@ -19,6 +19,7 @@ pub fn is_unique<E: LineEngine + Drop, A: Agenda + Drop>(
         × IsOtherFor bench.old.history.document other }
     ensures decided { bench.old.allowance ≡ None → IfOk result IsSome }
     ensures same { bench.new.history ≡ bench.old.history }
+    ensures memory { OnErr result (bench.new ≡ record bench.old { calls = bench.new.calls }) }
 {
     match bench.verdict()? {
         Verdict::Unique => Ok(Some(true)),

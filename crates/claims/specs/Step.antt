@@ -1,0 +1,9 @@
+-- What a designer's step is to the history of a document.
+use Rattle.claims.specs.declared.stroke.Step.{Step}
+use Rattle.claims.specs.declared.stroke.Step.TheVariants.{Edit, Undo, Redo}
+use Rattle.live_audit.specs.Stroke.{Edits, Redoes, Stroke, Undoes}
+
+abbrev pub stroke_of : Step → Stroke
+stroke_of (Edit edit) = Edits edit
+stroke_of Undo = Undoes
+stroke_of Redo = Redoes
