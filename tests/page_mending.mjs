@@ -78,6 +78,7 @@ export async function repairsOfSeveralCells({ trial, page }) {
     assert.match(await trial.text('#fix-said'), /None is smaller/);
     assert.match(sizes.at(-1), /Give \d+ cells?, the fewest/, 'given cells stand beside');
     assert.equal(await page.run(() => document.querySelectorAll('#fix-list li:first-child canvas').length), 2, 'before and after');
+    assert.equal(await page.run(() => document.documentElement.scrollHeight - innerHeight), 0, 'the window itself has nothing to scroll');
     await page.run(() => document.querySelector('#fix-list button').focus());
     assert.equal(await page.run(() => sheet.overlay.size), 2, 'it is seen on the sheet');
     await page.click('#fix-list button');
