@@ -128,6 +128,10 @@ export async function walkOfAGuess({ trial, page }) {
     assert.ok(texts.some((text) => /Suppose row \d, column \d is (black|background)/.test(text)), texts.join('\n'));
     assert.ok(texts.some((text) => /then (row|column) \d cannot be filled/.test(text)));
     assert.ok(texts.some((text) => /this is the picture/.test(text)));
+    assert.match(texts.at(-1), /no other picture fits/);
+    assert.deepEqual(await page.run(() => play.marks.map((row) => row.join(''))), GUESS, 'the path ends at the picture');
+    await page.click('#walk-hardest');
+    await said(page, ': Suppose row');
     await page.click('#walk-heat');
     assert.deepEqual(await page.run(() => [...play.heat].filter((round) => round < 0).length), 8, 'what needs a guess is told apart');
     await page.run(() => {
