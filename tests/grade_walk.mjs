@@ -98,6 +98,14 @@ test('the hardest step settles fewest cells for its blocks', () => {
     assert.equal(walk.steps[walk.hardest - 1].settled.length, 1);
 });
 
+test('where the path supposes, no line is harder than that', () => {
+    const puzzle = Puzzle.of(['.aa.', 'a..a', 'a..a']);
+    const lines = easiestSteps(puzzle);
+    const certificate = 'nonocert 1\nline r 2\nline c 1\nsplit 1 1\nline r 1\ndone\ndead r 3\n';
+    const walk = new Walk(puzzle, [...lines, ...treeSteps(puzzle, certificate)]);
+    assert.equal(walk.hardest, lines.length + 1);
+});
+
 test('the next step from what is known, or a line that nothing fills', () => {
     const puzzle = Puzzle.of(['.a.', 'aa.', '...']);
     const masks = puzzle.candidates();

@@ -147,6 +147,38 @@ export async function playing({ trial, page }) {
     assert.deepEqual(await trial.picture(), ['aa.', '.bb', 'a.a'], 'the picture stays as it was');
     await page.press('Escape');
     await page.until(() => !document.querySelector('#play-room'), 2000 * SLACK);
+    await trial.action('play');
+    await page.until(() => document.querySelector('#play-room')?.open, 2000 * SLACK);
+    assert.deepEqual(await page.run(() => play.marks.map((row) => row.join(''))), ['aa?', '?bb', 'a?a'], 'the marks stand as they were left');
+    assert.match(await trial.text('#play-said'), /Your marks are as you left them/);
+    await page.press('Control+z');
+    assert.deepEqual(await page.run(() => play.marks[1].join('')), '???', 'and are undone');
+    await page.press('Escape');
+    await page.until(() => !document.querySelector('#play-room'), 2000 * SLACK);
+    await trial.drag([[1, 3]]);
+    await trial.judged();
+    await page.run(() => { runAction('play'); });
+    await page.until(() => document.querySelector('#play-room')?.open, 2000 * SLACK);
+    assert.deepEqual(await page.run(() => play.marks.map((row) => row.join(''))), ['???', '???', '???'], 'another picture begins empty');
+    await page.press('Escape');
+    await page.until(() => !document.querySelector('#play-room'), 2000 * SLACK);
+}
+
+/** Where there is another solution, what it has is not told to be wrong. */
+export async function checkOfTwoSolutions({ trial, page }) {
+    await trial.open(ppmOf(['a.', '.a']), 'pair');
+    assert.equal(await trial.judged(), 'ambiguous');
+    await page.run(() => { runAction('play'); });
+    await page.until(() => document.querySelector('#play-room')?.open, 2000 * SLACK);
+    await page.run(() => document.getElementById('play-field').focus());
+    await page.press('ArrowRight', ' ');
+    await page.click('#play-check');
+    assert.match(await trial.text('#play-said'), /^1 cell differs from your picture\./);
+    await page.press('Control+z');
+    await page.click('#play-check');
+    assert.match(await trial.text('#play-said'), /^Nothing differs from your picture so far\./);
+    await page.press('Escape');
+    await page.until(() => !document.querySelector('#play-room'), 2000 * SLACK);
 }
 
 export async function reasons({ trial, page }) {

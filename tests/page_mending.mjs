@@ -78,6 +78,7 @@ export async function repairsOfSeveralCells({ trial, page }) {
     assert.match(await trial.text('#fix-said'), /None is smaller/);
     assert.match(sizes.at(-1), /Give \d+ cells?, the fewest/, 'given cells stand beside');
     assert.equal(await page.run(() => document.querySelectorAll('#fix-list li:first-child canvas').length), 2, 'before and after');
+    assert.equal(await page.run(() => document.documentElement.scrollHeight - innerHeight), 0, 'the window itself has nothing to scroll');
     await page.run(() => document.querySelector('#fix-list button').focus());
     assert.equal(await page.run(() => sheet.overlay.size), 2, 'it is seen on the sheet');
     await page.click('#fix-list button');
@@ -127,6 +128,10 @@ export async function walkOfAGuess({ trial, page }) {
     assert.ok(texts.some((text) => /Suppose row \d, column \d is (black|background)/.test(text)), texts.join('\n'));
     assert.ok(texts.some((text) => /then (row|column) \d cannot be filled/.test(text)));
     assert.ok(texts.some((text) => /this is the picture/.test(text)));
+    assert.match(texts.at(-1), /no other picture fits/);
+    assert.deepEqual(await page.run(() => play.marks.map((row) => row.join(''))), GUESS, 'the path ends at the picture');
+    await page.click('#walk-hardest');
+    await said(page, ': Suppose row');
     await page.click('#walk-heat');
     assert.deepEqual(await page.run(() => [...play.heat].filter((round) => round < 0).length), 8, 'what needs a guess is told apart');
     await page.run(() => {

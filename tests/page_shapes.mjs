@@ -107,3 +107,21 @@ test('zooming keeps the place under the pointer, and panning ends at the edges',
   assert.equal(at.reveal(99, 99), true);
   assert.ok(at.x(99) + at.cell <= 800 && at.y(99) + at.cell <= 600);
 });
+
+// The clues of 15 rows and 20 columns without a block, but for the first row's blocks.
+const cluesOf = (first) => ({ rows: [first, ...Array(14).fill([])], columns: Array(20).fill([]) });
+const blocks = (count) => Array.from({ length: count }, () => ({ length: 1, letter: 'a' }));
+
+test('a blank picture leaves room for the first clues that are painted', () => {
+  for (const [width, height] of [[792, 756], [390, 640]]) {
+    const at = new Geometry();
+    at.resize(width, height, 1);
+    Object.assign(at, { rows: 15, columns: 20 });
+    at.measure(cluesOf([]));
+    at.fit();
+    const { cell } = at;
+    at.measure(cluesOf(blocks(3)));
+    assert.equal(at.grow(), false, 'nothing moves');
+    assert.deepEqual([at.wantsFit, at.cell], [false, cell], 'and nothing is cut');
+  }
+});

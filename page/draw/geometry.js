@@ -7,6 +7,7 @@ import { clamp } from '../base/words.js';
 const SMALLEST = 3; // a cell's side in the page's pixels
 const LARGEST = 64;
 const MARGIN = 6;
+const FEW = 4; // blocks of a clue for which a picture that is fitted has room, however short its clues are
 const AROUND = 14; // the page's pixels around the blocks of a clue: some more than the strips leave free
 const EDGES = { left: 23, top: 17 }; // the page's pixels of clues that are folded: room for the numbers of lines
 
@@ -53,14 +54,17 @@ export class Geometry {
     return Math.round((signs + (this.letters ? 1 : 0)) * font * 0.62 + font / 2);
   }
 
-  // How much room all clues want with a cell of this size, at most a part of what there is. `spare` blocks more may come.
+  // How much room all clues want with a cell of this size, at most a part of what there is. `spare` blocks more may come, and where
+  // they may, a few in all: the first strokes on a blank picture cut no clue.
   room(cell, spare = 1) {
     const font = this.fontFor(cell);
     const isTiny = cell < 7 * this.scale;
     const tick = 4 * this.scale;
     const one = (size) => (isTiny ? size.blocks * (tick + 2) : size.signs * font * 0.62 + size.blocks * ((this.letters ? 0.62 : 0) * font + font / 2 + 2.5)); // a block's width is rounded
-    const most = Math.max(0, ...this.rowSizes.map(one)) + spare * one({ blocks: 1, signs: 1 });
-    const tall = (Math.max(0, ...this.columnSizes.map((size) => size.blocks)) + spare) * ((isTiny ? tick : this.pitchFor(cell)) + 1);
+    const few = (length) => (spare ? Math.min(FEW, Math.ceil(length / 2)) : 0);
+    const [block, across, down] = [one({ blocks: 1, signs: 1 }), few(this.columns), few(this.rows)];
+    const most = Math.max(across * block, Math.max(0, ...this.rowSizes.map(one)) + spare * block);
+    const tall = Math.max(down, Math.max(0, ...this.columnSizes.map((size) => size.blocks)) + spare) * ((isTiny ? tick : this.pitchFor(cell)) + 1);
     const bound = isTiny ? 0.2 : this.width < 600 * this.scale ? 0.28 : 0.34;
     return {
       left: Math.ceil(clamp(most + AROUND * this.scale, 26 * this.scale, this.width * bound)),

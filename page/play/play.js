@@ -16,10 +16,15 @@ import { endWalk, isWalking, startWalk, walkBar, walkKey } from './walking.js';
 
 export const play = { state: null, marks: [], letter: 'a', past: [], future: [], wrong: new Set(), at: { row: 0, col: 0 }, side: 24, drag: null, isSolved: false, shown: null, heat: null, hint: null };
 
+// Whether the marks of the last time are those of this puzzle: what was marked before the room was left stands there again.
+const goesOn = ({ picture, givens, colours }) => play.past.length > 0 && play.state.picture === picture && play.state.givens === givens && play.state.colours === colours;
+
 async function openPlay() {
   if (selection.rows || bench.queue.length) await asSeen();
   const { state } = bench;
-  Object.assign(play, { state, marks: marksOf(state), letter: state.colours.length > 1 ? 'a' : '.', past: [], future: [], wrong: new Set(), at: { row: 0, col: 0 }, drag: null, isSolved: false, shown: null, heat: null, hint: null });
+  const isKept = goesOn(state);
+  if (isKept) Object.assign(play, { state, wrong: new Set(), drag: null, shown: null, heat: null, hint: null });
+  else Object.assign(play, { state, marks: marksOf(state), letter: state.colours.length > 1 ? 'a' : '.', past: [], future: [], wrong: new Set(), at: { row: 0, col: 0 }, drag: null, isSolved: false, shown: null, heat: null, hint: null });
   searches.stop();
   const dialog = make('dialog', { id: 'play-room', 'aria-label': 'Play' });
   dialog.append(playBar(), walkBar(), make('p', { id: 'play-said', role: 'status' }), playBoard(), make('div', { id: 'play-palette', role: 'radiogroup', 'aria-label': 'Colour' }));
@@ -36,7 +41,7 @@ async function openPlay() {
   $('play-board').scrollTo(0, 0);
   const { word } = state.verdict;
   const told = word === 'unique' ? 'One solution. Good luck.' : word === 'ambiguous' ? 'This puzzle has more than one solution.' : 'It is not known whether this puzzle has one solution.';
-  playSays(`${told}${state.givens.size ? ' Cells with a diamond ◆ are given.' : ''}`);
+  playSays(`${isKept ? 'Your marks are as you left them. ' : ''}${told}${state.givens.size ? ' Cells with a diamond ◆ are given.' : ''}`);
 }
 
 export const playSays = (text) => { $('play-said').textContent = text; };
@@ -46,7 +51,7 @@ function playBar() {
   return make('div', { class: 'group', id: 'play-bar' },
     make('h2', {}, 'Play'),
     playButton('play-undo', 'Undo', () => playTurn('past', 'future')), playButton('play-redo', 'Redo', () => playTurn('future', 'past')),
-    playButton('play-check', 'Check', checkPlay, { title: 'Marks the cells that are wrong' }),
+    playButton('play-check', 'Check', checkPlay, { title: 'Marks the cells that are not as in your picture' }),
     playButton('play-hint', 'Hint', hintPlay, { title: 'Which line tells more; again: which cells; again: why' }),
     playButton('play-clear', 'Start over', clearPlay), playButton('play-walk', 'Walk through', startWalk),
     playButton('play-smaller', '−', () => zoomPlay(-1), { 'aria-label': 'Smaller cells' }), playButton('play-larger', '+', () => zoomPlay(1), { 'aria-label': 'Larger cells' }),
@@ -143,12 +148,18 @@ export function afterPlay() {
   drawPlay();
 }
 
+// A cell that another solution has is not wrong: only where the picture is known to be the one solution is it told so.
+function checkText(count) {
+  if (play.state.verdict.word === 'unique') return count ? `${many(count, 'cell')} wrong.` : 'Nothing is wrong so far.';
+  return count ? `${many(count, 'cell')} ${count === 1 ? 'differs' : 'differ'} from your picture.` : 'Nothing differs from your picture so far.';
+}
+
 function checkPlay() {
   play.wrong = new Set();
   play.marks.forEach((row, at) => row.forEach((mark, col) => {
     if (mark !== '?' && mark !== play.state.picture[at][col]) play.wrong.add(at * play.state.columns + col);
   }));
-  playSays(play.wrong.size ? `${many(play.wrong.size, 'cell')} wrong.` : 'Nothing is wrong so far.');
+  playSays(checkText(play.wrong.size));
   drawPlay();
 }
 

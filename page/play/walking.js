@@ -5,7 +5,7 @@ import { clamp, number } from '../base/words.js';
 import { LETTERS } from '../document/limits.js';
 import { nameOf } from '../document/colours.js';
 import { searches } from '../view/verdict.js';
-import { Walk, bookSteps, easiestSteps, roundsOf, treeSteps } from '../walk/steps.js';
+import { Walk, bookSteps, easiestSteps, onlyStep, roundsOf, treeSteps } from '../walk/steps.js';
 import { puzzleOf, stepText } from './hints.js';
 import { play, playSays } from './play.js';
 import { drawPlay } from './playdraw.js';
@@ -52,7 +52,7 @@ async function begin(order) {
   const lines = order === 'book' ? await stepsOfBook(puzzle, state) : easiestSteps(puzzle);
   const tree = state.open > 0 && state.verdict.word === 'unique' ? await searches.certify() : null;
   if (!$('walk-bar') || play.state !== state) return;
-  walking.walk = new Walk(puzzle, [...lines, ...(tree ? treeSteps(puzzle, tree) : [])]);
+  walking.walk = new Walk(puzzle, [...lines, ...(tree ? [...treeSteps(puzzle, tree), onlyStep(puzzle)] : [])]);
   $('walk-at').max = walking.walk.steps.length;
   goTo(0);
 }
@@ -94,6 +94,7 @@ function textOf(step) {
   if (step.kind === 'suppose') return `Suppose ${place(step.index)} is ${step.colour === 0 ? 'background' : nameOf(state.colours[step.colour], state.maxval)} …`;
   if (step.kind === 'dead') return `… then ${line(step.line)} cannot be filled: it is not so.`;
   if (step.kind === 'done') return '… and this is the picture.';
+  if (step.kind === 'only') return 'All is tried, and no other picture fits.';
   return stepText(step);
 }
 

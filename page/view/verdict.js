@@ -110,7 +110,8 @@ const numbersOf = (letter, set) => {
     if (spans.length && spans.at(-1)[1] === at) spans.at(-1)[1]++;
     else spans.push([at + 1, at + 1]);
   }
-  return spans.map(([from, to]) => `${letter} ${from === to ? from : `${from}–${to}`}`).join(', ');
+  const places = spans.map(([from, to]) => (from === to ? from : `${from}–${to}`));
+  return places.length ? `${letter}${set.size === 1 ? '' : 's'} ${places.join(', ')}` : '';
 };
 
 const differCount = ({ verdict, picture }) => (verdict.other ? cellsThatDiffer(picture, verdict.other).length : 0);

@@ -2,7 +2,7 @@
 //
 // A step is { kind: 'line', line, cells, settled, premises, masks? }, `cells` being { index, mask } with the candidates left. Where a
 // certificate is followed there are also 'suppose' (a cell held to a colour, `masks` all candidates then), 'dead' (a line that nothing
-// fills) and 'done'. `depth` is how many suppositions a step stands in.
+// fills) and 'done', and at the end 'only': the picture again, once all else has failed. `depth` is how many suppositions a step stands in.
 
 import { solveByLines } from '../grade/grade.js';
 import { narrow } from '../grade/lines.js';
@@ -141,6 +141,9 @@ export function treeSteps(puzzle, certificate) {
   return steps;
 }
 
+/** The last step after those of a certificate: the picture, wherever the last supposition has led. */
+export const onlyStep = ({ cells }) => ({ kind: 'only', depth: 0, cells: [], settled: [], premises: [], masks: Uint16Array.from(cells, (colour) => 1 << colour) });
+
 /** The path: steps with what each cell can be after so many of them. */
 export class Walk {
   constructor(puzzle, steps) {
@@ -162,9 +165,13 @@ export class Walk {
     return masks;
   }
 
-  /** The number of the hardest step, counted from 1: of those that settle cells by a line the least easy, the first of them. */
+  /**
+   * The number of the hardest step, counted from 1: the first that supposes a cell; else of those that settle cells by a line the
+   * least easy, the first of them.
+   */
   get hardest() {
-    let best = 0;
+    let best = this.steps.findIndex(({ kind }) => kind === 'suppose') + 1;
+    if (best > 0) return best;
     this.steps.forEach((step, at) => {
       if (step.kind !== 'line' || step.settled.length === 0) return;
       if (best === 0 || easeOf(this.puzzle, step) < easeOf(this.puzzle, this.steps[best - 1])) best = at + 1;
