@@ -1,9 +1,10 @@
-//! Arguments that are refused open no file.
+//! The program does what its arguments ask for, and opens no other file.
 
 ghost use Rattle.std.specs.Prelude.{◌≡◌, [], map, string_bytes, Ok};
 ghost use Rattle.std.specs.Io.KnownBytes.{Keeps};
 ghost use Rattle.std.specs.Process.{exit_status};
 ghost use Rattle.command_line.specs.declared.words.Task.{Task};
+ghost use Rattle.claims.specs.Outcome.{Opens};
 ghost use Rattle.program.specs.Files.{Names};
 ghost use Rattle.program.specs.Run.{IsTask};
 
@@ -27,6 +28,23 @@ pub fn run_refused<F: Files, R: Read, W: Write, V: Write>(
     ensures read { Keeps (R.remaining reader.old) (R.remaining reader.new) }
     ensures written { Keeps (W.contents writer.old) (W.contents writer.new) }
     ensures status { exit_status result.code ≡ 0 → ⊥ }
+{
+    run(alloc, Ok(arguments), files, reader, writer, errors)
+}
+
+/// The whole program: it opens only the first of the files that a task names for which the arguments ask. With status 0 there is
+/// such a task; and where it is a check, the picture of the first file is the only one of its size with its clues and its colours
+/// in the certificate's givens.
+pub fn run_asked<F: Files, R: Read, W: Write, V: Write>(
+    alloc: Global,
+    arguments: Vec<String>,
+    files: &mut F,
+    reader: &mut R,
+    writer: &mut W,
+    errors: &mut V,
+) -> Ended
+    ensures { Opens (map (λ text. string_bytes text) arguments.items) (F.held files.old)
+        (F.opened files.old) (F.opened files.new) (exit_status result.code) }
 {
     run(alloc, Ok(arguments), files, reader, writer, errors)
 }

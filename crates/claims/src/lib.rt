@@ -9,7 +9,7 @@ mod printed;
 mod stroke;
 mod verdict;
 
-pub use arguments::run_refused;
+pub use arguments::{run_asked, run_refused};
 pub use check::certificate_is_accepted;
 pub use lines::answered;
 pub use list::{edit_and_undo, edit_twice, step_all};
