@@ -157,7 +157,7 @@ export async function gradeGoesOut({ trial, page }) {
     await page.run(() => { runAction('about'); });
     for (let twice = 0; twice < 2; twice++) await page.click('#about-grade');
     await page.click('dialog button.main');
-    await trial.settled();
+    await page.until(() => bench.state.about.description, 5000 * SLACK); // the dialog is heard after it has closed
     assert.equal(await page.run(() => bench.state.about.description), 'Grade: easy: rounds 2, evaluations 8, longest wait 2', 'once');
 }
 
