@@ -26,6 +26,7 @@ import subprocess
 import sys
 import tempfile
 from pathlib import Path
+from statistics import median
 
 sys.dont_write_bytecode = True
 ROOT = Path(__file__).resolve().parent.parent
@@ -184,7 +185,8 @@ class Limit:
         before = resource.getrusage(resource.RUSAGE_CHILDREN)
         ended = subprocess.run(words, cwd=self.folder, input=text, capture_output=True, check=False, text=True, preexec_fn=limited)
         after = resource.getrusage(resource.RUSAGE_CHILDREN)
-        took = after.ru_utime + after.ru_stime - before.ru_utime - before.ru_stime
+        # As many digits as the CSV has, so that the plot made again from it is the same.
+        took = round(after.ru_utime + after.ru_stime - before.ru_utime - before.ru_stime, 4)
         if took > self.seconds or ended.returncode < 0:
             return None, self.seconds
         return ended.stdout, took
@@ -277,6 +279,11 @@ def judged(task, answer):
     return 'ambiguous'
 
 
+def start(limit):
+    """The median time of a process that does nothing, which all times include."""
+    return median(limit.run(['true'])[1] for _ in range(51))
+
+
 def certificate(program, limit, picture):
     """The rows of a certificate: its length and the time to make it, and the time to check it. One that is refused is an error."""
     printed, took = limit.run([program, 'work', str(picture)], 'certify\n')
@@ -343,6 +350,7 @@ def main():
     program, naming, rows = str(Path(asked.program).resolve()), Naming(asked.classes, asked.unnamed), []
     with tempfile.TemporaryDirectory() as folder:
         limit = Limit(folder, asked.seconds)
+        print(f'a process that does nothing: {1000 * start(limit):.1f} ms', file=sys.stderr)
         found = solvers(program, folder)
         if asked.only:
             found = {asked.only: found[asked.only]}
