@@ -1,18 +1,24 @@
 #!/usr/bin/env python3
 """Measures who decides within a time whether a picture is the only one with its clues: measure/others.py PROGRAM FOLDER .. [--seconds N]
-[--only SOLVER]
+[--only SOLVER] [--class NAME=PATTERN,..] [--unnamed CLASS] [--csv FILE] [--svg FILE]
 
 Each P3 picture of the folders is handed to nonobench (`verdict`) and to the solvers that are installed: minisat and cadical (clauses),
 gringo with clasp (an answer set program), gecode (`extensional` for each line, the cell of most failures for its colours first).
+In Debian: apt-get install minisat cadical gringo clasp libgecode-dev g++.
 Each gets N seconds of one processor (10 where N is not given) for the whole answer, with what gringo takes; the making of the texts
-that it is handed is not counted. Answers are compared with each other, and each other picture that a solver finds is checked. What it
-prints is the table of docs/COMPARISON.md.
+that it is handed is not counted. Answers are compared with each other, and each other picture that a solver finds is checked. Where
+nonobench answers `unique`, its certificate is made, checked by `nonobench check` and measured, each step in a process of its own.
+
+It prints the tables of docs/COMPARISON.md, and writes its rows as CSV and its plot as SVG; others_plot.py makes tables and plot again
+from the CSV. A picture is of the first class with a pattern that its file's name matches, else of `other`; the pictures of the class
+`--unnamed` are numbered in the rows.
 
 A line is told by a deterministic automaton over its cells, the same for all: its states are how many of the clue's cells, and of the
 gaps that must stand between blocks of one colour, are read. A solver is asked for a picture that these automata accept and that
 differs from the known one in some cell.
 """
 import argparse
+import fnmatch
 import math
 import resource
 import shutil
@@ -20,10 +26,12 @@ import subprocess
 import sys
 import tempfile
 from pathlib import Path
+from statistics import median
 
 sys.dont_write_bytecode = True
 ROOT = Path(__file__).resolve().parent.parent
 sys.path.insert(0, str(ROOT / 'tests'))
+from others_plot import CERTIFY, CHECK, print_tables, write_plot, write_rows  # noqa: E402
 from reference.faults import Fault  # noqa: E402
 from reference.lines import clues_of, line_of, names  # noqa: E402
 from reference.pictures import read_ppm  # noqa: E402
@@ -177,7 +185,8 @@ class Limit:
         before = resource.getrusage(resource.RUSAGE_CHILDREN)
         ended = subprocess.run(words, cwd=self.folder, input=text, capture_output=True, check=False, text=True, preexec_fn=limited)
         after = resource.getrusage(resource.RUSAGE_CHILDREN)
-        took = after.ru_utime + after.ru_stime - before.ru_utime - before.ru_stime
+        # As many digits as the CSV has, so that the plot made again from it is the same.
+        took = round(after.ru_utime + after.ru_stime - before.ru_utime - before.ru_stime, 4)
         if took > self.seconds or ended.returncode < 0:
             return None, self.seconds
         return ended.stdout, took
@@ -252,7 +261,7 @@ def solvers(program, folder):
     if shutil.which('gringo') and shutil.which('clasp'):
         found['gringo, clasp'] = by_answer_sets
     built = str(Path(folder) / 'gecode')
-    source = str(ROOT / 'tests' / 'others_gecode.cpp')
+    source = str(ROOT / 'measure' / 'others_gecode.cpp')
     if shutil.which('g++') and subprocess.run(['g++', '-O2', '-o', built, source, *GECODE], capture_output=True, check=False).returncode == 0:
         found['gecode'] = by_gecode(built)
     for name in ('minisat', 'cadical', 'gringo, clasp', 'gecode'):
@@ -270,47 +279,95 @@ def judged(task, answer):
     return 'ambiguous'
 
 
-def table(times, seconds):
-    """The table of docs/COMPARISON.md."""
-    print(f'| | unique | ambiguous | open after {seconds:g} s | all together, s | median, ms |\n|---|---|---|---|---|---|')
-    for name, done in times.items():
-        words = [word for word, _ in done]
-        took = sorted(spent for _, spent in done)
-        print(f'| {name} | {words.count("unique")} | {words.count("ambiguous")} | {words.count(None)} | '
-              f'{sum(took):.0f} | {1000 * took[len(took) // 2]:.0f} |')
+def start(limit):
+    """The median time of a process that does nothing, which all times include."""
+    return median(limit.run(['true'])[1] for _ in range(51))
+
+
+def certificate(program, limit, picture):
+    """The rows of a certificate: its length and the time to make it, and the time to check it. One that is refused is an error."""
+    printed, took = limit.run([program, 'work', str(picture)], 'certify\n')
+    if printed is None:
+        return [(CERTIFY, 'open', took, None)]
+    (limit.folder / 'certificate').write_text(printed)
+    said, checking = limit.run([program, 'check', str(picture), 'certificate'])
+    if said != 'certificate accepted\n':
+        raise SystemExit(f'{picture}: its certificate was not accepted')
+    return [(CERTIFY, 'unique', took, len(printed.encode())), (CHECK, 'accepted', checking, None)]
+
+
+def answers(found, program, limit, picture):
+    """What each solver says of a picture, and its certificate: program, answer, seconds, bytes. Answers that disagree are an error."""
+    task = Task(read_ppm(picture.read_bytes()).rows)
+    rows = []
+    for name, solve in found.items():
+        answer, took = solve(task, limit, picture)
+        rows.append((name, judged(task, answer) or 'open', took, None))
+    line = '; '.join(f'{name} {answer} {took:.2f}' for name, answer, took, _ in rows)
+    if len({answer for _, answer, _, _ in rows} - {'open'}) > 1:
+        raise SystemExit(f'{picture}: they disagree: {line}')
+    print(f'{picture.name}: {line}', file=sys.stderr, flush=True)
+    if rows[0][:2] == ('nonobench', 'unique'):
+        rows += certificate(program, limit, picture)
+    return task, rows
+
+
+class Naming:
+    """The classes of pictures, and the names of pictures in the rows."""
+
+    def __init__(self, classes, unnamed):
+        self.classes = [(name, patterns.split(',')) for name, _, patterns in (one.partition('=') for one in classes)]
+        self.unnamed = unnamed
+        self.numbered = 0
+
+    def of(self, picture):
+        """The class of a picture, and its name."""
+        fits = (name for name, patterns in self.classes if any(fnmatch.fnmatch(picture.stem, one) for one in patterns))
+        kind = next(fits, 'other')
+        if kind not in self.unnamed:
+            return kind, picture.stem
+        self.numbered += 1
+        return kind, f'{kind} {self.numbered}'
+
+
+def arguments():
+    """The arguments of the command line."""
+    parser = argparse.ArgumentParser(description=__doc__.splitlines()[0])
+    parser.add_argument('program')
+    parser.add_argument('folder', nargs='+')
+    parser.add_argument('--seconds', type=float, default=10)
+    parser.add_argument('--only', help='the name of one solver')
+    parser.add_argument('--class', dest='classes', action='append', default=[], help='NAME=PATTERN,..: pictures that are counted together')
+    parser.add_argument('--unnamed', action='append', default=[], help='a class whose pictures are numbered, not named')
+    parser.add_argument('--csv', help='a file for the rows')
+    parser.add_argument('--svg', help='a file for the plot')
+    return parser.parse_args()
 
 
 def main():
     """Each picture by each solver."""
-    words = argparse.ArgumentParser(description=__doc__.splitlines()[0])
-    words.add_argument('program')
-    words.add_argument('folder', nargs='+')
-    words.add_argument('--seconds', type=float, default=10)
-    words.add_argument('--only', help='the name of one solver')
-    words = words.parse_args()
+    asked = arguments()
+    program, naming, rows = str(Path(asked.program).resolve()), Naming(asked.classes, asked.unnamed), []
     with tempfile.TemporaryDirectory() as folder:
-        limit = Limit(folder, words.seconds)
-        found = solvers(str(Path(words.program).resolve()), folder)
-        if words.only:
-            found = {words.only: found[words.only]}
-        times = {name: [] for name in found}
-        for picture in sorted(file for one in words.folder for file in Path(one).rglob('*.ppm')):
+        limit = Limit(folder, asked.seconds)
+        print(f'a process that does nothing: {1000 * start(limit):.1f} ms', file=sys.stderr)
+        found = solvers(program, folder)
+        if asked.only:
+            found = {asked.only: found[asked.only]}
+        for picture in sorted(file for one in asked.folder for file in Path(one).rglob('*.ppm')):
             try:
-                task = Task(read_ppm(picture.read_bytes()).rows)
+                task, done = answers(found, program, limit, picture.resolve())
             except Fault as fault:
                 print(f'{picture.name}: left out, {fault.name}', file=sys.stderr)
                 continue
-            line = []
-            for name, solve in found.items():
-                answer, took = solve(task, limit, picture.resolve())
-                word = judged(task, answer)
-                times[name].append((word, took))
-                line.append(f'{name} {word or "open"} {took:.2f}')
-            said = {done[-1][0] for done in times.values()} - {None}
-            if len(said) > 1:
-                raise SystemExit(f'{picture}: they disagree: {line}')
-            print(f'{picture.name}: {"; ".join(line)}', file=sys.stderr, flush=True)
-        table(times, words.seconds)
+            kind, name = naming.of(picture)
+            known = {'picture': name, 'class': kind, 'width': task.width, 'height': task.height, 'colours': len(task.colours)}
+            rows += [known | dict(zip(('program', 'answer', 'seconds', 'bytes'), row)) for row in done]
+    if asked.csv:
+        write_rows(asked.csv, rows)
+    if asked.svg:
+        write_plot(asked.svg, rows)
+    print_tables(rows)
 
 
 if __name__ == '__main__':

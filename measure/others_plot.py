@@ -1,0 +1,181 @@
+#!/usr/bin/env python3
+"""Prints the tables of docs/COMPARISON.md from the rows that others.py wrote, and draws its plot: measure/others_plot.py CSV [SVG]
+
+The plot has a line for each program: how many pictures it decides if it gets so much processor time for each.
+"""
+import csv
+import math
+import sys
+from statistics import median
+
+COLUMNS = ['picture', 'class', 'width', 'height', 'colours', 'program', 'answer', 'seconds', 'bytes']
+# The two steps of a certificate, which are no answers of a solver.
+CERTIFY, CHECK = 'nonobench certify', 'nonobench check'
+# Colours that the colour blind tell apart, a dash and a mark for each program, in the order of the rows.
+STYLES = [('#0072b2', '', 'circle'), ('#d55e00', '7 3', 'square'), ('#007a5e', '2 3', 'diamond'), ('#a8478a', '9 3 2 3', 'cross'),
+          ('#5a5a5a', '4 2', 'triangle')]
+WIDTH, HEIGHT = 760, 470
+LEFT, RIGHT, TOP, BOTTOM = 80, 24, 48, 64
+
+
+def read_rows(path):
+    """The rows of a CSV of others.py, seconds and bytes as numbers."""
+    with open(path, encoding='utf-8', newline='') as file:
+        rows = list(csv.DictReader(file))
+    for row in rows:
+        row['seconds'] = float(row['seconds'])
+        row['bytes'] = int(row['bytes']) if row['bytes'] else None
+    return rows
+
+
+def write_rows(path, rows):
+    """Writes the rows as CSV."""
+    with open(path, 'w', encoding='utf-8', newline='') as file:
+        writer = csv.DictWriter(file, COLUMNS, lineterminator='\n')
+        writer.writeheader()
+        for row in rows:
+            writer.writerow({**row, 'seconds': f'{row["seconds"]:.4f}', 'bytes': '' if row['bytes'] is None else row['bytes']})
+
+
+def by(key, rows):
+    """The rows as lists by one of their columns, in the order in which its values first occur."""
+    held = {}
+    for row in rows:
+        held.setdefault(row[key], []).append(row)
+    return held
+
+
+def of_solvers(rows):
+    """The rows that are answers, without the making and checking of certificates."""
+    return [row for row in rows if row['program'] not in (CERTIFY, CHECK)]
+
+
+def answer_table(rows):
+    """What each program answered, in how much time."""
+    yield '| | unique | ambiguous | open | all together, s | median, ms |\n|---|---|---|---|---|---|'
+    for name, done in by('program', of_solvers(rows)).items():
+        said = [row['answer'] for row in done]
+        took = [row['seconds'] for row in done]
+        yield (f'| {name} | {said.count("unique")} | {said.count("ambiguous")} | {said.count("open")} | {sum(took):.1f} | '
+               f'{1000 * median(took):.0f} |')
+
+
+def class_table(rows):
+    """For each class the undecided pictures and the median time of each program."""
+    programs = by('program', of_solvers(rows))
+    yield '| class | pictures | ' + ' | '.join(programs) + ' |\n|---|---|' + '---|' * len(programs)
+    for name, held in sorted(by('class', of_solvers(rows)).items()):
+        cells = []
+        for done in by('program', held).values():
+            left = sum(row['answer'] == 'open' for row in done)
+            cells.append(f'{1000 * median(row["seconds"] for row in done):.0f} ms' + (f', {left} open' if left else ''))
+        yield f'| {name} | {len(by("picture", held))} | ' + ' | '.join(cells) + ' |'
+
+
+def certificate_table(rows):
+    """How long the certificates are, and the time to make and to check them."""
+    made = [row for row in rows if row['program'] == CERTIFY and row['bytes'] is not None]
+    if not made:
+        return
+    yield '| class | certificates | median, bytes | largest, bytes | longest to make, ms | longest to check, ms |\n|---|---|---|---|---|---|'
+    checked = {row['picture']: row['seconds'] for row in rows if row['program'] == CHECK}
+    for name, held in [*sorted(by('class', made).items()), ('all', made)]:
+        if held:
+            sizes = [row['bytes'] for row in held]
+            yield (f'| {name} | {len(held)} | {median(sizes):,.0f} | {max(sizes):,} | {1000 * max(row["seconds"] for row in held):.0f} | '
+                   f'{1000 * max(checked[row["picture"]] for row in held):.0f} |')
+
+
+def mark(shape, x, y, colour):
+    """A mark of the plot."""
+    if shape == 'circle':
+        return f'<circle cx="{x:.1f}" cy="{y:.1f}" r="2.6" fill="{colour}"/>'
+    paths = {'square': 'm-2.4-2.4h4.8v4.8h-4.8z', 'diamond': 'm0-3.4 3.4 3.4-3.4 3.4-3.4-3.4z', 'triangle': 'm0-3.2 3 5.4h-6z'}
+    if shape in paths:
+        return f'<path d="M{x:.1f} {y:.1f}{paths[shape]}" fill="{colour}"/>'
+    return f'<path d="M{x:.1f} {y:.1f}m-2.6-2.6l5.2 5.2m0-5.2l-5.2 5.2" stroke="{colour}" stroke-width="1.4"/>'
+
+
+class Axes:
+    """Where a number of pictures, and a time on a logarithmic scale, are in the plot."""
+
+    def __init__(self, pictures, least, most):
+        self.pictures = pictures
+        self.low = math.floor(math.log10(least))
+        self.high = max(self.low + 1, math.ceil(math.log10(most)))
+
+    def across(self, count):
+        """The x of a number of pictures."""
+        return LEFT + (WIDTH - LEFT - RIGHT) * count / self.pictures
+
+    def down(self, seconds):
+        """The y of a time."""
+        return HEIGHT - BOTTOM - (HEIGHT - TOP - BOTTOM) * (math.log10(seconds) - self.low) / (self.high - self.low)
+
+    def drawn(self):
+        """The grid and its labels."""
+        for power in range(self.low, self.high + 1):
+            y = self.down(10 ** power)
+            yield f'<path d="M{LEFT} {y:.1f}H{WIDTH - RIGHT}" stroke="#d0d0d0"/>'
+            said = f'{10 ** power} s' if power >= 0 else f'{10 ** (power + 3):g} ms'
+            yield f'<text x="{LEFT - 8}" y="{y + 4:.1f}" text-anchor="end">{said}</text>'
+        for count in range(0, self.pictures + 1, 10 if self.pictures > 20 else 2):
+            x = self.across(count)
+            yield f'<path d="M{x:.1f} {TOP}V{HEIGHT - BOTTOM}" stroke="#ececec"/>'
+            yield f'<text x="{x:.1f}" y="{HEIGHT - BOTTOM + 18}" text-anchor="middle">{count}</text>'
+        yield f'<path d="M{LEFT} {TOP}V{HEIGHT - BOTTOM}H{WIDTH - RIGHT}" fill="none" stroke="#222"/>'
+        yield f'<text x="{(LEFT + WIDTH - RIGHT) / 2}" y="{HEIGHT - 18}" text-anchor="middle">pictures decided, fastest first</text>'
+        middle = (TOP + HEIGHT - BOTTOM) / 2
+        yield (f'<text x="20" y="{middle}" text-anchor="middle" transform="rotate(-90 20 {middle})">'
+               'processor time for a picture (logarithmic)</text>')
+
+
+def plot(rows):
+    """The SVG: for each program the times of the pictures that it decides, in ascending order."""
+    programs = by('program', of_solvers(rows))
+    times = {name: sorted(row['seconds'] for row in done if row['answer'] != 'open') for name, done in programs.items()}
+    everything = [seconds for took in times.values() for seconds in took]
+    axes = Axes(len(by('picture', rows)), min(everything, default=0.001), max(everything, default=1))
+    yield (f'<svg xmlns="http://www.w3.org/2000/svg" viewBox="0 0 {WIDTH} {HEIGHT}" width="{WIDTH}" height="{HEIGHT}" '
+           'font-family="sans-serif" font-size="13" fill="#222" role="img">')
+    yield '<title>Pictures decided by each program, by processor time for a picture</title>'
+    yield f'<rect width="{WIDTH}" height="{HEIGHT}" fill="#fff"/>'
+    yield f'<text x="{LEFT}" y="24" font-size="15">Time to a verdict: {axes.pictures} pictures, lower and further right is better</text>'
+    yield from axes.drawn()
+    for at, (name, took) in enumerate(times.items()):
+        colour, dash, shape = STYLES[at % len(STYLES)]
+        points = [(axes.across(count), axes.down(seconds)) for count, seconds in enumerate(took, 1)]
+        line = ' '.join(f'{x:.1f},{y:.1f}' for x, y in points)
+        yield f'<polyline points="{line}" fill="none" stroke="{colour}" stroke-width="1.6" stroke-dasharray="{dash or "none"}"/>'
+        yield from (mark(shape, x, y, colour) for x, y in points)
+        y = TOP + 22 + 19 * at
+        yield f'<path d="M{LEFT + 14} {y}h34" stroke="{colour}" stroke-width="1.6" stroke-dasharray="{dash or "none"}"/>'
+        yield mark(shape, LEFT + 31, y, colour)
+        yield f'<text x="{LEFT + 56}" y="{y + 4}">{name} ({len(took)} decided)</text>'
+    yield '</svg>'
+
+
+def write_plot(path, rows):
+    """Writes the plot."""
+    with open(path, 'w', encoding='utf-8') as file:
+        file.write('\n'.join(plot(rows)) + '\n')
+
+
+def print_tables(rows):
+    """Prints the three tables."""
+    for table in (answer_table, class_table, certificate_table):
+        print(*table(rows), sep='\n', end='\n\n')
+
+
+def main():
+    """The tables, and the plot if it is asked for."""
+    if len(sys.argv) not in (2, 3):
+        sys.exit(__doc__.splitlines()[0])
+    rows = read_rows(sys.argv[1])
+    print_tables(rows)
+    if len(sys.argv) == 3:
+        write_plot(sys.argv[2], rows)
+
+
+if __name__ == '__main__':
+    main()
