@@ -1,0 +1,11 @@
+//! What a clue is, said without the function that computes it: laws of clues.
+#![tactic(auto)]
+
+ghost use Rattle.clue_laws.specs.Runs.{CluesAreMaximalRuns};
+
+#[tactic(auto, using(crate::proofs::RunLemmas::maximal_runs))]
+/// A list of blocks is the clue of a line exactly if it names the line's maximal runs: background, then the cells of the first
+/// block, then a rest that does not begin with its colour and has the other blocks, and so on until only background is left.
+pub fn clues_are_maximal_runs()
+    ensures { CluesAreMaximalRuns }
+{}
