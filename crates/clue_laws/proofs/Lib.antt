@@ -1,1 +1,2 @@
+pub mod PlacementLemmas
 pub mod RunLemmas

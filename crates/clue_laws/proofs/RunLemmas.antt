@@ -37,9 +37,9 @@ only_runs line (run ∷ runs) (rest, first, others) = ap (λ (blocks : List Bloc
 
 -- ---- the clue is runs
 
-behind_background : (line : List ℕ) (blocks : List Block) → AreRuns line blocks → AreRuns (0 ∷ line) blocks
-behind_background line [] all = ap (λ (cells : List ℕ). 0 ∷ cells) all
-behind_background line (run ∷ runs) (rest, first, others) = (
+after_background : (line : List ℕ) (blocks : List Block) → AreRuns line blocks → AreRuns (0 ∷ line) blocks
+after_background line [] all = ap (λ (cells : List ℕ). 0 ∷ cells) all
+after_background line (run ∷ runs) (rest, first, others) = (
   rest,
   record {
     gap = suc first.gap;
@@ -96,7 +96,7 @@ joined_runs x (y ∷ cells) blocks runs = elim (cases_eq (suc x) y) [
 
 has_runs : (line : List ℕ) → AreRuns line (clue_of line)
 has_runs [] = refl
-has_runs (zero ∷ rest) = behind_background rest (clue_of rest) (has_runs rest)
+has_runs (zero ∷ rest) = after_background rest (clue_of rest) (has_runs rest)
 has_runs (suc x ∷ rest) = joined_runs x rest (clue_of rest) (has_runs rest)
 
 pub maximal_runs : CluesAreMaximalRuns

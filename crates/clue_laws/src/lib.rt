@@ -1,6 +1,7 @@
 //! What a clue is, said without the function that computes it: laws of clues.
 #![tactic(auto)]
 
+ghost use Rattle.clue_laws.specs.Placement.{CluesCanBePlaced};
 ghost use Rattle.clue_laws.specs.Runs.{CluesAreMaximalRuns};
 
 #[tactic(auto, using(crate::proofs::RunLemmas::maximal_runs))]
@@ -8,4 +9,10 @@ ghost use Rattle.clue_laws.specs.Runs.{CluesAreMaximalRuns};
 /// block, then a rest that does not begin with its colour and has the other blocks, and so on until only background is left.
 pub fn clues_are_maximal_runs()
     ensures { CluesAreMaximalRuns }
+{}
+
+/// A list of blocks is the clue of a line exactly if the blocks can be placed on it: in order, with a cell between two of one
+/// colour, each over cells of its colour alone, so that only background is left.
+pub fn clues_can_be_placed()
+    ensures { CluesCanBePlaced }
 {}
