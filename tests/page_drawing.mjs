@@ -107,6 +107,23 @@ export async function turning({ trial, page }) {
     await shows(trial, DUCK, 'all undone');
 }
 
+/** A colour that was read with the usual name of its tone has that of the new tone once it is changed; a name of its own stays. */
+export async function coloursAndNames({ trial, page }) {
+    await trial.open(ppmOf(['ab'], { a: '110 70 40', b: '240 190 60' }));
+    await page.run(() => bench.become((doc) => ({ ...doc, inks: [{}, { name: 'brown' }, { name: 'sail' }] })).then(() => true));
+    for (const [key, value] of [['1', '#00a000'], ['2', '#0000a0']]) {
+        await page.press(key);
+        await page.run((one) => {
+            const picker = document.getElementById('picker');
+            picker.value = one;
+            picker.dispatchEvent(new Event('change'));
+        }, value);
+        await trial.settled();
+    }
+    assert.deepEqual(await page.run(() => bench.state.colours.slice(1).map((triple) => triple.join())), ['0,160,0', '0,0,160']);
+    assert.deepEqual(await page.run(() => bench.state.inks.map((ink) => ink.name ?? null)), [null, null, 'sail']);
+}
+
 export async function colours({ trial, page }) {
     await trial.open(ppmOf(DUCK));
     const palette = async () => (await trial.state()).colours.map((triple) => triple.join());

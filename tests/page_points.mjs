@@ -242,7 +242,9 @@ async function wayOut(hands, { own }) {
         assert.match(await trial.text('#said'), /saved/, `${id} is told`);
     }
     await hands.chooseFile(() => hands.menu('file', 'open'), `${own}/heart.xml`);
+    await page.until(() => bench.state?.about.source === 'nonobench', 5000 * SLACK); // only the file has that
     await page.until(() => bench.past.length === 0 && saving.form === 'xml', 5000 * SLACK);
+    await trial.judged();
     const after = await trial.state();
     assert.deepEqual([after.picture, after.colours], [before.picture, before.colours]);
     await page.run(() => { window.print = () => { window.isPrinted = true; }; });

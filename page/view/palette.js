@@ -4,7 +4,7 @@
 import { $, make, say } from '../base/elements.js';
 import { on } from '../base/events.js';
 import { many } from '../base/words.js';
-import { eightBits, hexOf, tripleOf } from '../document/colours.js';
+import { eightBits, hexOf, nameOf, tripleOf } from '../document/colours.js';
 import { LETTERS, MOST_COLOURS } from '../document/limits.js';
 import { nearPairs } from '../document/near.js';
 import { reordered } from '../document/shapes.js';
@@ -125,6 +125,12 @@ async function addColour() {
   if (await heard(bench.become(added))) useColour(LETTERS[bench.state.colours.length - 1]);
 }
 
+// What the page keeps of a colour that is changed: the usual name of the tone before, as files have it, goes with that tone.
+function inkOfOther(ink, triple) {
+  const { name, ...others } = ink ?? {};
+  return name === nameOf(triple, 255) ? others : ink;
+}
+
 async function changeColour() {
   setDown();
   const at = LETTERS.indexOf(tools.colour);
@@ -134,7 +140,9 @@ async function changeColour() {
   if (hasColour({ colours: now }, triple)) return say('The palette has this colour already. To make two colours one, use Merge.', 'alarm');
   const changed = (old) => {
     const doc = withEightBits(old);
-    return at >= doc.colours.length || hasColour(doc, triple) ? null : { ...doc, colours: doc.colours.map((one, other) => (other === at ? triple : one)) };
+    if (at >= doc.colours.length || hasColour(doc, triple)) return null;
+    const inks = doc.inks.map((ink, other) => (other === at ? inkOfOther(ink, doc.colours[at]) : ink));
+    return { ...doc, inks, colours: doc.colours.map((one, other) => (other === at ? triple : one)) };
   };
   return heard(bench.become(changed));
 }
