@@ -247,9 +247,12 @@ export async function givensAndColours({ browser, url, folder }) {
     for (const [x, y] of at) assert.equal(await diamond('.cells', x, y, cell), '255,255,255');
     assert.match(await trial.text('#near'), /“black” \(a\) and “black” \(b\)|the background and “white” \(c\)/);
     await page.run(() => { window.print = () => {}; });
+    await page.run(() => document.querySelector('[data-action="export-empty"]').click());
+    await page.until(() => /cannot be told from others/.test(document.body.textContent), 3000 * SLACK);
     await page.press('Control+p');
     await page.until(() => document.querySelector('dialog[open]'), 3000 * SLACK);
-    assert.match(await trial.text('dialog'), /Too much alike/);
+    assert.match(await trial.text('dialog'), /Too much alike.* So the sheet has letters/);
+    assert.deepEqual(await page.run(() => [document.querySelector('#print-letters').checked, document.querySelector('#print-letters').disabled]), [true, true]);
     await page.press('Enter');
     await page.until(() => document.querySelectorAll('.printed').length === 2, 5000 * SLACK);
     assert.deepEqual(await page.run(() => [...document.querySelectorAll('.printed')].map((sheet) => sheet.querySelectorAll('polygon').length)), [3, 0]);

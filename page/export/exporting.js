@@ -47,8 +47,10 @@ async function exportPicture(side) {
 
 async function exportEmpty() {
   await asSeen();
+  const near = nearText(bench.state);
+  if (near) return say(`${near} By its colours this puzzle cannot be told from others: change one, or print it with letters.`, 'alarm');
   const { doc, clues } = puzzleAtHand();
-  exportPng(canvasOfPaper(paperOf({ doc, clues }, { cell: pngCell(doc) })), '-puzzle', warningText());
+  return exportPng(canvasOfPaper(paperOf({ doc, clues }, { cell: pngCell(doc) })), '-puzzle', warningText());
 }
 
 async function exportText(form) {
@@ -96,13 +98,14 @@ function fillPrint({ title, letters, solution, grade = '' }) {
 async function printPuzzle() {
   await asSeen();
   const title = make('input', { type: 'text', value: bench.state.about.title || bench.name, maxlength: '200' });
-  const letters = make('input', { type: 'checkbox' });
+  const near = nearText(bench.state);
+  const letters = make('input', { type: 'checkbox', id: 'print-letters', checked: Boolean(near), disabled: Boolean(near) });
   const solution = make('input', { type: 'checkbox', checked: true });
   const content = make('div', { class: 'rows' }, make('label', {}, 'Title', title), make('label', {}, letters, 'Letters instead of colours, for black and white'), make('label', {}, solution, 'The solution on a second sheet'));
   const graded = gradeAtHand();
   const grade = make('input', { type: 'checkbox', id: 'print-grade' });
   if (graded) content.append(make('label', {}, grade, `The grade: ${graded.word}`));
-  for (const warning of [WARNINGS[bench.state.verdict.word], nearText(bench.state)]) if (warning) content.append(make('p', { class: 'wrong' }, warning));
+  for (const warning of [WARNINGS[bench.state.verdict.word], near && `${near} So the sheet has letters.`]) if (warning) content.append(make('p', { class: 'wrong' }, warning));
   const go = await openDialog({ title: 'Print', content, buttons: [{ name: 'Print …', value: true, main: true }] });
   if (!go) return;
   fillPrint({ title: title.value || bench.name, letters: letters.checked, solution: solution.checked, grade: graded && grade.checked ? graded.word : '' });
@@ -148,7 +151,7 @@ export function startExporting() {
   addAction({ id: 'print', name: 'Print …', key: 'Ctrl+P', place: 'file', group: 'print', run: printPuzzle });
   // What is opened by the browser's own print, without the dialog, is a sheet too.
   addEventListener('beforeprint', () => {
-    if (bench.state && !$('print').children.length) fillPrint({ title: bench.state.about.title || bench.name, letters: false, solution: true });
+    if (bench.state && !$('print').children.length) fillPrint({ title: bench.state.about.title || bench.name, letters: Boolean(nearText(bench.state)), solution: true });
   });
   addEventListener('afterprint', () => $('print').replaceChildren());
 }
