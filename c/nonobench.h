@@ -28,7 +28,7 @@ extern "C" {
 #endif
 
 /* The version of this header. That of the library is asked for by nonobench_version. */
-#define NONOBENCH_VERSION "0.2.0"
+#define NONOBENCH_VERSION "0.3.0"
 
 /* How many bytes a picture or a certificate may have, as for the program. The library itself accepts any length. */
 #define NONOBENCH_MOST_BYTES ((size_t)16777216)
