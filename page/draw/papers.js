@@ -25,7 +25,7 @@ function paperLook(surface, doc, cell, show) {
   const { fills, inks } = coloursOf(doc, true);
   return {
     fills, inks, signs: show === 'letters' ? LETTERS : show === 'signs' ? signsOf(doc) : null, family: PAPER_FAMILY,
-    thin: weight(1 / 40, 1), wide: weight(1 / 9, 2), border: weight(1 / 7, 2), isWhole, under: !isWhole, light: '#555', heavy: PAPER_INK,
+    thin: weight(1 / 50, 1), wide: weight(1 / 12, 2), border: weight(1 / 10, 2), isWhole, under: !isWhole, light: '#555', heavy: PAPER_INK,
     ink: '#000', faint: PAPER_FAINT, style: show !== 'colours' || hasOneInk(doc) ? 'plain' : 'box',
     edge: doc.colours.some((triple) => lightness(triple) > PALE) ? PAPER_FAINT : null, hair: cell / 40, radius: 0, font: cell * 0.66, least: isWhole ? 5 : 0, weight: 400,
   };
@@ -36,11 +36,12 @@ const whole = ({ rows, columns }) => ({ top: 0, left: 0, bottom: rows - 1, right
 
 /**
  * The size of a puzzle on paper in cells' sides, {left, top, width, height}: the room of its clues and all of it. `part` is the rows and
- * columns that are drawn, all if it is left out; clues stand beside the first of them alone.
+ * columns that are drawn, all if it is left out; clues stand beside the first of them alone. `hasNumbers` puts numbers of lines in
+ * their place where there are none.
  */
-export function sizeOfPaper({ doc, clues }, { part = whole(doc), hasClues = true } = {}) {
-  const left = hasClues && part.left === 0 ? longest(clues.rows) + 0.25 : 0.15;
-  const top = hasClues && part.top === 0 ? longest(clues.columns) + 0.25 : 0.15;
+export function sizeOfPaper({ doc, clues }, { part = whole(doc), hasClues = true, hasNumbers = false } = {}) {
+  const room = (lines, from) => (hasClues && from === 0 ? longest(lines) + 0.25 : hasNumbers ? 1.5 : 0.15);
+  const [left, top] = [room(clues.rows, part.left), room(clues.columns, part.top)];
   return { left, top, width: left + part.right - part.left + 1.15, height: top + part.bottom - part.top + 1.15 };
 }
 
@@ -48,9 +49,9 @@ export function sizeOfPaper({ doc, clues }, { part = whole(doc), hasClues = true
  * Draws a puzzle at a place, with cells of a size. `solution` fills the cells; givens are always filled. The empty puzzle is white
  * whatever the background is: what is not known yet is not background.
  */
-export function drawPaper(surface, puzzle, { x, y, cell, show = 'colours', solution = false, hasClues = true, part = whole(puzzle.doc) }) {
+export function drawPaper(surface, puzzle, { x, y, cell, show = 'colours', solution = false, hasClues = true, hasNumbers = false, part = whole(puzzle.doc) }) {
   const doc = eightBitDoc(puzzle.doc);
-  const { left, top } = sizeOfPaper(puzzle, { part, hasClues });
+  const { left, top } = sizeOfPaper(puzzle, { part, hasClues, hasNumbers });
   const snapped = (value) => (surface.pen ? Math.round(value) : value);
   const frame = { ...wholeFrame(snapped(x + (left - part.left) * cell), snapped(y + (top - part.top) * cell), cell, doc), ...part };
   const board = { surface, doc, frame, look: paperLook(surface, doc, cell, show) };
@@ -59,6 +60,15 @@ export function drawPaper(surface, puzzle, { x, y, cell, show = 'colours', solut
   drawRules(surface, board.look, frame);
   if (!solution) for (const [row, col] of givensIn(board)) drawGiven(surface, frame.x + col * cell, frame.y + row * cell, cell);
   if (hasClues) drawPaperClues(board, puzzle.clues);
+  if (hasNumbers) drawPaperNumbers(board);
+}
+
+// Numbers of each fifth line where a part has no clues.
+function drawPaperNumbers({ surface, look, frame: { x, y, cell, top, left, bottom, right } }) {
+  const write = (line, across, down) => surface.text(String(line), across, down, { size: cell * 0.55, ink: PAPER_FAINT, family: look.family });
+  const isFifth = (line) => (line + 1) % 5 === 0;
+  if (left > 0) for (let row = top; row <= bottom; row++) if (isFifth(row)) write(row + 1, x + (left - 0.8) * cell, y + (row + 0.5) * cell);
+  if (top > 0) for (let col = left; col <= right; col++) if (isFifth(col)) write(col + 1, x + (col + 0.5) * cell, y + (top - 0.7) * cell);
 }
 
 const givensIn = ({ doc, frame: { top, left, bottom, right } }) => [...doc.givens].map((place) => [rowOf(doc, place), columnOf(doc, place)])

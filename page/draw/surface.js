@@ -75,7 +75,7 @@ const escaped = (text) => String(text).replace(/[\u0000-\u0008\u000b\u000c\u000e
 const rounded = (value) => (typeof value === 'number' ? String(Math.round(value * 100) / 100) : escaped(value));
 const MIDDLE = 0.36; // of a digit's size, from its foot to its middle
 
-/** SVG, as a text. */
+/** SVG, as a text. All its texts are of the family of the drawing. */
 export class SvgSurface {
   constructor() {
     this.parts = [];

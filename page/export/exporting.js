@@ -1,24 +1,22 @@
-// Out of the page: Web Paint-by-Number's XML, PNG of the picture and of the empty puzzle, a printed sheet, P3, .non and the
-// certificate. Each is a download, or the browser's print.
+// Out of the page: Web Paint-by-Number's XML, PNG of the picture and of the empty puzzle, P3, .non and the certificate. Each is a
+// download.
 
-import { $, make, say, svgPart } from '../base/elements.js';
-import { bareName, clamp, many } from '../base/words.js';
-import { plainHexOf } from '../document/colours.js';
-import { docOf, eightBitDoc, sameDoc } from '../document/document.js';
-import { LETTERS } from '../document/limits.js';
-import { PAPER_FAMILY, drawPaper, sizeOfPaper } from '../draw/papers.js';
+import { $, make, say } from '../base/elements.js';
+import { bareName, clamp } from '../base/words.js';
+import { docOf, sameDoc } from '../document/document.js';
+import { drawPaper, sizeOfPaper } from '../draw/papers.js';
 import { drawSmall, penOf } from '../draw/small.js';
-import { CanvasSurface, SvgSurface } from '../draw/surface.js';
+import { CanvasSurface } from '../draw/surface.js';
 import { bench } from '../engine/bench.js';
 import { keep } from '../library/keep.js';
 import { SAVE_TYPES, download, exportAs, saved, saving, showFileName, textAs } from '../library/saving.js';
 import { addAction, runAction } from '../view/actions.js';
 import { openDialog } from '../view/dialogs.js';
-import { inkName } from '../view/dress.js';
 import { nearText } from '../view/palette.js';
 import { gradeAtHand, gradeLine } from '../view/grading.js';
 import { asSeen, heard } from '../view/tools.js';
 import { certificateText } from '../view/verdict.js';
+import { WARNINGS, startPrinting } from './printing.js';
 
 const PNG_SIDE = 1600; // pixels that the longer side of a PNG comes near to
 const puzzleAtHand = () => ({ doc: docOf(bench.state), clues: bench.state.clues });
@@ -27,12 +25,6 @@ const pngCell = ({ rows, columns }) => clamp(Math.floor(PNG_SIDE / Math.max(rows
 function exportPng(canvas, suffix, more = '') {
   canvas.toBlob((blob) => (blob ? exportAs('png', blob, suffix, more) : say('The browser made no PNG of it.', 'alarm')), 'image/png');
 }
-
-// What somebody who solves the puzzle should not be left to find out.
-const WARNINGS = {
-  ambiguous: 'Another picture has the same clues. “Fix it” in the menu Check makes this one the only solution.',
-  undecided: 'It is not known yet whether this picture is the only solution.',
-};
 
 // The warning that goes with a puzzle that leaves the page, after a blank; '' where it has one solution.
 const warningText = () => (WARNINGS[bench.state.verdict.word] ? ` ${WARNINGS[bench.state.verdict.word]}` : '');
@@ -78,60 +70,6 @@ async function exportCertificate() {
   if (text && bench.state && sameDoc(before, bench.state)) exportAs('cert', text);
 }
 
-// ---- the printed sheet
-
-// The colours that are drawn, with their letters on wish, and the background where it is not white.
-function printedLegend(doc, letters) {
-  const { colours } = eightBitDoc(doc);
-  const isWhite = colours[0].join() === '255,255,255';
-  const item = (triple, text) => {
-    const swatch = svgPart('svg', { viewBox: '0 0 10 10', width: '0.9em', height: '0.9em' });
-    swatch.append(svgPart('rect', { x: 0, y: 0, width: 10, height: 10, fill: `#${plainHexOf(triple)}`, stroke: '#555', 'stroke-width': 0.5 }));
-    return [make('span', {}, swatch, ` ${text}`), ' '];
-  };
-  const drawn = colours.slice(1).map((triple, at) => [LETTERS[at + 1], triple]).filter(([letter]) => doc.picture.some((row) => row.includes(letter)));
-  const inks = drawn.flatMap(([letter, triple]) => item(triple, `${letters ? `${letter}: ` : ''}${inkName(doc, letter)}`));
-  return make('p', { class: 'legend' }, ...inks, ...(isWhite ? [] : item(colours[0], `background: ${inkName(doc, '.')}`)));
-}
-
-// A puzzle as an SVG element; a cell is at most a centimetre wide.
-function printedSvg(puzzle, options) {
-  const { width, height } = sizeOfPaper(puzzle, options);
-  const surface = new SvgSurface();
-  drawPaper(surface, puzzle, { x: 0, y: 0, cell: 20, ...options });
-  const text = surface.drawing(width * 20, height * 20, { family: PAPER_FAMILY });
-  const svg = document.importNode(new DOMParser().parseFromString(text, 'image/svg+xml').documentElement, true);
-  svg.style.maxWidth = `${Math.round(width * 10)}mm`;
-  return svg;
-}
-
-/** Fills the part of the page that is printed: the puzzle, and on wish the solution on a second sheet. */
-function fillPrint({ title, letters, solution, grade = '' }) {
-  const { doc, clues } = puzzleAtHand();
-  const by = doc.about.author ? `, by ${doc.about.author}` : '';
-  const facts = `${doc.columns} by ${doc.rows}${doc.givens.size ? `, ${many(doc.givens.size, 'cell')} given (◆)` : ''}${grade ? `, ${grade}` : ''}${by}`;
-  const sheets = [make('section', { class: 'printed' }, make('h1', {}, title), make('p', {}, facts), printedSvg({ doc, clues }, { show: letters ? 'letters' : 'colours' }), printedLegend(doc, letters))];
-  if (solution) sheets.push(make('section', { class: 'printed' }, make('h1', {}, `${title}: solution`), printedSvg({ doc, clues }, { show: letters ? 'letters' : 'colours', solution: true, hasClues: false })));
-  $('print').replaceChildren(...sheets);
-}
-
-async function printPuzzle() {
-  await asSeen();
-  const title = make('input', { type: 'text', value: bench.state.about.title || bench.name, maxlength: '200' });
-  const near = nearText(bench.state);
-  const letters = make('input', { type: 'checkbox', id: 'print-letters', checked: Boolean(near), disabled: Boolean(near) });
-  const solution = make('input', { type: 'checkbox', checked: true });
-  const content = make('div', { class: 'rows' }, make('label', {}, 'Title', title), make('label', {}, letters, 'Letters instead of colours, for black and white'), make('label', {}, solution, 'The solution on a second sheet'));
-  const graded = gradeAtHand();
-  const grade = make('input', { type: 'checkbox', id: 'print-grade' });
-  if (graded) content.append(make('label', {}, grade, `The grade: ${graded.word}`));
-  for (const warning of [WARNINGS[bench.state.verdict.word], near && `${near} So the sheet has letters.`]) if (warning) content.append(make('p', { class: 'wrong' }, warning));
-  const go = await openDialog({ title: 'Print', content, buttons: [{ name: 'Print …', value: true, main: true }] });
-  if (!go) return;
-  fillPrint({ title: title.value || bench.name, letters: letters.checked, solution: solution.checked, grade: graded && grade.checked ? graded.word : '' });
-  globalThis.print();
-}
-
 const ABOUT_FIELDS = { title: 'Title', author: 'Author', copyright: 'Copyright', description: 'Description', note: 'Note' };
 const LONG_FIELDS = ['description', 'note'];
 
@@ -168,12 +106,7 @@ export function startExporting() {
   addAction({ id: 'export-ppm', name: 'Export plain PPM', place: 'file', group: 'export', run: () => exportText('ppm') });
   addAction({ id: 'export-non', name: 'Export .non (two colours)', place: 'file', group: 'export', can: () => bench.state.colours.length <= 2 || !/[b-o]/.test(bench.state.picture.join('')), run: () => exportText('non') });
   addAction({ id: 'certificate', name: 'Export the certificate', place: 'file', group: 'export', run: exportCertificate });
-  addAction({ id: 'print', name: 'Print …', key: 'Ctrl+P', place: 'file', group: 'print', run: printPuzzle });
-  // What is opened by the browser's own print, without the dialog, is a sheet too.
-  addEventListener('beforeprint', () => {
-    if (bench.state && !$('print').children.length) fillPrint({ title: bench.state.about.title || bench.name, letters: Boolean(nearText(bench.state)), solution: true });
-  });
-  addEventListener('afterprint', () => $('print').replaceChildren());
+  startPrinting();
 }
 
 /** The panel that saves and exports. */

@@ -18,6 +18,7 @@ export const SAVE_TYPES = {
   ppm: { type: 'image/x-portable-pixmap', ending: '.ppm', what: 'Plain PPM: the picture, the rest in comments' },
   non: { type: 'text/plain', ending: '.non', what: '.non: a two-colour puzzle' },
   cert: { type: 'text/plain', ending: '.cert', what: 'Certificate' },
+  svg: { type: 'image/svg+xml', ending: '.svg', what: 'Sheet as SVG' },
   png: { type: 'image/png', ending: '.png', what: 'Picture as PNG' },
   zip: { type: 'application/zip', ending: '.zip', what: 'Archive' },
 };
