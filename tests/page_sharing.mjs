@@ -5,10 +5,11 @@ import { mkdirSync, readFileSync, writeFileSync } from 'node:fs';
 import { createServer } from 'node:http';
 import { extname, join } from 'node:path';
 import { fileURLToPath } from 'node:url';
-import { DUCK, downloaded, examples, fresh, isOpen, menu } from './page_hands.mjs';
+import { DUCK, clean, downloaded, examples, fresh, isOpen, menu, said } from './page_hands.mjs';
 import { SIZES, SLACK, Trial, ppmOf } from './page_trial.mjs';
 
 const TWO_WAYS = ['.a', 'a.']; // its mirror has the same clues
+const ONE_WAY = ['a.', '.b', 'bb']; // column 2 has its bs in rows 2 and 3, for row 1 has none; then each row has one place left
 const linkShown = (page) => page.run(() => document.getElementById('share-link').value);
 const choose = (page, selector, value) => page.run((one, wanted) => {
     document.querySelector(one).value = wanted;
@@ -44,10 +45,10 @@ export async function linkToEdit({ browser, url, folder }) {
         await opened(page, link);
         const { picture, givens } = await trial.state();
         assert.deepEqual([picture, givens, await page.run(() => bench.state.about.title)], [DUCK, [3], 'Ente & Möwe']);
-        const kept = () => page.run(async () => (await (await keep.ready()).cards()).map((card) => card.name));
-        const before = await kept();
-        await trial.drag([[1, 1]]);
-        await page.until(async (count) => (await keep.keeper.cards()).length === count, 5000 * SLACK, before.length + 1);
+        await clean(page);
+        if (size.touch) await page.touch([await trial.cell(1, 1)]);
+        else await trial.drag([[1, 1]]);
+        await page.until(async () => (await keep.keeper.cards()).length === 1, 5000 * SLACK).catch(async (fault) => { throw new Error(`${name}: ${fault.message} ${await said(page)}`); });
         await page.close();
     }
 }
@@ -56,7 +57,7 @@ export async function linkToEdit({ browser, url, folder }) {
 export async function linkToPlay({ browser, url, folder }) {
     for (const [name, size] of Object.entries(SIZES)) {
         const { page, trial } = await fresh(browser, url, folder, `play-${name}`, { size });
-        await trial.open(ppmOf(['a.', '.b', 'bb']), 'little');
+        await trial.open(ppmOf(ONE_WAY), 'little');
         const link = await fragment(page, 'play');
         await opened(page, link);
         await inPlay(page);
@@ -74,7 +75,7 @@ export async function linkToPlay({ browser, url, folder }) {
         await page.run(() => document.querySelector('#play-palette [data-letter="b"]').click());
         for (const cell of [[1, 1], [2, 0], [2, 1]]) await mark(...cell);
         assert.match(await trial.text('#play-said'), /^Solved/);
-        assert.deepEqual(await page.run(() => [bench.state.picture, bench.past.length]), [['a.', '.b', 'bb'], 0]);
+        assert.deepEqual(await page.run(() => [bench.state.picture, bench.past.length]), [ONE_WAY, 0]);
         await page.shot(join(folder, `player-${name}.png`));
         await page.close();
     }
@@ -118,7 +119,7 @@ export async function linkNotes({ browser, url, folder }) {
 /** Several files become a table with verdicts and grades; a row opens its picture, all go to the library, or out as one zip. */
 export async function severalFiles({ browser, url, folder }) {
     const { page, trial, own } = await fresh(browser, url, folder, 'several');
-    const files = [['duck.ppm', ppmOf(DUCK)], ['two.ppm', ppmOf(TWO_WAYS)], ['heart.ppm', readFileSync(new URL('heart.ppm', examples))], ['notes.txt', 'nothing to read\n']];
+    const files = [['little.ppm', ppmOf(ONE_WAY)], ['two.ppm', ppmOf(TWO_WAYS)], ['heart.ppm', readFileSync(new URL('heart.ppm', examples))], ['notes.txt', 'nothing to read\n']];
     mkdirSync(join(own, 'in'), { recursive: true });
     const paths = files.map(([name, content]) => {
         writeFileSync(join(own, 'in', name), content);
@@ -135,7 +136,7 @@ export async function severalFiles({ browser, url, folder }) {
     await dropAll(paths);
     await judged();
     const rows = await table();
-    assert.deepEqual(rows.map(([name, size, colours, verdict]) => [name, size, colours, verdict]).slice(0, 3), [['duck', '10 by 10', '4', 'unique'], ['two', '2 by 2', '2', 'ambiguous'], ['heart', rows[2][1], rows[2][2], 'unique']]);
+    assert.deepEqual(rows.map(([name, size, colours, verdict]) => [name, size, colours, verdict]).slice(0, 3), [['little', '2 by 3', '3', 'unique'], ['two', '2 by 2', '2', 'ambiguous'], ['heart', rows[2][1], rows[2][2], 'unique']]);
     assert.match(rows[0][4], /^(easy|medium|hard|very hard|expert)$/);
     assert.equal(rows[1][4], '–');
     assert.deepEqual([rows[3].length, rows[3][0]], [2, 'notes']);
@@ -143,8 +144,9 @@ export async function severalFiles({ browser, url, folder }) {
     await page.run(() => [...document.querySelectorAll('dialog[open] button')].find((one) => one.textContent === 'Save all as a zip').click());
     const { content } = await downloaded(page, own, '.zip');
     const text = content.toString('latin1');
-    for (const name of ['report.csv', 'duck.xml', 'two.xml', 'heart.xml']) assert.ok(text.includes(name), name);
+    for (const name of ['report.csv', 'little.xml', 'two.xml', 'heart.xml']) assert.ok(text.includes(name), name);
     assert.ok(text.includes('"two","2 by 2","2","ambiguous"'));
+    await clean(page);
     await dropAll(paths.slice(0, 2));
     await page.run(() => [...document.querySelectorAll('dialog[open] button')].find((one) => one.textContent === 'Add to the library').click());
     await page.until(async () => (await keep.keeper.cards()).length === 2, 5000 * SLACK);
