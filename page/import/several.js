@@ -63,7 +63,7 @@ async function rowsOf(files, imageDocs) {
       if (file.size > MOST_BYTES) throw new Error('it has more than 16 MiB');
       const bytes = new Uint8Array(await file.arrayBuffer());
       const docs = await imageDocs(file, bytes) ?? await docsOfBytes(bytes);
-      if (!docs.length) throw new Error('it is no puzzle that opens by itself: open it alone');
+      if (!docs.length) throw new Error('it is not a puzzle; an image that has to be scaled is opened by itself');
       docs.forEach((doc, at) => rows.push(new Row(at ? `${own} ${at + 1}` : own, doc)));
     } catch (fault) {
       rows.push(new Row(own, null, faultText(fault)));
