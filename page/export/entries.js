@@ -1,17 +1,18 @@
 // What sheets say of a puzzle: its clues, title, facts, and the names of its colours.
 
-import { many } from '../base/words.js';
+import { sizeText } from '../base/words.js';
 import { lightness, plainHexOf } from '../document/colours.js';
 import { eightBitDoc } from '../document/document.js';
 import { LETTERS } from '../document/limits.js';
 import { hasOneInk, signsOf } from '../draw/papers.js';
 import { cluesOfRows } from '../formats/webpbn.js';
+import { phrase } from '../texts/phrase.js';
 import { inkName } from '../view/dress.js';
 
 /** The texts of sheets themselves. */
 export const SHEET_TEXTS = {
-  part: ({ at, count, top, bottom, left, right }) => `Sheet ${at} of ${count}: rows ${top + 1} to ${bottom + 1}, columns ${left + 1} to ${right + 1}`,
-  solution: (title) => `${title}: solution`,
+  part: ({ at, count, top, bottom, left, right }) => phrase('export.sheetRowsColumns', { at, count, top: top + 1, bottom: bottom + 1, left: left + 1, right: right + 1 }),
+  solution: (title) => phrase('export.solution', { title }),
   foot: (at, count) => `${at} / ${count}`,
 };
 
@@ -19,7 +20,7 @@ export const SHEET_TEXTS = {
 function toldApart(name, at, count) {
   if (count === 1) return name;
   if (count > 2) return `${name} ${at + 1}`;
-  return at ? `darker ${name}` : `lighter ${name}`;
+  return at ? phrase('export.darker', { name }) : phrase('export.lighter', { name });
 }
 
 /** The names of a document's colours, each another one. */
@@ -42,13 +43,13 @@ export function legendOf(doc, show) {
   const all = colours.map((triple, at) => ({ text: names[at], fill: `#${plainHexOf(triple)}`, sign: show === 'colours' ? null : signs[at] }));
   const inks = all.filter((_, at) => at > 0 && isUsed(at));
   const isPlain = hasOneInk(doc) && show === 'colours' && inks.every(({ fill }) => fill === '#000000');
-  const background = all[0].fill === '#ffffff' ? [] : [{ ...all[0], text: `background: ${names[0]}`, sign: null }];
+  const background = all[0].fill === '#ffffff' ? [] : [{ ...all[0], text: phrase('export.background', { names: names[0] }), sign: null }];
   return [...(isPlain ? [] : inks), ...background];
 }
 
 function factsOf(doc, grade) {
-  const by = doc.about.author ? `, by ${doc.about.author}` : '';
-  return `${doc.columns} by ${doc.rows}${doc.givens.size ? `, ${many(doc.givens.size, 'cell')} given (◆)` : ''}${grade ? `, ${grade}` : ''}${by}`;
+  const given = doc.givens.size ? phrase('export.cellsGiven', { cells: doc.givens.size }) : '';
+  return [sizeText(doc), given, grade, doc.about.author ? phrase('export.by', { author: doc.about.author }) : ''].filter(Boolean).join(', ');
 }
 
 /** What is printed of a document. */

@@ -10,6 +10,7 @@ import { CanvasSurface } from '../draw/surface.js';
 import { bench } from '../engine/bench.js';
 import { keep } from '../library/keep.js';
 import { SAVE_TYPES, download, exportAs, saved, saving, showFileName, textAs } from '../library/saving.js';
+import { phrase } from '../texts/phrase.js';
 import { addAction, runAction } from '../view/actions.js';
 import { openDialog } from '../view/dialogs.js';
 import { nearText } from '../view/palette.js';
@@ -23,7 +24,7 @@ const puzzleAtHand = () => ({ doc: docOf(bench.state), clues: bench.state.clues 
 const pngCell = ({ rows, columns }) => clamp(Math.floor(PNG_SIDE / Math.max(rows, columns)), 8, 32);
 
 function exportPng(canvas, suffix, more = '') {
-  canvas.toBlob((blob) => (blob ? exportAs('png', blob, suffix, more) : say('The browser made no PNG of it.', 'alarm')), 'image/png');
+  canvas.toBlob((blob) => (blob ? exportAs('png', blob, suffix, more) : say(phrase('export.browserMadeNoPng'), 'alarm')), 'image/png');
 }
 
 // The warning that goes with a puzzle that leaves the page, after a blank; '' where it has one solution.
@@ -49,7 +50,7 @@ function puzzleImage(puzzle, cell) {
 async function exportEmpty() {
   await asSeen();
   const near = nearText(bench.state);
-  if (near) return say(`${near} By its colours this puzzle cannot be told from others: change one, or print it with letters.`, 'alarm');
+  if (near) return say(phrase('export.coloursPuzzleCannotTold', { near }), 'alarm');
   const { doc, clues } = puzzleAtHand();
   return exportPng(puzzleImage({ doc, clues }, pngCell(doc)), '-puzzle', warningText());
 }
@@ -70,11 +71,11 @@ async function exportCertificate() {
   if (text && bench.state && sameDoc(before, bench.state)) exportAs('cert', text);
 }
 
-const ABOUT_FIELDS = { title: 'Title', author: 'Author', copyright: 'Copyright', description: 'Description', note: 'Note' };
+const ABOUT_FIELDS = { title: phrase('export.title'), author: phrase('export.author'), copyright: phrase('export.copyright'), description: phrase('export.description'), note: phrase('export.note') };
 const LONG_FIELDS = ['description', 'note'];
 
 // A description with the grade as its last line, in place of an earlier one.
-const withGrade = (text) => [...text.split('\n').filter((line) => line && !line.startsWith('Grade: ')), `Grade: ${gradeLine()}`].join('\n');
+const withGrade = (text) => [...text.split('\n').filter((line) => line && !line.startsWith('Grade: ')), phrase('export.grade', { gradeLine: gradeLine() })].join('\n');
 
 /** Asks for the texts about the puzzle, which go into its files and on the printed sheet, and for the name of the file. */
 async function askAbout() {
@@ -84,9 +85,9 @@ async function askAbout() {
   const file = make('input', { type: 'text', value: bench.name, maxlength: '80' });
   const description = fields.find(([name]) => name === 'description')[1];
   const addGrade = () => { description.value = withGrade(description.value); };
-  const content = make('div', { class: 'rows' }, ...fields.map(([name, input]) => make('label', {}, ABOUT_FIELDS[name], input)), make('label', {}, 'Name of the file', file));
-  if (gradeAtHand()) content.append(make('button', { type: 'button', id: 'about-grade', onclick: addGrade }, 'Put the grade into the description'));
-  if (!(await openDialog({ title: 'About the puzzle', content, buttons: [{ name: 'OK', value: true, main: true }] }))) return;
+  const content = make('div', { class: 'rows' }, ...fields.map(([name, input]) => make('label', {}, ABOUT_FIELDS[name], input)), make('label', {}, phrase('export.nameFile'), file));
+  if (gradeAtHand()) content.append(make('button', { type: 'button', id: 'about-grade', onclick: addGrade }, phrase('export.putGradeIntoDescription')));
+  if (!(await openDialog({ title: phrase('export.aboutPuzzle'), content, buttons: [{ name: 'OK', value: true, main: true }] }))) return;
   const texts = Object.fromEntries(fields.map(([name, input]) => [name, input.value.trim()]).filter(([, text]) => text));
   const without = (doc) => Object.fromEntries(Object.entries(doc.about).filter(([name]) => !(name in ABOUT_FIELDS)));
   await heard(bench.become((doc) => ({ ...doc, about: { ...without(doc), ...texts } })));
@@ -98,20 +99,20 @@ async function askAbout() {
 
 /** What the menu File exports and prints. */
 export function startExporting() {
-  addAction({ id: 'about', name: 'Title and author …', place: 'file', group: 'save', run: askAbout });
-  addAction({ id: 'export-xml', name: 'Export XML (Web Paint-by-Number)', place: 'file', group: 'export', run: () => exportText('xml') });
-  addAction({ id: 'export-picture', name: 'Export the picture as PNG', place: 'file', group: 'export', run: () => exportPicture(pngCell(bench.state)) });
-  addAction({ id: 'export-cells', name: 'Export as PNG, a pixel a cell', place: 'file', group: 'export', run: () => exportPicture(1) });
-  addAction({ id: 'export-empty', name: 'Export the empty puzzle as PNG', place: 'file', group: 'export', run: exportEmpty });
-  addAction({ id: 'export-ppm', name: 'Export plain PPM', place: 'file', group: 'export', run: () => exportText('ppm') });
-  addAction({ id: 'export-non', name: 'Export .non (two colours)', place: 'file', group: 'export', can: () => bench.state.colours.length <= 2 || !/[b-o]/.test(bench.state.picture.join('')), run: () => exportText('non') });
-  addAction({ id: 'certificate', name: 'Export the certificate', place: 'file', group: 'export', run: exportCertificate });
+  addAction({ id: 'about', name: phrase('export.titleAuthor'), place: 'file', group: 'save', run: askAbout });
+  addAction({ id: 'export-xml', name: phrase('export.exportXmlWebPaint'), place: 'file', group: 'export', run: () => exportText('xml') });
+  addAction({ id: 'export-picture', name: phrase('export.exportPicturePng'), place: 'file', group: 'export', run: () => exportPicture(pngCell(bench.state)) });
+  addAction({ id: 'export-cells', name: phrase('export.exportPngPixelCell'), place: 'file', group: 'export', run: () => exportPicture(1) });
+  addAction({ id: 'export-empty', name: phrase('export.exportEmptyPuzzlePng'), place: 'file', group: 'export', run: exportEmpty });
+  addAction({ id: 'export-ppm', name: phrase('export.exportPlainPpm'), place: 'file', group: 'export', run: () => exportText('ppm') });
+  addAction({ id: 'export-non', name: phrase('export.exportNonTwoColours'), place: 'file', group: 'export', can: () => bench.state.colours.length <= 2 || !/[b-o]/.test(bench.state.picture.join('')), run: () => exportText('non') });
+  addAction({ id: 'certificate', name: phrase('export.exportCertificate'), place: 'file', group: 'export', run: exportCertificate });
   startPrinting();
 }
 
 /** The panel that saves and exports. */
 export function showExportPanel() {
   const button = (id, name) => make('button', { type: 'button', 'data-action': id, onclick: (event) => runAction(id, event) }, name);
-  $('out').replaceChildren(make('h2', {}, 'Save and export'), make('p', { class: 'group' },
-    button('save', 'Save'), button('export-xml', 'XML'), button('export-empty', 'Puzzle PNG'), button('export-picture', 'Picture PNG'), button('print', 'Print …'), button('certificate', 'Certificate')));
+  $('out').replaceChildren(make('h2', {}, phrase('export.saveExport')), make('p', { class: 'group' },
+    button('save', phrase('export.save')), button('export-xml', 'XML'), button('export-empty', phrase('export.puzzlePng')), button('export-picture', phrase('export.picturePng')), button('print', phrase('export.print')), button('certificate', phrase('export.certificate'))));
 }

@@ -1,12 +1,13 @@
 // Print for books: the picture at hand, and on wish others of the library, as sheets, for the browser's print or as SVG.
 
 import { $, make, say } from '../base/elements.js';
-import { clamp, many } from '../base/words.js';
+import { clamp, sizeText } from '../base/words.js';
 import { docOf } from '../document/document.js';
 import { bench } from '../engine/bench.js';
 import { writeZip } from '../formats/zip.js';
 import { keep } from '../library/keep.js';
 import { SAVE_TYPES, download, exportAs } from '../library/saving.js';
+import { phrase } from '../texts/phrase.js';
 import { addAction } from '../view/actions.js';
 import { openDialog } from '../view/dialogs.js';
 import { gradeAtHand } from '../view/grading.js';
@@ -15,8 +16,8 @@ import { asSeen } from '../view/tools.js';
 import { SHEET_TEXTS, entryOf } from './entries.js';
 import { GRIDS, PAPERS, isLarge, partsOf, sheetsOf } from './sheets.js';
 
-const PAPER_NAMES = { a4: 'A4', a5: 'A5', letter: 'US Letter', book: '6 × 9 inches' };
-const SHOWN = { colours: 'colours', letters: 'letters', signs: 'signs' };
+const PAPER_NAMES = { a4: 'A4', a5: 'A5', letter: phrase('export.usLetter'), book: phrase('export.69Inches') };
+const SHOWN = { colours: phrase('export.colours'), letters: phrase('export.letters'), signs: phrase('export.signs') };
 const MARGINS = [5, 40]; // millimetres
 const LEAST_CELL = 3; // millimetres that are read and filled easily
 const USUAL = { paper: 'a4', isWide: false, margin: 12, perSheet: 1, show: 'colours', answers: true, hasGrade: false };
@@ -25,8 +26,8 @@ const page = { rule: -1 }; // the place of the rule for the size of paper, in th
 
 /** What somebody who solves the puzzle should not be left to find out. */
 export const WARNINGS = {
-  ambiguous: 'Another picture has the same clues. “Fix it” in the menu Check makes this one the only solution.',
-  undecided: 'It is not known yet whether this picture is the only solution.',
+  ambiguous: phrase('export.anotherPictureSameClues'),
+  undecided: phrase('export.notKnownYetWhether'),
 };
 
 const atHand = () => ({ doc: docOf(bench.state), name: bench.name, grade: gradeAtHand()?.word ?? null, verdict: bench.state.verdict.word });
@@ -55,7 +56,7 @@ function saveSvg(sheets) {
   if (sheets.length === 1) return exportAs('svg', sheets[0].svg, '-print');
   const files = sheets.map(({ svg }, at) => ({ name: `${bench.name} ${String(at + 1).padStart(2, '0')}.svg`, bytes: new TextEncoder().encode(svg) }));
   download(new Blob([writeZip(files)], { type: SAVE_TYPES.zip.type }), `${bench.name}-print.zip`, SAVE_TYPES.zip.type);
-  return say(`${many(files.length, 'sheet')} saved as “${bench.name}-print.zip”.`);
+  return say(phrase('export.sheetsSavedPrintZip', { sheets: files.length, name: bench.name }));
 }
 
 // ---- what is asked
@@ -70,8 +71,8 @@ async function otherCards() {
 
 function libraryPart(cards) {
   const boxes = cards.map((card) => make('input', { type: 'checkbox', value: card.id }));
-  const facts = (card) => [card.name, `${card.doc.columns} by ${card.doc.rows}`, card.verdict && card.verdict !== 'unique' ? card.verdict : ''].filter(Boolean).join(', ');
-  const part = make('details', { id: 'print-others' }, make('summary', {}, `With others of the library (${cards.length})`), ...cards.map((card, at) => make('label', {}, boxes[at], facts(card))));
+  const facts = (card) => [card.name, sizeText(card.doc), card.verdict && card.verdict !== 'unique' ? card.verdict : ''].filter(Boolean).join(', ');
+  const part = make('details', { id: 'print-others' }, make('summary', {}, phrase('export.othersLibrary', { count: cards.length })), ...cards.map((card, at) => make('label', {}, boxes[at], facts(card))));
   return { part: cards.length ? part : '', ids: () => boxes.filter((box) => box.checked).map((box) => box.value) };
 }
 
@@ -85,10 +86,10 @@ function printFields(near, graded) {
     show: choice('print-show', SHOWN, near && chosen.show === 'colours' ? 'letters' : chosen.show),
   };
   if (near) fields.show.querySelector('[value="colours"]').disabled = true;
-  const [answers, answersText] = check('print-answers', chosen.answers, 'Solutions at the end');
-  const [grade, gradeText] = check('print-grade', chosen.hasGrade, graded ? `The grade: ${graded.word}` : 'The grade, where one is known');
-  const rows = [make('label', {}, 'Title', fields.title), make('div', { class: 'group' }, make('label', {}, 'Paper', fields.paper), make('label', {}, fields.wide, 'Landscape'), make('label', {}, 'Margin in mm', fields.margin)),
-    make('div', { class: 'group' }, make('label', {}, 'Puzzles on a sheet', fields.perSheet), make('label', {}, 'Colours are shown by', fields.show)), make('label', {}, answers, answersText), make('label', {}, grade, gradeText)];
+  const [answers, answersText] = check('print-answers', chosen.answers, phrase('export.solutionsEnd'));
+  const [grade, gradeText] = check('print-grade', chosen.hasGrade, graded ? phrase('export.grade2', { word: graded.word }) : phrase('export.gradeWhereOneKnown'));
+  const rows = [make('label', {}, phrase('export.title'), fields.title), make('div', { class: 'group' }, make('label', {}, phrase('export.paper'), fields.paper), make('label', {}, fields.wide, phrase('export.landscape')), make('label', {}, phrase('export.marginMm'), fields.margin)),
+    make('div', { class: 'group' }, make('label', {}, phrase('export.puzzlesSheet'), fields.perSheet), make('label', {}, phrase('export.coloursShown'), fields.show)), make('label', {}, answers, answersText), make('label', {}, grade, gradeText)];
   return { fields: { ...fields, answers, grade }, rows };
 }
 
@@ -99,8 +100,8 @@ function readFields({ paper, wide, margin, perSheet, show, answers, grade }) {
 
 // What is to be known before it is printed.
 function warningsOf(puzzle, near) {
-  const parts = isLarge(puzzle) ? `It goes over ${many(partsOf(puzzle.doc).length, 'sheet')}, with a map of the sheets on each.` : '';
-  return [WARNINGS[puzzle.verdict], near && `${near} So the sheet has letters or signs.`, parts].filter(Boolean).map((text) => make('p', { class: text === parts ? 'faint' : 'wrong' }, text));
+  const parts = isLarge(puzzle) ? phrase('export.goesOverSheetsMap', { sheets: partsOf(puzzle.doc).length }) : '';
+  return [WARNINGS[puzzle.verdict], near && phrase('export.soSheetLettersSigns', { near }), parts].filter(Boolean).map((text) => make('p', { class: text === parts ? 'faint' : 'wrong' }, text));
 }
 
 async function printPuzzle() {
@@ -109,7 +110,7 @@ async function printPuzzle() {
   const { fields, rows } = printFields(near, gradeAtHand());
   const others = libraryPart(await otherCards());
   const content = make('div', { class: 'rows' }, ...rows, others.part, ...warningsOf(own, near));
-  const way = await openDialog({ title: 'Print', content, wide: true, buttons: [{ name: 'Save as SVG', value: 'svg' }, { name: 'Print …', value: 'print', main: true }] });
+  const way = await openDialog({ title: phrase('export.print2'), content, wide: true, buttons: [{ name: phrase('export.saveSvg'), value: 'svg' }, { name: phrase('export.print'), value: 'print', main: true }] });
   if (!way) return;
   Object.assign(chosen, readFields(fields));
   const title = fields.title.value.trim();
@@ -120,10 +121,10 @@ async function printPuzzle() {
     if (record) more.push({ doc: record.doc, name: record.name, grade: card?.grade ?? null });
   }
   const alike = more.find(({ doc }) => chosen.show === 'colours' && nearText(doc));
-  if (alike) return say(`“${alike.name}”: ${nearText(alike.doc)} Print it with letters or signs.`, 'alarm');
+  if (alike) return say(phrase('export.printLettersSigns', { name: alike.name, near: nearText(alike.doc) }), 'alarm');
   const sheets = sheetsFor([first, ...more], chosen);
   const least = Math.min(...sheets.map(({ cell }) => cell ?? Infinity));
-  if (least < LEAST_CELL) say(`The smallest cells are ${least.toFixed(1)} mm wide: larger paper or fewer puzzles on a sheet make them larger.`, 'alarm');
+  if (least < LEAST_CELL) say(phrase('export.smallestCellsMmWide', { value: Math.round(least * 10) / 10 }), 'alarm');
   if (way === 'svg') return saveSvg(sheets);
   fillPrint(sheets);
   globalThis.print();
@@ -131,7 +132,7 @@ async function printPuzzle() {
 
 /** Adds print to the menu File. */
 export function startPrinting() {
-  addAction({ id: 'print', name: 'Print …', key: 'Ctrl+P', place: 'file', group: 'print', run: printPuzzle });
+  addAction({ id: 'print', name: phrase('export.print'), key: 'Ctrl+P', place: 'file', group: 'print', run: printPuzzle });
   // What is opened by the browser's own print, without the dialog, is a sheet too.
   addEventListener('beforeprint', () => {
     if (bench.state && !$('print').children.length) fillPrint(sheetsFor([atHand()], { ...chosen, show: nearText(bench.state) && chosen.show === 'colours' ? 'letters' : chosen.show }));

@@ -1,10 +1,10 @@
 // Links: the puzzle at hand in an address, to be solved or to be changed. Nothing is sent anywhere.
 
 import { make, say } from '../base/elements.js';
-import { number } from '../base/words.js';
 import { docOf } from '../document/document.js';
 import { bench } from '../engine/bench.js';
 import { fragmentOf } from '../formats/link.js';
+import { phrase } from '../texts/phrase.js';
 import { addAction } from '../view/actions.js';
 import { openDialog } from '../view/dialogs.js';
 import { asSeen } from '../view/tools.js';
@@ -12,7 +12,7 @@ import { WARNINGS } from './printing.js';
 
 const LONG = 2000; // characters; some programs cut longer links
 const [PLAY, EDIT, FRAME] = ['play', 'edit', 'frame'];
-const KINDS = { [PLAY]: 'to solve it', [EDIT]: 'to edit it', [FRAME]: 'as HTML for a site' };
+const KINDS = { [PLAY]: phrase('export.solve'), [EDIT]: phrase('export.edit'), [FRAME]: phrase('export.htmlSite') };
 const ownAddress = () => (/^https?:$/.test(location.protocol) ? location.href.split('#')[0] : '');
 
 const attributeOf = (text) => text.replaceAll('&', '&amp;').replaceAll('"', '&quot;').replaceAll('<', '&lt;');
@@ -26,9 +26,9 @@ function linkText(kind, address, fragment, title) {
 // What a link does not tell by itself.
 function notesOn(kind, address, length) {
   return [
-    address ? '' : 'This page was opened from a file. Enter the address at which you publish it, or the link works only beside this file.',
-    kind === EDIT ? '' : 'The link holds the solution, though the player does not show it.',
-    length > LONG ? `The link has ${number(length)} characters. Some programs cut links above ${number(LONG)}.` : '',
+    address ? '' : phrase('export.pageOpenedFromFile'),
+    kind === EDIT ? '' : phrase('export.linkHoldsSolutionThough'),
+    length > LONG ? phrase('export.linkCharactersSomePrograms', { count: length, LONG }) : '',
     kind === EDIT ? '' : WARNINGS[bench.state.verdict.word] ?? '',
   ].filter(Boolean).join(' ');
 }
@@ -38,9 +38,9 @@ async function copied(field) {
     await navigator.clipboard.writeText(field.value);
   } catch { // without the clipboard, as in a page from a file
     field.select();
-    if (!document.execCommand('copy')) return 'The browser did not copy it. It is selected: press Ctrl+C.';
+    if (!document.execCommand('copy')) return phrase('export.browserDidNotCopy');
   }
-  say('The link was copied.');
+  say(phrase('export.linkCopied'));
   return '';
 }
 
@@ -61,11 +61,11 @@ async function share() {
   kind.addEventListener('change', fill);
   address.addEventListener('input', fill);
   fill();
-  const content = make('div', { class: 'rows' }, make('label', {}, 'A link ', kind), make('label', {}, 'Address of the page', address), make('label', {}, 'Link', field), note);
-  await openDialog({ title: 'Share', content, buttons: [{ name: 'Copy', value: true, main: true, test: () => copied(field) }] });
+  const content = make('div', { class: 'rows' }, make('label', {}, phrase('export.link'), kind), make('label', {}, phrase('export.addressPage'), address), make('label', {}, phrase('export.link2'), field), note);
+  await openDialog({ title: phrase('export.share'), content, buttons: [{ name: phrase('export.copy'), value: true, main: true, test: () => copied(field) }] });
 }
 
 /** Adds sharing to the menu File. */
 export function startSharing() {
-  addAction({ id: 'share', name: 'Share a link …', place: 'file', group: 'export', run: share });
+  addAction({ id: 'share', name: phrase('export.shareLink'), place: 'file', group: 'export', run: share });
 }

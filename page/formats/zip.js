@@ -1,6 +1,7 @@
 // Archives: zip files that are written without compression, and read with it.
 
 import { FileFault } from '../document/limits.js';
+import { phrase } from '../texts/phrase.js';
 import { inflated, joined } from './deflate.js';
 
 const MOST_ENTRIES = 20000;
@@ -45,7 +46,7 @@ export function writeZip(files) {
   return joined([...pieces, directory, packed(four(END), two(0), two(0), two(files.length), two(files.length), four(directory.length), four(at), two(0))]);
 }
 
-const damaged = () => new FileFault('The archive is damaged.');
+const damaged = () => new FileFault(phrase('formats.archiveDamaged'));
 
 /** The files of a zip as `{name, bytes}`, where `bytes` is null for what is not read: folders, what is encrypted or too large. */
 export async function readZip(bytes) {
@@ -54,7 +55,7 @@ export async function readZip(bytes) {
   while (end >= 0 && view.getUint32(end, true) !== END) end--;
   if (end < 0) throw damaged();
   const count = view.getUint16(end + 10, true);
-  if (count > MOST_ENTRIES) throw new FileFault('The archive has too many files.');
+  if (count > MOST_ENTRIES) throw new FileFault(phrase('formats.archiveTooManyFiles'));
   const files = [];
   for (let at = view.getUint32(end + 16, true), left = count; left > 0; left--) {
     if (at + 46 > bytes.length || view.getUint32(at, true) !== CENTRAL) throw damaged();

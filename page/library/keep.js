@@ -5,6 +5,7 @@ import { say } from '../base/elements.js';
 import { tell } from '../base/events.js';
 import { docOf, sameDoc } from '../document/document.js';
 import { bench } from '../engine/bench.js';
+import { phrase } from '../texts/phrase.js';
 import { Keeper } from './keeper.js';
 import { newId, recordOf } from './records.js';
 import { claim, openShelf } from './shelf.js';
@@ -20,7 +21,7 @@ keep.ready = (home = globalThis) => {
   return keep.opening;
 };
 
-const REASONS = { full: 'The browser’s storage is full', none: 'This browser keeps nothing for this page', refused: 'The browser’s storage does not take it' };
+const REASONS = { full: phrase('library.browsersStorageFull'), none: phrase('library.browserKeepsNothingPage'), refused: phrase('library.browsersStorageDoesNot') };
 
 keep.said = ({ kind, why }) => {
   keep.isKept = kind === 'kept';
@@ -28,7 +29,7 @@ keep.said = ({ kind, why }) => {
   if (keep.isKept) keep.wasTold = false;
   if (keep.isKept || keep.wasTold) return;
   keep.wasTold = true;
-  say(`${REASONS[why]}: your work is in this tab alone. Save it to a file (Ctrl+S).`, 'alarm', why === 'full' ? { name: 'Make room …', run: () => keep.makeRoom?.() } : null);
+  say(phrase('library.yourWorkTabAlone', { why: REASONS[why] }), 'alarm', why === 'full' ? { name: phrase('library.makeRoom'), run: () => keep.makeRoom?.() } : null);
 };
 
 /**
@@ -46,7 +47,7 @@ keep.begin = async (id = null, isBlank = false) => {
   keep.grade = null;
   keep.when = Date.now();
   keep.untouched = isBlank || isElsewhere ? docOf(bench.state) : null;
-  if (isElsewhere) say('This picture is open in another tab. What you change here goes to a copy.', 'alarm');
+  if (isElsewhere) say(phrase('library.pictureOpenAnotherTab'), 'alarm');
   keep.now();
   return isElsewhere;
 };

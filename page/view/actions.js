@@ -2,9 +2,10 @@
 
 import { $, make } from '../base/elements.js';
 import { bench } from '../engine/bench.js';
+import { phrase } from '../texts/phrase.js';
 
 export const actions = new Map();
-const MENUS = { file: 'File', edit: 'Edit', picture: 'Picture', view: 'View', check: 'Check', help: 'Help' };
+const MENUS = { file: phrase('view.file'), edit: phrase('view.edit'), picture: phrase('view.picture'), view: phrase('view.view'), check: phrase('view.check'), help: phrase('view.help') };
 
 /**
  * Adds an action. `id` names it; `name` is what the user reads; `key` as in 'Ctrl+Z', 'n' or 'Shift+ArrowUp'; `place` is a
