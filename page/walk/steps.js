@@ -190,15 +190,20 @@ export function treeSteps(puzzle, certificate) {
 /** The last step after those of a certificate: the picture, wherever the last supposition has led. */
 export const onlyStep = ({ cells }) => ({ kind: 'only', depth: 0, cells: [], settled: [], premises: [], masks: Uint16Array.from(cells, (colour) => 1 << colour) });
 
-/** The path: steps with what each cell can be after so many of them. `source` gives further ones, as an iterable. */
+/** The path: steps with what each cell can be after so many of them. */
 export class Walk {
   #source;
 
+  /**
+   * `source` gives the steps: all at once where it is an array, else as the path grows.
+   * @param {Iterable<any>} source
+   */
   constructor(puzzle, source = []) {
     this.puzzle = puzzle;
-    this.steps = Array.isArray(source) ? source : [];
+    this.steps = [];
     this.known = { at: 0, masks: puzzle.candidates() };
-    this.#source = Array.isArray(source) ? null : source[Symbol.iterator]();
+    this.#source = source[Symbol.iterator]();
+    if (Array.isArray(source)) this.grow();
   }
 
   /** Whether no step is to come. */
