@@ -186,7 +186,7 @@ function tellFound(done) {
   const ended = verdictView.ended || !done?.isThrough;
   const mixed = mixtures().length;
   if (!best) {
-    const none = `No repaint was found${ended ? ' in this time' : `, and none of ${many(done.proved, 'cell')} exists`}.`;
+    const none = `No repaint was found${ended ? ' in this time' : `, and none of up to ${many(done.proved, 'cell')} exists`}.`;
     const near = mixed ? ' What is listed gives cells, too.' : fixing.near ? ' What is listed comes nearer.' : '';
     return fixSays(`${none}${near} ${ended ? `${LONGER} ` : ''}${LOOSE}`);
   }
