@@ -146,7 +146,7 @@ export async function printedOnWhite({ browser, url, folder }) {
     await page.until(() => document.querySelectorAll('.printed').length === 2, 5000 * SLACK);
     assert.deepEqual(await printedPoints(page, [[0.002, 0.002], [0.002, 0.998], [0.5, 0.002]]), Array(3).fill('255,255,255'), 'the sheet');
     const fills = await page.run(() => [...document.querySelectorAll('.printed')].map((sheet) => [...sheet.querySelectorAll('svg')[0].querySelectorAll('rect')].map((one) => one.getAttribute('fill'))));
-    assert.ok(!fills[0].includes('rgb(0 0 40)') && fills[1].includes('rgb(0 0 40)'), 'the background is on the solution alone');
+    assert.ok(!fills[0].includes('#000028') && fills[1].includes('#000028'), 'the background is on the solution alone');
     assert.match(await trial.text('.printed .legend'), /red.*white.*background: dark blue/);
     const { data } = await page.send('Page.printToPDF', { printBackground: true });
     writeFileSync(join(own, 'night.pdf'), Buffer.from(data, 'base64'));

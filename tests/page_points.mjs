@@ -62,7 +62,7 @@ async function intoPuzzle(hands) {
     await isOpen(page);
     const { rows, columns, colours } = await trial.state();
     assert.deepEqual([rows, columns, colours.length], [10, 10, 2]);
-    await page.until(() => document.getElementById('said').textContent.includes('is a puzzle now'), 3000 * SLACK);
+    await page.until(() => document.getElementById('said').textContent.includes('was made from the image'), 3000 * SLACK);
 }
 
 /** A reload loses nothing, strokes are taken back behind it, and the work goes to a file. */

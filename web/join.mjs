@@ -14,8 +14,7 @@ const EXAMPLES = ['heart', 'mushroom', 'boat'];
 
 const read = (...parts) => readFileSync(join(root, ...parts), 'utf8');
 
-// What git calls the folders that the page is made of, where they are in a repository. A commit's name would be another one as soon
-// as the page is a part of it.
+// What git calls the folders that the page is made of, where they are in a repository.
 function treesOf() {
   const folders = ['crates', 'web', 'page', 'examples'];
   try {
@@ -24,6 +23,17 @@ function treesOf() {
     return Object.fromEntries(said.trim().split('\n').map((name, at) => [folders[at], name.slice(0, 12)]));
   } catch {
     return {};
+  }
+}
+
+// The last commit that changed what the page is made of. A later one, which puts the built page into the repository, has the same
+// page. A clone without its history does not know it.
+function commitOf() {
+  const git = (...words) => execFileSync('git', ['-C', root, ...words], { encoding: 'utf8', stdio: ['ignore', 'pipe', 'ignore'] }).trim();
+  try {
+    return git('rev-parse', '--is-shallow-repository') === 'true' ? '' : git('log', '-1', '--format=%H', '--', 'crates', 'web', 'page', 'examples').slice(0, 12);
+  } catch {
+    return '';
   }
 }
 
@@ -46,7 +56,7 @@ const policyOf = (code, style) => [
 function pageText(version) {
   const packed = gzipSync(readFileSync(join(folder, 'nonobench.wasm')), { level: 9 });
   packed[9] = 255; // the system that packed it
-  const built = { module: packed.toString('base64'), packed: 'gzip', worker: script(join(root, 'page', 'engine', 'worker.js')), version, trees: treesOf() };
+  const built = { module: packed.toString('base64'), packed: 'gzip', worker: script(join(root, 'page', 'engine', 'worker.js')), version, commit: commitOf(), trees: treesOf() };
   const icon = Buffer.from(read('page', 'icon.svg')).toString('base64');
   // What must not stand in a script within HTML; esbuild takes care of the end of the script.
   const code = `\n${script(entry).replaceAll('<!--', '<\\!--')}\n`;

@@ -1,13 +1,14 @@
 // Out of the page: Web Paint-by-Number's XML, PNG of the picture and of the empty puzzle, a printed sheet, P3, .non and the
 // certificate. Each is a download, or the browser's print.
 
-import { $, make, say } from '../base/elements.js';
+import { $, make, say, svgPart } from '../base/elements.js';
 import { bareName, clamp, many } from '../base/words.js';
 import { plainHexOf } from '../document/colours.js';
 import { docOf, eightBitDoc, sameDoc } from '../document/document.js';
 import { LETTERS } from '../document/limits.js';
-import { canvasOfPaper, paperOf, svgOfPaper, svgPart } from '../draw/papers.js';
-import { drawSmall } from '../draw/small.js';
+import { PAPER_FAMILY, drawPaper, sizeOfPaper } from '../draw/papers.js';
+import { drawSmall, penOf } from '../draw/small.js';
+import { CanvasSurface, SvgSurface } from '../draw/surface.js';
 import { bench } from '../engine/bench.js';
 import { keep } from '../library/keep.js';
 import { SAVE_TYPES, download, exportAs, saved, saving, showFileName, textAs } from '../library/saving.js';
@@ -45,12 +46,20 @@ async function exportPicture(side) {
   exportPng(canvas, side === 1 ? '-cells' : '-picture');
 }
 
+function puzzleImage(puzzle, cell) {
+  const { width, height } = sizeOfPaper(puzzle);
+  const surface = new CanvasSurface(penOf(Math.ceil(width * cell), Math.ceil(height * cell)));
+  surface.rect(0, 0, surface.pen.canvas.width, surface.pen.canvas.height, '#fff');
+  drawPaper(surface, puzzle, { x: 0, y: 0, cell });
+  return surface.pen.canvas;
+}
+
 async function exportEmpty() {
   await asSeen();
   const near = nearText(bench.state);
   if (near) return say(`${near} By its colours this puzzle cannot be told from others: change one, or print it with letters.`, 'alarm');
   const { doc, clues } = puzzleAtHand();
-  return exportPng(canvasOfPaper(paperOf({ doc, clues }, { cell: pngCell(doc) })), '-puzzle', warningText());
+  return exportPng(puzzleImage({ doc, clues }, pngCell(doc)), '-puzzle', warningText());
 }
 
 async function exportText(form) {
@@ -85,13 +94,24 @@ function printedLegend(doc, letters) {
   return make('p', { class: 'legend' }, ...inks, ...(isWhite ? [] : item(colours[0], `background: ${inkName(doc, '.')}`)));
 }
 
+// A puzzle as an SVG element; a cell is at most a centimetre wide.
+function printedSvg(puzzle, options) {
+  const { width, height } = sizeOfPaper(puzzle, options);
+  const surface = new SvgSurface();
+  drawPaper(surface, puzzle, { x: 0, y: 0, cell: 20, ...options });
+  const text = surface.drawing(width * 20, height * 20, { family: PAPER_FAMILY });
+  const svg = document.importNode(new DOMParser().parseFromString(text, 'image/svg+xml').documentElement, true);
+  svg.style.maxWidth = `${Math.round(width * 10)}mm`;
+  return svg;
+}
+
 /** Fills the part of the page that is printed: the puzzle, and on wish the solution on a second sheet. */
 function fillPrint({ title, letters, solution, grade = '' }) {
   const { doc, clues } = puzzleAtHand();
   const by = doc.about.author ? `, by ${doc.about.author}` : '';
   const facts = `${doc.columns} by ${doc.rows}${doc.givens.size ? `, ${many(doc.givens.size, 'cell')} given (◆)` : ''}${grade ? `, ${grade}` : ''}${by}`;
-  const sheets = [make('section', { class: 'printed' }, make('h1', {}, title), make('p', {}, facts), svgOfPaper(paperOf({ doc, clues }, { letters })), printedLegend(doc, letters))];
-  if (solution) sheets.push(make('section', { class: 'printed' }, make('h1', {}, `${title}: solution`), svgOfPaper(paperOf({ doc, clues }, { letters, solution: true, clues: false }))));
+  const sheets = [make('section', { class: 'printed' }, make('h1', {}, title), make('p', {}, facts), printedSvg({ doc, clues }, { show: letters ? 'letters' : 'colours' }), printedLegend(doc, letters))];
+  if (solution) sheets.push(make('section', { class: 'printed' }, make('h1', {}, `${title}: solution`), printedSvg({ doc, clues }, { show: letters ? 'letters' : 'colours', solution: true, hasClues: false })));
   $('print').replaceChildren(...sheets);
 }
 

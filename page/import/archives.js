@@ -60,16 +60,20 @@ export async function readArchive(bytes) {
   return { docs, unread };
 }
 
-/** Adds the pictures of an archive to the library. Answers how many were added. */
+const sameText = (one, other) => webpbnText(one) === webpbnText(other);
+
+/** Adds the pictures of an archive to the library, but for those that are there. Answers how many of it are there then. */
 export async function takeArchive(bytes, name) {
   const { docs, unread } = await readArchive(bytes);
   const keeper = await keep.ready();
-  let added = 0;
+  let [added, known] = [0, 0];
   for (const { name: title, doc } of docs) {
-    if (!(await keeper.put(recordOfDoc(doc, title, true)))) break;
-    added++;
+    if (await keeper.has(title, doc, sameText)) known++;
+    else if (await keeper.put(recordOfDoc(doc, title, true))) added++;
+    else break;
   }
-  const left = [unread.length ? `${many(unread.length, 'file')} not read` : '', added < docs.length ? `${many(docs.length - added, 'picture')} not taken` : ''].filter(Boolean).join(', ');
-  if (added === docs.length) say(`“${name}”: ${many(added, 'picture')} added to the library${left ? `; ${left}` : ''}.`, left ? 'alarm' : '');
-  return added;
+  const there = added + known;
+  const left = [known ? `${many(known, 'picture')} there already` : '', unread.length ? `${many(unread.length, 'file')} not read` : '', there < docs.length ? `${many(docs.length - there, 'picture')} not taken` : ''].filter(Boolean).join(', ');
+  if (there === docs.length) say(`“${name}”: ${many(added, 'picture')} added to the library${left ? `; ${left}` : ''}.`, unread.length ? 'alarm' : '');
+  return there;
 }

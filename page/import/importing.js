@@ -306,6 +306,6 @@ export async function importImage(image, name) {
   const importing = new Importing(image);
   const doc = await openDialog({ title: `${name}: turn the image into a puzzle`, content: importing.content, wide: true, buttons: [{ name: 'Create the puzzle', value: () => importing.finished(), main: true }] });
   if (!doc || !(await openDoc(doc, { name, isSaved: false }))) return false;
-  say(`“${name}” is a puzzle now. Export or print it from the menu File.`);
+  say(`“${name}” was made from the image. Its verdict tells whether its clues have only one solution.`);
   return true;
 }

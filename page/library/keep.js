@@ -9,7 +9,7 @@ import { Keeper } from './keeper.js';
 import { newId, recordOf } from './records.js';
 import { claim, openShelf } from './shelf.js';
 
-export const keep = { keeper: null, opening: null, id: null, free: null, untouched: null, grade: null, isKept: true, isPaused: false, wasTold: false, isAsked: false, makeRoom: null };
+export const keep = { keeper: null, opening: null, id: null, free: null, untouched: null, when: 0, grade: null, isKept: true, isPaused: false, wasTold: false, isAsked: false, makeRoom: null };
 
 /** Opens the library, once. */
 keep.ready = (home = globalThis) => {
@@ -44,6 +44,7 @@ keep.begin = async (id = null, isBlank = false) => {
   free ??= await claim(keep.id, globalThis);
   keep.free = free;
   keep.grade = null;
+  keep.when = Date.now();
   keep.untouched = isBlank || isElsewhere ? docOf(bench.state) : null;
   if (isElsewhere) say('This picture is open in another tab. What you change here goes to a copy.', 'alarm');
   keep.now();
@@ -55,7 +56,13 @@ keep.end = () => {
   Object.assign(keep, { id: null, free: null, untouched: null });
 };
 
-/** Keeps the document as it is now. */
+/** Keeps the document as a stroke has left it: it is the newest of the library now. */
+keep.changed = () => {
+  keep.when = Date.now();
+  return keep.now();
+};
+
+/** Keeps the document as it is now. What is found out about it later makes it no newer. */
 keep.now = () => {
   const { id } = keep;
   if (!id || !keep.keeper || !bench.state) return Promise.resolve();
@@ -65,7 +72,7 @@ keep.now = () => {
     keep.isAsked = true; // that the browser does not clear it away by itself
     navigator.storage?.persist?.().catch(() => {});
   }
-  const made = () => ({ record: recordOf(bench, id), facts: { verdict: bench.state.verdict.word, grade: keep.grade } });
+  const made = () => ({ record: recordOf(bench, id, keep.when), facts: { verdict: bench.state.verdict.word, grade: keep.grade } });
   return keep.keeper.note(() => (keep.id === id && bench.state ? made() : null));
 };
 

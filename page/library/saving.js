@@ -165,7 +165,7 @@ export function startSaving() {
   on('shown', () => {
     if (!keep.isPaused) {
       keep.grade = null;
-      keep.now();
+      keep.changed();
     }
     showFileName();
   });

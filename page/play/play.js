@@ -5,7 +5,7 @@ import { clamp, many } from '../base/words.js';
 import { cssOf, inkOn, nameOf } from '../document/colours.js';
 import { LETTERS, MOST_CELLS } from '../document/limits.js';
 import { bench } from '../engine/bench.js';
-import { addAction } from '../view/actions.js';
+import { addAction, runAction } from '../view/actions.js';
 import { selection } from '../view/select.js';
 import { asSeen } from '../view/tools.js';
 import { searches } from '../view/verdict.js';
@@ -55,6 +55,7 @@ function playBar() {
     playButton('play-hint', 'Hint', hintPlay, { title: 'Which line tells more; again: which cells; again: why' }),
     playButton('play-clear', 'Start over', clearPlay), playButton('play-walk', 'Walk through', startWalk),
     playButton('play-smaller', '−', () => zoomPlay(-1), { 'aria-label': 'Smaller cells' }), playButton('play-larger', '+', () => zoomPlay(1), { 'aria-label': 'Larger cells' }),
+    playButton('play-help', '?', () => runAction('guide'), { 'aria-label': 'Guide', title: 'Guide' }),
     playButton('play-close', 'Back to the picture', () => $('play-room').close()));
 }
 

@@ -75,11 +75,18 @@ export function makeMenus() {
   }
 }
 
+// The menus whose actions a menu has: where a small window has no room for Help, File has it too.
+function placesOf(place) {
+  const hasRoom = $('menu-help').previousElementSibling.offsetParent !== null;
+  return place === 'file' && !hasRoom ? ['file', 'help'] : [place];
+}
+
 function fillMenu(list, place, button) {
   const items = [];
   let group = null;
+  const places = placesOf(place);
   for (const action of actions.values()) {
-    if (action.place !== place) continue;
+    if (!places.includes(action.place)) continue;
     if (group !== null && group !== action.group) items.push(make('hr', { role: 'separator' }));
     ({ group } = action);
     const item = actionButton(action, { role: 'menuitem', tabindex: '-1' });

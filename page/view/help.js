@@ -25,11 +25,11 @@ const KEEPING = [
 const part = (title, ...content) => make('section', {}, make('h3', {}, title), ...content);
 const paragraphs = (texts) => texts.map((text) => make('p', {}, text));
 
-/** What this page is: its version, and the names that git has for the folders that it was made of. */
+/** What this page is: its version, the last commit that changed it, and the names that git has for the folders that it was made of. */
 function versionText() {
-  const { version, trees = {} } = built();
+  const { version, commit, trees = {} } = built();
   const made = Object.entries(trees).map(([folder, name]) => `${folder} ${String(name).slice(0, 12)}`).join(', ');
-  return `nonobench ${version ?? ''}. It runs in your browser alone and sends nothing.${made ? ` Made of ${made}: git’s names for these folders.` : ''}`;
+  return `nonobench ${version ?? ''}${commit ? `, commit ${commit}` : ''}. It runs in your browser alone and sends nothing.${made ? ` Made of ${made}: git’s names for these folders.` : ''}`;
 }
 
 function showGuide() {
@@ -56,6 +56,6 @@ function showKeys() {
 
 /** What the menu Help has. */
 export function addHelpActions() {
-  addAction({ id: 'guide', name: 'Guide', key: 'F1', place: 'help', needs: false, run: showGuide });
-  addAction({ id: 'keys', name: 'Keyboard shortcuts', key: '?', place: 'help', needs: false, run: showKeys });
+  addAction({ id: 'guide', name: 'Guide', key: 'F1', place: 'help', group: 'help', needs: false, run: showGuide });
+  addAction({ id: 'keys', name: 'Keyboard shortcuts', key: '?', place: 'help', group: 'help', needs: false, run: showKeys });
 }
