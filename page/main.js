@@ -4,10 +4,12 @@ import { $, say } from './base/elements.js';
 import { on } from './base/events.js';
 import { sheet, startSheet } from './draw/sheet.js';
 import { showExportPanel, startExporting } from './export/exporting.js';
+import { startSharing } from './export/sharing.js';
 import { hearFiles } from './import/taking.js';
 import { keep } from './library/keep.js';
 import { startSaving } from './library/saving.js';
 import { startPlay } from './play/play.js';
+import { startLinked } from './start/linked.js';
 import { showStart, startStart } from './start/start.js';
 import { actionButton, actions, hearKeys, makeMenus } from './view/actions.js';
 import { addEditActions, addKeys, addPictureActions, addViewActions } from './view/commands.js';
@@ -34,6 +36,7 @@ startWhy();
 startSaving();
 startStart();
 startExporting();
+startSharing();
 makeMenus();
 makeToolBar();
 makePalette();
@@ -57,6 +60,8 @@ keep.ready();
 hearFiles();
 showStart();
 showExportPanel();
+startLinked();
+keepOffline();
 
 // ---- what the whole page does with the bench
 
@@ -66,6 +71,11 @@ function makeQuickButtons() {
     button.textContent = name;
     $('quick').append(button);
   }
+}
+
+// A served page is kept by the browser, so that it opens without a network.
+function keepOffline() {
+  if (document.querySelector('link[rel="manifest"]')) navigator.serviceWorker?.register('offline.js').catch(() => {});
 }
 
 function hearBench() {

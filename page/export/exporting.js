@@ -28,8 +28,8 @@ function exportPng(canvas, suffix, more = '') {
   canvas.toBlob((blob) => (blob ? exportAs('png', blob, suffix, more) : say('The browser made no PNG of it.', 'alarm')), 'image/png');
 }
 
-// What somebody who solves the puzzle should not be left to find out.
-const WARNINGS = {
+/** What somebody who solves the puzzle should not be left to find out. */
+export const WARNINGS = {
   ambiguous: 'Another picture has the same clues. “Fix it” in the menu Check makes this one the only solution.',
   undecided: 'It is not known yet whether this picture is the only solution.',
 };

@@ -1,6 +1,7 @@
 // Archives: zip files that are written without compression, and read with it.
 
 import { FileFault } from '../document/limits.js';
+import { inflated, joined } from './deflate.js';
 
 const MOST_ENTRIES = 20000;
 const MOST_ENTRY = 16 * 1024 * 1024; // bytes of one file in an archive
@@ -27,16 +28,6 @@ function packed(...fields) {
 }
 const two = (value) => [value, 2];
 const four = (value) => [value, 4];
-
-function joined(pieces) {
-  const all = new Uint8Array(pieces.reduce((sum, piece) => sum + piece.length, 0));
-  let at = 0;
-  for (const piece of pieces) {
-    all.set(piece, at);
-    at += piece.length;
-  }
-  return all;
-}
 
 /** A zip of files, each `{name, bytes}`. */
 export function writeZip(files) {
@@ -83,27 +74,7 @@ async function unpackedEntry(bytes, view, at) {
   const from = local + 30 + view.getUint16(local + 26, true) + view.getUint16(local + 28, true);
   if (from + size > bytes.length) throw damaged();
   const raw = bytes.subarray(from, from + size);
-  const whole = method === 0 ? raw : await inflated(raw, length);
+  const whole = method === 0 ? raw : await inflated(raw, length).catch(() => { throw damaged(); });
   if (whole.length !== length || crcOf(whole) !== crc) throw damaged();
   return whole;
-}
-
-// What was deflated, up to the size that the archive tells.
-async function inflated(raw, most) {
-  const reader = new Blob([raw]).stream().pipeThrough(new DecompressionStream('deflate-raw')).getReader();
-  const pieces = [];
-  let size = 0;
-  try {
-    for (;;) {
-      const { done, value } = await reader.read();
-      if (done) return joined(pieces);
-      size += value.length;
-      if (size > most) throw damaged();
-      pieces.push(value);
-    }
-  } catch {
-    throw damaged();
-  } finally {
-    reader.cancel().catch(() => {});
-  }
 }
