@@ -4,7 +4,7 @@
 import { $, make, say } from '../base/elements.js';
 import { on } from '../base/events.js';
 import { many, number } from '../base/words.js';
-import { placeOf } from '../document/document.js';
+import { placeOf, sameBenchPart } from '../document/document.js';
 import { LETTERS } from '../document/limits.js';
 import { cellsThatDiffer } from '../document/shapes.js';
 import { sheet } from '../draw/sheet.js';
@@ -22,8 +22,9 @@ const SPARE = 2; // seconds that a search in the worker has left to end by itsel
 const LONGER = 'A longer “Search time” may find some.';
 const LOOSE = 'The picture is too loose: a bolder threshold at import, or thicker lines, may help more.';
 
-// What was found for the picture at hand, and what was asked for.
-const fixing = { goal: 'unique', rule: true, mirror: '', found: [], kept: new Set(), near: null, frame: 0, previews: false };
+// What was found, for which picture (`of`), and what was asked for. It stays while a proposal is tried: an undo shows the list again.
+const fixing = { goal: 'unique', rule: true, mirror: '', of: null, found: [], kept: new Set(), near: null, said: '', frame: 0, previews: false, isWanted: false };
+const isOfThis = () => fixing.of !== null && bench.state !== null && sameBenchPart(fixing.of, bench.state);
 
 /** Whether there is something to mend. */
 export const canFix = () => bench.state !== null && (bench.state.verdict.word !== 'unique' || bench.state.open > 0);
@@ -35,7 +36,8 @@ const button = (id, name, run) => make('button', { type: 'button', id, onclick: 
 export function openFix() {
   const { state } = bench;
   if (!canFix()) return;
-  fixing.goal = state.verdict.word === 'unique' ? 'lines' : 'unique';
+  if (!isOfThis()) fixing.goal = state.verdict.word === 'unique' ? 'lines' : 'unique';
+  fixing.isWanted = true;
   $('fix').hidden = false;
   $('fix').replaceChildren(
     make('h3', {}, 'Fix it'),
@@ -48,6 +50,7 @@ export function openFix() {
     make('ul', { id: 'fix-list', 'aria-label': 'Proposals' }),
   );
   showLocks();
+  showFound();
   $('fix-paint').focus();
 }
 
@@ -95,9 +98,15 @@ function boardOf(state) {
 
 // ---- searching
 
-export function closeFix() {
+/** Hides the panel; it comes again with the picture that its list is for. */
+export function hideFix() {
   if ($('fix')) $('fix').hidden = true;
   preview(null);
+}
+
+function closeFix() {
+  fixing.isWanted = false;
+  hideFix();
 }
 
 const fixSays = (text) => { if ($('fix-said')) $('fix-said').textContent = text; };
@@ -134,12 +143,13 @@ async function takeGivens(state, { given, isLeast }) {
 
 // Lists proposals, while they are found: the smallest and least seen first.
 async function findRepairs() {
-  Object.assign(fixing, { found: fixing.found.filter((one) => fixing.kept.has(one)), near: null });
+  Object.assign(fixing, { found: fixing.found.filter((one) => fixing.kept.has(one) && isOfThis()), near: null, of: bench.state });
   showFound();
   const { goal } = fixing;
   const part = Math.min(2, secondsChosen() / 4); // of the time, for the givens, and for mixtures
   const run = await searched('Looking for repairs', async (copy, state) => {
     const board = boardOf(state);
+    fixing.of = state;
     const told = ({ found, nearer }) => {
       if (found) add(state, found);
       else fixing.near = { ...nearer, far: farOf(state, goal, nearer), state };
@@ -181,18 +191,23 @@ function noteOf() {
 }
 
 function tellFound(done) {
+  fixing.said = foundText(done);
   showFound();
+  fixSays(fixing.said);
+}
+
+function foundText(done) {
   const [best] = repaints();
   const ended = verdictView.ended || !done?.isThrough;
   const mixed = mixtures().length;
   if (!best) {
     const none = `No repaint was found${ended ? ' in this time' : `, and none of up to ${many(done.proved, 'cell')} exists`}.`;
     const near = mixed ? ' What is listed gives cells, too.' : fixing.near ? ' What is listed comes nearer.' : '';
-    return fixSays(`${none}${near} ${ended ? `${LONGER} ` : ''}${LOOSE}`);
+    return `${none}${near} ${ended ? `${LONGER} ` : ''}${LOOSE}`;
   }
   const least = done && done.proved >= best.cells.length - 1 ? ' None is smaller.' : '';
   const loose = best.cells.length > FEW ? ` More than ${FEW} cells: ${LOOSE[0].toLowerCase()}${LOOSE.slice(1)}` : '';
-  return fixSays(`${many(repaints().length + mixed, 'proposal')} found.${least}${loose} Choose one to paint it; point at one to see it first.`);
+  return `${many(repaints().length + mixed, 'proposal')} found.${least}${loose} Choose one to paint it; point at one to see it first.`;
 }
 
 // ---- the list
@@ -200,6 +215,11 @@ function tellFound(done) {
 function showFound() {
   fixing.frame = 0;
   if (!$('fix-list')) return;
+  if (!isOfThis()) {
+    $('fix-list').replaceChildren();
+    fixSays('');
+    return;
+  }
   const [best] = repaints();
   const shown = repaints().filter((one) => one.cells.length <= best.cells.length + 1 || fixing.kept.has(one)).slice(0, MOST_SHOWN);
   const near = !best && fixing.near ? [fixing.near] : [];
@@ -233,17 +253,16 @@ async function take(one) {
   say(`${many(cells.length, 'cell')} repainted${more}. One undo takes ${sizeOf(one) === 1 ? 'it' : 'them'} back.`);
 }
 
-/** Forgets proposals for a picture that is another one now. */
+/** Shows the proposals with the picture that they are for, and hides them with any other. */
 export function startFixing() {
-  let before = null;
-  on('shown', (state) => {
+  on('shown', () => {
+    if (!fixing.isWanted) return;
     showLocks();
-    const isSame = before !== null && before.givens === state.givens && before.picture.length === state.picture.length && before.picture.every((row, at) => row === state.picture[at]);
-    before = state;
-    if (isSame) return;
-    Object.assign(fixing, { found: [], kept: new Set(), near: null });
-    if ($('fix-list')) showFound();
-    fixSays('');
+    if (isOfThis() && $('fix').hidden) {
+      $('fix').hidden = false;
+      fixSays(fixing.said);
+    }
+    showFound();
   });
   on('closed', closeFix);
 }

@@ -10,7 +10,7 @@ import { bench } from '../engine/bench.js';
 import { startEngine } from '../engine/client.js';
 import { Searches } from '../engine/searches.js';
 import { actionButton, actions, addAction } from './actions.js';
-import { canFix, closeFix, openFix } from './fixing.js';
+import { canFix, hideFix, openFix } from './fixing.js';
 
 const TIMES = [['5', '5 s'], ['30', '30 s'], ['', 'until stopped']];
 const HATCHINGS = [['off', 'the picture alone'], ['differing', 'cells that differ'], ['open', 'open cells']];
@@ -164,7 +164,7 @@ function showVerdictButtons() {
     }
     if (action.id === 'search') button.textContent = verdictView.seconds === '' ? 'Search until stopped' : `Search for ${verdictView.seconds} s`;
   }
-  if (!canFix()) closeFix();
+  if (!canFix()) hideFix();
 }
 
 // ---- what runs
