@@ -6,11 +6,12 @@ import { actions, addAction } from './actions.js';
 import { openDialog } from './dialogs.js';
 
 const TOUR = [
-  ['Draw or open a picture.', 'Choose a colour and drag with the pencil. An image becomes a puzzle when you drop it on the page.'],
+  ['Draw or open a picture.', 'Choose a colour and drag with the pencil. An image becomes a puzzle when you drop it on the page: the dialog tells its verdict while you choose size and colours.'],
   ['Read the verdict.', 'After every stroke the panel on the right says whether the clues have only one solution. ✓ Unique: no other picture has them. ≠ Ambiguous: another one does, and you can look at it (x).'],
   ['Find the weak spot.', 'Framed cells differ in the other picture. Hatched cells are not settled line by line (h shows them). The tool Why (w) explains any cell.'],
   ['Fix it.', '“Fix it” looks for a cell to repaint, or for cells to give. Given cells have a diamond ◆ and are printed with the puzzle.'],
   ['Play it.', '“Play” in the menu Check shows the puzzle as a solver gets it.'],
+  ['Check the colours.', '“Colours for the colour-blind” in the menu Check names pairs that look alike to some. The menu Picture reads and saves palettes (GIMP, JASC, hexadecimal).'],
   ['Publish it.', 'The menu File prints it and exports it: XML for puzzle sites, images, and a certificate.'],
 ];
 const CERTIFICATE = [
