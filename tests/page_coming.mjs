@@ -214,8 +214,8 @@ export async function paletteFiles(all) {
         await hands.press('dialog .buttons button:nth-of-type(2)'); // the nearest
         await page.until(() => bench.state.colours[1].join() === '10,10,10', 5000 * SLACK);
         assert.deepEqual(await palette(), ['250,250,250', '10,10,10', '190,50,50']);
-        await editColours(hands);
         await hands.colour('b');
+        await editColours(hands);
         await hands.fill('#colour-named', 'tomato');
         await page.press('Enter');
         await page.until(() => bench.state.colours[2].join() === '255,99,71', 5000 * SLACK);

@@ -153,7 +153,7 @@ export async function gradeGoesOut({ trial, page }) {
     await page.click('#print-grade');
     await page.click('dialog button.main');
     await page.until(() => window.isPrinted, 5000 * SLACK);
-    assert.match(await page.run(() => document.querySelector('.printed p').textContent), /3 by 3, easy/);
+    assert.match(await page.run(() => document.querySelectorAll('.printed text')[1].textContent), /3 by 3, easy/);
     await page.run(() => { runAction('about'); });
     for (let twice = 0; twice < 2; twice++) await page.click('#about-grade');
     await page.click('dialog button.main');

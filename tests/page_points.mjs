@@ -61,7 +61,7 @@ async function intoPuzzle(hands) {
     await isOpen(page);
     const { rows, columns, colours } = await trial.state();
     assert.deepEqual([rows, columns, colours.length], [10, 10, 2]);
-    await page.until(() => document.getElementById('said').textContent.includes('is a puzzle now'), 3000 * SLACK);
+    await page.until(() => document.getElementById('said').textContent.includes('was made from the image'), 3000 * SLACK);
 }
 
 /** A reload loses nothing, strokes are taken back behind it, and the work goes to a file. */
@@ -249,14 +249,11 @@ async function wayOut(hands, { own }) {
     assert.deepEqual([after.picture, after.colours], [before.picture, before.colours]);
     await page.run(() => { window.print = () => { window.isPrinted = true; }; });
     await hands.menu('file', 'print');
-    await page.until(() => document.querySelector('dialog[open] input[type=checkbox]'), 3000 * SLACK);
-    if (hands.byKeys) {
-        await hands.tabTo('dialog input[type=checkbox]');
-        await page.press(' ');
-    } else await hands.press('dialog input[type=checkbox]');
+    await page.until(() => document.querySelector('#print-show'), 3000 * SLACK);
+    await hands.choose('#print-show', 'letters');
     await hands.press('dialog button.main');
     await page.until(() => window.isPrinted && document.querySelectorAll('.printed').length === 2, 5000 * SLACK);
-    assert.match(await trial.text('.printed text'), /^\d+[a-o]$/, 'letters for colours');
+    assert.ok(await page.run(() => [...document.querySelectorAll('.printed text')].some((one) => /^\d+[a-o]$/.test(one.textContent))), 'letters for colours');
 }
 
 const POINTS = { 'a way in': wayIn, 'a picture into a puzzle': intoPuzzle, 'never lost': neverLost, 'searches that stop': stoppable, drawing, 'large pictures': large, meaning, mending: mendingPoint, 'the solving path': walkingPoint, 'out of the page': wayOut };

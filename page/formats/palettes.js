@@ -2,11 +2,12 @@
 // with samples of eight bits.
 
 import { FileFault } from '../document/limits.js';
+import { phrase } from '../texts/phrase.js';
 
 const MOST_COLOURS = 1024; // in a file
 const FAULTS = {
-  NoPalette: () => 'it is no palette that this page reads', BadColour: (line) => `line ${line} is no colour`, BadCount: (line) => `the count in line ${line} is not that of the colours`,
-  NoColours: () => 'it has no colours', TooMany: () => `it has more than ${MOST_COLOURS} colours`,
+  NoPalette: () => phrase('formats.paletteNotRead'), BadColour: (line) => phrase('formats.paletteBadColour', { line }), BadCount: (line) => phrase('formats.paletteBadCount', { line }),
+  NoColours: () => phrase('formats.paletteNoColours'), TooMany: () => phrase('formats.paletteTooMany', { MOST_COLOURS }),
 };
 
 /** A palette that is not read; `kind` names why. */

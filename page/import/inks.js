@@ -9,7 +9,7 @@ import { colourNamed } from '../document/named.js';
 import { readPalette } from '../formats/palettes.js';
 
 const TEXT = {
-  palette: 'Palette', background: 'Background', lock: 'Locked', replace: 'Replace by', drop: 'Drop', reset: 'Start again', file: 'Palette file…', name: 'Name of a colour', nameHint: 'or its name',
+  palette: 'Palette', background: 'Background', lock: 'Locked', replace: 'Replace by', drop: 'Drop', reset: 'Start again', file: 'Palette file …', name: 'Name of a colour', nameHint: 'or its name',
   lockHint: 'It stays, however many colours there are', unknown: (text) => `“${text}” is no colour that has a name.`, from: (name) => `Colours of “${name}” alone.`,
   share: (percent) => `${percent} %`, isGround: 'background', isLocked: 'locked', wrong: (name, fault) => `“${name}” could not be read: ${fault}.`,
 };

@@ -17,7 +17,7 @@ import { placeOfTriple } from './flat.js';
 import { farness } from './spots.js';
 
 const TEXT = {
-  open: 'Colours from a palette file…', save: 'Save the palette…', format: 'Format', kinds: { gpl: 'GIMP (.gpl)', pal: 'JASC (.pal)', hex: 'Hexadecimal (.hex)' }, saved: (name) => `Palette saved as “${name}”.`,
+  open: 'Colours from a palette file …', save: 'Save the palette …', format: 'Format', kinds: { gpl: 'GIMP (.gpl)', pal: 'JASC (.pal)', hex: 'Hexadecimal (.hex)' }, saved: (name) => `Palette saved as “${name}”.`,
   title: (name) => `Colours of “${name}”`, hint: 'Choose colours to add to the picture. Or have each colour of the picture become the nearest one that is here.',
   add: 'Add the chosen', near: 'Take the nearest', none: 'Choose a colour first.', full: (free) => `The palette has room for ${many(free, 'more colour')}.`, few: 'It has fewer colours than the picture.',
   noPicture: (name) => `“${name}” is a palette. Open a picture first, then drop it here.`, wrong: (name, fault) => `“${name}” could not be read: ${fault}.`,
@@ -93,7 +93,7 @@ export function paletteOf(doc, name) {
 
 async function savePalette() {
   const choice = make('select', { 'aria-label': TEXT.format, id: 'palette-kind' }, ...Object.entries(TEXT.kinds).map(([kind, name]) => make('option', { value: kind }, name)));
-  const kind = await openDialog({ title: TEXT.save.replace('…', ''), content: make('label', {}, TEXT.format, choice), buttons: [{ name: TEXT.save.split(' ')[0], value: () => choice.value, main: true }] });
+  const kind = await openDialog({ title: TEXT.save.replace(' …', ''), content: make('label', {}, TEXT.format, choice), buttons: [{ name: TEXT.save.split(' ')[0], value: () => choice.value, main: true }] });
   if (!kind) return;
   await asSeen();
   const name = `${cleanName(bench.name)}.${kind}`;

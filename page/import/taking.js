@@ -16,10 +16,12 @@ import { isTyping } from '../view/actions.js';
 import { openDialog, openDialogs } from '../view/dialogs.js';
 import { takeArchive } from './archives.js';
 import { takeCertificate } from './certificates.js';
-import { kindOfFile, sizeOfImage } from './images.js';
+import { filesIn } from './folders.js';
+import { docOfImage, kindOfFile, sizeOfImage } from './images.js';
 import { importImage } from './importing.js';
 import { takePalette } from './palettes.js';
 import { NOT_READ, aboutNon, docOfNon, isNonText, readPpmFile, readXmlFile } from './reading.js';
+import { takeSeveral } from './several.js';
 
 const TAKEN_KINDS = '.ppm,.pnm,.non,.xml,.cert,.zip,.gpl,.pal,.hex,.png,.jpg,.jpeg,.gif,.webp,image/png,image/jpeg,image/gif,image/webp';
 const MOST_ARCHIVE = 1 << 30; // bytes
@@ -169,8 +171,15 @@ async function closeDialogs() {
 
 async function takeDropped(files, handle) {
   await closeDialogs();
-  if (!(await takeFile(files[0], handle)) || files.length === 1) return;
-  say(`The first of ${files.length} files is open: ${files[0].name}.`, 'alarm');
+  return files.length === 1 ? takeFile(files[0], handle) : takeSeveral(files, imageDocs);
+}
+
+// The document of an image file that is a pixel a cell; null for a file that is no image.
+async function imageDocs(file, bytes) {
+  const kind = kindOfFile(bytes);
+  if (!['png', 'jpeg', 'gif', 'webp'].includes(kind)) return null;
+  const doc = docOfImage(await imageOfFile(file, bytes, kind));
+  return doc ? [doc] : [];
 }
 
 /** Hears files that are dropped or pasted anywhere. A text that is pasted is a puzzle where it begins like one. */
@@ -188,7 +197,9 @@ export function hearFiles() {
     const items = [...event.dataTransfer.items].filter((one) => one.kind === 'file');
     if (!items.length) return;
     event.preventDefault(); // else the browser would leave the page for the file
+    const folders = items.map((item) => item.webkitGetAsEntry?.() ?? null);
     const files = items.map((item) => item.getAsFile());
+    if (folders.some((entry) => entry?.isDirectory)) return takeSeveral(await filesIn(folders, files), imageDocs);
     const late = new Promise((go) => setTimeout(go, 1000, null)); // the file itself is at hand already
     const handle = await Promise.race([late, items[0].getAsFileSystemHandle?.().catch(() => null)]);
     takeDropped(files, handle?.kind === 'file' ? handle : null);

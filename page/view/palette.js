@@ -92,17 +92,26 @@ function changeInk(change) {
   return heard(bench.become((doc) => ({ ...doc, inks: doc.colours.map((_, one) => (one === at ? change(doc.inks[one] ?? {}) : doc.inks[one] ?? {})) })));
 }
 
+// What is refused does not stay in its field.
+function refuse(text) {
+  const { name = '', sign = '' } = bench.state.inks[LETTERS.indexOf(tools.colour)] ?? {};
+  Object.assign(palette.name, { value: name });
+  Object.assign(palette.sign, { value: sign });
+  palette.picker.value = hexOf(bench.state.colours[LETTERS.indexOf(tools.colour)], bench.state.maxval);
+  say(text, 'alarm');
+}
+
 function changeName() {
   const name = palette.name.value.trim();
   const other = inksOf(bench.state).find((ink, at) => at !== LETTERS.indexOf(tools.colour) && ink.name === name);
-  if (other) return say(`Another colour is named “${name}”.`, 'alarm');
+  if (other) return refuse(`Another colour is named “${name}”.`);
   return changeInk(({ name: before, ...ink }) => (name ? { ...ink, name } : ink));
 }
 
 function changeSign() {
   const [sign = ''] = palette.sign.value.trim();
-  if (sign && '?|\\[]'.includes(sign)) return say(`“${sign}” means something else in XML.`, 'alarm');
-  if (sign && inksOf(bench.state).some((ink, at) => at !== LETTERS.indexOf(tools.colour) && ink.sign === sign)) return say(`Another colour has the sign “${sign}”.`, 'alarm');
+  if (sign && '?|\\[]'.includes(sign)) return refuse(`“${sign}” means something else in XML.`);
+  if (sign && inksOf(bench.state).some((ink, at) => at !== LETTERS.indexOf(tools.colour) && ink.sign === sign)) return refuse(`Another colour has the sign “${sign}”.`);
   return changeInk(({ sign: before, ...ink }) => (sign ? { ...ink, sign } : ink));
 }
 
@@ -151,7 +160,7 @@ async function changeColour(triple) {
   const at = LETTERS.indexOf(tools.colour);
   const now = withEightBits(bench.state).colours;
   if (now[at].join() === triple.join()) return null;
-  if (hasColour({ colours: now }, triple)) return say('The palette has this colour already. To make two colours one, use Merge.', 'alarm');
+  if (hasColour({ colours: now }, triple)) return refuse('The palette has this colour already. To make two colours one, use Merge.');
   const changed = (old) => {
     const doc = withEightBits(old);
     if (at >= doc.colours.length || hasColour(doc, triple)) return null;
@@ -191,7 +200,9 @@ function deleteColour() {
 function moveColour(by) {
   const at = LETTERS.indexOf(tools.colour);
   const to = at + by;
-  if (at < 1 || to < 1 || to >= bench.state.colours.length) return;
+  if (at < 1) return say('The background always comes first.', 'alarm');
+  if (to < 1) return say('This colour is the first one already.', 'alarm');
+  if (to >= bench.state.colours.length) return say('This colour is the last one already.', 'alarm');
   setDown();
   const exchanged = (doc) => {
     const order = [...doc.colours.keys()];

@@ -1,10 +1,9 @@
 // The tool bar, and the panels for the cell that is pointed at and for its row and column.
 
-import { $, make, say } from '../base/elements.js';
+import { $, make, say, svgPart } from '../base/elements.js';
 import { on } from '../base/events.js';
 import { radioGroup } from '../base/radios.js';
 import { MOST_CELLS } from '../document/limits.js';
-import { svgPart } from '../draw/papers.js';
 import { sheet } from '../draw/sheet.js';
 import { bench } from '../engine/bench.js';
 import { clueText } from '../engine/opening.js';

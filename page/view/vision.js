@@ -9,7 +9,7 @@ import { openDialog } from './dialogs.js';
 import { inkName } from './dress.js';
 
 const TEXT = {
-  action: 'Colours for the colour-blind…', title: 'Colours for the colour-blind', close: 'Close',
+  action: 'Colours for the colour-blind …', title: 'Colours for the colour-blind', close: 'Close',
   kinds: { protan: 'Without red cones (protanopia)', deutan: 'Without green cones (deuteranopia)', tritan: 'Without blue cones (tritanopia)' },
   fine: 'No two colours look alike.', alike: 'Look alike: ', ground: 'the background', and: ' and ', picture: (kind) => `The picture, ${kind}`,
 };
