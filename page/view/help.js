@@ -12,6 +12,7 @@ const TOUR = [
   [phrase('view.findWeakSpot'), phrase('view.framedCellsDifferOther')],
   [phrase('view.fix'), phrase('view.fixLooksCellRepaint')],
   [phrase('view.play'), phrase('view.playMenuCheckShows')],
+  [phrase('view.checkColours'), phrase('view.coloursColourBlindMenu')],
   [phrase('view.publish'), phrase('view.menuFilePrintsExports')],
 ];
 const CERTIFICATE = [

@@ -2,6 +2,7 @@
 
 import { $, make, say, svgPart } from '../base/elements.js';
 import { on } from '../base/events.js';
+import { radioGroup } from '../base/radios.js';
 import { MOST_CELLS } from '../document/limits.js';
 import { sheet } from '../draw/sheet.js';
 import { bench } from '../engine/bench.js';
@@ -9,7 +10,6 @@ import { clueText } from '../engine/opening.js';
 import { phrase } from '../texts/phrase.js';
 import { addAction } from './actions.js';
 import { cellText, clueInto, cursor } from './grid.js';
-import { radioGroup } from './palette.js';
 import { setDown } from './select.js';
 import { TOOLS, sendStroke, tools, useTool } from './tools.js';
 
