@@ -45,7 +45,7 @@ class PpmTokens {
 function boundSides(width, height) {
   if (width < 1 || height < 1) throw new FileFault(phrase('formats.pictureNoPixels'));
   if (width > MOST_PIXELS || height > MOST_PIXELS) {
-    throw new FileFault(phrase('formats.picturePixelsMostSide', { width, height, MOST_PIXELS }));
+    throw new FileFault(phrase('formats.picturePixelsMostSide', { width, height, most: MOST_PIXELS }));
   }
 }
 
