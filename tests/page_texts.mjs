@@ -56,7 +56,7 @@ test('places are filled: texts as they are, numbers as the language writes them,
 // ---- no text elsewhere
 
 // Modules whose texts no user reads: commands of a session, what goes into files, faults inside the page.
-const INSIDE = ['document/cover.js', 'document/named.js', 'draw/surface.js', 'engine/answers.js', 'engine/bench.js', 'engine/client.js', 'engine/opening.js', 'engine/serve.js', 'formats/ppm_notes.js', 'formats/webpbn.js', 'grade/tree.js', 'library/keeper.js', 'library/shelf.js', 'repair/asker.js'];
+const INSIDE = ['document/cover.js', 'document/named.js', 'draw/surface.js', 'engine/answers.js', 'engine/bench.js', 'engine/client.js', 'engine/opening.js', 'engine/serve.js', 'formats/palettes.js', 'formats/ppm_notes.js', 'formats/webpbn.js', 'grade/tree.js', 'library/keeper.js', 'library/shelf.js', 'repair/asker.js'];
 const LATER = /^(view|play|import|draw|walk|repair|grade|engine)\/|^formats\/(deflate|link)/; // not yet in the table
 const KEYS = /^(Escape|Enter|Tab|Home|End|Page(Up|Down)|Arrow(Up|Down|Left|Right)|Backspace|Delete|Shift|Control|Ctrl|Alt|Meta|Space)(\+|$)|^(Ctrl|Alt)\+|^(Abort|QuotaExceeded)Error$|^(Undo|Redo)Empty$|^(Memory|NoChange|TwoColoursOnly|Files)$|^NS_|\.js$|\.zip$/;
 const COMMAND = /^(paint|fill|pin|unpin|colour (add|set)|insert|delete|swap|recolour|write|why|allow) ?(\{|\d|off|row|column|non|$)/;

@@ -17,7 +17,7 @@ import { hasClear } from './spots.js';
 import { thresholdFor } from './tone.js';
 
 const TEXT = {
-  title: (name) => `${name}: turn the image into a puzzle`, create: 'Create the puzzle', done: (name) => `“${name}” is a puzzle now. Export or print it from the menu File.`,
+  title: (name) => `${name}: turn the image into a puzzle`, create: 'Create the puzzle', done: (name) => `“${name}” was made from the image. Its verdict tells whether its clues have only one solution.`,
   preview: 'The puzzle', drag: 'Drag over the image to select a part of it.', part: 'Part of the image, in pixels', left: 'Left', top: 'Top', wide: 'Width', high: 'Height', whole: 'Whole image', trim: 'Trim the margin',
   cells: 'Cells', columns: 'Columns', rows: 'Rows', keeps: 'Keep proportions', sharp: 'Pixel art: one pixel for each cell', colours: 'Colours', count: 'How many, with the background',
   two: 'Two colours, by lightness', inverted: 'Draw the light parts', threshold: 'Dark below', lines: 'Line art: by the area that is dark', area: 'Percent of a cell',
