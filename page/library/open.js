@@ -17,6 +17,7 @@ import { saving, showFileName } from './saving.js';
 export async function openDoc(doc, { name, isSaved = true, id = null, strokes = undefined, handle = null, form = 'xml', isBlank = false }) {
   const isLost = bench.state && !keep.isKept && !bench.isSaved;
   if (isLost && !(await confirmDialog(phrase('library.openAnotherPicture'), phrase('library.notBeenSavedBrowser', { name: bench.name }), phrase('library.open')))) return false;
+  keep.leave();
   keep.isPaused = true;
   try {
     await bench.open(baseOf(doc), { name, page: pageOf(doc), strokes, isSaved });

@@ -2,7 +2,7 @@
 // take one for another; what it cannot (removing, ordering, another background) opens the picture anew, and undo takes it back.
 
 import { $, make, say } from '../base/elements.js';
-import { on } from '../base/events.js';
+import { behindFrame, on } from '../base/events.js';
 import { radioGroup } from '../base/radios.js';
 import { eightBits, hexOf, nameOf, tripleOf } from '../document/colours.js';
 import { LETTERS, MOST_COLOURS } from '../document/limits.js';
@@ -56,8 +56,6 @@ function markColour() {
     button.tabIndex = is ? 0 : -1;
   }
   palette.picker.value = hexOf(colours[LETTERS.indexOf(tools.colour)], maxval);
-  const count = bench.state.picture.reduce((sum, row) => sum + row.split(tools.colour).length - 1, 0);
-  palette.text.textContent = `${colourText(tools.colour)}: ${phrase('view.cells', { cells: count })}`;
   const ink = bench.state.inks[LETTERS.indexOf(tools.colour)] ?? {};
   const usual = inksOf(bench.state)[LETTERS.indexOf(tools.colour)];
   if (document.activeElement !== palette.name) palette.name.value = ink.name ?? '';
@@ -65,8 +63,16 @@ function markColour() {
   palette.name.placeholder = usual.name;
   palette.sign.placeholder = usual.sign;
   palette.locked.checked = ink.locked === true;
-  showNear();
+  tellColours();
 }
+
+// What is counted in the whole picture: no stroke waits for it.
+const tellColours = behindFrame(() => {
+  if (!bench.state) return;
+  const count = bench.state.picture.reduce((sum, row) => sum + row.split(tools.colour).length - 1, 0);
+  palette.text.textContent = `${colourText(tools.colour)}: ${phrase('view.cells', { cells: count })}`;
+  showNear();
+});
 
 // Colours that a solver may take for one another, in words; '' where there are none.
 export function nearText(doc) {
@@ -241,7 +247,7 @@ export function makePalette() {
   on('shown', (state) => {
     const key = [state.maxval, ...state.colours, JSON.stringify(state.inks)].join(';');
     if (key !== shown) showPalette();
-    else markColour();
+    else tellColours();
     shown = key;
   });
   on('opened', () => { shown = ''; });
