@@ -1,7 +1,7 @@
 // Archives of the library: all pictures as XML in one zip, and back.
 
 import { say } from '../base/elements.js';
-import { bareName, cleanName, many } from '../base/words.js';
+import { bareName, cleanName } from '../base/words.js';
 import { webpbnText } from '../formats/webpbn.js';
 import { readZip, writeZip } from '../formats/zip.js';
 import { keep } from '../library/keep.js';

@@ -2,7 +2,7 @@
 // drawn anew at each change, with its verdict.
 
 import { make, say } from '../base/elements.js';
-import { clamp, many } from '../base/words.js';
+import { clamp } from '../base/words.js';
 import { MOST_CELLS, MOST_COLOURS } from '../document/limits.js';
 import { COLOUR_NAMES } from '../document/named.js';
 import { drawSmall, penOf } from '../draw/small.js';

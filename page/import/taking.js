@@ -3,7 +3,7 @@
 
 import { $, make, say } from '../base/elements.js';
 import { tell } from '../base/events.js';
-import { bareName, many, number } from '../base/words.js';
+import { bareName, number } from '../base/words.js';
 import { FileFault } from '../document/limits.js';
 import { penOf } from '../draw/small.js';
 import { startEngine } from '../engine/client.js';

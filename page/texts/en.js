@@ -36,6 +36,7 @@ export const EN = /** @type {const} */ ({
   'formats.width': 'width',
   'formats.height': 'height',
   'formats.maxval': 'maxval',
+  'formats.samples': 'samples',
   'formats.picturesMaxvalNotFrom': "The picture's maxval is not from 1 to 65,535.",
   'formats.sampleAboveMaxval': 'A sample is {sample}, above the maxval {maxval}.',
   'formats.thereMoreBehindLast': 'There is more behind the last sample of the picture.',

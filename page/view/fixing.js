@@ -3,7 +3,7 @@
 
 import { $, make, say } from '../base/elements.js';
 import { on } from '../base/events.js';
-import { many, number } from '../base/words.js';
+import { number } from '../base/words.js';
 import { placeOf, sameBenchPart } from '../document/document.js';
 import { LETTERS } from '../document/limits.js';
 import { cellsThatDiffer } from '../document/shapes.js';
