@@ -58,7 +58,8 @@ export function readPpm(bytes) {
   const maxval = tokens.number(phrase('formats.maxval'));
   if (maxval < 1 || maxval > 65535) throw new FileFault(phrase('formats.picturesMaxvalNotFrom'));
   const data = new Uint8ClampedArray(width * height * 4);
-  const next = raw ? rawSamples(tokens, maxval, width * height * 3) : () => tokens.number(phrase('formats.samples'));
+  const what = phrase('formats.samples');
+  const next = raw ? rawSamples(tokens, maxval, width * height * 3) : () => tokens.number(what);
   for (let at = 0; at < data.length; at++) {
     if (at % 4 === 3) {
       data[at] = 255;
