@@ -101,7 +101,7 @@ async function resizeByDialog() {
   const chosen = () => places[Number(anchor.querySelector(':checked').value)];
   const done = await openDialog({
     title: phrase('view.resizeTitle'),
-    content: make('div', {}, make('p', {}, make('label', {}, phrase('view.columnsField'), columns), ' ', make('label', {}, phrase('view.rowsField'), rows)), make('p', {}, phrase('view.keepPicture')), anchor),
+    content: make('div', {}, make('p', {}, make('label', {}, phrase('view.columns'), columns), ' ', make('label', {}, phrase('view.rows'), rows)), make('p', {}, phrase('view.keepPicture')), anchor),
     buttons: [{ name: phrase('view.resizeTitle'), main: true, value: () => ({ columns: Number(columns.value), rows: Number(rows.value), ...chosen() }), test: () => (isSize(columns) && isSize(rows) ? '' : phrase('view.bothSizes', { most: MOST_CELLS })) }],
   });
   if (!done || (done.rows === doc.rows && done.columns === doc.columns)) return;
