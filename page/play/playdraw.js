@@ -93,12 +93,12 @@ export function drawPlay() {
   playSurface('play-corner', wide, high);
   drawPlayField();
   const look = playLook();
-  const height = playFont() + 4;
   const { x, y, cell } = playFrame();
+  const height = Math.min(playFont() + 4, cell - 1);
   const left = playSurface('play-left', wide, down);
   const top = playSurface('play-top', across, high);
   const rowSize = (block) => ({ width: playChip(block), height });
-  const columnSize = (block) => ({ width: Math.min(playChip(block), Math.max(cell - 1, playFont() * 1.2)), height });
+  const columnSize = (block) => ({ width: Math.min(playChip(block), cell - 1), height: playFont() + 4 });
   const scale = devicePixelRatio || 1;
   strips.sprites.keepFor([cell, scale, look.font, look.faint, ...look.fills].join());
   const common = { look, far: -Infinity, unit: 1, cell, drawOne: strips.sprites.drawer(scale) };
