@@ -45,7 +45,7 @@ export async function openRecord(id) {
 }
 
 const OPEN_FAULTS = {
-  BadSize: phrase('library.widthHeightNotFrom', { MOST_CELLS }), BadCount: phrase('library.tooFewTooMany'), BadClue: phrase('library.clueNoListNumbers'),
+  BadSize: phrase('library.widthHeightNotFrom', { most: MOST_CELLS }), BadCount: phrase('library.tooFewTooMany'), BadClue: phrase('library.clueNoListNumbers'),
   ClueTooLong: phrase('library.clueLongerLine'), BadGoal: phrase('library.goalDoesNotFit'), GoalDisagrees: phrase('library.goalOtherClues'),
   MissingSize: phrase('library.noWidthHeight'), Repeated: phrase('library.partStandsThereTwice'),
 };

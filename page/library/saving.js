@@ -140,7 +140,7 @@ export async function saveAs() {
   const name = make('input', { type: 'text', value: bench.name, maxlength: '80' });
   const form = make('select', {}, ...DOCUMENT_FORMS.map((one) => make('option', { value: one, selected: one === saving.form }, SAVE_TYPES[one].what)));
   const content = make('div', { class: 'rows' }, make('label', {}, phrase('library.name'), name), make('label', {}, phrase('library.form'), form));
-  if (!(await openDialog({ title: phrase('library.save'), content, buttons: [{ name: phrase('library.save2'), value: true, main: true }] }))) return false;
+  if (!(await openDialog({ title: phrase('library.saveAs'), content, buttons: [{ name: phrase('library.save'), value: true, main: true }] }))) return false;
   bench.name = bareName(name.value);
   saving.form = form.value;
   return saveDownload(form.value);

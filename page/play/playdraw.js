@@ -152,8 +152,8 @@ export function movePlay(at, told = false) {
   if (!told) return;
   const mark = play.marks[at.row][at.col];
   const { clues } = play.state;
-  const place = phrase('play.rowColumn', { row: at.row + 1, col: at.col + 1, mark: mark === '?' ? phrase('play.noMark') : wordOf(mark) });
-  $('play-cell').textContent = phrase('play.rowColumn2', { place, playClue: playClueText(clues.rows[at.row]), playClue2: playClueText(clues.columns[at.col]) });
+  const place = phrase('play.cellAt', { row: at.row + 1, col: at.col + 1, mark: mark === '?' ? phrase('play.noMark') : wordOf(mark) });
+  $('play-cell').textContent = phrase('play.cellClues', { place, playClue: playClueText(clues.rows[at.row]), playClue2: playClueText(clues.columns[at.col]) });
   const board = $('play-board').getBoundingClientRect();
   const field = $('play-field').getBoundingClientRect();
   const { wide, high } = playStrips();

@@ -4,14 +4,15 @@ import { make } from '../base/elements.js';
 import { VISIONS, clashesWith, docSeenWith } from '../document/vision.js';
 import { drawSmall } from '../draw/small.js';
 import { bench } from '../engine/bench.js';
+import { phrase } from '../texts/phrase.js';
 import { addAction } from './actions.js';
 import { openDialog } from './dialogs.js';
 import { inkName } from './dress.js';
 
 const TEXT = {
-  action: 'Colours for the colour-blind …', title: 'Colours for the colour-blind', close: 'Close',
-  kinds: { protan: 'Without red cones (protanopia)', deutan: 'Without green cones (deuteranopia)', tritan: 'Without blue cones (tritanopia)' },
-  fine: 'No two colours look alike.', alike: 'Look alike: ', ground: 'the background', and: ' and ', picture: (kind) => `The picture, ${kind}`,
+  action: phrase('view.colourBlindAction'), title: phrase('view.colourBlindTitle'), close: phrase('view.close'),
+  kinds: { protan: phrase('view.withoutRedConesProtanopia'), deutan: phrase('view.withoutGreenConesDeuteranopia'), tritan: phrase('view.withoutBlueConesTritanopia') },
+  fine: phrase('view.noTwoColoursLook'), alike: phrase('view.lookAlike'), ground: phrase('view.theBackground'), and: phrase('view.andColour'), picture: (kind) => phrase('view.pictureOfKind', { kind }),
 };
 const SHOWN_SIDE = 160; // pixels
 
