@@ -137,7 +137,7 @@ export async function looseIsSaid({ trial, page }) {
     await trial.action('fix');
     await page.click('#fix-paint');
     await fixSaid(page, 'found');
-    assert.match(await trial.text('#fix-said'), /More than 8 cells: the picture is too loose: a bolder threshold at import/);
+    assert.match(await trial.text('#fix-said'), /More than 8 cells: the picture is too loose, and a bolder threshold at import/);
     const texts = await proposals(page);
     assert.match(texts[0], /^→10 cells: .*; then no guessing$/, texts.join('\n'));
 }
