@@ -2,6 +2,7 @@
 
 import { make } from '../base/elements.js';
 import { LETTERS, MOST_CELLS, MOST_COLOURS } from '../document/limits.js';
+import { outlineOf, placesOfBox, placesOfLetter, shadowOf } from '../document/regions.js';
 import { resized, rowsOfText, shifted, turned } from '../document/shapes.js';
 import { sheet } from '../draw/sheet.js';
 import { bench } from '../engine/bench.js';
@@ -11,8 +12,14 @@ import { cursor } from './grid.js';
 import { goToNext } from './minimap.js';
 import { showCell } from './panels.js';
 import { zoomBy } from './pointer.js';
-import { clearSelected, copyToClipboard, dropSelection, lift, moveFloat, pasteRows, selection, setDown, showSelection, transform } from './select.js';
-import { dropDrag, forgetReason, heard, sendStroke, tools, useColour, useTool } from './tools.js';
+import { clearSelected, copyToClipboard, dropSelection, lift, moveFloat, pasteRows, selectPlaces, selectedPlaces, selection, setDown, showSelection, transform } from './select.js';
+import { dropDrag, forgetReason, heard, nextSymmetry, paintPlaces, sendStroke, tools, useColour, useTool } from './tools.js';
+
+const TEXT = {
+  selectColour: 'Select all cells of the chosen colour', fill: 'Fill the selection', outline: 'Outline in the chosen colour', shadow: 'Shadow in the chosen colour', symmetry: 'Next symmetry of the pens',
+  by: (way, count) => `Shift ${way} by ${count}`,
+};
+const FAR = 5; // cells that a selection is moved by with Shift
 
 function undoStroke() {
   if (dropSelectionMove()) return null;
@@ -37,14 +44,42 @@ export function addEditActions() {
   edit({ id: 'cut', name: 'Cut (Ctrl+X)', group: 'select', run: () => copyToClipboard(true), can: hasBox });
   edit({ id: 'paste', name: 'Paste text…', group: 'select', run: pasteByDialog });
   edit({ id: 'clear', name: 'Clear the selection', key: 'Delete Backspace', group: 'select', run: clearSelected, can: hasBox });
+  edit({ id: 'select-colour', name: TEXT.selectColour, key: 'Shift+A A', group: 'region', run: selectColour });
+  edit({ id: 'fill-selection', name: TEXT.fill, key: 'Shift+F F', group: 'region', run: () => onRegion((places) => places), can: hasBox });
+  edit({ id: 'outline', name: TEXT.outline, group: 'region', run: () => onObject(outlineOf) });
+  edit({ id: 'shadow', name: TEXT.shadow, group: 'region', run: () => onObject(shadowOf) });
+  addAction({ id: 'symmetry-next', name: TEXT.symmetry, key: 'm', run: nextSymmetry });
   addAction({ id: 'drop', name: 'Cancel', key: 'Escape', run: () => { dropDrag(); if (!dropSelection()) forgetReason(); } });
   addAction({ id: 'set-down', name: 'Place', key: 'Enter', run: setDown, can: () => selection.rows !== null });
+}
+
+function selectColour() {
+  setDown();
+  selectPlaces(placesOfLetter(bench.seen().picture, tools.colour));
+}
+
+// Paints what a function makes of the places that are selected, in the chosen colour.
+function onRegion(change) {
+  setDown();
+  return paintPlaces(change(selectedPlaces() ?? placesOfBox({ top: 0, left: 0, bottom: bench.state.rows - 1, right: bench.state.columns - 1 }, bench.state.columns)), tools.colour);
+}
+
+// Paints beside an object: the cells of a selected shape, or else those in the selection (in the picture) that are not background, and
+// then on background alone.
+function onObject(beside) {
+  return onRegion((places) => {
+    const doc = bench.seen();
+    if (selection.shape) return beside(places, doc);
+    const ground = placesOfLetter(doc.picture, '.');
+    const object = new Set([...places].filter((place) => !ground.has(place)));
+    return new Set([...beside(object, doc)].filter((place) => ground.has(place)));
+  });
 }
 
 function selectAll() {
   useTool('select');
   setDown();
-  selection.box = { top: 0, left: 0, bottom: bench.state.rows - 1, right: bench.state.columns - 1 };
+  Object.assign(selection, { box: { top: 0, left: 0, bottom: bench.state.rows - 1, right: bench.state.columns - 1 }, shape: null });
   showSelection();
 }
 
@@ -67,6 +102,7 @@ export function addPictureActions() {
   add('turn-left', 'Turn left', 'Ctrl+Alt+Shift+R', () => transform((doc) => turned(doc, 'left')), 'turn');
   for (const [name, key, down, across] of [['up', 'ArrowUp', -1, 0], ['down', 'ArrowDown', 1, 0], ['left', 'ArrowLeft', 0, -1], ['right', 'ArrowRight', 0, 1]]) {
     add(`shift-${name}`, `Shift ${name}`, `Alt+${key}`, () => shiftBy(down, across), 'shift');
+    addAction({ id: `shift-${name}-far`, name: TEXT.by(name, FAR), key: `Alt+Shift+${key}`, run: () => shiftBy(Number(down) * FAR, Number(across) * FAR) });
   }
   add('resize', 'Resize…', 'Ctrl+Alt+S', resizeByDialog, 'size');
   for (const word of ['row', 'column']) {
