@@ -1,5 +1,7 @@
 // Bytes deflated, without a head, and back: by the browser's own streams.
 
+import { phrase } from '../texts/phrase.js';
+
 /** Pieces of bytes as one. */
 export function joined(pieces) {
   const all = new Uint8Array(pieces.reduce((sum, piece) => sum + piece.length, 0));
@@ -24,7 +26,7 @@ export async function inflated(raw, most) {
       const { done, value } = await reader.read();
       if (done) return joined(pieces);
       size += value.length;
-      if (size > most) throw new RangeError(`more than ${most} bytes`);
+      if (size > most) throw new RangeError(phrase('formats.moreBytes', { most }));
       pieces.push(value);
     }
   } finally {

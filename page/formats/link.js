@@ -2,6 +2,7 @@
 // checksum, in the 64 signs that no address escapes.
 
 import { FileFault } from '../document/limits.js';
+import { phrase } from '../texts/phrase.js';
 import { deflated, inflated, joined } from './deflate.js';
 import { webpbnText } from './webpbn.js';
 import { readWebpbn } from './webpbn_reading.js';
@@ -14,7 +15,7 @@ const sumOf = (bytes) => new Uint8Array(new Uint32Array([crcOf(bytes)]).buffer);
 const toSigns = (bytes) => btoa(Array.from(bytes, (byte) => String.fromCharCode(byte)).join('')).replaceAll('+', '-').replaceAll('/', '_').replaceAll('=', '');
 
 function fromSigns(signs) {
-  if (!/^[A-Za-z0-9_-]+$/.test(signs) || signs.length % 4 === 1) throw new FileFault('The link is damaged.');
+  if (!/^[A-Za-z0-9_-]+$/.test(signs) || signs.length % 4 === 1) throw new FileFault(phrase('formats.linkDamaged'));
   return Uint8Array.from(atob(signs.replaceAll('-', '+').replaceAll('_', '/')), (sign) => sign.charCodeAt(0));
 }
 
@@ -22,7 +23,7 @@ function fromSigns(signs) {
 async function bytesOf(signs) {
   const packed = fromSigns(signs);
   const bytes = await inflated(packed.subarray(4), MOST_TEXT).catch(() => null);
-  if (!bytes || sumOf(bytes).some((byte, at) => byte !== packed[at])) throw new FileFault('The link is damaged.');
+  if (!bytes || sumOf(bytes).some((byte, at) => byte !== packed[at])) throw new FileFault(phrase('formats.linkDamaged'));
   return bytes;
 }
 
@@ -39,6 +40,6 @@ export async function readFragment(fragment) {
   if (!found) return null;
   const [, way, signs] = found;
   const { doc } = readWebpbn(new TextDecoder().decode(await bytesOf(signs)));
-  if (!doc) throw new FileFault('The link has no picture.');
+  if (!doc) throw new FileFault(phrase('formats.linkNoPicture'));
   return { way, doc };
 }

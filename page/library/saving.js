@@ -17,7 +17,7 @@ export const saving = { handle: null, form: 'xml' };
 export const SAVE_TYPES = {
   xml: { type: 'application/xml', ending: '.xml', what: phrase('library.webPaintNumberXml') },
   ppm: { type: 'image/x-portable-pixmap', ending: '.ppm', what: phrase('library.plainPpmPictureRest') },
-  non: { type: 'text/plain', ending: '.non', what: '.non: a two-colour puzzle' },
+  non: { type: 'text/plain', ending: '.non', what: phrase('library.nonTwoColourPuzzle') },
   cert: { type: 'text/plain', ending: '.cert', what: phrase('library.certificate') },
   svg: { type: 'image/svg+xml', ending: '.svg', what: phrase('library.sheetSvg') },
   png: { type: 'image/png', ending: '.png', what: phrase('library.picturePng') },

@@ -7,6 +7,7 @@ import { contrastOf, eightBits, lightness, nameOf } from '../document/colours.js
 import { LETTERS } from '../document/limits.js';
 import { coloursOf, drawClue, drawDot, drawGiven, drawRules, edges, wholeFrame } from '../draw/board.js';
 import { CanvasSurface } from '../draw/surface.js';
+import { phrase } from '../texts/phrase.js';
 import { wordOf } from '../view/dress.js';
 import { crossedOff } from './crossing.js';
 import { afterPlay, play, playColumn } from './play.js';
@@ -142,7 +143,7 @@ function drawPlayCell(surface, look, cell) {
   }
 }
 
-const playClueText = (blocks) => blocks.map((block) => `${block.length} ${nameOf(play.state.colours[LETTERS.indexOf(block.letter)], play.state.maxval)}`).join(', ') || 'nothing';
+const playClueText = (blocks) => blocks.map((block) => `${block.length} ${nameOf(play.state.colours[LETTERS.indexOf(block.letter)], play.state.maxval)}`).join(', ') || phrase('play.nothing');
 
 /** Takes the cursor to a cell; `told` says it to those who hear the page. */
 export function movePlay(at, told = false) {
@@ -151,8 +152,8 @@ export function movePlay(at, told = false) {
   if (!told) return;
   const mark = play.marks[at.row][at.col];
   const { clues } = play.state;
-  const place = `Row ${at.row + 1}, column ${at.col + 1}: ${mark === '?' ? 'no mark' : wordOf(mark)}.`;
-  $('play-cell').textContent = `${place} Row: ${playClueText(clues.rows[at.row])}. Column: ${playClueText(clues.columns[at.col])}.`;
+  const place = phrase('play.rowColumn', { row: at.row + 1, col: at.col + 1, mark: mark === '?' ? phrase('play.noMark') : wordOf(mark) });
+  $('play-cell').textContent = phrase('play.rowColumn2', { place, playClue: playClueText(clues.rows[at.row]), playClue2: playClueText(clues.columns[at.col]) });
   const board = $('play-board').getBoundingClientRect();
   const field = $('play-field').getBoundingClientRect();
   const { wide, high } = playStrips();

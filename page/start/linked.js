@@ -5,6 +5,7 @@ import { on } from '../base/events.js';
 import { readFragment } from '../formats/link.js';
 import { faultText, openDoc } from '../library/open.js';
 import { openPlay } from '../play/play.js';
+import { phrase } from '../texts/phrase.js';
 import { openDialogs } from '../view/dialogs.js';
 
 /** Opens what the fragment holds, if it holds a puzzle. It goes to the library by its first stroke. */
@@ -19,7 +20,7 @@ async function openFragment() {
     if (await openDoc(found.doc, { name: found.doc.about.title || 'shared', isBlank: true }) && isAlone) await openPlay({ isAlone });
   } catch (fault) {
     document.body.classList.remove('player');
-    say(`The link could not be opened: ${faultText(fault)}`, 'alarm');
+    say(phrase('start.linkCouldNotOpened', { fault: faultText(fault) }), 'alarm');
   }
 }
 
