@@ -95,6 +95,8 @@ export const EN = /** @type {const} */ ({
   'view.cancel': 'Cancel',
   'view.drawOpenPicture': 'Draw or open a picture.',
   'view.chooseColourDragPencil': 'Choose a colour and drag with the pencil. An image becomes a puzzle when you drop it on the page: the dialog tells its verdict while you choose size and colours.',
+  'view.drawMoreQuickly': 'Draw more quickly.',
+  'view.symmetryBelowToolsWand': '“Symmetry” below the tools has them draw left and right, top and bottom, both, or in quarter turns (m). The wand (a) selects connected cells; the menu Edit fills, outlines and shadows them. “Trace an image” in the menu View shows an image where nothing is painted yet.',
   'view.readVerdict': 'Read the verdict.',
   'view.afterEveryStrokePanel': 'After every stroke the panel on the right says whether the clues have only one solution. ✓ Unique: no other picture has them. ≠ Ambiguous: another one does, and you can look at it (x).',
   'view.findWeakSpot': 'Find the weak spot.',
