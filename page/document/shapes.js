@@ -92,13 +92,13 @@ export function resized(doc, rows, columns, anchor) {
 /** A rectangle of a document as a small document. */
 export const cutOut = (doc, { top, left, bottom, right }) => remade(doc, bottom - top + 1, right - left + 1, (row, col) => [row + top, col + left]);
 
-/** Rows of letters put over a picture at a place; what lies outside is left out. */
+/** Rows of letters put over a picture at a place; what lies outside is left out, and below a blank the picture stays. */
 export function stamped(picture, rows, top, left) {
   return picture.map((row, at) => {
     const piece = rows[at - top];
     if (piece === undefined) return row;
     let text = '';
-    for (let col = 0; col < row.length; col++) text += piece[col - left] ?? row[col];
+    for (let col = 0; col < row.length; col++) text += (piece[col - left] ?? ' ') === ' ' ? row[col] : piece[col - left];
     return text;
   });
 }

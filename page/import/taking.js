@@ -5,7 +5,6 @@ import { $, make, say } from '../base/elements.js';
 import { tell } from '../base/events.js';
 import { bareName, number } from '../base/words.js';
 import { FileFault } from '../document/limits.js';
-import { penOf } from '../draw/small.js';
 import { startEngine } from '../engine/client.js';
 import { kindOfPalette } from '../formats/palettes.js';
 import { MOST_BYTES_READ } from '../formats/ppm.js';
@@ -17,6 +16,7 @@ import { isTyping } from '../view/actions.js';
 import { openDialog, openDialogs } from '../view/dialogs.js';
 import { takeArchive } from './archives.js';
 import { takeCertificate } from './certificates.js';
+import { HEAD, IMAGES, MOST_IMAGE, imageOfFile } from './decoding.js';
 import { filesIn } from './folders.js';
 import { docOfImage, kindOfFile, sizeOfImage } from './images.js';
 import { importImage } from './importing.js';
@@ -26,9 +26,6 @@ import { takeSeveral } from './several.js';
 
 const TAKEN_KINDS = '.ppm,.pnm,.non,.xml,.cert,.zip,.gpl,.pal,.hex,.png,.jpg,.jpeg,.gif,.webp,image/png,image/jpeg,image/gif,image/webp';
 const MOST_ARCHIVE = 1 << 30; // bytes
-const MOST_IMAGE = 1 << 28;
-const HEAD = 1 << 20; // bytes of an image that are read here: its size is in them
-const IMAGES = new Set(['png', 'jpeg', 'gif', 'webp']);
 
 /** Takes a file (or a blob that was pasted); `handle` is the browser's own for writing it again. */
 export async function takeFile(file, handle = null) {
@@ -107,42 +104,6 @@ async function openNon(text, name, page, handle = null) {
     dialog?.close();
   }
   return openDoc(doc, { name, handle, form: 'non' });
-}
-
-const MOST_DECODED = 100e6; // pixels of an image file, which the browser unpacks
-const MOST_SIDE = 2048; // pixels a side that a larger one is made smaller to: more than the dialog works on
-
-/**
- * How an image of that size is decoded: a large one smaller, by its width alone, so that a photo that is turned keeps its shape.
- * @param {number[]} size
- * @returns {ImageBitmapOptions}
- */
-function decoding(size) {
-  const [width, height] = size;
-  if (width < 1 || height < 1) throw new FileFault(phrase('import.pictureNoPixels'));
-  if (width * height > MOST_DECODED) throw new FileFault(phrase('import.picturePixelsMostAll', { width, height, most: MOST_DECODED }));
-  const scale = MOST_SIDE / Math.max(width, height);
-  return scale < 1 ? { resizeWidth: Math.max(1, Math.round(width * scale)), resizeQuality: 'high' } : {};
-}
-
-/** The pixels of an image file, after the size in its head was looked at: the browser reads the rest of it. */
-async function imageOfFile(file, head, kind) {
-  const size = sizeOfImage(head, kind);
-  if (!size) throw new FileFault(phrase('import.sizeNotToldBeginning'));
-  const options = decoding(size);
-  let bitmap;
-  try {
-    bitmap = await createImageBitmap(file.type ? file : new Blob([file], { type: `image/${kind}` }), options);
-  } catch {
-    throw new FileFault(phrase('import.browserDoesNotRead'));
-  }
-  const scale = Math.min(1, MOST_SIDE / Math.max(bitmap.width, bitmap.height)); // where the browser did not make it smaller
-  const pen = penOf(Math.max(1, Math.round(bitmap.width * scale)), Math.max(1, Math.round(bitmap.height * scale)));
-  pen.imageSmoothingQuality = 'high';
-  pen.drawImage(bitmap, 0, 0, pen.canvas.width, pen.canvas.height);
-  bitmap.close();
-  const { data } = pen.getImageData(0, 0, pen.canvas.width, pen.canvas.height);
-  return { width: pen.canvas.width, height: pen.canvas.height, data };
 }
 
 /** Lets the user choose a file, with a handle to write it again where the browser gives one. */

@@ -13,7 +13,7 @@ import { asSeen } from '../view/tools.js';
 import { searches } from '../view/verdict.js';
 import { isMet, marksOf } from './crossing.js';
 import { nextHint } from './hints.js';
-import { drawPlay, fitPlay, movePlay, zoomPlay } from './playdraw.js';
+import { drawPlay, drawStroke, fitPlay, movePlay, zoomPlay } from './playdraw.js';
 import { endWalk, isWalking, startWalk, walkBar, walkKey } from './walking.js';
 
 export const play = { state: null, marks: [], letter: 'a', past: [], future: [], wrong: new Set(), at: { row: 0, col: 0 }, side: 24, drag: null, isSolved: false, shown: null, heat: null, hint: null };
@@ -157,7 +157,7 @@ export function afterPlay() {
   play.isSolved = solved;
   $('play-undo').disabled = !play.past.length;
   $('play-redo').disabled = !play.future.length;
-  drawPlay();
+  drawStroke();
 }
 
 // A cell that another solution has is not wrong: only where the picture is known to be the one solution is it told so.

@@ -120,13 +120,13 @@ function gridKey(event) {
   if (event.key === ' ') return; // at its end: held down it pans
   event.stopPropagation();
   if (selection.rows && !tools.drag) setDown();
-  else useAtCursor();
+  else useAtCursor(event.shiftKey);
 }
 
 // The tool at the cursor: a dot, or the beginning or end of a shape.
-function useAtCursor() {
+function useAtCursor(adds = false) {
   if (tools.drag) return void endDrag();
-  beginDrag({ ...cursor });
+  beginDrag({ ...cursor }, adds);
   if (tools.drag && ['pencil', 'pin', 'lock'].includes(tools.name)) endDrag();
 }
 

@@ -8,6 +8,7 @@ import { openDialog } from './dialogs.js';
 
 const TOUR = [
   [phrase('view.drawOpenPicture'), phrase('view.chooseColourDragPencil')],
+  [phrase('view.drawMoreQuickly'), phrase('view.symmetryBelowToolsWand')],
   [phrase('view.readVerdict'), phrase('view.afterEveryStrokePanel')],
   [phrase('view.findWeakSpot'), phrase('view.tourWeakSpot')],
   [phrase('view.tourFix'), phrase('view.fixLooksCellRepaint')],

@@ -11,9 +11,10 @@ import { phrase } from '../texts/phrase.js';
 import { addAction } from './actions.js';
 import { cellText, clueInto, cursor } from './grid.js';
 import { setDown } from './select.js';
-import { TOOLS, sendStroke, tools, useTool } from './tools.js';
+import { TOOLS, sendStroke, tools, useSymmetry, useTool } from './tools.js';
 
-const bar = { row: make('div', { id: 'tool-row', role: 'radiogroup', 'aria-label': phrase('view.tool') }), hint: make('p', { id: 'hint', class: 'faint' }) };
+const SYMMETRY_NAMES = { none: phrase('view.noSymmetry'), across: phrase('view.leftRight'), down: phrase('view.topBottom'), both: phrase('view.both'), quarter: phrase('view.quarterTurns') };
+const bar = { row: make('div', { id: 'tool-row', role: 'radiogroup', 'aria-label': phrase('view.tool') }), hint: make('p', { id: 'hint', class: 'faint' }), symmetry: make('select', { id: 'symmetry', 'aria-label': phrase('view.symmetry'), title: phrase('view.symmetricPens') }, ...Object.entries(SYMMETRY_NAMES).map(([kind, name]) => make('option', { value: kind }, name))) };
 
 // The picture of a tool beside its name: lines on a field of 16 by 16.
 function iconOf(name, { icon }) {
@@ -27,7 +28,9 @@ export function makeToolBar() {
     bar.row.append(make('button', { type: 'button', role: 'radio', 'data-tool': name, title: tool.hint, 'aria-keyshortcuts': tool.key }, iconOf(name, tool), make('span', {}, tool.name), make('kbd', { 'aria-hidden': 'true' }, tool.key)));
     addAction({ id: `tool-${name}`, name: tool.name, key: tool.key, run: () => useTool(name) });
   }
-  $('tools').append(bar.row, bar.hint);
+  $('tools').append(bar.row, bar.symmetry, bar.hint);
+  bar.symmetry.addEventListener('change', () => useSymmetry(bar.symmetry.value));
+  on('symmetry', (kind) => { bar.symmetry.value = kind; });
   radioGroup(bar.row, (button) => useTool(button.dataset.tool));
   on('tool', showTool);
   showTool();
