@@ -20,7 +20,7 @@ const MIRRORS = [['', phrase('view.comes')], ['x', phrase('view.leftRightSame')]
 const MOST_SHOWN = 24;
 const MOST_MIXED = 2;
 const FEW = 8; // cells: what needs more is too loose
-const SPARE = 2; // seconds that a search in the worker has left to end by itself
+const SPARE = 3; // seconds that a search in the worker has left to end by itself
 const LONGER = phrase('view.longerSearchTimeMay');
 const LOOSE = phrase('view.pictureTooLooseBolder');
 
