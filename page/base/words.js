@@ -3,7 +3,6 @@
 import { LANGUAGE, phrase } from '../texts/phrase.js';
 
 export const number = (count) => count.toLocaleString(LANGUAGE);
-export const many = (count, what) => `${number(count)} ${what}${count === 1 ? '' : 's'}`;
 export const clamp = (value, least, most) => Math.max(least, Math.min(most, value));
 
 /** The size of a document in words. */

@@ -1,8 +1,8 @@
 // Image files as pixels: the size is read from the head of a file, and the browser reads the rest of it, made smaller where it is large.
 
-import { number } from '../base/words.js';
 import { FileFault } from '../document/limits.js';
 import { penOf } from '../draw/small.js';
+import { phrase } from '../texts/phrase.js';
 import { sizeOfImage } from './images.js';
 
 export const MOST_IMAGE = 1 << 28; // bytes of a file
@@ -18,8 +18,8 @@ const MOST_SIDE = 2048; // pixels a side that a larger one is made smaller to: m
  */
 function decoding(size) {
   const [width, height] = size;
-  if (width < 1 || height < 1) throw new FileFault('the picture has no pixels');
-  if (width * height > MOST_DECODED) throw new FileFault(`the picture is ${width} by ${height} pixels; at most ${number(MOST_DECODED)} in all are read`);
+  if (width < 1 || height < 1) throw new FileFault(phrase('import.pictureNoPixels'));
+  if (width * height > MOST_DECODED) throw new FileFault(phrase('import.picturePixelsMostAll', { width, height, most: MOST_DECODED }));
   const scale = MOST_SIDE / Math.max(width, height);
   return scale < 1 ? { resizeWidth: Math.max(1, Math.round(width * scale)), resizeQuality: 'high' } : {};
 }
@@ -27,13 +27,13 @@ function decoding(size) {
 /** The pixels of an image file, after the size in its head was looked at: the browser reads the rest of it. */
 export async function imageOfFile(file, head, kind) {
   const size = sizeOfImage(head, kind);
-  if (!size) throw new FileFault('its size is not told at its beginning');
+  if (!size) throw new FileFault(phrase('import.sizeNotToldBeginning'));
   const options = decoding(size);
   let bitmap;
   try {
     bitmap = await createImageBitmap(file.type ? file : new Blob([file], { type: `image/${kind}` }), options);
   } catch {
-    throw new FileFault('the browser does not read this picture');
+    throw new FileFault(phrase('import.browserDoesNotRead'));
   }
   const scale = Math.min(1, MOST_SIDE / Math.max(bitmap.width, bitmap.height)); // where the browser did not make it smaller
   const pen = penOf(Math.max(1, Math.round(bitmap.width * scale)), Math.max(1, Math.round(bitmap.height * scale)));

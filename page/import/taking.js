@@ -3,7 +3,7 @@
 
 import { $, make, say } from '../base/elements.js';
 import { tell } from '../base/events.js';
-import { bareName, many, number } from '../base/words.js';
+import { bareName, number } from '../base/words.js';
 import { FileFault } from '../document/limits.js';
 import { startEngine } from '../engine/client.js';
 import { kindOfPalette } from '../formats/palettes.js';
@@ -11,6 +11,7 @@ import { MOST_BYTES_READ } from '../formats/ppm.js';
 import { keep } from '../library/keep.js';
 import { faultText, openDoc } from '../library/open.js';
 import { recordOfDoc } from '../library/records.js';
+import { phrase } from '../texts/phrase.js';
 import { isTyping } from '../view/actions.js';
 import { openDialog, openDialogs } from '../view/dialogs.js';
 import { takeArchive } from './archives.js';
@@ -32,12 +33,12 @@ export async function takeFile(file, handle = null) {
   try {
     const head = new Uint8Array(await file.slice(0, HEAD).arrayBuffer());
     const kind = kindOfFile(head);
-    const [most, text] = kind === 'zip' ? [MOST_ARCHIVE, '1 GiB'] : IMAGES.has(kind) ? [MOST_IMAGE, '256 MiB'] : [MOST_BYTES_READ, '16 MiB'];
-    if (file.size > most) throw new FileFault(`it has more than ${text}`);
+    const [most, text] = kind === 'zip' ? [MOST_ARCHIVE, phrase('import.1Gib')] : IMAGES.has(kind) ? [MOST_IMAGE, phrase('import.256Mib')] : [MOST_BYTES_READ, phrase('import.16Mib')];
+    if (file.size > most) throw new FileFault(phrase('import.more', { text }));
     if (IMAGES.has(kind)) return await importImage(await imageOfFile(file, head, kind), bareName(file.name));
     return await takeBytes(new Uint8Array(await file.arrayBuffer()), file, handle);
   } catch (fault) {
-    say(`${file.name ? `“${file.name}”` : 'What was pasted'} could not be opened: ${faultText(fault)}`, 'alarm');
+    say(phrase('import.couldNotOpened', { name: file.name ? `“${file.name}”` : phrase('import.whatPasted'), fault: faultText(fault) }), 'alarm');
     return false;
   }
 }
@@ -75,7 +76,7 @@ async function takeXml(text, name, handle) {
     if (doc && await keeper.put(recordOfDoc(doc, doc.about.title || `${name} ${at + 2}`, true))) added++;
   }
   const left = others.length - added;
-  say(`The first of ${others.length + 1} puzzles is open, and ${many(added, 'other')} went to the library${left ? `; ${left} could not be read` : ''}.`, left ? 'alarm' : '');
+  say(phrase('import.firstPuzzlesOpenOthers', { count: others.length + 1, others: added, left: left ? phrase('import.othersNotRead', { left }) : '' }), left ? 'alarm' : '');
   return isOpen;
 }
 
@@ -92,7 +93,7 @@ async function openNon(text, name, page, handle = null) {
   /** @type {any} */
   let dialog = null;
   const timer = setTimeout(() => {
-    openDialog({ title: `Opening ${name}`, content: 'Searching for a picture with these clues.', buttons: [{ name: 'Stop', value: null, main: true }] }).then(() => engine.end('stopped'));
+    openDialog({ title: phrase('import.opening', { name }), content: phrase('import.searchingPictureTheseClues'), buttons: [{ name: phrase('import.stop'), value: null, main: true }] }).then(() => engine.end('stopped'));
     dialog = $('dialogs').lastElementChild;
   }, STOP_AFTER);
   let doc;
@@ -171,7 +172,7 @@ export function hearFiles() {
     if (isTyping(event.target) && (!file || text)) return; // a field takes a text itself
     if (file) takeDropped([file], null);
     else if (/^\s*(P3\s|<\?xml|<puzzle|nonocert)/.test(text) || /^width [0-9]/m.test(text)) takeDropped([new File([text], 'pasted')], null);
-    else if (text && !event.defaultPrevented) say(`What was pasted could not be opened: ${NOT_READ}.`, 'alarm');
+    else if (text && !event.defaultPrevented) say(phrase('import.whatPastedCouldNot', { why: NOT_READ }), 'alarm');
     else return;
     event.preventDefault();
   });

@@ -5,7 +5,10 @@
 import { EN } from './en.js';
 
 /** @typedef {keyof typeof EN} Phrase */
-/** @typedef {'document.red' | 'document.yellow' | 'document.green' | 'document.cyan' | 'document.blue' | 'document.purple' | 'document.pink'} Hue */
+/**
+ * The names of texts without places.
+ * @typedef {{ [Name in Phrase]: ValuesOf<(typeof EN)[Name]> extends [] ? Name : never }[Phrase]} PlainPhrase
+ */
 
 /** The language of the texts, as BCP 47 names it. */
 export const LANGUAGE = 'en';

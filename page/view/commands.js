@@ -84,7 +84,7 @@ async function pasteByDialog() {
   const field = make('textarea', { rows: 8, cols: 40, 'aria-label': phrase('view.rowsLetters'), placeholder: '..aa..\n.abba.' });
   const rows = () => rowsOfText(field.value, bench.state.colours.length);
   const done = await openDialog({
-    title: phrase('view.pasteText2'),
+    title: phrase('view.pasteTextTitle'),
     content: make('div', {}, make('p', {}, phrase('view.oneLineEachRow')), field),
     buttons: [{ name: phrase('view.paste'), value: rows, main: true, test: () => (rows() ? '' : phrase('view.theseNotRowsLetters')) }],
   });
@@ -136,9 +136,9 @@ async function resizeByDialog() {
   const isSize = (input) => /^[0-9]+$/.test(input.value) && Number(input.value) >= 1 && Number(input.value) <= MOST_CELLS;
   const chosen = () => places[Number(anchor.querySelector(':checked').value)];
   const done = await openDialog({
-    title: phrase('view.resize2'),
-    content: make('div', {}, make('p', {}, make('label', {}, phrase('view.columns2'), columns), ' ', make('label', {}, phrase('view.rows2'), rows)), make('p', {}, phrase('view.keepPicture')), anchor),
-    buttons: [{ name: phrase('view.resize2'), main: true, value: () => ({ columns: Number(columns.value), rows: Number(rows.value), ...chosen() }), test: () => (isSize(columns) && isSize(rows) ? '' : phrase('view.both1', { MOST_CELLS })) }],
+    title: phrase('view.resizeTitle'),
+    content: make('div', {}, make('p', {}, make('label', {}, phrase('view.columns'), columns), ' ', make('label', {}, phrase('view.rows'), rows)), make('p', {}, phrase('view.keepPicture')), anchor),
+    buttons: [{ name: phrase('view.resizeTitle'), main: true, value: () => ({ columns: Number(columns.value), rows: Number(rows.value), ...chosen() }), test: () => (isSize(columns) && isSize(rows) ? '' : phrase('view.bothSizes', { most: MOST_CELLS })) }],
   });
   if (!done || (done.rows === doc.rows && done.columns === doc.columns)) return;
   heard(bench.become((now) => resized(now, done.rows, done.columns, { down: done.d, across: done.a })));
@@ -177,7 +177,7 @@ export function addKeys() {
   }
   addAction({ id: 'colour-next', name: phrase('view.nextColour'), key: ']', run: () => stepColour(1) });
   addAction({ id: 'colour-before', name: phrase('view.previousColour'), key: '[', run: () => stepColour(-1) });
-  addAction({ id: 'take-colour', name: phrase('view.pickColourCell2'), key: 'i', run: () => useColour(sheet.letterAt(cursor.row, cursor.col)) });
+  addAction({ id: 'take-colour', name: phrase('view.pickColour'), key: 'i', run: () => useColour(sheet.letterAt(cursor.row, cursor.col)) });
 }
 
 function stepColour(by) {

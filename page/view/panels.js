@@ -68,8 +68,8 @@ export function showCell(at = cursor) {
     if (!state) return;
     const [row, col] = [Math.min(panel.at.row, state.rows - 1), Math.min(panel.at.col, state.columns - 1)];
     panel.text.textContent = cellText(row, col);
-    fillClue(panel.row, phrase('view.row2', { row: row + 1 }), state.clues.rows[row]);
-    fillClue(panel.column, phrase('view.column2', { col: col + 1 }), state.clues.columns[col]);
+    fillClue(panel.row, phrase('view.rowNumber', { row: row + 1 }), state.clues.rows[row]);
+    fillClue(panel.column, phrase('view.columnNumber', { col: col + 1 }), state.clues.columns[col]);
     showLineNames();
   });
 }
@@ -93,7 +93,7 @@ export function makeLinesPanel() {
     const other = make('input', { type: 'number', min: 1, max: MOST_CELLS, 'aria-label': word === 'row' ? phrase('view.otherRow') : phrase('view.otherColumn') });
     const at = () => (word === 'row' ? cursor.row : cursor.col) + 1;
     const button = (text, label, lines) => make('button', { type: 'button', 'aria-label': label, onclick: () => { setDown(); sendStroke([lines()]); } }, text);
-    $('lines').append(make('div', { class: 'lines', role: 'group', 'aria-label': word === 'row' ? phrase('view.row3') : phrase('view.column3') },
+    $('lines').append(make('div', { class: 'lines', role: 'group', 'aria-label': word === 'row' ? phrase('view.rowGroup') : phrase('view.columnGroup') },
       make('b', { id: `${word}-name` }, word),
       button(word === 'row' ? phrase('view.above') : phrase('view.left'), LINE_TEXTS[word].before, () => `insert ${word} ${at()}`),
       button(word === 'row' ? phrase('view.below') : phrase('view.right'), LINE_TEXTS[word].after, () => `insert ${word} ${at() + 1}`),
@@ -111,6 +111,6 @@ function swapLines(word, at, other) {
 }
 
 function showLineNames() {
-  $('row-name').textContent = phrase('view.row2', { row: cursor.row + 1 });
-  $('column-name').textContent = phrase('view.column2', { col: cursor.col + 1 });
+  $('row-name').textContent = phrase('view.rowNumber', { row: cursor.row + 1 });
+  $('column-name').textContent = phrase('view.columnNumber', { col: cursor.col + 1 });
 }

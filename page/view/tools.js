@@ -15,8 +15,8 @@ import { alongSelect, beginSelect, endSelect, isSelected, selectPlaces, selected
 export const TOOLS = {
   pencil: { icon: 'M2.5 13.5l.8-3.6 7.6-7.6 2.8 2.8-7.6 7.6z', name: phrase('view.pencil'), key: 'p', hint: phrase('view.dragPaintRightButton') },
   line: { icon: 'M2.5 13.5l11-11', name: phrase('view.line'), key: 'l', hint: phrase('view.dragFromEndEnd') },
-  rectangle: { icon: 'M2.5 3.5h11v9h-11z', name: phrase('view.rectangle'), key: 'r', hint: phrase('view.dragFromCornerCorner') },
-  box: { icon: 'M2.5 3.5h11v9h-11z', name: phrase('view.filledRectangle'), key: 'f', hint: phrase('view.dragFromCornerCorner2') },
+  rectangle: { icon: 'M2.5 3.5h11v9h-11z', name: phrase('view.rectangle'), key: 'r', hint: phrase('view.outlineHint') },
+  box: { icon: 'M2.5 3.5h11v9h-11z', name: phrase('view.filledRectangle'), key: 'f', hint: phrase('view.filledHint') },
   bucket: { icon: 'M7.5 2.5l6 6-5 5-6-6zM2.5 7.5h9M13.5 11v2.5', name: phrase('view.bucket'), key: 'b', hint: phrase('view.fillsConnectedCellsOne') },
   recolour: { icon: 'M2.5 2.5h6v6h-6zM7.5 10.5v3h6v-6h-3', name: phrase('view.recolour'), key: 'e', hint: phrase('view.turnsAllCellsColour') },
   wand: { icon: 'M2.5 13.5l7-7M11 2v3M9.5 3.5h3M13.5 7v2M12.5 8h2M6 2.5v2M5 3.5h2', name: phrase('view.wand'), key: 'a', hint: phrase('view.selectsConnectedCellsOne') },
@@ -164,8 +164,8 @@ function recolourAt(at) {
 }
 
 const MEANINGS = {
-  Place: phrase('view.liesOutsidePicture'), Colour: phrase('view.paletteNoSuchColour'), TooLarge: phrase('view.thereLinesAlreadyMost', { MOST_CELLS }),
-  LastLine: phrase('view.onlyLine'), PaletteFull: phrase('view.paletteColoursAlready', { MOST_COLOURS }), DuplicateColour: phrase('view.paletteColourAlready'),
+  Place: phrase('view.liesOutsidePicture'), Colour: phrase('view.paletteNoSuchColour'), TooLarge: phrase('view.thereLinesAlreadyMost', { most: MOST_CELLS }),
+  LastLine: phrase('view.onlyLine'), PaletteFull: phrase('view.paletteColoursAlready', { most: MOST_COLOURS }), DuplicateColour: phrase('view.paletteColourAlready'),
   Background: phrase('view.backgroundKeepsColour'), SampleOver: phrase('view.colourTooBrightPicture'), UndoEmpty: phrase('view.thereNothingUndo'),
   RedoEmpty: phrase('view.thereNothingRedo'), Memory: phrase('view.memoryRanOut'), TwoColoursOnly: phrase('view.nonPuzzleOneColour'),
   LongLine: phrase('view.tooLong'), BadNumber: phrase('view.numberWrong'), BadColour: phrase('view.colourWrong'),
