@@ -1,6 +1,5 @@
 // Image files as pixels: the size is read from the head of a file, and the browser reads the rest of it, made smaller where it is large.
 
-import { number } from '../base/words.js';
 import { FileFault } from '../document/limits.js';
 import { penOf } from '../draw/small.js';
 import { phrase } from '../texts/phrase.js';

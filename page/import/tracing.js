@@ -13,10 +13,6 @@ import { addAction } from '../view/actions.js';
 import { HEAD, IMAGES, MOST_IMAGE, imageOfFile } from './decoding.js';
 import { kindOfFile } from './images.js';
 
-const TEXT = {
-  open: phrase('import.traceImage'), end: phrase('import.removeTracedImage'), panel: phrase('import.imageTrace'), move: phrase('import.move'), moveHint: phrase('import.dragImageMoveArrow'), opacity: phrase('import.opacity'), size: phrase('import.size'), remove: phrase('import.remove'),
-  added: phrase('import.imageShownWherePicture'), wrong: (name, fault) => phrase('import.couldNotRead', { name, fault }), none: phrase('import.noImage'), long: phrase('import.more256Mib'),
-};
 const STEP = 0.25; // cells that an arrow moves the image by
 const [LEAST, MOST] = [5, 500]; // percent of the size with which it fits
 const STEPS = { ArrowUp: [-1, 0], ArrowDown: [1, 0], ArrowLeft: [0, -1], ArrowRight: [0, 1] };
@@ -39,21 +35,21 @@ export function trace({ width, height, data }) {
   tracing.fits = sheet.underlay.wide;
   makePanel();
   hearMoves(sheet.underlay);
-  say(TEXT.added);
+  say(phrase('import.imageShownWherePicture'));
 }
 
 function makePanel() {
-  const slider = (name, min, max, value, f) => {
+  const slider = (name, text, min, max, value, f) => {
     const input = make('input', { type: 'range', min, max, value, id: `trace-${name}`, oninput: () => f(Number(input.value)) });
     tracing[name] = input;
-    return make('label', {}, TEXT[name], input);
+    return make('label', {}, text, input);
   };
   const { underlay } = sheet;
-  tracing.move = make('button', { type: 'button', id: 'trace-move', 'aria-pressed': 'false', title: TEXT.moveHint, onclick: () => setMoving(!isMoving()), onkeydown: moveByKey }, TEXT.move);
-  tracing.panel = make('div', { id: 'trace', role: 'group', 'aria-label': TEXT.panel }, tracing.move,
-    slider('opacity', 0, 100, underlay.opacity * 100, (value) => Object.assign(underlay, { opacity: value / 100 }).ask()),
-    slider('size', LEAST, MOST, 100, (value) => underlay.size((tracing.fits * value) / 100)),
-    make('button', { type: 'button', id: 'trace-end', onclick: endTracing }, TEXT.remove));
+  tracing.move = make('button', { type: 'button', id: 'trace-move', 'aria-pressed': 'false', title: phrase('import.dragImageMoveArrow'), onclick: () => setMoving(!isMoving()), onkeydown: moveByKey }, phrase('import.move'));
+  tracing.panel = make('div', { id: 'trace', role: 'group', 'aria-label': phrase('import.imageTrace') }, tracing.move,
+    slider('opacity', phrase('import.opacity'), 0, 100, underlay.opacity * 100, (value) => Object.assign(underlay, { opacity: value / 100 }).ask()),
+    slider('size', phrase('import.size'), LEAST, MOST, 100, (value) => underlay.size((tracing.fits * value) / 100)),
+    make('button', { type: 'button', id: 'trace-end', onclick: endTracing }, phrase('import.remove')));
   $('stage').append(tracing.panel);
 }
 
@@ -114,13 +110,13 @@ function hearMoves(underlay) {
 
 async function traceFile(file) {
   try {
-    if (file.size > MOST_IMAGE) throw new FileFault(TEXT.long);
+    if (file.size > MOST_IMAGE) throw new FileFault(phrase('import.more256Mib'));
     const head = new Uint8Array(await file.slice(0, HEAD).arrayBuffer());
     const kind = kindOfFile(head);
-    if (!IMAGES.has(kind)) throw new FileFault(TEXT.none);
+    if (!IMAGES.has(kind)) throw new FileFault(phrase('import.noImage'));
     trace(await imageOfFile(file, head, kind));
   } catch (fault) {
-    say(TEXT.wrong(file.name, faultText(fault)), 'alarm');
+    say(phrase('import.fileNotRead', { name: file.name, fault: faultText(fault).replace(/\.$/, '') }), 'alarm');
   }
 }
 
@@ -132,8 +128,8 @@ function chooseImage() {
 
 /** Adds tracing to the menu View. */
 export function startTracing() {
-  addAction({ id: 'trace', name: TEXT.open, place: 'view', group: 'trace', run: chooseImage });
-  addAction({ id: 'trace-end', name: TEXT.end, place: 'view', group: 'trace', run: endTracing, can: () => sheet.underlay !== null });
+  addAction({ id: 'trace', name: phrase('import.traceImage'), place: 'view', group: 'trace', run: chooseImage });
+  addAction({ id: 'trace-end', name: phrase('import.removeTracedImage'), place: 'view', group: 'trace', run: endTracing, can: () => sheet.underlay !== null });
   on('opened', endTracing);
   on('closed', endTracing);
 }

@@ -686,8 +686,7 @@ export const EN = /** @type {const} */ ({
   'import.dragImageMoveArrow': 'Drag the image, or move it with the arrow keys',
   'import.opacity': 'Opacity',
   'import.remove': 'Remove',
-  'import.imageShownWherePicture': 'The image is shown where the picture is empty. It is no part of the picture, and is not saved.',
-  'import.couldNotRead': '“{name}” could not be read: {fault}',
+  'import.imageShownWherePicture': 'The image is shown where the picture is empty. It is not part of the picture, and is not saved.',
   'import.noImage': 'it is no image',
   'import.more256Mib': 'it has more than 256 MiB',
   // ---- export
