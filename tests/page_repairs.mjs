@@ -40,9 +40,7 @@ async function firstRepair(hands, before) {
     await page.until((rows) => bench.state.picture.join() !== rows, 5000 * SLACK, before.join());
     assert.equal(await trial.judged(), 'unique');
     const after = await trial.picture();
-    if (hands.byKeys) await page.press('Control+z');
-    else await hands.press('#quick [data-action="undo"]');
-    await trial.settled();
+    await hands.undo();
     assert.deepEqual(await trial.picture(), before, 'one undo takes it back');
     return { places: differing(before, after), after };
 }
