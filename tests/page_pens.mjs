@@ -26,7 +26,11 @@ async function withHands({ browser, url, folder }, what, act) {
     }
 }
 
-const undo = (hands) => (hands.byKeys ? hands.page.press('Control+z') : hands.press('#quick [data-action="undo"]')).then(() => hands.trial.settled());
+async function undo(hands) {
+    const before = await strokes(hands.trial);
+    await (hands.byKeys ? hands.page.press('Control+z') : hands.press('#quick [data-action="undo"]'));
+    await hands.page.until((count) => bench.past.length < count && !bench.running, 5000 * SLACK, before);
+}
 const strokes = (trial) => trial.state().then((state) => state.strokes[0]);
 
 // Chooses a symmetry: by keys m goes to the next one.
@@ -130,7 +134,7 @@ export async function outlineAndShadow(all) {
         assert.deepEqual(await trial.picture(), ['..bb.....', '.baab....', '.baab....', '..bb.....', '.........', '.......ab'], 'outlined');
         await undo(hands);
         await hands.menu('edit', 'shadow');
-        await trial.settled();
+        await page.until(() => bench.past.length === 1 && !bench.running, 5000 * SLACK);
         assert.deepEqual(await trial.picture(), ['.........', '..aa.....', '..aab....', '...bb....', '.........', '.......ab'], 'with its shadow');
         await undo(hands);
         await hands.tool('select');
