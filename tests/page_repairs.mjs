@@ -307,11 +307,7 @@ export async function pinchInPlay({ browser, url, folder }) {
             await page.touch([[x - 20, y], [x - 50, y - 20], [x - 80, y - 40]], [[x + 20, y], [x - 10, y - 20], [x - 40, y - 40]]);
             assert.ok(await scrolled() > before, `${name}: two fingers move the board`);
         }
-        const corner = await page.run(() => {
-            const [field, board] = ['play-field', 'play-board'].map((id) => document.getElementById(id).getBoundingClientRect());
-            return [Math.max(field.left, board.left) + play.side * 1.5, Math.max(field.top, board.top) + play.side * 1.5];
-        });
-        await page.touch([corner]);
+        await page.touch([await middle()]);
         assert.equal(await marks(), 1, `${name}: one finger marks`);
         await page.shot(`${folder}/pinch-${name}.png`);
         assert.deepEqual(page.faults, []);
