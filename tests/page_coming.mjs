@@ -8,7 +8,7 @@ import { Hands } from './page_inputs.mjs';
 import { pause } from './page_browser.mjs';
 import { SIZES, SLACK, ppmOf } from './page_trial.mjs';
 
-const INPUTS = [['small', 'mouse'], ['small', 'keys'], ['large', 'mouse'], ['phone', 'touch'], ['phone', 'keys']];
+const INPUTS = [['small', 'mouse'], ['small', 'keys'], ['large', 'mouse'], ['large', 'keys'], ['phone', 'touch'], ['phone', 'keys']];
 const colours = (page) => page.run(() => [...document.querySelectorAll('#import-palette button')].map((one) => one.title));
 const facts = (page, text, ms = 10000) => page.until((wanted) => document.querySelector('#import-facts')?.textContent.includes(wanted), ms * SLACK, text);
 

@@ -15,7 +15,6 @@ import { Inks } from './inks.js';
 import { Judging, judgedText } from './judging.js';
 import { Maker } from './making.js';
 import { proposalFor, withoutMargin } from './proposing.js';
-import { hasClear } from './spots.js';
 import { thresholdFor } from './tone.js';
 
 const TEXT = {
@@ -48,7 +47,6 @@ class Importing {
   constructor(image) {
     this.proposal = proposalFor(image);
     this.full = image;
-    this.isClear = hasClear(image);
     this.canvas = canvasOfImage(image);
     this.middle = this.smaller(MOST_MIDDLE); // what large parts are taken of: to make all of a photo smaller takes long
     this.worked = null; // the part that is taken, no larger than the dialog works on
@@ -236,7 +234,7 @@ class Importing {
   draw() {
     drawSmall(this.preview, this.doc, SHOWN_SIDE);
     this.source.draw(this.crop);
-    this.inks.show(this.doc, this.isClear);
+    this.inks.show(this.doc);
     this.facts.textContent = TEXT.facts(this.doc);
   }
 }
