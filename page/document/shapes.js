@@ -122,6 +122,10 @@ export function reordered(doc, order, into = 0) {
 
 /** The cells (row * columns + column) in which two pictures of one size differ. */
 export function cellsThatDiffer(picture, other) {
-  const columns = picture[0].length;
-  return picture.flatMap((row, at) => [...row].flatMap((letter, col) => (letter === other[at][col] ? [] : [at * columns + col])));
+  const places = [];
+  picture.forEach((row, at) => {
+    if (row === other[at]) return;
+    for (let col = 0; col < row.length; col++) if (row[col] !== other[at][col]) places.push(at * row.length + col);
+  });
+  return places;
 }

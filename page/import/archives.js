@@ -67,9 +67,12 @@ const sameText = (one, other) => webpbnText(one) === webpbnText(other);
 export async function takeArchive(bytes, name) {
   const { docs, unread } = await readArchive(bytes);
   const keeper = await keep.ready();
+  const before = new Set(await keeper.cards()); // each of them is one picture of the archive at most
   let [added, known] = [0, 0];
   for (const { name: title, doc } of docs) {
-    if (await keeper.has(title, doc, sameText)) known++;
+    const card = await keeper.cardOfDoc(before, doc, sameText);
+    before.delete(card);
+    if (card) known++;
     else if (await keeper.put(recordOfDoc(doc, title, true))) added++;
     else break;
   }

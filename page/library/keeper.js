@@ -80,14 +80,14 @@ export class Keeper {
     return readRecord(value) ? readCard(cardOf(value)) : null;
   }
 
-  /** Whether a picture is on the shelf under this name: `isSame` compares its document. */
-  async has(name, doc, isSame) {
-    for (const card of await this.cards()) {
-      if (card.name !== name || card.doc.picture.join() !== doc.picture.join()) continue;
-      const record = await this.record(card.id);
-      if (record && isSame(record.doc, doc)) return true;
+  /** The first of some cards whose picture is this document, as `isSame` compares it; null where none is. */
+  async cardOfDoc(cards, doc, isSame) {
+    const rows = doc.picture.join();
+    for (const card of cards) {
+      const record = card.doc.picture.join() === rows ? await this.record(card.id) : null;
+      if (record && isSame(record.doc, doc)) return card;
     }
-    return false;
+    return null;
   }
 
   /** A record, read, or null where it is none. */

@@ -102,10 +102,10 @@ export function addPictureActions() {
   add('shift-left', phrase('view.shiftLeft'), 'Alt+ArrowLeft', () => shiftBy(0, -1), 'shift');
   add('shift-right', phrase('view.shiftRight'), 'Alt+ArrowRight', () => shiftBy(0, 1), 'shift');
   const far = (id, name, key, down, across) => addAction({ id, name, key, run: () => shiftBy(down * FAR, across * FAR) });
-  far('shift-up-far', phrase('view.shiftUpFar', { FAR }), 'Alt+Shift+ArrowUp', -1, 0);
-  far('shift-down-far', phrase('view.shiftDownFar', { FAR }), 'Alt+Shift+ArrowDown', 1, 0);
-  far('shift-left-far', phrase('view.shiftLeftFar', { FAR }), 'Alt+Shift+ArrowLeft', 0, -1);
-  far('shift-right-far', phrase('view.shiftRightFar', { FAR }), 'Alt+Shift+ArrowRight', 0, 1);
+  far('shift-up-far', phrase('view.shiftUpFar', { cells: FAR }), 'Alt+Shift+ArrowUp', -1, 0);
+  far('shift-down-far', phrase('view.shiftDownFar', { cells: FAR }), 'Alt+Shift+ArrowDown', 1, 0);
+  far('shift-left-far', phrase('view.shiftLeftFar', { cells: FAR }), 'Alt+Shift+ArrowLeft', 0, -1);
+  far('shift-right-far', phrase('view.shiftRightFar', { cells: FAR }), 'Alt+Shift+ArrowRight', 0, 1);
   add('resize', phrase('view.resize'), 'Ctrl+Alt+S', resizeByDialog, 'size');
   for (const word of ['row', 'column']) {
     const at = () => (word === 'row' ? cursor.row : cursor.col) + 1;

@@ -18,8 +18,9 @@ import { searches, secondsChosen, verdictView } from './verdict.js';
 const GOALS = [['unique', phrase('view.oneSolution')], ['lines', phrase('view.noGuessing')]];
 const MIRRORS = [['', phrase('view.comes')], ['x', phrase('view.leftRightSame')], ['y', phrase('view.topBottomSame')]];
 const MOST_SHOWN = 24;
+const MOST_MIXED = 2;
 const FEW = 8; // cells: what needs more is too loose
-const SPARE = 2; // seconds that a search in the worker has left to end by itself
+const SPARE = 3; // seconds that a search in the worker has left to end by itself
 const LONGER = phrase('view.longerSearchTimeMay');
 const LOOSE = phrase('view.pictureTooLooseBolder');
 
@@ -173,7 +174,8 @@ function add(state, one) {
 
 /** How many cells a proposal changes. */
 const sizeOf = ({ cells = [], given = [] }) => cells.length + given.length;
-const bySize = (one, other) => sizeOf(one) - sizeOf(other) || one.pain - other.pain;
+// The fewest cells first; of these what leaves nothing to guess, and then what is seen least.
+const bySize = (one, other) => sizeOf(one) - sizeOf(other) || Number(one.open > 0) - Number(other.open > 0) || one.pain - other.pain;
 const repaints = () => fixing.found.filter(({ cells, given }) => cells && !given).sort(bySize);
 const mixtures = () => fixing.found.filter(({ cells, given }) => cells && given).sort(bySize);
 const givens = () => fixing.found.filter(({ cells }) => !cells);
@@ -208,7 +210,7 @@ function foundText(done) {
   }
   const least = done && done.proved >= best.cells.length - 1 ? phrase('view.noneSmaller') : '';
   const loose = best.cells.length > FEW ? phrase('view.moreCellsPictureToo', { few: FEW }) : '';
-  return phrase('view.proposalsFoundChooseOne', { proposals: repaints().length + mixed, least, loose });
+  return phrase('view.proposalsFoundChooseOne', { proposals: listed().length, least, loose });
 }
 
 // ---- the list
@@ -221,11 +223,16 @@ function showFound() {
     fixSays('');
     return;
   }
+  const hears = { take, keep, preview, isKept: (one) => fixing.kept.has(one) };
+  $('fix-list').replaceChildren(...listed().map((one) => proposalItem(one, hears)));
+}
+
+// What is shown: repaints about as small as the smallest, or what came nearer; then mixtures, and the fewest givens.
+function listed() {
   const [best] = repaints();
   const shown = repaints().filter((one) => one.cells.length <= best.cells.length + 1 || fixing.kept.has(one)).slice(0, MOST_SHOWN);
   const near = !best && fixing.near ? [fixing.near] : [];
-  const hears = { take, keep, preview, isKept: (one) => fixing.kept.has(one) };
-  $('fix-list').replaceChildren(...[...shown, ...near, ...mixtures().slice(0, 2), ...givens().slice(-1)].map((one) => proposalItem(one, hears)));
+  return [...shown, ...near, ...mixtures().slice(0, MOST_MIXED), ...givens().slice(-1)];
 }
 
 function keep(one, is) {

@@ -7,7 +7,7 @@ import { phrase } from '../texts/phrase.js';
 import { swatchChip } from './dress.js';
 
 const MOST_NAMED = 3; // cells that are named one by one
-const SIDE = 96; // pixels of a small picture
+const SIDE = 100; // pixels of a small picture
 
 // A small picture with frames round some cells.
 function framed(doc, places) {

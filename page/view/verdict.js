@@ -114,7 +114,12 @@ const numbersOf = (letter, set) => {
   return places.length ? `${letter}${set.size === 1 ? '' : 's'} ${places.join(', ')}` : '';
 };
 
-const differCount = ({ verdict, picture }) => (verdict.other ? cellsThatDiffer(picture, verdict.other).length : 0);
+// In how many cells the other picture differs: counted once for each verdict.
+const counted = { verdict: null, count: 0 };
+function differCount({ verdict, picture }) {
+  if (counted.verdict !== verdict) Object.assign(counted, { verdict, count: verdict.other ? cellsThatDiffer(picture, verdict.other).length : 0 });
+  return counted.count;
+}
 
 // The verdict in a few words beside its title.
 function verdictShort(state) {
