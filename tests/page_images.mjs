@@ -114,6 +114,7 @@ test('what is transparent is background, apart from all colours that are drawn',
     assert.deepEqual([doc.colours, doc.picture], [[[255, 255, 255], COLOURS.r, COLOURS.k], ['.a.', 'aba']]);
     const white = docOfCells(imageOf(['-w-', 'wkw'], COLOURS), { colours: 3 });
     assert.equal(white.colours.length, 3);
+    assert.deepEqual([white.isClear, docOfCells(imageOf(['wr'], COLOURS), { colours: 3 }).isClear], [true, false]);
     assert.deepEqual([white.picture, new Set(white.colours.map(String)).size], [['.a.', 'aba'], 3]);
     assert.notDeepEqual(white.colours[0], COLOURS.w);
     const nothing = docOfCells(imageOf(['--', '--'], COLOURS), { colours: 4 });

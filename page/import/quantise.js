@@ -103,7 +103,8 @@ function groundFirst(numbers, palette, chosen, columns, rows) {
   return [ground, ...palette.keys()].filter((one, at, all) => all.indexOf(one) === at && (at === 0 || numbers.includes(one)));
 }
 
-// The document of numbers; colours that are shown the same are one. `sources` has what of the palette each of its colours is.
+// The document of numbers; colours that are shown the same are one. `sources` has what of the palette each of its colours is, and
+// `isClear` says that its background is what is transparent.
 function docOfColours(numbers, order, { shown, palette, first }, columns, rows) {
   const colours = first ? [first] : [];
   const sources = first ? [first] : [];
@@ -113,7 +114,7 @@ function docOfColours(numbers, order, { shown, palette, first }, columns, rows) 
     letterOf.set(one, at < 0 ? colours.push(shown[one]) - 1 : at);
     if (at < 0) sources.push(palette[one]);
   }
-  return { ...docOfNumbers(numbers.map((one) => letterOf.get(one) ?? 0), colours, columns, rows), sources };
+  return { ...docOfNumbers(numbers.map((one) => letterOf.get(one) ?? 0), colours, columns, rows), sources, isClear: first !== null };
 }
 
 function docOfNumbers(numbers, colours, columns, rows) {
