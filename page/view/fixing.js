@@ -146,7 +146,7 @@ async function takeGivens(state, { given, isLeast }) {
 
 // Lists proposals, while they are found: the smallest and least seen first.
 async function findRepairs() {
-  Object.assign(fixing, { found: fixing.found.filter((one) => fixing.kept.has(one) && isOfThis()), near: null, of: bench.state });
+  Object.assign(fixing, { found: fixing.found.filter((one) => fixing.kept.has(one) && isOfThis()), near: null, of: bench.state, said: '' });
   showFound();
   const { goal } = fixing;
   const part = Math.min(2, secondsChosen() / 4); // of the time, for the givens, and for mixtures
