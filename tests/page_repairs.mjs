@@ -287,7 +287,7 @@ export async function pinchInPlay({ browser, url, folder }) {
         for (let turn = 0; turn < 4; turn++) await pinch(12, 90);
         assert.equal(await marks(), 0, `${name}: two fingers mark nothing`);
         await trial.page.press('Escape');
-        await trial.open(ppmOf(Array(40).fill('aab.ba..a.'.repeat(4))), 'large');
+        await trial.open(ppmOf(Array(40).fill('a'.repeat(40))), 'large');
         await page.run(() => { runAction('play'); });
         await page.until(() => document.querySelector('#play-room')?.open && play.state.rows === 40, 3000 * SLACK);
         const under = ([x, y]) => page.run((left, top) => {
