@@ -303,8 +303,10 @@ export async function pinchInPlay({ browser, url, folder }) {
         assert.ok(dx < 0.6 && dy < 0.6, `${name}: the cell between the fingers stays there: ${dx} ${dy}`);
         const scrolled = () => page.run(() => document.getElementById('play-board').scrollLeft + document.getElementById('play-board').scrollTop);
         if (size.touch) {
-            const [before, [x, y]] = [await scrolled(), await middle()];
-            await page.touch([[x - 20, y], [x - 50, y - 20], [x - 80, y - 40]], [[x + 20, y], [x - 10, y - 20], [x - 40, y - 40]]);
+            const [x, y] = await middle();
+            const along = (left) => [0, 1, 2, 3, 4, 5, 6].map((step) => [left - 10 * step, y - 6 * step]);
+            const before = await scrolled();
+            await page.touch(along(x - 70), along(x + 70));
             assert.ok(await scrolled() > before, `${name}: two fingers move the board`);
         }
         await page.touch([await middle()]);
