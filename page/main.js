@@ -15,7 +15,7 @@ import { openAgain, startLanguage } from './start/language.js';
 import { startLinked } from './start/linked.js';
 import { showStart, startStart } from './start/start.js';
 import { DIRECTION, LANGUAGE, phrase } from './texts/phrase.js';
-import { actionButton, actions, hearKeys, makeMenus } from './view/actions.js';
+import { actionButton, actions, hearKeys, keyText, makeMenus } from './view/actions.js';
 import { addEditActions, addKeys, addPictureActions, addViewActions } from './view/commands.js';
 import { startFixing } from './view/fixing.js';
 import { startGrading } from './view/grading.js';
@@ -90,7 +90,7 @@ function nameParts() {
 
 function makeQuickButtons() {
   for (const [id, name, short] of [['undo', phrase('main.undo'), '↶'], ['redo', phrase('main.redo'), '↷'], ['zoom-out', '−'], ['fit', phrase('main.fit')], ['zoom-in', '+']]) {
-    const button = actionButton(actions.get(id), { 'aria-label': actions.get(id).name, title: `${actions.get(id).name} (${actions.get(id).key.split(' ')[0]})`, 'data-short': short });
+    const button = actionButton(actions.get(id), { 'aria-label': actions.get(id).name, title: `${actions.get(id).name} (${keyText(actions.get(id).key.split(' ')[0])})`, 'data-short': short });
     button.textContent = name;
     $('quick').append(button);
   }

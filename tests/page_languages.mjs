@@ -28,6 +28,16 @@ const MISLAID = () => {
         if (width > 1 && !scroller(one) && (left < -1 || right > innerWidth + 1)) wrong.push(`outside the window: ${name}`);
         if (one.matches('button') && one.scrollWidth > one.clientWidth + 1) wrong.push(`cut: ${name}`);
     }
+    // The longest word of a choice, and the arrow behind it, in a language that users read.
+    const isRead = document.documentElement.lang === 'de';
+    const pen = document.createElement('canvas').getContext('2d');
+    for (const one of all.filter((select) => isRead && select.matches('select'))) {
+        pen.font = getComputedStyle(one).font;
+        const longest = Math.max(...[...one.options].map((option) => pen.measureText(option.text).width));
+        if (longest + 18 > one.clientWidth && longest < 200) wrong.push(`cut: ${one.id}, ${Math.round(longest)} in ${one.clientWidth}`);
+    }
+    const header = document.querySelector('header');
+    if (isRead && header.scrollWidth > header.clientWidth + 1) wrong.push(`the header is ${header.scrollWidth} px wide`);
     const buttons = all.filter((one) => one.matches('button, select, input:not([type=checkbox]):not([type=radio])')).map((one) => [one, one.getBoundingClientRect()]);
     for (const [at, [one, box]] of buttons.entries()) {
         for (const [other, next] of buttons.slice(at + 1)) {
@@ -39,6 +49,7 @@ const MISLAID = () => {
     return wrong;
 };
 
+const opened = (page) => page.until(() => window.bench?.state && !document.getElementById('work').hidden, 5000 * SLACK);
 const closed = (page) => page.run(() => new Promise((go) => { const dialog = document.querySelector('dialog[open]'); dialog.addEventListener('close', () => setTimeout(go)); dialog.close(); }));
 
 // All menus and some dialogs, one behind the other.
@@ -68,6 +79,7 @@ export async function germanWalk(rooms) {
         assert.deepEqual(await page.run(MISLAID), [], `${name}, the start screen`);
         await page.shot(`${rooms.folder}/german-${name}-start.png`);
         await press('#examples li:nth-child(1) button');
+        await opened(page);
         await trial.judged();
         assert.equal(await trial.text('#verdict'), '✓ Eindeutig');
         const [x, y] = await trial.cell(3, 3);
@@ -113,6 +125,7 @@ export async function languageOfTheBrowser({ browser, url, folder }) {
 
 export async function languageKeepsAll({ trial, page }) {
     await page.click('#examples li:nth-child(1) button');
+    await opened(page);
     await trial.judged();
     const before = await trial.picture();
     await trial.drag([[1, 1], [1, 3]]);
@@ -122,7 +135,7 @@ export async function languageKeepsAll({ trial, page }) {
     const loaded = new Promise((go) => page.wakes.push(go));
     await page.click('#menu-view [data-action="language-de"]');
     await loaded;
-    await page.until(() => window.bench?.state && !document.getElementById('work').hidden, 5000 * SLACK);
+    await opened(page);
     await trial.judged();
     assert.deepEqual(page.dialogs, [], 'nothing is asked');
     assert.equal(await page.run(() => document.documentElement.lang), 'de');
@@ -148,6 +161,7 @@ export async function languageKeepsABlankPicture({ trial, page }) {
 
 export async function languageWaitsWhereNothingIsKept({ trial, page }) {
     await page.click('#examples li:nth-child(1) button');
+    await opened(page);
     await trial.judged();
     await trial.drag([[1, 1], [1, 3]]);
     const painted = await trial.picture();

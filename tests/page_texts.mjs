@@ -28,7 +28,7 @@ test('each text of the table is used, and each that is asked for is there', () =
 });
 
 // One word in English, two in other languages.
-const HOMONYMS = ['play.playSteps'];
+const HOMONYMS = ['play.playSteps', 'view.keyDelete'];
 
 test('a name begins with its room, and no text stands twice in a room', () => {
     const rooms = new Set(modules.map((file) => (file.includes('/') ? file.split('/')[0] : 'main')));

@@ -36,6 +36,15 @@ export function actionButton(action, attributes = {}) {
   return button;
 }
 
+/** @type {Record<string, import('../texts/phrase.js').PlainPhrase>} */
+const KEY_NAMES = {
+  Ctrl: 'view.keyCtrl', Shift: 'view.keyShift', ArrowUp: 'view.keyArrowUp', ArrowDown: 'view.keyArrowDown', ArrowLeft: 'view.keyArrowLeft', ArrowRight: 'view.keyArrowRight',
+  Enter: 'view.keyEnter', Escape: 'view.keyEscape', Delete: 'view.keyDelete',
+};
+
+/** A key as keyboards of the language have it. */
+export const keyText = (key) => key.replace(/[A-Za-z]{2,}/g, (name) => (KEY_NAMES[name] ? phrase(KEY_NAMES[name]) : name));
+
 const ariaKey = (key) => key.replace('Ctrl', 'Control');
 
 /** The name of a pressed key, as actions have it. */
@@ -93,7 +102,7 @@ function fillMenu(list, place, button) {
     const item = actionButton(action, { role: 'menuitem', tabindex: '-1' });
     const free = isFree(action);
     if (!free) item.setAttribute('aria-disabled', 'true'); // it keeps the focus, and with it the keys of the menu
-    item.append(make('kbd', {}, (action.key ?? '').split(' ')[0]));
+    item.append(make('kbd', {}, keyText((action.key ?? '').split(' ')[0])));
     item.addEventListener('click', () => { if (free) list.hidePopover(); });
     items.push(item);
   }

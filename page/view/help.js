@@ -3,7 +3,7 @@
 import { make } from '../base/elements.js';
 import { built } from '../engine/client.js';
 import { phrase } from '../texts/phrase.js';
-import { actions, addAction } from './actions.js';
+import { actions, addAction, keyText } from './actions.js';
 import { openDialog } from './dialogs.js';
 
 const TOUR = [
@@ -44,7 +44,7 @@ function showGuide() {
 }
 
 const FIXED_KEYS = [
-  [phrase('view.arrows'), phrase('view.moveShiftTheyDraw')], [phrase('view.spaceEnter'), phrase('view.useToolCell')], ['Ctrl+C, X, V', phrase('view.copyCutPasteAlso')],
+  [phrase('view.arrows'), phrase('view.moveShiftTheyDraw')], [phrase('view.spaceEnter'), phrase('view.useToolCell')], [keyText('Ctrl+C, X, V'), phrase('view.copyCutPasteAlso')],
   [phrase('view.spaceDrag'), phrase('view.moveViewAlsoTwo')], [phrase('view.wheel'), phrase('view.zoomShiftAcross')], [phrase('view.rightButtonAlt'), phrase('view.pickColourHelp')],
   [phrase('view.homeEndPage'), phrase('view.jump')],
 ];
@@ -52,7 +52,7 @@ const FIXED_KEYS = [
 function showKeys() {
   const list = make('dl', { class: 'keys' });
   for (const [key, what] of FIXED_KEYS) list.append(make('dt', {}, key), make('dd', {}, what));
-  for (const action of actions.values()) if (action.key && !/^colour-[0-9]/.test(action.id)) list.append(make('dt', {}, action.key.replace(' ', phrase('view.or'))), make('dd', {}, action.name));
+  for (const action of actions.values()) if (action.key && !/^colour-[0-9]/.test(action.id)) list.append(make('dt', {}, keyText(action.key).replace(' ', phrase('view.or'))), make('dd', {}, action.name));
   list.append(make('dt', {}, phrase('view.digits')), make('dd', {}, phrase('view.chooseColour0Background')));
   openDialog({ title: phrase('view.keyboardShortcuts'), content: list, wide: true, buttons: [{ name: phrase('view.close'), value: null, main: true }] });
 }
