@@ -49,20 +49,29 @@ const MISLAID = () => {
     return wrong;
 };
 
+// English words in what is shown, or told of what is shown.
+const ENGLISH = () => {
+    const word = /\b(the|and|with|of|cells?|colou?rs?|pictures?|delete|remove|rows?|columns?|undo|redo|shows?|search|open|save|print|close)\b/i;
+    const told = [...document.querySelectorAll('body *')].flatMap((one) => [one.getAttribute('aria-label'), one.title, ...[...one.childNodes].filter((node) => node.nodeType === 3 && !one.matches('script, style, #version')).map((node) => node.textContent)]);
+    return [...new Set(told.filter((text) => text && word.test(text.replace(/„nonobench [^“]*“/g, ''))))];
+};
+
 const opened = (page) => page.until(() => window.bench?.state && !document.getElementById('work').hidden, 5000 * SLACK);
 const closed = (page) => page.run(() => new Promise((go) => { const dialog = document.querySelector('dialog[open]'); dialog.addEventListener('close', () => setTimeout(go)); dialog.close(); }));
 
 // All menus and some dialogs, one behind the other.
-async function overThePage(page, where) {
+async function overThePage(page, where, hears = false) {
     for (const place of ['file', 'edit', 'picture', 'view', 'check', 'help']) {
         await page.run((one) => document.getElementById(`menu-${one}`).showPopover(), place);
         assert.deepEqual(await page.run(MISLAID), [], `${where}, the menu ${place}`);
+        if (hears) assert.deepEqual(await page.run(ENGLISH), [], `${where}, the menu ${place}`);
         await page.run((one) => document.getElementById(`menu-${one}`).hidePopover(), place);
     }
     for (const id of ['guide', 'keys', 'resize', 'about', 'print', 'paste', 'vision', 'share']) {
         await page.run((one) => runAction(one), id);
         await page.until(() => document.querySelector('dialog[open]'), 3000 * SLACK);
         assert.deepEqual(await page.run(MISLAID), [], `${where}, the dialog ${id}`);
+        if (hears) assert.deepEqual(await page.run(ENGLISH), [], `${where}, the dialog ${id}`);
         await closed(page);
     }
 }
@@ -105,7 +114,7 @@ export async function germanWalk(rooms) {
         assert.match(await trial.text('dialog[open]'), /Über das Rätsel/);
         await page.shot(`${rooms.folder}/german-${name}-about.png`);
         await closed(page);
-        await overThePage(page, `German, ${name}`);
+        await overThePage(page, `German, ${name}`, true);
         assert.deepEqual(page.faults, []);
         await page.close();
     }

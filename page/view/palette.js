@@ -234,7 +234,7 @@ export function makePalette() {
   const add = (id, name, run, can) => addAction({ id, name, place: 'colour-more', run, can });
   add('colour-add', phrase('view.add'), addColour, () => bench.state.colours.length < MOST_COLOURS);
   add('colour-merge', phrase('view.merge'), mergeColour);
-  add('colour-delete', 'Delete', deleteColour);
+  add('colour-delete', phrase('view.delete'), deleteColour);
   add('colour-earlier', phrase('view.earlier'), () => moveColour(-1));
   add('colour-later', phrase('view.later'), () => moveColour(1));
   palette.picker.addEventListener('change', () => changeColour(tripleOf(palette.picker.value)));
