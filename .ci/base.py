@@ -42,7 +42,7 @@ MOST = {
 WIDTHS = {'specs': 120, 'proofs': 200}
 # The claim whose base docs/PROOF.md quotes whole.
 QUOTED = 'A certificate proves uniqueness'
-HEAD = '''# What the claims stand on
+HEAD = '''# What the claims depend on
 
 For somebody who wants to read all that a claim of [README](../README.md#what-is-proved) means: its definitions, in reading order. Proofs, code and the definitions of the toolchain are left out. A definition that an earlier claim has is counted again, but not listed again. Made by `.ci/base.py --write`.
 '''
