@@ -35,8 +35,8 @@ MOST = {
     'A check answers exactly': 200,
     'A refused edit changes nothing': 176,
     'It stays true': 1583,
-    "A session's answers are right": 1521,
-    'Published pairs are accepted': 1504,
+    "A session's answers are right": 1529,
+    'Published pairs are accepted': 1512,
 }
 # The most columns of a line: definitions are read by whoever audits a claim, proofs by whoever mends them.
 WIDTHS = {'specs': 120, 'proofs': 200}

@@ -15,3 +15,4 @@ pub mod Judging
 pub mod Answering
 pub mod Carrying
 pub mod Costs
+pub mod Working
