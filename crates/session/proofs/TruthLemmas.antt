@@ -162,8 +162,7 @@ said_told command.Verdict old new text a h =
 said_told (command.Why row col k) old new text a (inl h) = (inl (h.0, h.1.0), ap machine_of h.1.1)
 said_told (command.Why row col k) old new text a (inr h) =
     let why = h.1 in
-    let shown = why.1.1.1 in
-    (
+    let shown = why.1.1.1 in (
       inr (h.0, inl (old.book.base, (old.book.facts, (why.0, (map_of old a, (true_why old row col k why.0 a why.1.0, shown.0)))))),
       ap machine_of shown.1,
     )
@@ -174,8 +173,7 @@ said_told command.Report old new text a h =
     let verdict = h.0 in
     let d = old.history.document in
     let report : Clues → List ℕ = λ clues. report_text d clues old.book.facts (verdict_word verdict) (length old.history.past) (length old.history.future) in
-    let shown : text ≡ report_of old.history old.book.facts verdict = h.1.1 ∙ ap report a.audit.clues_are in
-    (
+    let shown : text ≡ report_of old.history old.book.facts verdict = h.1.1 ∙ ap report a.audit.clues_are in (
       inl (old.book.base, (old.book.facts, (verdict, (map_of old a, (true_verdict old new verdict a h.1.0, shown))))),
       ap machine_of h.1.0.0.1.1.same,
     )

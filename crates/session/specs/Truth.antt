@@ -111,7 +111,7 @@ report_of h map verdict =
 abbrev pub TellsStroke : Machine → Stroke → List ℕ → Machine → Type 0
 TellsStroke m stroke text next =
     ((stroke_fault m.history stroke ≡ None)
-        × ((text ≡ done_text) × (next ≡ machine (after_stroke m.history stroke) m.allowance)))
+    × ((text ≡ done_text) × (next ≡ machine (after_stroke m.history stroke) m.allowance)))
     ⊎ ((text ≡ edit_line (or_memory (stroke_fault m.history stroke))) × (next ≡ m))
 
 -- what is right of the text, or that memory ran out
