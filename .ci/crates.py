@@ -25,7 +25,7 @@ ROOMS = {
     'Outside': ('texts, sessions, the program and its hosts',
                 'ppm_text non_text command_text report_text session program_options command_line answers published program '
                 'claims web nonobench'),
-    'Tests': ('programs that only tests run', 'table_words tables search_tables refused'),
+    'Tests': ('programs that only tests run', 'table_words tables search_tables lemma_tables refused'),
 }
 HEAD = '''# Crates
 

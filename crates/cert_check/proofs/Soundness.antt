@@ -29,15 +29,15 @@ use Rattle.cert_check.proofs.BaseLemmas.{givens_shape, open_stays}
 -- ---- pictures that facts leave
 
 -- in each cell of a picture its colour is left
-record Keeps (facts other : List (List ℕ)) : Type 0 where
-  same_shape : SameShape other facts
-  leaves : (row col : ℕ) → col < length (row_at other row) → Leaves facts row col (cell_at other row col)
+pub record Keeps (facts other : List (List ℕ)) : Type 0 where
+  pub same_shape : SameShape other facts
+  pub leaves : (row col : ℕ) → col < length (row_at other row) → Leaves facts row col (cell_at other row col)
 
 -- a picture with the clues of the known one
-record IsRival (picture other : List (List ℕ)) : Type 0 where
-  is_picture : IsPicture other
-  same_shape : SameShape picture other
-  has_clues : clues_of other ≡ clues_of picture
+pub record IsRival (picture other : List (List ℕ)) : Type 0 where
+  pub is_picture : IsPicture other
+  pub same_shape : SameShape picture other
+  pub has_clues : clues_of other ≡ clues_of picture
 
 along_inside : (axis : Axis) (at i : ℕ) (picture : List (List ℕ)) → IsPicture picture → at < lines_along axis picture → i < length (line_along axis at picture) → col_on axis at i < length (row_at picture (row_on axis at i))
 along_inside Across at i picture is h l = l
@@ -47,7 +47,7 @@ along_inside Down at i picture is h l =
     omega arith
 
 -- a line of the picture fits that line of the facts
-fits_line : (picture facts other : List (List ℕ)) (line : LineId) → IsRival picture other → HasLine facts line → Keeps facts other → Fits (clue_at (clues_of picture) line) (line_of facts line) (line_of other line)
+pub fits_line : (picture facts other : List (List ℕ)) (line : LineId) → IsRival picture other → HasLine facts line → Keeps facts other → Fits (clue_at (clues_of picture) line) (line_of facts line) (line_of other line)
 fits_line picture facts other line rival has k =
     let here = same_has_line facts other line (shape_sym k.same_shape) has in
     let len = same_line_length other facts line k.same_shape in
@@ -81,7 +81,7 @@ can_have picture facts other line row col on rival has k left =
     }
 
 -- what a line forces leaves the picture
-forced_keeps : (picture facts gained other : List (List ℕ)) (line : LineId) (outcome : Outcome) → IsRival picture other → HasLine facts line → Gains (clue_at (clues_of picture) line) line facts gained outcome → Keeps facts other → Keeps gained other
+pub forced_keeps : (picture facts gained other : List (List ℕ)) (line : LineId) (outcome : Outcome) → IsRival picture other → HasLine facts line → Gains (clue_at (clues_of picture) line) line facts gained outcome → Keeps facts other → Keeps gained other
 forced_keeps picture facts gained other line outcome rival has g k = record {
   same_shape = shape_trans k.same_shape g.same_shape;
   leaves = λ row col l.
@@ -127,10 +127,10 @@ split_keeps picture facts other cell rival has keeps =
 
 -- ---- trees
 
-line_there : (picture facts : List (List ℕ)) (number : LineNumber) → SameShape picture facts → HasLineNumber picture number → HasLine facts (line_id number)
+pub line_there : (picture facts : List (List ℕ)) (number : LineNumber) → SameShape picture facts → HasLineNumber picture number → HasLine facts (line_id number)
 line_there picture facts number shape has = same_has_line picture facts (line_id number) shape (let l : number.number - 1 < lines_along number.axis picture = omega arith in l)
 
-shows_it : (picture facts other : List (List ℕ)) → SameShape picture other → ShowsOnly picture facts → Keeps facts other → other ≡ picture
+pub shows_it : (picture facts other : List (List ℕ)) → SameShape picture other → ShowsOnly picture facts → Keeps facts other → other ≡ picture
 shows_it picture facts other shape shows keeps =
     ext_get_or [] other picture (sym shape.rows)
     (λ row _. ext_get_or 0 (row_at other row) (row_at picture row) (sym (shape.each row)) (λ col l. shows row col (cell_at other row col) (keeps.leaves row col l)))
@@ -161,7 +161,7 @@ row_is_there other row col l = elim (cases_lt row (length other)) [
   | inr p ↦ let e = ap (λ (r : List ℕ). length r) (get_or_past other row [] p) in absurd (omega arith)
 ]
 
-base_keeps : (picture other : List (List ℕ)) (cells : List CellNumber) → IsPicture picture → IsRival picture other → HasCellNumbers picture cells → ((row col : ℕ) → IsNamed cells row col → cell_at other row col ≡ cell_at picture row col) → Keeps (base_of picture cells) other
+pub base_keeps : (picture other : List (List ℕ)) (cells : List CellNumber) → IsPicture picture → IsRival picture other → HasCellNumbers picture cells → ((row col : ℕ) → IsNamed cells row col → cell_at other row col ≡ cell_at picture row col) → Keeps (base_of picture cells) other
 base_keeps picture other cells is rival has keeps = record {
   same_shape = shape_trans (shape_sym rival.same_shape) (givens_shape picture (blank_for picture) cells (full_shape picture is));
   leaves = λ row col l.

@@ -40,13 +40,8 @@ fn narrow_line<E: LineEngine>(
     engine.narrow(&mut count, clue, &left[..cells], out)
 }
 
-// Whether no list of colours fits a line, in one call of the engine.
-pub(crate) fn is_dead<E: LineEngine>(
-    engine: &mut E,
-    facts: &Facts,
-    clue: &Clue,
-    line: LineId,
-) -> bool
+/// Whether no list of colours fits a line, in one call of the engine.
+pub fn is_dead<E: LineEngine>(engine: &mut E, facts: &Facts, clue: &Clue, line: LineId) -> bool
     requires line { HasLine facts.now line }
     requires short { length (line_of facts.now line) ≤ E.longest engine.old }
     ensures dead { IsTrue result ↔ (CanFit clue.now (line_of facts.now line) → ⊥) }
@@ -76,8 +71,8 @@ fn hold_line(trail: &mut Trail, line: LineId, masks: &[u16]) -> Result<(), Alloc
     Ok(())
 }
 
-// Adds to the facts at hand all that a line forces by its clue, in one call of the engine.
-pub(crate) fn force<E: LineEngine>(
+/// Adds to the facts at hand all that a line forces by its clue, in one call of the engine.
+pub fn force<E: LineEngine>(
     engine: &mut E,
     trail: &mut Trail,
     clue: &Clue,

@@ -15,9 +15,9 @@ use picture::Picture;
 use std::alloc::Global;
 use trail::Trail;
 
-// What a certificate is checked against: a picture, and its clues.
+/// What a certificate or a proof by lemmas is checked against: a picture, and its clues.
 #[derive(Clone, Copy, Drop)]
-pub(crate) struct Claim<'a> {
+pub struct Claim<'a> {
     pub picture: &'a Picture,
     pub clues: &'a ClueBook,
 }

@@ -12,8 +12,8 @@ use crate::words::{first_line, is_word, number_in, three_words};
 use picture::Axis;
 use std::alloc::Global;
 
-// The line that two words name.
-fn line_named(first: &[u8], second: &[u8]) -> Option<LineNumber>
+/// The line that two words name.
+pub fn line_named(first: &[u8], second: &[u8]) -> Option<LineNumber>
     ensures value { result ≡ line_named first.now second.now }
     ensures short { IfSome result (λ line. IsShort line.number) }
 {
@@ -26,8 +26,8 @@ fn line_named(first: &[u8], second: &[u8]) -> Option<LineNumber>
     Some(LineNumber { axis, number })
 }
 
-// The cell that two words name.
-fn cell_named(first: &[u8], second: &[u8]) -> Option<CellNumber>
+/// The cell that two words name.
+pub fn cell_named(first: &[u8], second: &[u8]) -> Option<CellNumber>
     ensures value { result ≡ cell_named first.now second.now }
     ensures short { IfSome result (λ cell. IsShort cell.row × IsShort cell.col) }
 {
@@ -74,8 +74,8 @@ fn given_in(line: &[u8]) -> Option<CellNumber>
 const SECOND_LINE: usize = 2;
 
 #[tactic(auto, using(crate::proofs::ReadLemmas::given_reading))]
-// The givens that a text begins with, and the text below them.
-fn read_givens(alloc: Global, text: &[u8]) -> Result<(Vec<CellNumber>, &[u8]), CertFault>
+/// The givens that a text begins with, below a first line that is not passed, and the text below them.
+pub fn read_givens(alloc: Global, text: &[u8]) -> Result<(Vec<CellNumber>, &[u8]), CertFault>
     requires few { SECOND_LINE + length text.now < 2 ^ 64 }
     ensures value { Gives CertFault.Memory givens_seen result
         (given_lines 2 0 (lines_of text.now)) }

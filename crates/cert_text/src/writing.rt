@@ -21,8 +21,8 @@ fn axis_word(axis: Axis) -> &'static [u8]
 }
 
 #[tactic(auto, using(picture::specs::SendingLaws::sending))]
-// Writes a line that names a line.
-fn send_named<W: Write>(word: &[u8], line: LineNumber, writer: &mut W) -> Result<(), WriteFault>
+/// Writes a line that names a line, or after a fault a front of it.
+pub fn send_named<W: Write>(word: &[u8], line: LineNumber, writer: &mut W) -> Result<(), WriteFault>
     ensures ok { OnOk result
         (Appends (W.contents writer.old) (W.contents writer.new) (named_text word.now line)) }
     ensures err { OnErr result
@@ -62,8 +62,8 @@ fn send_line<W: Write>(line: CertLine, writer: &mut W) -> Result<(), WriteFault>
 }
 
 #[tactic(auto, using(picture::specs::SendingLaws::pieces))]
-// Writes the givens.
-fn send_givens<W: Write>(givens: &[CellNumber], writer: &mut W) -> Result<(), WriteFault>
+/// Writes the lines of givens, or after a fault a front of them.
+pub fn send_givens<W: Write>(givens: &[CellNumber], writer: &mut W) -> Result<(), WriteFault>
     ensures ok { OnOk result
         (Appends (W.contents writer.old) (W.contents writer.new) (givens_text givens.now)) }
     ensures err { OnErr result

@@ -9,9 +9,11 @@ use Rattle.picture.specs.Rows.{width_of, cell_at, with_cell}
 use Rattle.line_settle.specs.FactSets.{IsFacts}
 use Rattle.trail.specs.declared.cell.Cell.{Cell}
 use Rattle.trail.specs.declared.note.CellMask.{CellMask}
+use Rattle.trail.specs.declared.note.Wait.{Wait}
+use Rattle.trail.specs.declared.note.Wait.TheVariants.{Each, Whole}
 use Rattle.trail.specs.declared.note.Note.{Note}
 use Rattle.trail.specs.declared.note.Note.TheVariants.{Restore, Branch}
-use Rattle.trail.specs.Trail.{AreInside, IsInside, Trailed, cells_held, place, places, trail_of, waiting}
+use Rattle.trail.specs.Trail.{AreInside, IsInside, LiesInside, Trailed, cells_held, place, places, trail_of, waiting}
 use Rattle.line_settle.specs.MaskLaws.{lowest_below, shifted}
 use Rattle.line_settle.specs.Branches.{branches, colours_of, held}
 use Rattle.trail.proofs.GridLemmas.{cell_back}
@@ -81,10 +83,14 @@ newest notes more note e = ap reverse e ∙ reverse-append notes (note ∷ [])
 inside_same : (height width high wide : ℕ) (cell : CellMask) → high ≡ height → wide ≡ width → IsInside height width cell → IsInside high wide cell
 inside_same height width high wide cell h w i = let a = i.in_rows in let b = i.in_columns in record { in_rows = omega arith; in_columns = omega arith; small = i.small }
 
+lies_inside_same : (height width high wide : ℕ) (wait : Wait) → high ≡ height → wide ≡ width → LiesInside height width wait → LiesInside high wide wait
+lies_inside_same height width high wide (Each cell) h w i = inside_same height width high wide cell h w i
+lies_inside_same height width high wide (Whole cell) h w i = inside_same height width high wide cell h w i
+
 pub are_inside_same : (height width high wide : ℕ) (notes : List Note) → high ≡ height → wide ≡ width → AreInside height width notes → AreInside high wide notes
 are_inside_same height width high wide [] h w i = i
 are_inside_same height width high wide (Restore cell ∷ notes) h w i = (inside_same height width high wide cell h w i.0, are_inside_same height width high wide notes h w i.1)
-are_inside_same height width high wide (Branch cell ∷ notes) h w i = (inside_same height width high wide cell h w i.0, are_inside_same height width high wide notes h w i.1)
+are_inside_same height width high wide (Branch wait ∷ notes) h w i = (lies_inside_same height width high wide wait h w i.0, are_inside_same height width high wide notes h w i.1)
 
 -- a cell held to a mask, with the old one noted
 pub holds : (s : Trailed) (facts new : List (List ℕ)) (notes more : List Note) (cell : CellMask) (mask : ℕ) → trail_of facts (waiting facts (reverse notes)) (cells_held (reverse notes)) ≡ s → IsFacts facts → cell.row < length s.at_hand → cell.col < width_of s.at_hand → cell.mask ≡ cell_at facts cell.row cell.col → new ≡ with_cell facts cell.row cell.col mask → more ≡ notes ++ Restore cell ∷ [] → trail_of new (waiting new (reverse more)) (cells_held (reverse more)) ≡ trail_of (with_cell s.at_hand cell.row cell.col mask) s.behind s.cells
@@ -127,9 +133,9 @@ begins_held s t u row col mask lowest rest p q l r et eu =
     ∙ (ap (λ n. place row col ∷ (places row col n ++ s.cells)) others ∙ ap (λ xs. place row col ∷ xs) cells)
 
 -- a branch with no colours left is none
-pub skips : (facts : List (List ℕ)) (height width : ℕ) (notes more : List Note) (cell : CellMask) → notes ≡ more ++ Branch cell ∷ [] → cell.mask ≡ 0 → (waiting facts (reverse notes) ≡ waiting facts (reverse more)) × ((cells_held (reverse notes) ≡ cells_held (reverse more)) × (AreInside height width (reverse notes) → AreInside height width (reverse more)))
+pub skips : (facts : List (List ℕ)) (height width : ℕ) (notes more : List Note) (cell : CellMask) → notes ≡ more ++ Branch (Each cell) ∷ [] → cell.mask ≡ 0 → (waiting facts (reverse notes) ≡ waiting facts (reverse more)) × ((cells_held (reverse notes) ≡ cells_held (reverse more)) × (AreInside height width (reverse notes) → AreInside height width (reverse more)))
 skips facts height width notes more cell e z =
-    let n = newest more notes (Branch cell) e in (
+    let n = newest more notes (Branch (Each cell)) e in (
       ap (waiting facts) n ∙ ap (λ xs. held facts cell.row cell.col xs ++ waiting facts (reverse more)) (ap colours_of z ∙ no_colours),
       (
         ap cells_held n ∙ ap (λ xs. map (λ (k : ℕ). place cell.row cell.col) xs ++ cells_held (reverse more)) (ap colours_of z ∙ no_colours),

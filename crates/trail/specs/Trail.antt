@@ -7,6 +7,8 @@ use Rattle.line_settle.specs.Branches.{branches, colours_of}
 use Rattle.trail.specs.declared.cell.Cell.{Cell}
 use Rattle.trail.specs.Through.{across}
 use Rattle.trail.specs.declared.note.CellMask.{CellMask}
+use Rattle.trail.specs.declared.note.Wait.{Wait}
+use Rattle.trail.specs.declared.note.Wait.TheVariants.{Each, Whole}
 use Rattle.trail.specs.declared.note.Note.{Note}
 use Rattle.trail.specs.declared.note.Note.TheVariants.{Restore, Branch}
 
@@ -17,18 +19,28 @@ place row col = record { row = row; col = col }
 abbrev pub places : ℕ → ℕ → ℕ → List Cell
 places row col mask = map (λ (k : ℕ). place row col) (colours_of mask)
 
--- The facts that wait behind those at hand, told from the notes, the newest first: a cell gets its mask back, or is held to
--- colours still to try.
+-- the branches that wait: a cell held to each colour of a mask, or to the mask as a whole
+abbrev pub begun : List (List ℕ) → Wait → List (List (List ℕ))
+begun facts (Each cell) = branches facts cell.row cell.col cell.mask
+begun facts (Whole cell) = with_cell facts cell.row cell.col cell.mask ∷ []
+
+-- the cell that is held in each of them
+abbrev pub places_of : Wait → List Cell
+places_of (Each cell) = places cell.row cell.col cell.mask
+places_of (Whole cell) = place cell.row cell.col ∷ []
+
+-- The facts that wait behind those at hand, told from the notes, the newest first: a cell gets its mask back, or branches
+-- begin.
 abbrev pub waiting : List (List ℕ) → List Note → List (List (List ℕ))
 waiting facts [] = []
 waiting facts (Restore cell ∷ notes) = waiting (with_cell facts cell.row cell.col cell.mask) notes
-waiting facts (Branch cell ∷ notes) = branches facts cell.row cell.col cell.mask ++ waiting facts notes
+waiting facts (Branch wait ∷ notes) = begun facts wait ++ waiting facts notes
 
 -- of each of these facts the cell that is held in them
 abbrev pub cells_held : List Note → List Cell
 cells_held [] = []
 cells_held (Restore cell ∷ notes) = cells_held notes
-cells_held (Branch cell ∷ notes) = places cell.row cell.col cell.mask ++ cells_held notes
+cells_held (Branch wait ∷ notes) = places_of wait ++ cells_held notes
 
 -- a cell lies in a picture of that size, and its mask is one of sixteen colours
 pub record IsInside (height width : ℕ) (cell : CellMask) : Type 0 where
@@ -36,17 +48,24 @@ pub record IsInside (height width : ℕ) (cell : CellMask) : Type 0 where
   pub in_columns : cell.col < width
   pub small : cell.mask < 2 ^ 16
 
+abbrev pub LiesInside : ℕ → ℕ → Wait → Type 0
+LiesInside height width (Each cell) = IsInside height width cell
+LiesInside height width (Whole cell) = IsInside height width cell
+
 abbrev pub AreInside : ℕ → ℕ → List Note → Type 0
 AreInside height width [] = Unit {0}
 AreInside height width (Restore cell ∷ notes) = IsInside height width cell × AreInside height width notes
-AreInside height width (Branch cell ∷ notes) = IsInside height width cell × AreInside height width notes
+AreInside height width (Branch wait ∷ notes) = LiesInside height width wait × AreInside height width notes
 
--- Cells got their masks back down to the first branch, whose colours are still to be tried; or there was none, and nothing
--- waits.
-abbrev pub PutsBack : List (List ℕ) → List Note → List (List ℕ) → List Note → Option CellMask → Type 0
+-- a branch can begin: of a cell that lies inside, and a colour is still to be tried where each is
+abbrev pub CanBegin : ℕ → ℕ → Wait → Type 0
+CanBegin height width (Each cell) = (0 < cell.mask) × IsInside height width cell
+CanBegin height width (Whole cell) = IsInside height width cell
+
+-- Cells got their masks back down to the first branches that wait; or there were none, and nothing waits.
+abbrev pub PutsBack : List (List ℕ) → List Note → List (List ℕ) → List Note → Option Wait → Type 0
 PutsBack old notes new rest None = waiting old notes ≡ []
-PutsBack old notes new rest (Some cell) = (waiting old notes ≡ branches new cell.row cell.col cell.mask ++ waiting new rest)
-    × (cells_held notes ≡ places cell.row cell.col cell.mask ++ cells_held rest)
+PutsBack old notes new rest (Some wait) = (waiting old notes ≡ begun new wait ++ waiting new rest) × (cells_held notes ≡ places_of wait ++ cells_held rest)
 
 -- the facts at hand, and those that wait behind them, of each of which a cell was held last
 pub record Trailed : Type 0 where
