@@ -1,10 +1,11 @@
-use Rattle.std.proofs.Common.{◌≡◌, ◌∙◌, ◌+◌, ◌≤◌, ℕ, List, ap, length, suc, [], None, Option, Some, arith, refl}
+use Rattle.std.proofs.Common.{◌≡◌, ◌∙◌, ◌+◌, ◌≤◌, ℕ, ap, length, suc, [], None, Option, Some, arith, refl}
+use Rattle.line_settle.specs.Masks.{Masks}
 use Rattle.line_settle.specs.FactSets.{SameShape}
-use Rattle.line_settle.specs.GridLaws.{shape_trans}
+use Rattle.line_settle.proofs.GridLaws.{shape_trans}
 use Rattle.trail.specs.declared.cell.Cell.{Cell}
 use Rattle.trail.specs.Trail.{GoesOn, Trailed}
 use Rattle.second_search.specs.Through.{across}
-use Rattle.second_search.specs.Working.{most_to_close}
+use Rattle.second_search.specs.Evaluations.{most_to_close}
 use Rattle.second_search.proofs.CountLemmas.{counted_ending, counted_nothing, counting_goes, counting_starts, goes_lighter}
 use Rattle.second_search.proofs.DrawLemmas.{looks_go, looks_last, looks_start, same_most}
 use Rattle.second_search.proofs.KeepLemmas.{both_named, can_close_like, quiet_at, quiet_goes, ready_at, ready_first}
@@ -14,7 +15,8 @@ use Rattle.second_search.proofs.counting.search_counted.Goals as goal
 
 pub loop-search-init : goal.loop-search-init
 loop-search-init g c =
-    let ready = ready_first c.args.book.now c.args.known.now c.args.start.lines c.args.start.facts c.args.start.lines c.start.result c.start.ensures c.requires.lines c.requires.quiet c.requires.others in
+    let ready =
+    ready_first c.args.book.now c.args.known.now c.args.start.lines c.args.start.facts c.args.start.lines c.start.result c.start.ensures c.requires.lines c.requires.quiet c.requires.others in
     record {
       counting = counting_starts c.args.book.now c.args.known.now c.args.start.facts c.args.start.allowance c.start.result c.start.ensures;
       ready = ready.0;
@@ -27,7 +29,7 @@ loop-search-init g c =
     }
 
 -- a look takes no more evaluations than the first facts would
-one_look : (first facts : List (List ℕ)) (q r : ℕ) → SameShape first facts → r ≤ q + most_to_close facts → r ≤ q + most_to_close first
+one_look : (first facts : Masks) (q r : ℕ) → SameShape first facts → r ≤ q + most_to_close facts → r ≤ q + most_to_close first
 one_look first facts q r s l = rw (same_most first facts s) l
 
 pub look_once-requires-clause-closable : goal.look_once-requires-clause-closable
@@ -45,7 +47,8 @@ pub returns-in-Some-clause-ends : goal.returns-in-Some-clause-ends
 returns-in-Some-clause-ends g c =
     let s = c.loop-search.search in
     let t = c.look_once.new.self in
-    counted_ending least_is_unique c.args.book.now c.args.known.now c.args.start.facts c.args.start.allowance s.trail t.trail s.budget t.budget c.loop-search.invariant.counting c.in-Some.ending (rw c.in-Some.is at c.in_ok-found.ensures.steps)
+    counted_ending least_is_unique c.args.book.now c.args.known.now c.args.start.facts c.args.start.allowance s.trail t.trail s.budget t.budget c.loop-search.invariant.counting c.in-Some.ending
+    (rw c.in-Some.is at c.in_ok-found.ensures.steps)
 
 nothing_waits : (s t : Trailed) (cell : Option Cell) → ((x : Cell) → cell ≡ Some x → ⊥) → GoesOn s t cell → s.behind ≡ []
 nothing_waits s t None none on = on
@@ -80,7 +83,8 @@ loop-search-preserved g c =
       rows = refl;
       some = name_counts lines (across cell.row) (both_named first u.at_hand cell lines is next.0.0 at.in_rows at.in_columns c.lines.ensures).0;
       behind = next.1;
-      looks = (let went = looks_go book c.args.known.now c.args.start.allowance first s t _ _ _ _ _ c.loop-search.invariant.looks (one_look first s.at_hand _ _ c.loop-search.invariant.ready.same_shape c.look_once.ensures.few) steps in let count : length t.behind ≡ suc (length u.behind) = ap length on.0 in rw count at went);
+      looks = (let went = looks_go book c.args.known.now c.args.start.allowance first s t _ _ _ _ _ c.loop-search.invariant.looks (one_look first s.at_hand _ _ c.loop-search.invariant.ready.same_shape
+          c.look_once.ensures.few) steps in let count : length t.behind ≡ suc (length u.behind) = ap length on.0 in rw count at went);
       calls = omega arith;
       same_longest = c.look_once.ensures.same_longest ∙ c.loop-search.invariant.same_longest;
     }
