@@ -81,7 +81,7 @@ def worked(checker):
             asked, answer = line.split(' => ')
             picture, text = asked.split(' ', 1)
             pairs.append((picture, text.encode().decode('unicode_escape').encode('latin-1')))
-            wanted.append(answer)
+            wanted.append(answer.removeprefix('proof ').removeprefix('! certificate '))
     for (picture, proof), answer, said in zip(pairs, wanted, checker.answers(pairs), strict=True):
         agree(said == answer, f'{picture}: wanted {answer}, got {said}\n{proof}')
         agree(answer_to(picture, proof) == answer, f'the plain checker: {picture}: wanted {answer}\n{proof}')
