@@ -204,13 +204,15 @@ class House:
         """The definitions that a clause of a function names."""
         text = (CRATES / file).read_text(encoding='utf-8')
         imports = {}
-        for line in text.split('\n'):
-            imports.update(imports_of(line) if line.startswith('ghost use') else ())
+        for brought in re.findall(r'^ghost use [^;]*;', text, re.M):
+            imports.update(imports_of(re.sub(r'\s+', ' ', brought).replace(', }', '}')))
         body = re.search(rf'\bfn {function}\b.*?^\s*{{', text, re.M | re.S)
         found = body and re.search(rf'ensures\*? {clause + " " if clause else ""}{{(.*?)}}\n', body[0], re.S)
         if not found:
             sys.exit(f'crates/{file}: {function} has no clause {clause or "without a name"}')
         named = [self.find(*imports[word]) for word in WORD.findall(found[1]) if word in imports and imports[word][1]]
+        if not any(named):
+            sys.exit(f'crates/{file}: the clause {clause or "without a name"} of {function} names no definition')
         return [definition for definition in named if definition is not None]
 
 
