@@ -1,0 +1,141 @@
+//! What lines and lemmas exclude, until none excludes more.
+
+use crate::atom::{Atom, Literal, has};
+use crate::log::Step;
+use crate::marks::Reason;
+use crate::narrowing::narrow;
+use crate::search::Search;
+use crate::store::Watched;
+use picture::{Axis, LineId, MAX_COLOURS};
+use std::alloc::AllocError;
+use trail::Cell;
+
+/// How the evaluation of a line ended.
+#[derive(Clone, Copy, PartialEq, Eq)]
+enum Evaluated {
+    Fits,
+    Dead,
+}
+
+impl<'a> Search<'a> {
+    /// Excludes what lines and lemmas exclude. Answers why nothing is left, where that is so.
+    pub(crate) fn propagate(&mut self) -> Result<Option<Reason>, AllocError> {
+        for _ in 0..u64::MAX {
+            if let Some(number) = self.use_lemmas()? {
+                return Ok(Some(Reason::Lemma(number)));
+            }
+            let Some(line) = self.next_due() else {
+                return Ok(None);
+            };
+            match self.evaluate(line)? {
+                Evaluated::Fits => {}
+                Evaluated::Dead => return Ok(Some(Reason::Line(line))),
+            }
+        }
+        Ok(None)
+    }
+
+    // Takes the first line that is due.
+    fn next_due(&mut self) -> Option<LineId> {
+        for axis in [Axis::Across, Axis::Down] {
+            if let Some(at) = self.due.first_from(axis, 0) {
+                let line = LineId { axis, at };
+                self.due.take_out(line);
+                return Some(line);
+            }
+        }
+        None
+    }
+
+    // Looks at the lemmas that watch what was excluded. Answers one that is broken.
+    fn use_lemmas(&mut self) -> Result<Option<u32>, AllocError> {
+        for _ in 0..u32::MAX {
+            let Some(event) = self.marks.event(self.seen) else {
+                break;
+            };
+            self.seen = self.seen.saturating_add(1);
+            for colour in 0..MAX_COLOURS {
+                if !has(event.gone.colours, colour) {
+                    continue;
+                }
+                let broken = self.look_at_all(event.gone.atom(colour))?;
+                if broken.is_some() {
+                    return Ok(broken);
+                }
+            }
+        }
+        Ok(None)
+    }
+
+    // Looks at the lemmas that watch an atom.
+    fn look_at_all(&mut self, atom: Atom) -> Result<Option<u32>, AllocError> {
+        let mut list = self.store.take_list(atom);
+        let mut kept = 0usize;
+        let mut broken = None;
+        for i in 0..list.len() {
+            let Some(number) = list.get(i).copied() else {
+                break;
+            };
+            if broken.is_none() {
+                match self.store.look(number, atom, &self.marks)? {
+                    Watched::Moved => continue,
+                    Watched::Silent => {}
+                    Watched::Holds(literal) => self.hold(literal, number)?,
+                    Watched::Broken => broken = Some(number),
+                }
+            }
+            if let Some(slot) = list.get_mut(kept) {
+                *slot = number;
+            }
+            kept = kept.saturating_add(1);
+        }
+        list.truncate(kept);
+        self.store.put_list(atom, list);
+        Ok(broken)
+    }
+
+    // Notes a reason that gives something, where nothing is decided.
+    fn note_root(&mut self, reason: Reason) -> Result<(), AllocError> {
+        if self.marks.is_at_root() {
+            self.log.add(Step::Root(reason))?;
+        }
+        Ok(())
+    }
+
+    /// Holds a cell to the colours of a literal of a lemma.
+    pub(crate) fn hold(&mut self, literal: Literal, number: u32) -> Result<(), AllocError> {
+        let reason = Reason::Lemma(number);
+        self.note_root(reason)?;
+        let colours = self.marks.left(literal.cell) & !literal.colours;
+        let since = self.marks.count();
+        self.exclude(Literal { colours, ..literal }, reason, since)
+    }
+
+    // Excludes what a line excludes.
+    fn evaluate(&mut self, line: LineId) -> Result<Evaluated, AllocError> {
+        let cells = self.board.cells(line.axis);
+        let Some(automaton) = self.board.automaton(line) else {
+            return Ok(Evaluated::Fits);
+        };
+        let mut masks = [0; 128];
+        for place in 0..cells {
+            masks[usize::from(place)] = self.marks.left(Cell::on(line, place));
+        }
+        if !narrow(automaton, &mut masks, cells) {
+            return Ok(Evaluated::Dead);
+        }
+        let since = self.marks.count();
+        for place in 0..cells {
+            let cell = Cell::on(line, place);
+            let colours = self.marks.left(cell) & !masks[usize::from(place)];
+            if colours == 0 {
+                continue;
+            }
+            if self.marks.count() == since {
+                self.note_root(Reason::Line(line))?;
+            }
+            self.exclude(Literal { cell, colours }, Reason::Line(line), since)?;
+        }
+        Ok(Evaluated::Fits)
+    }
+}
