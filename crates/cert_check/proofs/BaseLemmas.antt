@@ -25,7 +25,7 @@ abbrev once : List (List ℕ) → List (List ℕ) → CellNumber → List (List 
 once picture facts cell = with_given picture facts (cell.row - 1) (cell.col - 1)
 
 -- a place is a cell's, or it is not
-at_or_off : (r c : ℕ) (cell : CellNumber) → ((r ≡ cell.row - 1) × (c ≡ cell.col - 1)) ⊎ ((r ≡ cell.row - 1) × (c ≡ cell.col - 1) → ⊥)
+pub at_or_off : (r c : ℕ) (cell : CellNumber) → ((r ≡ cell.row - 1) × (c ≡ cell.col - 1)) ⊎ ((r ≡ cell.row - 1) × (c ≡ cell.col - 1) → ⊥)
 at_or_off r c cell = elim (cases_eq r (cell.row - 1)) [
   | inr n ↦ inr (λ p. n p.0)
   | inl e ↦ elim (cases_eq c (cell.col - 1)) [ inl f ↦ inl (e, f) | inr n ↦ inr (λ p. n p.1) ]

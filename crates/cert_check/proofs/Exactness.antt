@@ -21,7 +21,7 @@ use Rattle.cert_check.proofs.Soundness.{proof_is_unique}
 
 -- ---- what a line forces is one set of facts
 
-same_gains : (picture facts one other : List (List ℕ)) (line : LineId) → IsForced picture facts line one → IsForced picture facts line other → one ≡ other
+pub same_gains : (picture facts one other : List (List ℕ)) (line : LineId) → IsForced picture facts line one → IsForced picture facts line other → one ≡ other
 same_gains picture facts one other line f h =
     let half = λ (a b : List (List ℕ)) (g : IsForced picture facts line a) (k : IsForced picture facts line b). gains_inside _ _ _ _ _ g.1 b (gains_grows _ _ _ _ _ k.1) (gains_closes _ _ _ _ _ k.1) in
     within_both one other (half one other f h) (half other one h f)

@@ -33,7 +33,7 @@ found_clue picture clues longest number found can h e =
 
 -- ---- a line judged
 
-by_found : (picture : List (List ℕ)) (clues : Clues) (longest : ℕ) (clue : List Block) (number : LineNumber) (found : LineId) → CanCheck picture clues longest → found ≡ line_id number → clue ≡ clue_at clues found → clue ≡ clue_at (clues_of picture) (line_id number)
+pub by_found : (picture : List (List ℕ)) (clues : Clues) (longest : ℕ) (clue : List Block) (number : LineNumber) (found : LineId) → CanCheck picture clues longest → found ≡ line_id number → clue ≡ clue_at clues found → clue ≡ clue_at (clues_of picture) (line_id number)
 by_found picture clues longest clue number found can e c = c ∙ (ap (λ (cs : Clues). clue_at cs found) can.clues_are ∙ ap (clue_at (clues_of picture)) e)
 
 pub not_dead : (picture facts : List (List ℕ)) (clues : Clues) (longest : ℕ) (clue : List Block) (number : LineNumber) (found : LineId) (b : Bool) → CanCheck picture clues longest → found ≡ line_id number → clue ≡ clue_at clues found → IsTrue b ↔ (CanFit clue (line_of facts found) → ⊥) → b ≡ false → IsDead picture facts (line_id number) → ⊥

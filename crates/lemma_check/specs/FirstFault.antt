@@ -10,7 +10,7 @@ use Rattle.lemma_text.specs.declared.lemma_line.LemmaLine.TheVariants.{Line, Use
 use Rattle.lemma_text.specs.Proof.{ProofLines}
 use Rattle.lemma_check.specs.declared.store.TheConstants.{MAX_LITERALS}
 use Rattle.lemma_check.specs.declared.machine.Stage.TheVariants.{Denying}
-use Rattle.lemma_check.specs.Walk.{HasLiteral, Walk, at_facts, begun, denied, dropped, ended, numbered, parted, root, settled, still_open, used}
+use Rattle.lemma_check.specs.Walk.{HasLiteral, IsCounted, Machined, Walk, at_facts, begun, denied, dropped, ended, numbered, parted, root, settled, still_open, used}
 
 -- a lemma is kept, or it is not
 abbrev pub IsKept : Walk → ℕ → Type 0
@@ -91,7 +91,9 @@ reached true walk = Some walk
 reached false walk = None
 
 -- A line taken: where it stands, the walk is where it leads to; else its fault is answered.
-abbrev pub Takes : List (List ℕ) → Walk → Walk → LemmaLine → ℕ → Result Bool CertFault → Type 0
+abbrev pub Takes : List (List ℕ) → Walk → Machined → LemmaLine → ℕ → Result Bool CertFault → Type 0
 Takes picture old new line n (Ok going) =
-    SameShape picture new.at_hand × ((next : Option Walk) × (Leads picture old line next × (reached going new ≡ next)))
+    (going ≡ true → IsCounted new)
+    × SameShape picture new.walk.at_hand
+    × ((next : Option Walk) × (Leads picture old line next × (reached going new.walk ≡ next)))
 Takes picture old new line n (Err e) = (e ≡ Memory) ⊎ HasFault picture old line n e

@@ -138,3 +138,18 @@ denied walk literal = walk_of (held_off walk.at_hand literal) walk.behind (with_
 -- a lemma is kept no longer
 abbrev pub dropped : Walk → ℕ → Walk
 dropped walk n = walk_of walk.at_hand [] (set walk.lemmas n no_lemma) (walk.literals - length (numbered walk.lemmas n).literals) Free
+
+-- ---- the machine
+
+-- a walk, and how many facts wait in it
+pub record Machined : Type 0 where
+  pub walk : Walk
+  pub waiting : ℕ
+
+abbrev pub machined : Walk → ℕ → Machined
+machined walk waiting = record { walk = walk; waiting = waiting }
+
+-- the number is right, and there is a lemma: number 0
+pub record IsCounted (machine : Machined) : Type 0 where
+  pub waiting : machine.waiting ≡ length machine.walk.behind
+  pub some_lemma : 0 < length machine.walk.lemmas

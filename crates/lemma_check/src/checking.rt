@@ -52,6 +52,7 @@ fn walk<E: LineEngine>(
     Ok(())
 }
 
+#[tactic(auto, using(crate::proofs::Exactness::answering))]
 /// Checks a proof by lemmas of a picture: whether no other picture has its clues and, in the proof's givens, its colours. No
 /// line of the picture may be longer than the engine takes.
 ///

@@ -1,11 +1,10 @@
 //! The walk over a proof by lemmas: what each line does to the facts at hand, to those that wait, and to the lemmas.
 
-ghost use Rattle.std.specs.Prelude.{◌≡◌, ◌+◌, ◌<◌, ◌≤◌, IfErr, IfOk, OnOk};
+ghost use Rattle.std.specs.Prelude.{◌≡◌, ◌+◌, ◌<◌, ◌≤◌, [], true, IfErr, IfOk, OnOk};
 ghost use Rattle.line_settle.specs.FactSets.{SameShape};
 ghost use Rattle.cert_check.specs.Walk.{CanCheck};
-ghost use Rattle.lemma_text.specs.declared.lemma_line.LemmaLine.TheVariants.{Line, Use, Dead, Broken, Done, Part, Lemma, Deny, Forget};
 ghost use Rattle.lemma_check.specs.FirstFault.{Takes, found_by, reached};
-ghost use Rattle.lemma_check.specs.Walk.{at_facts, ended, held_to, last_at, left_of, root, settled};
+ghost use Rattle.lemma_check.specs.Walk.{IsCounted, at_facts, ended, held_to, last_at, left_of, machined, root, settled};
 
 use crate::opening::{Open, cell_of, open_in};
 use crate::store::{Lemma, MAX_LITERALS, kept_lemma};
@@ -36,20 +35,18 @@ pub(crate) struct Machine {
 }
 
 impl Model for Machine {
-    ghost use Rattle.std.specs.Prelude.{◌≡◌, ◌<◌, length};
-    ghost use Rattle.lemma_check.specs.Walk.{Walk, walk_of};
+    ghost use Rattle.lemma_check.specs.Walk.{Machined, machined, walk_of};
 
-    ghost Value = { Walk };
+    ghost Value = { Machined };
 
-    ghost view = { λ m. walk_of m.trail.at_hand m.trail.behind m.lemmas.items m.literals m.stage };
-
-    ghost invariant = { λ m. (m.waiting ≡ length m.trail.behind) × (0 < length m.lemmas.items) };
+    ghost view = { λ m. machined
+        (walk_of m.trail.at_hand m.trail.behind m.lemmas.items m.literals m.stage) m.waiting };
 }
 
 impl Machine {
     // The walk before the first line.
     pub(crate) fn start(alloc: Global, facts: Facts) -> Result<Machine, AllocError>
-        ensures { IfOk result (λ m. m ≡ root facts) }
+        ensures { IfOk result (λ m. m ≡ machined (root facts) 0) }
     {
         let mut lemmas = Vec::new(alloc);
         lemmas.push(Lemma::none(alloc))?;
@@ -71,8 +68,9 @@ impl Machine {
         number: usize,
     ) -> Result<bool, CertFault>
         requires can { CanCheck claim.now.picture.now claim.now.clues.now (E.longest engine.old) }
-        requires same_shape { SameShape claim.now.picture.now self.old.at_hand }
-        ensures takes { Takes claim.now.picture.now (found_by self.old line) self.new line number
+        requires counted { IsCounted self.old }
+        requires same_shape { SameShape claim.now.picture.now self.old.walk.at_hand }
+        ensures takes { Takes claim.now.picture.now (found_by self.old.walk line) self.new line number
             result }
         ensures same_longest { E.longest engine.new ≡ E.longest engine.old }
         ensures work { E.calls engine.new ≤ E.calls engine.old + 1 }
@@ -88,7 +86,7 @@ impl Machine {
 
     // Takes no more literals for the lemma that begins.
     fn settle(&mut self)
-        ensures { self.new ≡ settled self.old }
+        ensures { self.new ≡ machined (settled self.old.walk) self.old.waiting }
     {
         if self.stage == Stage::Denying {
             self.stage = Stage::Refuting;
@@ -104,8 +102,9 @@ impl Machine {
         number: usize,
     ) -> Result<bool, CertFault>
         requires can { CanCheck claim.now.picture.now claim.now.clues.now (E.longest engine.old) }
-        requires same_shape { SameShape claim.now.picture.now self.old.at_hand }
-        ensures takes { Takes claim.now.picture.now self.old self.new line number result }
+        requires counted { IsCounted self.old }
+        requires same_shape { SameShape claim.now.picture.now self.old.walk.at_hand }
+        ensures takes { Takes claim.now.picture.now self.old.walk self.new line number result }
         ensures same_longest { E.longest engine.new ≡ E.longest engine.old }
         ensures work { E.calls engine.new ≤ E.calls engine.old + 1 }
     {
@@ -131,8 +130,9 @@ impl Machine {
         number: usize,
     ) -> Result<bool, CertFault>
         requires can { CanCheck claim.now.picture.now claim.now.clues.now (E.longest engine.old) }
-        requires same_shape { SameShape claim.now.picture.now self.old.at_hand }
-        ensures takes { Takes claim.now.picture.now self.old self.new (Line at) number result }
+        requires counted { IsCounted self.old }
+        requires same_shape { SameShape claim.now.picture.now self.old.walk.at_hand }
+        ensures takes { Takes claim.now.picture.now self.old.walk self.new (LemmaLine.Line at) number result }
         ensures same_longest { E.longest engine.new ≡ E.longest engine.old }
         ensures work { E.calls engine.new ≤ E.calls engine.old + 1 }
     {
@@ -150,8 +150,9 @@ impl Machine {
         lemma: u16,
         number: usize,
     ) -> Result<bool, CertFault>
-        requires same_shape { SameShape claim.now.picture.now self.old.at_hand }
-        ensures takes { Takes claim.now.picture.now self.old self.new (Use lemma) number result }
+        requires counted { IsCounted self.old }
+        requires same_shape { SameShape claim.now.picture.now self.old.walk.at_hand }
+        ensures takes { Takes claim.now.picture.now self.old.walk self.new (LemmaLine.Use lemma) number result }
     {
         let Some(literals) = kept_lemma(&self.lemmas, lemma) else {
             return Err(CertFault::NoLemma(number));
@@ -171,8 +172,9 @@ impl Machine {
         number: usize,
     ) -> Result<bool, CertFault>
         requires can { CanCheck claim.now.picture.now claim.now.clues.now (E.longest engine.old) }
-        requires same_shape { SameShape claim.now.picture.now self.old.at_hand }
-        ensures takes { Takes claim.now.picture.now self.old self.new (Dead at) number result }
+        requires counted { IsCounted self.old }
+        requires same_shape { SameShape claim.now.picture.now self.old.walk.at_hand }
+        ensures takes { Takes claim.now.picture.now self.old.walk self.new (LemmaLine.Dead at) number result }
         ensures same_longest { E.longest engine.new ≡ E.longest engine.old }
         ensures work { E.calls engine.new ≤ E.calls engine.old + 1 }
     {
@@ -192,8 +194,9 @@ impl Machine {
         lemma: u16,
         number: usize,
     ) -> Result<bool, CertFault>
-        requires same_shape { SameShape claim.now.picture.now self.old.at_hand }
-        ensures takes { Takes claim.now.picture.now self.old self.new (Broken lemma) number result }
+        requires counted { IsCounted self.old }
+        requires same_shape { SameShape claim.now.picture.now self.old.walk.at_hand }
+        ensures takes { Takes claim.now.picture.now self.old.walk self.new (LemmaLine.Broken lemma) number result }
     {
         let Some(literals) = kept_lemma(&self.lemmas, lemma) else {
             return Err(CertFault::NoLemma(number));
@@ -206,8 +209,9 @@ impl Machine {
 
     // The branch ends, since the picture alone is left.
     fn end_shown(&mut self, claim: &Claim, number: usize) -> Result<bool, CertFault>
-        requires same_shape { SameShape claim.now.picture.now self.old.at_hand }
-        ensures takes { Takes claim.now.picture.now self.old self.new Done number result }
+        requires counted { IsCounted self.old }
+        requires same_shape { SameShape claim.now.picture.now self.old.walk.at_hand }
+        ensures takes { Takes claim.now.picture.now self.old.walk self.new LemmaLine.Done number result }
     {
         if !shows_only(self.trail.at_hand(), claim.picture) {
             return Err(CertFault::NotDone(number));
@@ -222,8 +226,9 @@ impl Machine {
         literal: Literal,
         number: usize,
     ) -> Result<bool, CertFault>
-        requires same_shape { SameShape claim.now.picture.now self.old.at_hand }
-        ensures takes { Takes claim.now.picture.now self.old self.new (Part literal) number result }
+        requires counted { IsCounted self.old }
+        requires same_shape { SameShape claim.now.picture.now self.old.walk.at_hand }
+        ensures takes { Takes claim.now.picture.now self.old.walk self.new (LemmaLine.Part literal) number result }
     {
         let Some(cell) = cell_in(claim.picture, literal.cell) else {
             return Err(CertFault::Place(number));
@@ -239,13 +244,16 @@ impl Machine {
 
     // A lemma begins. The facts as they are wait for when it is kept.
     fn begin(&mut self, claim: &Claim, number: usize) -> Result<bool, CertFault>
-        requires same_shape { SameShape claim.now.picture.now self.old.at_hand }
-        ensures takes { Takes claim.now.picture.now self.old self.new Lemma number result }
+        requires counted { IsCounted self.old }
+        requires same_shape { SameShape claim.now.picture.now self.old.walk.at_hand }
+        ensures takes { Takes claim.now.picture.now self.old.walk self.new LemmaLine.Lemma number result }
     {
         if self.waiting > 0 {
             return Err(CertFault::Misplaced(number));
         }
-        let left = self.trail.at_hand().left(0, 0);
+        let facts = self.trail.at_hand();
+        let _ = facts.height();
+        let left = facts.left(0, 0);
         let alloc = *self.lemmas.allocator();
         self.waiting = 1;
         self.trail.part(0, 0, left)?;
@@ -261,8 +269,9 @@ impl Machine {
         literal: Literal,
         number: usize,
     ) -> Result<bool, CertFault>
-        requires same_shape { SameShape claim.now.picture.now self.old.at_hand }
-        ensures takes { Takes claim.now.picture.now self.old self.new (Deny literal) number result }
+        requires counted { IsCounted self.old }
+        requires same_shape { SameShape claim.now.picture.now self.old.walk.at_hand }
+        ensures takes { Takes claim.now.picture.now self.old.walk self.new (LemmaLine.Deny literal) number result }
     {
         if self.stage != Stage::Denying {
             return Err(CertFault::Misplaced(number));
@@ -289,8 +298,9 @@ impl Machine {
         lemma: u16,
         number: usize,
     ) -> Result<bool, CertFault>
-        requires same_shape { SameShape claim.now.picture.now self.old.at_hand }
-        ensures takes { Takes claim.now.picture.now self.old self.new (Forget lemma) number result }
+        requires counted { IsCounted self.old }
+        requires same_shape { SameShape claim.now.picture.now self.old.walk.at_hand }
+        ensures takes { Takes claim.now.picture.now self.old.walk self.new (LemmaLine.Forget lemma) number result }
     {
         if self.waiting > 0 {
             return Err(CertFault::Misplaced(number));
@@ -307,8 +317,9 @@ impl Machine {
 
     // Holds the cell of a literal to its colours.
     fn hold_to(&mut self, literal: Literal) -> Result<(), AllocError>
-        requires { 0 < left_of self.old.at_hand literal }
-        ensures { OnOk result (self.new ≡ at_facts self.old (held_to self.old.at_hand literal)) }
+        requires { 0 < left_of self.old.walk.at_hand literal }
+        ensures { OnOk result (self.new ≡ machined
+            (at_facts self.old.walk (held_to self.old.walk.at_hand literal)) self.old.waiting) }
     {
         if let Some(cell) = cell_of(self.trail.at_hand(), literal) {
             let left = self.trail.at_hand().left(cell.row, cell.col);
@@ -320,8 +331,10 @@ impl Machine {
 
     // Leaves the branch at hand for the next that waits. False where there is none.
     fn go_on(&mut self) -> Result<bool, CertFault>
-        ensures ended { IfOk result (λ going. reached going self.new ≡ ended self.old) }
-        ensures same_shape { IfOk result (λ _. SameShape self.old.at_hand self.new.at_hand) }
+        requires { IsCounted self.old }
+        ensures ended { IfOk result (λ going. reached going self.new.walk ≡ ended self.old.walk) }
+        ensures counted { IfOk result (λ going. going ≡ true → IsCounted self.new) }
+        ensures same_shape { IfOk result (λ _. SameShape self.old.walk.at_hand self.new.walk.at_hand) }
         ensures err { IfErr result (λ e. e ≡ CertFault.Memory) }
     {
         if self.trail.advance()?.is_none() {
@@ -336,7 +349,11 @@ impl Machine {
 
     // Keeps the lemma that was refuted, where one was.
     fn keep_newest(&mut self)
-        ensures { self.new ≡ last_at self.old self.old.at_hand self.old.stage }
+        requires counted { IsCounted self.old }
+        requires alone { self.old.walk.behind ≡ [] }
+        ensures kept { self.new.walk ≡ last_at self.old.walk self.old.walk.at_hand
+            self.old.walk.stage }
+        ensures counted { IsCounted self.new }
     {
         if self.stage != Stage::Free {
             let newest = self.lemmas.len() - 1;

@@ -51,15 +51,15 @@ pub(crate) fn open_in(facts: &Facts, literals: &[Literal]) -> Open
     ensures told { result ≡ told_open (still_open facts.now literals.now) }
     ensures left { HasLeft facts.now result }
 {
-    let mut open = Open::Nothing;
+    let mut found = Open::Nothing;
     for i in 0..literals.len() {
         let literal = literals[i];
         if left_of(facts, literal) != 0 {
-            match open {
-                Open::Nothing => open = Open::One(literal),
+            match found {
+                Open::Nothing => found = Open::One(literal),
                 Open::One(_) | Open::More => return Open::More,
             }
         }
     }
-    open
+    found
 }
