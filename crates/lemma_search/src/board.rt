@@ -1,18 +1,24 @@
 //! What a search is about: a picture, its givens, and the automata of its clues.
 
-ghost use Rattle.std.specs.Prelude.{◌≤◌};
+ghost use Rattle.std.specs.Prelude.{◌≡◌, ◌≤◌, IsTrue};
+ghost use Rattle.clues.specs.ClueBook.{HasClue};
 
 use crate::atom::bit;
 use crate::automaton::Automaton;
 use clues::ClueBook;
+use line_settle::{LineEngine, Outcome};
 use picture::{Axis, CellSet, LineId, MAX_SIDE, Picture};
 use std::alloc::{AllocError, Global};
 use trail::Cell;
+
+/// The masks of a line's cells, and of more behind them.
+pub(crate) type Masks = [u16; 128];
 
 /// A picture with its givens, and the automata of its clues.
 #[derive(Drop)]
 pub(crate) struct Board<'a> {
     pub picture: &'a Picture,
+    clues: &'a ClueBook,
     givens: &'a CellSet,
     rows: Vec<Automaton>,
     columns: Vec<Automaton>,
@@ -21,12 +27,13 @@ pub(crate) struct Board<'a> {
 impl<'a> Board<'a> {
     pub(crate) fn new(
         alloc: Global,
-        clues: &ClueBook,
+        clues: &'a ClueBook,
         givens: &'a CellSet,
         picture: &'a Picture,
     ) -> Result<Board<'a>, AllocError> {
         Ok(Board {
             picture,
+            clues,
             givens,
             rows: automata(alloc, clues, Axis::Across)?,
             columns: automata(alloc, clues, Axis::Down)?,
@@ -54,6 +61,36 @@ impl<'a> Board<'a> {
             Axis::Down => &self.columns,
         };
         automata.get(usize::from(line.at))
+    }
+
+    // Whether there is a clue of a line.
+    fn has_clue(&self, line: LineId) -> bool
+        ensures { IsTrue result → HasClue self.now.clues.now line }
+    {
+        match line.axis {
+            Axis::Across => line.at < self.clues.height(),
+            Axis::Down => line.at < self.clues.width(),
+        }
+    }
+
+    /// Leaves in the cells of a line the colours that some list that fits has there. A line that has no clue, or is longer than the
+    /// engine takes, stays as it is.
+    pub(crate) fn narrow<E: LineEngine>(
+        &self,
+        engine: &mut E,
+        line: LineId,
+        masks: &mut Masks,
+    ) -> Outcome
+        ensures same_longest { E.longest engine.new ≡ E.longest engine.old }
+    {
+        let cells = self.cells(line.axis);
+        if cells > engine.longest() || !self.has_clue(line) {
+            return Outcome::Narrowed;
+        }
+        let left = *masks;
+        let cells = usize::from(cells);
+        let clue = self.clues.clue(line);
+        engine.narrow(&mut 0, clue, &left[..cells], &mut masks[..cells])
     }
 
     /// The mask of the picture's colour in a cell.

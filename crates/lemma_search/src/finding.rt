@@ -1,5 +1,7 @@
 //! Another picture, or the lines of a proof that there is none.
 
+ghost use Rattle.std.specs.Prelude.{◌≡◌};
+
 use crate::board::Board;
 use crate::plan::Plan;
 use crate::rehearsal::Rehearsal;
@@ -9,6 +11,7 @@ use crate::telling::Teller;
 use crate::writing::write_lines;
 use clues::ClueBook;
 use lemma_text::LemmaLine;
+use line_settle::LineEngine;
 use picture::{CellSet, Picture};
 use std::alloc::{AllocError, Global};
 
@@ -25,33 +28,38 @@ pub enum Found {
 
 /// Searches for another picture with the clues and the givens of a picture, and learns a lemma from each conflict. Where none is left,
 /// it answers the lines of a proof.
-pub fn learn(
+pub fn learn<E: LineEngine>(
     alloc: Global,
+    engine: &mut E,
     clues: &ClueBook,
     givens: &CellSet,
     picture: &Picture,
     effort: Effort,
-) -> Result<Found, AllocError> {
+) -> Result<Found, AllocError>
+    ensures same_longest { E.longest engine.new ≡ E.longest engine.old }
+{
     let board = Board::new(alloc, clues, givens, picture)?;
     let mut search = Search::new(alloc, &board)?;
-    match search.run(alloc, effort)? {
+    match search.run(alloc, engine, effort)? {
         Ended::Other(other) => Ok(Found::Other(other)),
         Ended::Undecided => Ok(Found::Nothing),
-        Ended::Unique => tell(alloc, &search),
+        Ended::Unique => tell(alloc, engine, &search),
     }
 }
 
 // Tells the proof of a search that left nothing.
-fn tell(alloc: Global, search: &Search) -> Result<Found, AllocError> {
+fn tell<E: LineEngine>(alloc: Global, engine: &mut E, search: &Search) -> Result<Found, AllocError>
+    ensures same_longest { E.longest engine.new ≡ E.longest engine.old }
+{
     let mut plan = Plan::new(alloc, &search.log, &search.store)?;
     let mut facts = Rehearsal::new(alloc, search.board)?;
-    if !plan.rehearse(&mut facts)? {
+    if !plan.rehearse(engine, &mut facts)? {
         return Ok(Found::Nothing);
     }
     plan.choose();
     let facts = Rehearsal::new(alloc, search.board)?;
     let mut teller = Teller::new(alloc, plan, facts);
-    if !teller.tell()? {
+    if !teller.tell(engine)? {
         return Ok(Found::Nothing);
     }
     let lines = write_lines(alloc, &teller)?;

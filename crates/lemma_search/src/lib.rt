@@ -10,7 +10,6 @@ mod finding;
 mod learning;
 mod log;
 mod marks;
-mod narrowing;
 mod order;
 mod plan;
 mod propagating;

@@ -1,10 +1,13 @@
 //! Which lemmas a proof needs, how often, and how each is told.
 
+ghost use Rattle.std.specs.Prelude.{◌≡◌};
+
 use crate::atom::{Literal, small};
 use crate::log::{Log, Step};
 use crate::marks::Reason;
 use crate::rehearsal::{Gained, Rehearsal, Said};
 use crate::store::{Span, Store};
+use line_settle::LineEngine;
 use std::alloc::{AllocError, Global};
 
 /// How a lemma is told: not at all; once, and kept; or each time inside the branch that uses it.
@@ -120,17 +123,23 @@ impl<'a> Plan<'a> {
     }
 
     /// Leaves out the hints that give nothing. False where a lemma that is needed isn't refuted by its hints.
-    pub(crate) fn rehearse(&mut self, facts: &mut Rehearsal) -> Result<bool, AllocError> {
+    pub(crate) fn rehearse<E: LineEngine>(
+        &mut self,
+        engine: &mut E,
+        facts: &mut Rehearsal,
+    ) -> Result<bool, AllocError>
+        ensures same_longest { E.longest engine.new ≡ E.longest engine.old }
+    {
         self.count_uses();
         let steps = self.steps;
         for step in steps {
             match *step {
                 Step::Root(reason) => {
-                    self.apply(facts, reason)?;
+                    self.apply(engine, facts, reason)?;
                     facts.keep();
                 }
                 Step::Lemma(number, _) if self.lemma(number).uses != 0 => {
-                    if !self.rehearse_lemma(facts, number)? {
+                    if !self.rehearse_lemma(engine, facts, number)? {
                         return Ok(false);
                     }
                 }
@@ -141,9 +150,16 @@ impl<'a> Plan<'a> {
     }
 
     // Applies a reason to the facts.
-    fn apply(&self, facts: &mut Rehearsal, reason: Reason) -> Result<Gained, AllocError> {
+    fn apply<E: LineEngine>(
+        &self,
+        engine: &mut E,
+        facts: &mut Rehearsal,
+        reason: Reason,
+    ) -> Result<Gained, AllocError>
+        ensures same_longest { E.longest engine.new ≡ E.longest engine.old }
+    {
         match reason {
-            Reason::Line(line) => facts.force(line),
+            Reason::Line(line) => facts.force(engine, line),
             Reason::Lemma(number) => match facts.say(self.store.lemma(number)) {
                 Said::Nothing => Ok(Gained::Nothing),
                 Said::Broken => Ok(Gained::Dead),
@@ -158,7 +174,14 @@ impl<'a> Plan<'a> {
     }
 
     // Leaves out the hints of a lemma that give nothing. False where they don't refute its denial.
-    fn rehearse_lemma(&mut self, facts: &mut Rehearsal, number: u32) -> Result<bool, AllocError> {
+    fn rehearse_lemma<E: LineEngine>(
+        &mut self,
+        engine: &mut E,
+        facts: &mut Rehearsal,
+        number: u32,
+    ) -> Result<bool, AllocError>
+        ensures same_longest { E.longest engine.new ≡ E.longest engine.old }
+    {
         let old = self.lemma(number).hints;
         let start = self.hints.len();
         let mut gained = facts.deny(self.store.lemma(number))?;
@@ -169,7 +192,7 @@ impl<'a> Plan<'a> {
             if gained == Gained::Dead {
                 break;
             }
-            gained = self.apply(facts, reason)?;
+            gained = self.apply(engine, facts, reason)?;
             if gained != Gained::Nothing {
                 self.hints.push(reason)?;
             }

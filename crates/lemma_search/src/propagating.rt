@@ -1,25 +1,26 @@
 //! What lines and lemmas exclude, until none excludes more.
 
+ghost use Rattle.std.specs.Prelude.{◌≡◌};
+
 use crate::atom::{Atom, Literal, has};
+use crate::board::Masks;
 use crate::log::Step;
 use crate::marks::Reason;
-use crate::narrowing::narrow;
 use crate::search::Search;
 use crate::store::Watched;
+use line_settle::{LineEngine, Outcome};
 use picture::{Axis, LineId, MAX_COLOURS};
 use std::alloc::AllocError;
 use trail::Cell;
 
-/// How the evaluation of a line ended.
-#[derive(Clone, Copy, PartialEq, Eq)]
-enum Evaluated {
-    Fits,
-    Dead,
-}
-
 impl<'a> Search<'a> {
     /// Excludes what lines and lemmas exclude. Answers why nothing is left, where that is so.
-    pub(crate) fn propagate(&mut self) -> Result<Option<Reason>, AllocError> {
+    pub(crate) fn propagate<E: LineEngine>(
+        &mut self,
+        engine: &mut E,
+    ) -> Result<Option<Reason>, AllocError>
+        ensures same_longest { E.longest engine.new ≡ E.longest engine.old }
+    {
         for _ in 0..u64::MAX {
             if let Some(number) = self.use_lemmas()? {
                 return Ok(Some(Reason::Lemma(number)));
@@ -27,9 +28,9 @@ impl<'a> Search<'a> {
             let Some(line) = self.next_due() else {
                 return Ok(None);
             };
-            match self.evaluate(line)? {
-                Evaluated::Fits => {}
-                Evaluated::Dead => return Ok(Some(Reason::Line(line))),
+            match self.evaluate(engine, line)? {
+                Outcome::Narrowed => {}
+                Outcome::Dead => return Ok(Some(Reason::Line(line))),
             }
         }
         Ok(None)
@@ -112,30 +113,39 @@ impl<'a> Search<'a> {
     }
 
     // Excludes what a line excludes.
-    fn evaluate(&mut self, line: LineId) -> Result<Evaluated, AllocError> {
-        let cells = self.board.cells(line.axis);
-        let Some(automaton) = self.board.automaton(line) else {
-            return Ok(Evaluated::Fits);
-        };
+    fn evaluate<E: LineEngine>(
+        &mut self,
+        engine: &mut E,
+        line: LineId,
+    ) -> Result<Outcome, AllocError>
+        ensures same_longest { E.longest engine.new ≡ E.longest engine.old }
+    {
         let mut masks = [0; 128];
-        for place in 0..cells {
+        for place in 0..self.board.cells(line.axis) {
             masks[usize::from(place)] = self.marks.left(Cell::on(line, place));
         }
-        if !narrow(automaton, &mut masks, cells) {
-            return Ok(Evaluated::Dead);
+        let outcome = self.board.narrow(engine, line, &mut masks);
+        if outcome == Outcome::Narrowed {
+            self.take_line(line, &masks)?;
         }
+        Ok(outcome)
+    }
+
+    // Excludes the colours that are not left in the masks of a line.
+    fn take_line(&mut self, line: LineId, masks: &Masks) -> Result<(), AllocError> {
+        let reason = Reason::Line(line);
         let since = self.marks.count();
-        for place in 0..cells {
+        for place in 0..self.board.cells(line.axis) {
             let cell = Cell::on(line, place);
             let colours = self.marks.left(cell) & !masks[usize::from(place)];
             if colours == 0 {
                 continue;
             }
             if self.marks.count() == since {
-                self.note_root(Reason::Line(line))?;
+                self.note_root(reason)?;
             }
-            self.exclude(Literal { cell, colours }, Reason::Line(line), since)?;
+            self.exclude(Literal { cell, colours }, reason, since)?;
         }
-        Ok(Evaluated::Fits)
+        Ok(())
     }
 }

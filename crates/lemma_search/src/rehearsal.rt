@@ -1,8 +1,10 @@
 //! Facts as a checker of the proof has them, to see what each step gives there.
 
+ghost use Rattle.std.specs.Prelude.{◌≡◌};
+
 use crate::atom::{Literal, STRIDE, spot};
-use crate::board::Board;
-use crate::narrowing::narrow;
+use crate::board::{Board, Masks};
+use line_settle::{LineEngine, Outcome};
 use picture::LineId;
 use std::alloc::{AllocError, Global};
 use trail::Cell;
@@ -85,20 +87,27 @@ impl<'a> Rehearsal<'a> {
     }
 
     /// Excludes what a line excludes.
-    pub(crate) fn force(&mut self, line: LineId) -> Result<Gained, AllocError> {
-        let cells = self.board.cells(line.axis);
-        let Some(automaton) = self.board.automaton(line) else {
-            return Ok(Gained::Nothing);
-        };
+    pub(crate) fn force<E: LineEngine>(
+        &mut self,
+        engine: &mut E,
+        line: LineId,
+    ) -> Result<Gained, AllocError>
+        ensures same_longest { E.longest engine.new ≡ E.longest engine.old }
+    {
         let mut masks = [0; 128];
-        for place in 0..cells {
+        for place in 0..self.board.cells(line.axis) {
             masks[usize::from(place)] = self.left(Cell::on(line, place));
         }
-        if !narrow(automaton, &mut masks, cells) {
-            return Ok(Gained::Dead);
+        match self.board.narrow(engine, line, &mut masks) {
+            Outcome::Narrowed => self.take_line(line, &masks),
+            Outcome::Dead => Ok(Gained::Dead),
         }
+    }
+
+    // Holds the cells of a line to the colours left in masks.
+    fn take_line(&mut self, line: LineId, masks: &Masks) -> Result<Gained, AllocError> {
         let mut gained = Gained::Nothing;
-        for place in 0..cells {
+        for place in 0..self.board.cells(line.axis) {
             let cell = Cell::on(line, place);
             let colours = masks[usize::from(place)];
             if colours != self.left(cell) {

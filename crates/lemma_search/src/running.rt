@@ -1,10 +1,11 @@
 //! The search itself: propagate, learn from each conflict, decide.
 
-use crate::board::Board;
+ghost use Rattle.std.specs.Prelude.{◌≡◌};
+
 use crate::log::Step;
-use crate::marks::Reason;
 use crate::restarts::Restarts;
 use crate::search::Search;
+use line_settle::LineEngine;
 use picture::{Axis, LineId, LineSet, MAX_SIDE, Picture};
 use std::alloc::{AllocError, Global};
 
@@ -41,15 +42,22 @@ impl<'a> Search<'a> {
     }
 
     /// Searches.
-    pub(crate) fn run(&mut self, alloc: Global, effort: Effort) -> Result<Ended, AllocError> {
+    pub(crate) fn run<E: LineEngine>(
+        &mut self,
+        alloc: Global,
+        engine: &mut E,
+        effort: Effort,
+    ) -> Result<Ended, AllocError>
+        ensures same_longest { E.longest engine.new ≡ E.longest engine.old }
+    {
         self.make_all_due();
-        if let Some(reason) = self.propagate()? {
+        if let Some(reason) = self.propagate(engine)? {
             return self.end(Step::End(reason));
         }
         self.begin(alloc)?;
         let mut restarts = Restarts::new();
         for _ in 0..u64::MAX {
-            if let Some(reason) = self.propagate()? {
+            if let Some(reason) = self.propagate(engine)? {
                 if self.is_over(effort) {
                     return Ok(Ended::Undecided);
                 }

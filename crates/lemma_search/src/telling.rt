@@ -1,12 +1,15 @@
 //! The proof told: each step that gives something, and a lemma inside the branch that uses it, where that is its way.
 
+ghost use Rattle.std.specs.Prelude.{◌≡◌};
+
 use crate::atom::Literal;
 use crate::log::Step;
 use crate::marks::Reason;
 use crate::plan::{Plan, Way};
 use crate::rehearsal::{Gained, Rehearsal, Said};
 use crate::store::Span;
-use picture::LineId;
+use line_settle::LineEngine;
+use picture::{Axis, LineId};
 use std::alloc::{AllocError, Global};
 
 /// A line of the proof, in which lemmas have the search's numbers.
@@ -52,11 +55,13 @@ impl<'a> Teller<'a> {
     }
 
     /// Tells all steps. False where one does not give what it did in the search.
-    pub(crate) fn tell(&mut self) -> Result<bool, AllocError> {
+    pub(crate) fn tell<E: LineEngine>(&mut self, engine: &mut E) -> Result<bool, AllocError>
+        ensures same_longest { E.longest engine.new ≡ E.longest engine.old }
+    {
         let steps = self.plan.steps;
         for step in steps {
             let start = self.lines.len();
-            let is_told = self.tell_step(*step)?;
+            let is_told = self.tell_step(engine, *step)?;
             let end = self.lines.len();
             self.spans.push(Span { start, end })?;
             if !is_told {
@@ -66,46 +71,77 @@ impl<'a> Teller<'a> {
         Ok(true)
     }
 
-    fn tell_step(&mut self, step: Step) -> Result<bool, AllocError> {
+    fn tell_step<E: LineEngine>(&mut self, engine: &mut E, step: Step) -> Result<bool, AllocError>
+        ensures same_longest { E.longest engine.new ≡ E.longest engine.old }
+    {
         match step {
             Step::Root(reason) => {
-                let gained = self.tell_reason(reason)?;
+                let gained = self.tell_reason(engine, reason)?;
                 self.facts.keep();
                 Ok(gained != Gained::Dead)
             }
-            Step::End(reason) => Ok(self.tell_reason(reason)? == Gained::Dead),
+            Step::End(reason) => Ok(self.tell_reason(engine, reason)? == Gained::Dead),
             Step::Done => {
                 self.lines.push(Told::Done)?;
                 Ok(true)
             }
-            Step::Lemma(number, _) => self.tell_lemma(number),
+            Step::Lemma(number, _) => self.tell_lemma(engine, number),
         }
     }
 
     // Tells a reason at the root.
-    fn tell_reason(&mut self, reason: Reason) -> Result<Gained, AllocError> {
+    fn tell_reason<E: LineEngine>(
+        &mut self,
+        engine: &mut E,
+        reason: Reason,
+    ) -> Result<Gained, AllocError>
+        ensures same_longest { E.longest engine.new ≡ E.longest engine.old }
+    {
         let start = self.plan.hints.len();
         self.plan.hints.push(reason)?;
         let end = self.plan.hints.len();
-        self.tell_hints(Span { start, end })
+        self.tell_hints(engine, Span { start, end })
     }
 
     // Tells a lemma that is kept.
-    fn tell_lemma(&mut self, number: u32) -> Result<bool, AllocError> {
+    fn tell_lemma<E: LineEngine>(&mut self, engine: &mut E, number: u32) -> Result<bool, AllocError>
+        ensures same_longest { E.longest engine.new ≡ E.longest engine.old }
+    {
         let known = self.plan.lemma(number);
         if known.way != Way::Kept {
             return Ok(true);
         }
         let mut gained = self.facts.deny(self.plan.store.lemma(number))?;
-        if gained != Gained::Dead {
-            gained = self.tell_hints(known.hints)?;
+        if gained == Gained::Dead {
+            self.tell_empty(number)?;
+        } else {
+            gained = self.tell_hints(engine, known.hints)?;
         }
         self.facts.take_back(0);
         Ok(gained == Gained::Dead)
     }
 
+    // Tells that the row of a cell of a lemma is dead, where no colour is left in the cell.
+    fn tell_empty(&mut self, number: u32) -> Result<(), AllocError> {
+        for literal in self.plan.store.lemma(number) {
+            if self.facts.left(literal.cell) == 0 {
+                let at = literal.cell.row;
+                let axis = Axis::Across;
+                self.lines.push(Told::Dead(LineId { axis, at }))?;
+                return Ok(());
+            }
+        }
+        Ok(())
+    }
+
     // Tells hints up to the end of the branch, or of the hints.
-    fn tell_hints(&mut self, hints: Span) -> Result<Gained, AllocError> {
+    fn tell_hints<E: LineEngine>(
+        &mut self,
+        engine: &mut E,
+        hints: Span,
+    ) -> Result<Gained, AllocError>
+        ensures same_longest { E.longest engine.new ≡ E.longest engine.old }
+    {
         let mut branches = vec![in self.alloc;
             Branch {
                 hints,
@@ -125,7 +161,7 @@ impl<'a> Teller<'a> {
             let Some(reason) = self.plan.hint(at) else {
                 break;
             };
-            if self.tell_hint(&mut branches, reason)? == Gained::Dead {
+            if self.tell_hint(engine, &mut branches, reason)? == Gained::Dead {
                 self.end_branch(&mut branches)?;
             }
         }
@@ -144,13 +180,16 @@ impl<'a> Teller<'a> {
     }
 
     // Tells a hint.
-    fn tell_hint(
+    fn tell_hint<E: LineEngine>(
         &mut self,
+        engine: &mut E,
         branches: &mut Vec<Branch>,
         reason: Reason,
-    ) -> Result<Gained, AllocError> {
+    ) -> Result<Gained, AllocError>
+        ensures same_longest { E.longest engine.new ≡ E.longest engine.old }
+    {
         match reason {
-            Reason::Line(line) => self.tell_line(line),
+            Reason::Line(line) => self.tell_line(engine, line),
             Reason::Lemma(number) if self.plan.lemma(number).way == Way::Inside => {
                 self.tell_inside(branches, number)
             }
@@ -159,8 +198,14 @@ impl<'a> Teller<'a> {
         }
     }
 
-    fn tell_line(&mut self, line: LineId) -> Result<Gained, AllocError> {
-        let gained = self.facts.force(line)?;
+    fn tell_line<E: LineEngine>(
+        &mut self,
+        engine: &mut E,
+        line: LineId,
+    ) -> Result<Gained, AllocError>
+        ensures same_longest { E.longest engine.new ≡ E.longest engine.old }
+    {
+        let gained = self.facts.force(engine, line)?;
         match gained {
             Gained::Nothing => {}
             Gained::Something => self.lines.push(Told::Line(line))?,
